@@ -19,7 +19,7 @@ use Rattle.ws_record.specs.declared.record.Record.{Record}
 use Rattle.ws_record.proofs.Headers.{header_length}
 use Rattle.ws_session.specs.declared.refusal.Refusal.{Refusal}
 use Rattle.ws_session.specs.declared.refusal.Refusal.TheVariants.{At, Failed, Memory}
-use Rattle.ws_session.specs.declared.send_fault.SendFault.TheVariants.{TooBig}
+use Rattle.ws_session.specs.declared.host_end.send_fault.SendFault.TheVariants.{TooBig}
 use Rattle.ws_any_host.specs.AnyLeads.{AnyLeads, AnyParts, AnyStep, IsAnyPushed, IsAnyReacted, refusal_of}
 use Rattle.ws_any_host.specs.AnyOptions.{Negotiated}
 use Rattle.ws_any_host.specs.AnySide.{any_negotiates, any_ready, any_takes, send_fault}

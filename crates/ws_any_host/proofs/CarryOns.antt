@@ -10,8 +10,8 @@ use Rattle.ws_code.specs.declared.fault.Fault.TheVariants as fault
 use Rattle.ws_text.specs.Printing.{IsOut}
 use Rattle.ws_text.specs.declared.output.Output.{Output}
 use Rattle.ws_text.specs.declared.output.Output.TheVariants.{Open, Failed as Unwritten}
-use Rattle.ws_live.specs.LiveText.{HaveRun, stops}
-use Rattle.ws_live.specs.ServeText.{is_told}
+use Rattle.ws_live.specs.live.LiveText.{HaveRun, stops}
+use Rattle.ws_live.specs.live.ServeText.{is_told}
 use Rattle.ws_live.specs.declared.live.Closing.{Closing}
 use Rattle.ws_live.specs.declared.live.Closing.TheVariants.{Nothing, Done, Declined, Late, Ended, Stopped, Closed}
 use Rattle.ws_live.proofs.LiveRuns.{run_more}

@@ -19,8 +19,8 @@ use Rattle.ws_session.specs.Reaction.{Reaction, Refuses, GoesOn}
 use Rattle.ws_session.specs.declared.end_step.EndStep.{EndStep}
 use Rattle.ws_session.specs.declared.refusal.Refusal.{Refusal}
 use Rattle.ws_session.specs.declared.refusal.Refusal.TheVariants.{At, Failed, Memory}
-use Rattle.ws_session.specs.declared.send_fault.SendFault.{SendFault}
-use Rattle.ws_session.specs.declared.send_fault.SendFault.TheVariants.{Failed as SendFailed, Memory as SendMemory}
+use Rattle.ws_session.specs.declared.host_end.send_fault.SendFault.{SendFault}
+use Rattle.ws_session.specs.declared.host_end.send_fault.SendFault.TheVariants.{Failed as SendFailed, Memory as SendMemory}
 use Rattle.ws_any_host.specs.AnyOptions.{Negotiated}
 use Rattle.ws_any_host.specs.AnySide.{AnyOutput, any_takes, any_manner, send_fault}
 use Rattle.ws_any_host.specs.declared.any_event.AnyEvent.{AnyEvent}

@@ -13,9 +13,9 @@ use Rattle.ws_text.specs.ExtendedWords.{extended_wording}
 use Rattle.ws_text.specs.Words.{IsNumber, IsHex}
 use Rattle.ws_text.specs.declared.items.TextFault.{TextFault}
 use Rattle.ws_text.specs.declared.items.TextFault.TheVariants as items
-use Rattle.ws_live.specs.KeyNames.{aid_named}
-use Rattle.ws_live.specs.ServeLines.{IsIdle}
-use Rattle.ws_live.specs.WireLines.{IsWireBegun, MeansWire}
+use Rattle.ws_live.specs.script.KeyNames.{aid_named}
+use Rattle.ws_live.specs.live.ServeLines.{IsIdle}
+use Rattle.ws_live.specs.live.WireLines.{IsWireBegun, MeansWire}
 use Rattle.ws_live.specs.declared.script.ScriptFault.{ScriptFault}
 use Rattle.ws_live.specs.declared.script.ScriptFault.TheVariants.{Line, Memory}
 use Rattle.ws_any_host.specs.declared.any_line.AnyLine.{AnyLine}

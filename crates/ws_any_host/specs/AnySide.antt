@@ -12,9 +12,9 @@ use Rattle.ws_record.specs.declared.record.Item.{Item}
 use Rattle.ws_record.specs.declared.record.Item.TheVariants.{Record as RecordItem, Telnet as TelnetItem}
 use Rattle.ws_session.specs.Acts.{Happening, Arrives, Does, Doing, Manner, idle, as_list}
 use Rattle.ws_session.specs.Reaction.{Reaction, Refuses, GoesOn}
-use Rattle.ws_session.specs.StationManners.{goes_on}
-use Rattle.ws_session.specs.declared.send_fault.SendFault.{SendFault}
-use Rattle.ws_session.specs.declared.send_fault.SendFault.TheVariants.{NotAllowed, TooBig}
+use Rattle.ws_session.specs.station.StationManners.{goes_on}
+use Rattle.ws_session.specs.declared.host_end.send_fault.SendFault.{SendFault}
+use Rattle.ws_session.specs.declared.host_end.send_fault.SendFault.TheVariants.{NotAllowed, TooBig}
 use Rattle.ws_any_host.specs.AnyOptions.{Negotiated, any_answer}
 use Rattle.ws_any_host.specs.declared.any_event.AnyEvent.{AnyEvent}
 use Rattle.ws_any_host.specs.declared.any_event.AnyEvent.TheVariants.{Ready, Record as Came}

@@ -11,16 +11,16 @@ use Rattle.ws_code.specs.declared.fault.Fault.TheVariants as fault
 use Rattle.ws_record.specs.Grammar.{two_bytes, opcode_byte}
 use Rattle.ws_record.specs.declared.record.Record.{Record}
 use Rattle.ws_session.specs.Acts.{Did}
-use Rattle.ws_session.specs.Attachments.{AttachedParts, HaveLed, IsSendFailure, HasHeard, IsHearFault}
-use Rattle.ws_session.specs.declared.send_fault.SendFault.{SendFault}
+use Rattle.ws_session.specs.attached.Attachments.{AttachedParts, HaveLed, IsSendFailure, HasHeard, IsHearFault}
+use Rattle.ws_session.specs.declared.host_end.send_fault.SendFault.{SendFault}
 use Rattle.ws_text.specs.ItemLines.{hex_behind_blank}
-use Rattle.ws_live.specs.LiveText.{bad_outcome, bad_text}
-use Rattle.ws_live.specs.ServeText.{given_outcome, given_text, unheard_outcome, unheard_text}
-use Rattle.ws_live.specs.WireLines.{WireRuns}
+use Rattle.ws_live.specs.live.LiveText.{bad_outcome, bad_text}
+use Rattle.ws_live.specs.live.ServeText.{given_outcome, given_text, unheard_outcome, unheard_text}
+use Rattle.ws_live.specs.live.WireLines.{WireRuns}
 use Rattle.ws_live.specs.declared.live.Closing.{Closing}
 use Rattle.ws_live.specs.declared.live.Closing.TheVariants.{Nothing, Done, Ended}
-use Rattle.ws_live.specs.declared.watch.WaitSpan.{WaitSpan}
-use Rattle.ws_live.specs.declared.watch.WaitSpan.TheVariants.{Whole}
+use Rattle.ws_live.specs.declared.live.watch.WaitSpan.{WaitSpan}
+use Rattle.ws_live.specs.declared.live.watch.WaitSpan.TheVariants.{Whole}
 use Rattle.ws_any_host.specs.AnyLeads.{AnyParts, any_conduct, IsAnySendRefusal, IsAnySendTaken}
 use Rattle.ws_any_host.specs.declared.any_event.AnyEvent.{AnyEvent}
 use Rattle.ws_any_host.specs.declared.any_event.AnyEvent.TheVariants.{Ready, Record as Came}

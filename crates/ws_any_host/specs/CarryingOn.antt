@@ -6,8 +6,8 @@ use Rattle.ws_code.specs.declared.fault.Fault.{Fault}
 use Rattle.ws_code.specs.declared.fault.Fault.TheVariants as fault
 use Rattle.ws_text.specs.Printing.{IsOut}
 use Rattle.ws_text.specs.declared.output.Output.{Output}
-use Rattle.ws_live.specs.LiveText.{HaveRun}
-use Rattle.ws_live.specs.ServeText.{is_told}
+use Rattle.ws_live.specs.live.LiveText.{HaveRun}
+use Rattle.ws_live.specs.live.ServeText.{is_told}
 use Rattle.ws_live.specs.declared.live.Closing.{Closing}
 use Rattle.ws_live.specs.declared.live.Closing.TheVariants.{Stopped}
 

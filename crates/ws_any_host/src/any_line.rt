@@ -1,8 +1,8 @@
 ghost use Rattle.std.specs.Prelude.{◌≡◌, ◌++◌, [], ◌<◌, ℕ, List as Seq, true, length, codes, IfOk, IfErr, MatchOption};
 ghost use Rattle.ws_code.specs.Code.{spelling_of};
 ghost use Rattle.ws_extended.specs.ExtendedElements.{extended_rules};
-ghost use Rattle.ws_live.specs.LiveScript.{IsBlockFault};
-ghost use Rattle.ws_live.specs.ScriptFaults.{IsNoComment, has_no_blank};
+ghost use Rattle.ws_live.specs.live.LiveScript.{IsBlockFault};
+ghost use Rattle.ws_live.specs.script.ScriptFaults.{IsNoComment, has_no_blank};
 ghost use Rattle.ws_text.specs.Words.{IsHex};
 ghost use Rattle.std.specs.Str.Lines.{lines};
 ghost use Rattle.ws_any_host.specs.AnyLines.{BeginsAnyLine, IsAnyLine, IsBadAnyLineAt, OpensAnyBlock};

@@ -1,7 +1,7 @@
 //! The lines of a script, carried out at a host that takes any record.
 ghost use Rattle.std.specs.Prelude.{◌≡◌, false, Bool, List, ℕ, IfOk};
 ghost use Rattle.ws_text.specs.Printing.{Prints};
-ghost use Rattle.ws_live.specs.LiveText.{stops};
+ghost use Rattle.ws_live.specs.live.LiveText.{stops};
 ghost use Rattle.ws_any_host.specs.AnyText as Spec;
 ghost use Rattle.ws_code.specs.Device.{on_devices};
 

@@ -1,7 +1,7 @@
 ghost use Rattle.std.specs.Prelude.{◌≡◌, [], false, IfOk, IfErr};
-ghost use Rattle.ws_live.specs.LiveText.{stops};
-ghost use Rattle.ws_live.specs.ServeText as Told;
-ghost use Rattle.ws_live.specs.Waits.{InTime};
+ghost use Rattle.ws_live.specs.live.LiveText.{stops};
+ghost use Rattle.ws_live.specs.live.ServeText as Told;
+ghost use Rattle.ws_live.specs.live.Waits.{InTime};
 ghost use Rattle.ws_any_host.specs.CarryingOn as Spec;
 
 use ws_code::{Fault, Sink};

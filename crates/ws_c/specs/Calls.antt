@@ -17,16 +17,16 @@ use Rattle.ws_screen.specs.ScreenParts.{ScreenParts, holds}
 use Rattle.ws_screen.specs.declared.field.Field.{Field}
 use Rattle.ws_screen.specs.declared.read_kind.ReadKind.{ReadKind}
 use Rattle.ws_screen.specs.declared.read_kind.ReadKind.TheVariants.{Input, Mdt, MdtAlternate}
-use Rattle.ws_session.specs.AnswerSpelling.{answer_spelling}
-use Rattle.ws_session.specs.Displays.{DisplayOf, SideOn}
+use Rattle.ws_session.specs.station.AnswerSpelling.{answer_spelling}
+use Rattle.ws_session.specs.station.Displays.{DisplayOf, SideOn}
 use Rattle.ws_session.specs.Ends.{refused_byte}
-use Rattle.ws_session.specs.PartsOn.{PartsOn}
-use Rattle.ws_session.specs.StationLeads.{StationParts, StationLeads}
-use Rattle.ws_session.specs.StationSide.{new_station_side, profile}
-use Rattle.ws_session.specs.Stations.{LeadsOn, IsKeyedOn}
-use Rattle.ws_session.specs.declared.key_fault.KeyFault.{KeyFault}
-use Rattle.ws_session.specs.declared.key_fault.KeyFault.TheVariants.{Failed as KeyFailed, NotReady as KeyNotReady}
-use Rattle.ws_session.specs.declared.key_fault.KeyFault.TheVariants.{Key as Refuses}
+use Rattle.ws_session.specs.station.PartsOn.{PartsOn}
+use Rattle.ws_session.specs.station.StationLeads.{StationParts, StationLeads}
+use Rattle.ws_session.specs.station.StationSide.{new_station_side, profile}
+use Rattle.ws_session.specs.station.Stations.{LeadsOn, IsKeyedOn}
+use Rattle.ws_session.specs.declared.station.key_fault.KeyFault.{KeyFault}
+use Rattle.ws_session.specs.declared.station.key_fault.KeyFault.TheVariants.{Failed as KeyFailed, NotReady as KeyNotReady}
+use Rattle.ws_session.specs.declared.station.key_fault.KeyFault.TheVariants.{Key as Refuses}
 use Rattle.ws_keys.specs.declared.answer.Answer.{Answer}
 use Rattle.ws_keys.specs.declared.key.Key.{Key}
 use Rattle.ws_c.specs.Keys.{refusal_number}

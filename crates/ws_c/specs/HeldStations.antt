@@ -12,10 +12,10 @@ use Rattle.ws_extended_station.specs.ExtendedDisplays.{DisplayParts, extended, e
 use Rattle.ws_extended_station.specs.declared.extended_key.ExtendedKey.{ExtendedKey}
 use Rattle.ws_extended_station.specs.declared.extended_key.ExtendedKey.TheVariants.{Profile, Reset}
 use Rattle.ws_session.specs.Ends.{refused_byte}
-use Rattle.ws_session.specs.PartsOn.{PartsOn}
-use Rattle.ws_session.specs.StationManners.{new_side_on}
-use Rattle.ws_session.specs.Stations.{LeadsOn}
-use Rattle.ws_session.specs.declared.key_fault.KeyFault.{KeyFault}
+use Rattle.ws_session.specs.station.PartsOn.{PartsOn}
+use Rattle.ws_session.specs.station.StationManners.{new_side_on}
+use Rattle.ws_session.specs.station.Stations.{LeadsOn}
+use Rattle.ws_session.specs.declared.station.key_fault.KeyFault.{KeyFault}
 use Rattle.ws_c.specs.Calls.{IsKeyTold, IsPress, StationKeyedOn, holds_front, row_number, state_of_screen, told_length}
 use Rattle.ws_c.specs.Held.{OnExtended, OnStations}
 use Rattle.ws_c.specs.Keys.{IsKeyFrom}

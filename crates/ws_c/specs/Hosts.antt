@@ -12,12 +12,12 @@ use Rattle.ws_record.specs.declared.record.Item.TheVariants.{Telnet as TelnetIte
 use Rattle.ws_stream.specs.Elements.{element_rules}
 use Rattle.ws_stream.specs.declared.answer_part.AnswerPart.{AnswerPart}
 use Rattle.ws_keys.specs.declared.host_answer.HostAnswer.{HostAnswer}
-use Rattle.ws_session.specs.HostFeeds.{HasHostTakenAll, HasHostFed, HasHostRefused, HasHostToldNothing as AreSilent}
-use Rattle.ws_session.specs.HostLeads.{HostParts, HostLeads}
-use Rattle.ws_session.specs.HostSide.{HostSide, new_host_side}
-use Rattle.ws_session.specs.declared.host_event.HostEvent.{HostEvent}
-use Rattle.ws_session.specs.declared.host_event.HostEvent.TheVariants.{Ready, Answer, Attention, SystemRequest}
-use Rattle.ws_session.specs.declared.host_event.HostEvent.TheVariants.{Cancelled}
+use Rattle.ws_session.specs.host_end.HostFeeds.{HasHostTakenAll, HasHostFed, HasHostRefused, HasHostToldNothing as AreSilent}
+use Rattle.ws_session.specs.host_end.HostLeads.{HostParts, HostLeads}
+use Rattle.ws_session.specs.host_end.HostSide.{HostSide, new_host_side}
+use Rattle.ws_session.specs.declared.host_end.host_event.HostEvent.{HostEvent}
+use Rattle.ws_session.specs.declared.host_end.host_event.HostEvent.TheVariants.{Ready, Answer, Attention, SystemRequest}
+use Rattle.ws_session.specs.declared.host_end.host_event.HostEvent.TheVariants.{Cancelled}
 use Rattle.ws_session.specs.declared.refusal.Refusal.{Refusal}
 use Rattle.ws_session.specs.declared.refusal.Refusal.TheVariants.{Failed as HasFailed}
 use Rattle.ws_c.specs.declared.host.EventTold.{EventTold}

@@ -6,12 +6,12 @@ use Rattle.ws_code.specs.Code.{Rules}
 use Rattle.ws_code.specs.Reason.{number_of as reason_number}
 use Rattle.ws_record.specs.declared.record.Item.{Item}
 use Rattle.ws_stream.specs.Elements.{element_rules}
-use Rattle.ws_session.specs.Displays.{DisplayOf, SideOn}
-use Rattle.ws_session.specs.PartsOn.{PartsOn}
-use Rattle.ws_session.specs.StationActs.{HasTakenAllOn, HasRefusedOn}
-use Rattle.ws_session.specs.StationLeads.{StationParts}
-use Rattle.ws_session.specs.StationSide.{profile}
-use Rattle.ws_session.specs.Stations.{LeadsOn}
+use Rattle.ws_session.specs.station.Displays.{DisplayOf, SideOn}
+use Rattle.ws_session.specs.station.PartsOn.{PartsOn}
+use Rattle.ws_session.specs.station.StationActs.{HasTakenAllOn, HasRefusedOn}
+use Rattle.ws_session.specs.station.StationLeads.{StationParts}
+use Rattle.ws_session.specs.station.StationSide.{profile}
+use Rattle.ws_session.specs.station.Stations.{LeadsOn}
 use Rattle.ws_session.specs.declared.end_step.Applied.{Applied}
 use Rattle.ws_session.specs.declared.refusal.Refusal.{Refusal}
 use Rattle.ws_session.specs.declared.refusal.Refusal.TheVariants.{At, Failed as HasFailed, Memory}

@@ -10,9 +10,9 @@ use Rattle.ws_keys.specs.declared.answer.Answer.{Answer}
 use Rattle.ws_keys.specs.declared.key.Key.{Key}
 use Rattle.ws_keys.specs.declared.key_run.KeyRun.{KeyRun}
 use Rattle.ws_screen.specs.ScreenParts.{ScreenParts}
-use Rattle.ws_session.specs.PartsOn.{PartsOn}
-use Rattle.ws_session.specs.StationLeads.{StationParts}
-use Rattle.ws_session.specs.declared.key_fault.KeyFault.{KeyFault}
+use Rattle.ws_session.specs.station.PartsOn.{PartsOn}
+use Rattle.ws_session.specs.station.StationLeads.{StationParts}
+use Rattle.ws_session.specs.declared.station.key_fault.KeyFault.{KeyFault}
 use Rattle.ws_c.specs.declared.held_station.HeldStation.{HeldStation}
 use Rattle.ws_c.specs.declared.status.Status.{Status}
 use Rattle.ws_c.specs.declared.status.Status.TheVariants.{Done, NoRoom}

@@ -1,7 +1,7 @@
 //! A station as live hosts use it, with what of its last answer still waits for room.
 ghost use Rattle.std.specs.Prelude.{◌≡◌, ◌≤◌, ◌<◌, ◌+◌, ◌^◌, [], length};
-ghost use Rattle.ws_session.specs.StationManners.{new_side_on};
-ghost use Rattle.ws_session.specs.Stations.{LeadsOn};
+ghost use Rattle.ws_session.specs.station.StationManners.{new_side_on};
+ghost use Rattle.ws_session.specs.station.Stations.{LeadsOn};
 ghost use Rattle.ws_extended.specs.ExtendedElements.{extended_rules};
 ghost use Rattle.ws_extended_station.specs.ExtendedDisplays.{extended};
 ghost use Rattle.ws_c.specs.HeldStations.{HandsOut, IsHeldKeyed, key_or_reset, waiting};

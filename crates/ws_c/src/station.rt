@@ -1,8 +1,8 @@
 //! Display stations.
 ghost use Rattle.std.specs.Prelude.{◌≡◌, ◌≤◌, ◌<◌, ◌+◌, ◌-◌, ◌++◌, List, ℕ, None, length, min};
 ghost use Rattle.ws_nego.specs.Terminal.{terminal_named};
-ghost use Rattle.ws_session.specs.StationLeads.{StationParts, StationLeads};
-ghost use Rattle.ws_session.specs.StationSide.{new_station_side};
+ghost use Rattle.ws_session.specs.station.StationLeads.{StationParts, StationLeads};
+ghost use Rattle.ws_session.specs.station.StationSide.{new_station_side};
 ghost use Rattle.ws_c.specs.declared.status.Status.{Status as AStatus};
 ghost use Rattle.ws_c.specs.Calls.{IsStationNew, holds_front, status_number};
 ghost use Rattle.ws_c.specs.Held.{IsStationFreed, OnStations};

@@ -2,7 +2,7 @@
 ghost use Rattle.std.specs.Prelude.{◌≡◌, ◌≤◌, ◌<◌, Option, Result, length};
 ghost use Rattle.ws_keys.specs.declared.answer.Answer.{Answer as AnAnswer};
 ghost use Rattle.ws_extended_station.specs.declared.extended_key.ExtendedKey.{ExtendedKey as AnyKey};
-ghost use Rattle.ws_session.specs.declared.key_fault.KeyFault.{KeyFault as AFault};
+ghost use Rattle.ws_session.specs.declared.station.key_fault.KeyFault.{KeyFault as AFault};
 ghost use Rattle.ws_c.specs.declared.status.Status.{Status as AStatus};
 ghost use Rattle.ws_c.specs.Calls.{IsKeyFaultTold, IsKeyTold, IsPress, StationKeyed, status_number, told_length};
 ghost use Rattle.ws_c.specs.Held.{OnExtended, OnStations};

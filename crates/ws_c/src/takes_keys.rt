@@ -3,7 +3,7 @@ ghost use Rattle.std.specs.Prelude.{◌≡◌, Option as Maybe, Result as Outcom
 ghost use Rattle.ws_keys.specs.declared.answer.Answer.{Answer as AnAnswer};
 ghost use Rattle.ws_keys.specs.declared.key.Key.{Key as AKey};
 ghost use Rattle.ws_screen.specs.ScreenParts.{ScreenParts};
-ghost use Rattle.ws_session.specs.declared.key_fault.KeyFault.{KeyFault as AFault};
+ghost use Rattle.ws_session.specs.declared.station.key_fault.KeyFault.{KeyFault as AFault};
 ghost use Rattle.ws_c.specs.Calls.{StationKeyed};
 ghost use Rattle.ws_c.specs.Strokes.{ExtendedKeyed};
 

@@ -25,10 +25,10 @@ use Rattle.ws_extended.proofs.ProfileBodies.{profile_body, profile_spelled}
 use Rattle.ws_session.specs.Acts.{Act, AllTaken, Arrives, Came, Did, Does, Doing, Happen, Happening, HasGone}
 use Rattle.ws_session.specs.Acts.{HoldsItems}
 use Rattle.ws_session.specs.Acts.{bytes_of, doing, IsHappeningTaken, items_of, one_then}
-use Rattle.ws_session.specs.Displays.{KeyReactionOn, RefusesKey, Silent, Answers, Signals}
+use Rattle.ws_session.specs.station.Displays.{KeyReactionOn, RefusesKey, Silent, Answers, Signals}
 use Rattle.ws_session.specs.Reaction.{Reaction, Refuses, GoesOn}
-use Rattle.ws_session.specs.StationManners.{at_item_on, at_key_on, at_on, goes_on, key_on, manner_on, takes_on}
-use Rattle.ws_session.specs.StationSide.{StationSide, profile}
+use Rattle.ws_session.specs.station.StationManners.{at_item_on, at_key_on, at_on, goes_on, key_on, manner_on, takes_on}
+use Rattle.ws_session.specs.station.StationSide.{StationSide, profile}
 use Rattle.ws_session.specs.declared.end_step.Applied.{Applied}
 use Rattle.ws_screen.specs.Events.{History}
 use Rattle.ws_extended_station.specs.BesideProfile.{HaveJustArrived, NoErrorStands, act_there, as_reacted, item_there}

@@ -16,10 +16,10 @@ use Rattle.ws_keys.proofs.StepLemmas.{does_follow}
 use Rattle.ws_extended.specs.ErrorLine.{error_row}
 use Rattle.ws_extended.specs.ExtendedKeys.{waits_for_reset}
 use Rattle.ws_extended.specs.ExtendedViews.{ExtendedParts}
-use Rattle.ws_session.specs.Displays.{IsPressedOnDisplay, RefusesKey, Silent, Answers}
-use Rattle.ws_session.specs.StationSide.{KeyReaction, StationSide, answers_read, key_by_refusal, presses, profile}
-use Rattle.ws_session.specs.StationSide.{ProfileParts, screen_at}
-use Rattle.ws_session.specs.declared.key_fault.KeyFault.TheVariants.{Key as Refused}
+use Rattle.ws_session.specs.station.Displays.{IsPressedOnDisplay, RefusesKey, Silent, Answers}
+use Rattle.ws_session.specs.station.StationSide.{KeyReaction, StationSide, answers_read, key_by_refusal, presses, profile}
+use Rattle.ws_session.specs.station.StationSide.{ProfileParts, screen_at}
+use Rattle.ws_session.specs.declared.station.key_fault.KeyFault.TheVariants.{Key as Refused}
 use Rattle.ws_session.proofs.ProfileKeys.{pressed}
 use Rattle.ws_extended_station.specs.ExtendedDisplays.{DisplayParts, ExtendedGives, ExtendedSide, as_profile}
 use Rattle.ws_extended_station.specs.ExtendedDisplays.{extended}

@@ -9,9 +9,9 @@ use Rattle.ws_keys.specs.declared.key.Key.{Key}
 use Rattle.ws_extended.specs.declared.extended_element.ExtendedElement.{ExtendedElement}
 use Rattle.ws_extended.specs.declared.extended_element.ExtendedElement.TheVariants.{Profile}
 use Rattle.ws_session.specs.Acts.{Act, Came, Did}
-use Rattle.ws_session.specs.Displays.{SideOn}
+use Rattle.ws_session.specs.station.Displays.{SideOn}
 use Rattle.ws_session.specs.Reaction.{Reaction, Refuses, GoesOn}
-use Rattle.ws_session.specs.StationSide.{StationSide}
+use Rattle.ws_session.specs.station.StationSide.{StationSide}
 use Rattle.ws_extended_station.specs.Bytewise.{by_bytes}
 use Rattle.ws_extended_station.specs.ExtendedDisplays.{ExtendedSide, with_profile}
 use Rattle.ws_extended_station.specs.declared.extended_key.ExtendedKey.{ExtendedKey}

@@ -13,8 +13,8 @@ use Rattle.ws_extended.specs.Image.{IsTyped}
 use Rattle.ws_extended.specs.Telling.{told_bytes}
 use Rattle.ws_extended.specs.declared.ask.Ask.TheVariants.{SaveScreen}
 use Rattle.ws_extended.specs.declared.extended_element.ExtendedElement.{ExtendedElement}
-use Rattle.ws_session.specs.Alarms.{alarms_of}
-use Rattle.ws_session.specs.StationSide.{opcode_events}
+use Rattle.ws_session.specs.station.Alarms.{alarms_of}
+use Rattle.ws_session.specs.station.StationSide.{opcode_events}
 use Rattle.ws_extended_station.specs.ExtendedRecords.{record_fault, state_after_record}
 
 -- a screen in hand is what a display tells of when it is saved: the one that Reset would leave

@@ -8,9 +8,9 @@ use Rattle.std.proofs.lemmas.Bool.Decides.{eqb_tells}
 use Rattle.std.specs.Option.{option_map}
 use Rattle.std.specs.Str.Pattern.{FindsCharPrefix}
 use Rattle.std.specs.Prelude.{true, false, ◌==◌, MatchOption, Option, None, Some}
-use Rattle.ws_live.specs.Addresses.{IsV6, IsPlainV6, IsZone, IsZonedV6, HasNo, IsPort, IsPortOr, IsBehindHost, IsBracketed, IsNamed, IsHostText}
-use Rattle.ws_live.specs.Addresses.{IsHostPort, IsListening}
-use Rattle.ws_live.specs.Addresses.IsHostText.{bare, bracketed, named}
+use Rattle.ws_live.specs.asked.Addresses.{IsV6, IsPlainV6, IsZone, IsZonedV6, HasNo, IsPort, IsPortOr, IsBehindHost, IsBracketed, IsNamed, IsHostText}
+use Rattle.ws_live.specs.asked.Addresses.{IsHostPort, IsListening}
+use Rattle.ws_live.specs.asked.Addresses.IsHostText.{bare, bracketed, named}
 
 -- Where the texts of addresses are cut.
 

@@ -4,7 +4,7 @@ use Rattle.std.specs.Prelude.{Option, Some, None}
 use Rattle.std.proofs.lemmas.List.{append-nil}
 use Rattle.ws_code.specs.Device.{Writer, Taken, bytes_taken, Writes, WentOut, FailedWithin, IsWriteFailure}
 use Rattle.ws_code.proofs.DeviceLaws.{went_out_none, went_out_both, failed_within_both}
-use Rattle.ws_live.specs.Buffering.{Buffering, buffered_takes, buffered_writer}
+use Rattle.ws_live.specs.printing.Buffering.{Buffering, buffered_takes, buffered_writer}
 
 -- What goes out behind a buffer.
 

@@ -5,13 +5,13 @@ use Rattle.std.proofs.lemmas.Bool.Decides.{eqb_tells}
 use Rattle.std.specs.Prelude.{Option, None, Some, IfSome, MatchOption}
 use Rattle.std.proofs.lemmas.Str.Pattern.{IsSplitOnceResult, split_parts}
 use Rattle.ws_live.proofs.ScriptWords.{no_blank_from}
-use Rattle.ws_live.specs.ScriptFaults.{has_no_blank}
+use Rattle.ws_live.specs.script.ScriptFaults.{has_no_blank}
 use Rattle.ws_text.specs.Words.{IsNumber}
 use Rattle.std.proofs.lemmas.List.{append-nil}
-use Rattle.ws_live.specs.Causes.{BeginsWith, StandsIn, EndsWith, IsLeft, IsTrueOf, IsCause}
+use Rattle.ws_live.specs.cause.Causes.{BeginsWith, StandsIn, EndsWith, IsLeft, IsTrueOf, IsCause}
 use Rattle.ws_live.specs.declared.cause.Cause.{Cause}
 use Rattle.ws_live.specs.declared.cause.Cause.TheVariants as a_cause
-use Rattle.ws_live.specs.declared.vocabulary.Vocabulary.{Vocabulary}
+use Rattle.ws_live.specs.declared.cause.vocabulary.Vocabulary.{Vocabulary}
 
 -- Where words stand in a line.
 

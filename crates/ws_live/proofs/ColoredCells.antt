@@ -6,8 +6,8 @@ use Rattle.std.proofs.lemmas.Bool.Decides.{eqb_tells}
 use Rattle.std.proofs.lemmas.List.{append-nil, take_more}
 use Rattle.std.specs.Fmt.{decimal}
 use Rattle.ws_screen.specs.declared.shown.Shown.{Shown}
-use Rattle.ws_live.specs.ColoredRows.{sequence_behind, colored_behind, colored_text, reset}
-use Rattle.ws_live.specs.ScreenLines.{indent, row_line}
+use Rattle.ws_live.specs.printing.ColoredRows.{sequence_behind, colored_behind, colored_text, reset}
+use Rattle.ws_live.specs.printing.ScreenLines.{indent, row_line}
 
 -- Cells in colour, one after another.
 

@@ -9,26 +9,26 @@ use Rattle.ws_code.specs.Code.{Rules}
 use Rattle.ws_code.specs.Device.{Writer, Reader, one_more, Devices}
 use Rattle.ws_code.specs.declared.fault.Fault.{Fault}
 use Rattle.ws_code.specs.declared.fault.Fault.TheVariants as fault
-use Rattle.ws_session.specs.Attachments.{AttachedParts}
-use Rattle.ws_session.specs.Displays.{DisplayOf}
-use Rattle.ws_session.specs.PartsOn.{PartsOn}
+use Rattle.ws_session.specs.attached.Attachments.{AttachedParts}
+use Rattle.ws_session.specs.station.Displays.{DisplayOf}
+use Rattle.ws_session.specs.station.PartsOn.{PartsOn}
 use Rattle.ws_session.specs.declared.end_step.Applied.{Applied}
-use Rattle.ws_session.specs.declared.key_fault.KeyFault.{KeyFault}
+use Rattle.ws_session.specs.declared.station.key_fault.KeyFault.{KeyFault}
 use Rattle.ws_live.specs.declared.live.Closing.{Closing}
-use Rattle.ws_live.specs.declared.connect.Waited.{Waited}
-use Rattle.ws_live.specs.declared.connect.Waited.TheVariants as waits
-use Rattle.ws_live.specs.declared.connect_line.Awaited.{Awaited}
-use Rattle.ws_live.specs.declared.connect_line.Awaited.TheVariants as awaits
-use Rattle.ws_live.specs.ConnectText.{key_refused_text, pressed, closing_of_both, IsMet, IsKeyPressed, KeyRuns, ArePressed}
-use Rattle.ws_live.specs.ConnectText.{KeysRun, Hears, HasWaited, HearsOne, HearsNone, WaitsFor, IsWaited, IsKeyUnwritten}
-use Rattle.ws_live.specs.ConnectText.{IsWorking, Reports, ShowsStation, more_ahead, report_waits, rested}
-use Rattle.ws_live.specs.declared.watch.WaitSpan.TheVariants.{AtOnce}
-use Rattle.ws_live.specs.ReportLines.{IsReportText}
-use Rattle.ws_live.specs.declared.report.Report.{Report}
-use Rattle.ws_live.specs.declared.report.Report.TheVariants as reported
+use Rattle.ws_live.specs.declared.live.connect.Waited.{Waited}
+use Rattle.ws_live.specs.declared.live.connect.Waited.TheVariants as waits
+use Rattle.ws_live.specs.declared.live.connect_line.Awaited.{Awaited}
+use Rattle.ws_live.specs.declared.live.connect_line.Awaited.TheVariants as awaits
+use Rattle.ws_live.specs.live.ConnectText.{key_refused_text, pressed, closing_of_both, IsMet, IsKeyPressed, KeyRuns, ArePressed}
+use Rattle.ws_live.specs.live.ConnectText.{KeysRun, Hears, HasWaited, HearsOne, HearsNone, WaitsFor, IsWaited, IsKeyUnwritten}
+use Rattle.ws_live.specs.live.ConnectText.{IsWorking, Reports, ShowsStation, more_ahead, report_waits, rested}
+use Rattle.ws_live.specs.declared.live.watch.WaitSpan.TheVariants.{AtOnce}
+use Rattle.ws_live.specs.printing.ReportLines.{IsReportText}
+use Rattle.ws_live.specs.declared.live.report.Report.{Report}
+use Rattle.ws_live.specs.declared.live.report.Report.TheVariants as reported
 use Rattle.ws_nego.specs.Station.{station_allows_records}
-use Rattle.ws_live.specs.KeyWords.{KeyWords}
-use Rattle.ws_live.specs.Operating.{OperatedOn}
+use Rattle.ws_live.specs.script.KeyWords.{KeyWords}
+use Rattle.ws_live.specs.live.Operating.{OperatedOn}
 
 -- Keys and records at a station, one more at a time.
 

@@ -8,8 +8,8 @@ use Rattle.std.proofs.lemmas.List.{append-nil}
 use Rattle.ws_code.specs.declared.address.TheConstants.{CELLS}
 use Rattle.ws_screen.specs.ScreenParts.{AreApart}
 use Rattle.ws_screen.specs.declared.field.Field.{Field}
-use Rattle.ws_live.specs.FieldLines.{shown_of, field_line, behind_blank, AreLinesOf}
-use Rattle.ws_live.specs.ScreenLines.{IsWithoutLastBlanks}
+use Rattle.ws_live.specs.printing.FieldLines.{shown_of, field_line, behind_blank, AreLinesOf}
+use Rattle.ws_live.specs.printing.ScreenLines.{IsWithoutLastBlanks}
 use Rattle.ws_text.proofs.LineEnds.{filled}
 
 -- The fields of a screen, one after another.

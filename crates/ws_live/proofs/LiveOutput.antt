@@ -1,6 +1,6 @@
 use Rattle.std.proofs.Common.{◌≡◌, ℕ, List, [], length, ap, sym, subst, arith}
 use Rattle.ws_code.specs.Device.{Writer, WentOut, FailedWithin}
-use Rattle.ws_live.specs.Buffering.{Buffering, buffered_writer}
+use Rattle.ws_live.specs.printing.Buffering.{Buffering, buffered_writer}
 use Rattle.ws_text.specs.Printing.{IsOut}
 use Rattle.ws_text.specs.declared.output.Output.{Output}
 use Rattle.ws_text.specs.declared.output.Output.TheVariants.{Open, Failed}

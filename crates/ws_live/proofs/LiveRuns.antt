@@ -12,8 +12,8 @@ use Rattle.ws_live.specs.declared.live.Closing.{Closing}
 use Rattle.ws_live.specs.declared.live.Ran.{Ran}
 use Rattle.ws_text.specs.declared.output.Output.{Output}
 use Rattle.ws_text.specs.declared.output.Output.TheVariants.{Open, Failed as Unwritten}
-use Rattle.ws_live.specs.LiveText.{closing_text, is_well, stops, ran_by, ran_and, HaveRun, IsStoppedAt, HasCarried}
-use Rattle.ws_live.specs.LiveText.{IsLiveLineFault, HasRunLines, IsLiveFault}
+use Rattle.ws_live.specs.live.LiveText.{closing_text, is_well, stops, ran_by, ran_and, HaveRun, IsStoppedAt, HasCarried}
+use Rattle.ws_live.specs.live.LiveText.{IsLiveLineFault, HasRunLines, IsLiveFault}
 use Rattle.ws_text.specs.Printing.{IsOut}
 
 -- Lines that are carried out one after another.

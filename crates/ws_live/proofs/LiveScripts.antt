@@ -4,8 +4,8 @@ use Rattle.std.proofs.Common.{append_assoc, length-append, take, true, inl}
 use Rattle.std.specs.Prelude.{min}
 use Rattle.std.proofs.Math.Seq.{take-append_seam}
 use Rattle.std.specs.Str.Lines.{lines}
-use Rattle.ws_live.specs.LiveScript.{is_indented, AreIndented, BeginsFlush, HasInside, IsBlock, HasBlock}
-use Rattle.ws_live.specs.LiveScript.{MeanThese, AreLiveLines, IsFirstBadLiveLine, IsGoodBlockSoFar, IsLiveScriptSoFar}
+use Rattle.ws_live.specs.live.LiveScript.{is_indented, AreIndented, BeginsFlush, HasInside, IsBlock, HasBlock}
+use Rattle.ws_live.specs.live.LiveScript.{MeanThese, AreLiveLines, IsFirstBadLiveLine, IsGoodBlockSoFar, IsLiveScriptSoFar}
 use Rattle.ws_text.specs.FirstLine.{IsBehindLines}
 use Rattle.ws_live.proofs.LineFronts.{behind_more, lines_behind}
 

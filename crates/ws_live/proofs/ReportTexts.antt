@@ -3,7 +3,7 @@ use Rattle.std.specs.Prelude.{map}
 use Rattle.std.proofs.lemmas.List.{map_more}
 use Rattle.hex.specs.Hex.{encode_upper, upper_digits}
 use Rattle.ws_screen.specs.declared.shown.Shown.{Shown}
-use Rattle.ws_live.specs.ReportLines.{attributes_text}
+use Rattle.ws_live.specs.printing.ReportLines.{attributes_text}
 use Rattle.ws_text.proofs.Prints.{encode_append}
 
 -- The attributes of one more cell.

@@ -7,8 +7,8 @@ use Rattle.std.proofs.lemmas.Bool.{false≢true}
 use Rattle.std.specs.Str.Pattern.{CutsSuffixes, IsTrimEndMatches, FindsCharSuffix}
 use Rattle.std.proofs.lemmas.List.{append-nil, drop_all, take-append-drop}
 use Rattle.ws_text.proofs.LineEnds.{filled}
-use Rattle.ws_live.specs.declared.paint.Paint.{Paint}
-use Rattle.ws_live.specs.ScreenLines.{IsWithoutLastBlanks, IsShownRow, AreRows, row_line, indent}
+use Rattle.ws_live.specs.declared.printing.paint.Paint.{Paint}
+use Rattle.ws_live.specs.printing.ScreenLines.{IsWithoutLastBlanks, IsShownRow, AreRows, row_line, indent}
 
 -- Rows one after another.
 

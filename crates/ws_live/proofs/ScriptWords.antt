@@ -15,8 +15,8 @@ use Rattle.ws_record.specs.declared.opcode.Opcode.{Opcode}
 use Rattle.ws_record.specs.declared.opcode.Opcode.TheVariants.{CancelInvite}
 use Rattle.ws_record.specs.Grammar.{opcode_byte}
 use Rattle.ws_text.specs.Words.{IsNumber}
-use Rattle.ws_live.specs.Script.{IsSendOpcode}
-use Rattle.ws_live.specs.ScriptFaults.{IsNoComment, has_no_blank}
+use Rattle.ws_live.specs.script.Script.{IsSendOpcode}
+use Rattle.ws_live.specs.script.ScriptFaults.{IsNoComment, has_no_blank}
 
 -- Words: blanks and digits.
 

@@ -13,8 +13,8 @@ use Rattle.ws_text.specs.BodyLines.{AddUnits, IsAddFault, new_record}
 use Rattle.ws_text.specs.ElementWords.{element_wording}
 use Rattle.ws_text.specs.declared.items.TextFault.TheVariants as items
 use Rattle.ws_text.proofs.LineEnds.{some_lines}
-use Rattle.ws_live.specs.LiveScript.{IsBlockFault}
-use Rattle.ws_live.specs.ServeLines.{AreBadAt, BeginsHostLine, IsBadHostLineAt, IsHostLine, OpensHostBlock, SendsAlone}
+use Rattle.ws_live.specs.live.LiveScript.{IsBlockFault}
+use Rattle.ws_live.specs.live.ServeLines.{AreBadAt, BeginsHostLine, IsBadHostLineAt, IsHostLine, OpensHostBlock, SendsAlone}
 use Rattle.ws_live.specs.declared.script.ScriptFault.TheVariants.{Line}
 
 -- Records that are told in words.

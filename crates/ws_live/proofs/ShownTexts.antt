@@ -16,8 +16,8 @@ use Rattle.ws_stream.specs.FieldOrder.{is_attribute}
 use Rattle.ws_screen.specs.Attributes.{is_hidden}
 use Rattle.ws_screen.specs.Lines.{attribute_at, row_chars, shown_at, shown_row, shown_under}
 use Rattle.ws_screen.specs.declared.lines.TheConstants.{DUP}
-use Rattle.ws_live.specs.ReportLines.{row_bytes}
-use Rattle.ws_live.specs.ShownTexts.{IsNeededBy, IsOnlyFor}
+use Rattle.ws_live.specs.printing.ReportLines.{row_bytes}
+use Rattle.ws_live.specs.printing.ShownTexts.{IsNeededBy, IsOnlyFor}
 
 -- The bytes that a row has which shows a text.
 

@@ -11,19 +11,19 @@ use Rattle.ws_code.specs.declared.fault.Fault.{Fault}
 use Rattle.ws_keys.specs.Strokes.{keys_of}
 use Rattle.ws_keys.specs.declared.key.Key.{Key}
 use Rattle.ws_keys.specs.declared.key_run.KeyRun.{KeyRun}
-use Rattle.ws_session.specs.Attachments.{AttachedParts}
-use Rattle.ws_session.specs.Displays.{DisplayOf}
-use Rattle.ws_session.specs.PartsOn.{PartsOn}
-use Rattle.ws_session.specs.declared.key_fault.KeyFault.{KeyFault}
+use Rattle.ws_session.specs.attached.Attachments.{AttachedParts}
+use Rattle.ws_session.specs.station.Displays.{DisplayOf}
+use Rattle.ws_session.specs.station.PartsOn.{PartsOn}
+use Rattle.ws_session.specs.declared.station.key_fault.KeyFault.{KeyFault}
 use Rattle.ws_screen.specs.ScreenParts.{ScreenParts}
-use Rattle.ws_live.specs.ConnectText.{key_refused_text, pressed, KeyRuns, KeysUntil, StrokeRuns}
-use Rattle.ws_live.specs.KeyWords.{KeyWords}
-use Rattle.ws_live.specs.Stroking.{keys_behind, no_field_text, stroke_keys, stroke_runs}
+use Rattle.ws_live.specs.live.ConnectText.{key_refused_text, pressed, KeyRuns, KeysUntil, StrokeRuns}
+use Rattle.ws_live.specs.script.KeyWords.{KeyWords}
+use Rattle.ws_live.specs.live.Stroking.{keys_behind, no_field_text, stroke_keys, stroke_runs}
 use Rattle.ws_live.specs.declared.live.Closing.{Closing}
 use Rattle.ws_live.specs.declared.live.Closing.TheVariants.{Declined, Done}
-use Rattle.ws_live.specs.declared.stroke.Filling.{Filling}
-use Rattle.ws_live.specs.declared.stroke.Stroke.{Stroke}
-use Rattle.ws_live.specs.declared.stroke.Stroke.TheVariants.{Cursor, NewLine, EraseEof, Fill}
+use Rattle.ws_live.specs.declared.live.stroke.Filling.{Filling}
+use Rattle.ws_live.specs.declared.live.stroke.Stroke.{Stroke}
+use Rattle.ws_live.specs.declared.live.stroke.Stroke.TheVariants.{Cursor, NewLine, EraseEof, Fill}
 
 -- Keys one after another, up to the first that isn't taken.
 

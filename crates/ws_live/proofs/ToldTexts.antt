@@ -8,13 +8,13 @@ use Rattle.std.proofs.lemmas.Bool.Decides.{eqb_tells}
 use Rattle.std.proofs.lemmas.List.{take_more}
 use Rattle.std.proofs.lemmas.Str.{length-encode}
 use Rattle.ws_keys.specs.declared.host_answer.HostAnswer.{HostAnswer}
-use Rattle.ws_session.specs.declared.host_event.HostEvent.{HostEvent}
-use Rattle.ws_session.specs.declared.host_event.HostEvent.TheVariants.{Ready, Answer, Attention, SystemRequest, Cancelled}
+use Rattle.ws_session.specs.declared.host_end.host_event.HostEvent.{HostEvent}
+use Rattle.ws_session.specs.declared.host_end.host_event.HostEvent.TheVariants.{Ready, Answer, Attention, SystemRequest, Cancelled}
 use Rattle.ws_text.proofs.LineEnds.{filled}
 use Rattle.ws_screen.specs.Lines.{shown_char}
-use Rattle.ws_live.specs.FieldLines.{behind_blank}
-use Rattle.ws_live.specs.PlayLines.{host_event_text}
-use Rattle.ws_live.specs.ToldLines.{before_blanks, told_text, with_first}
+use Rattle.ws_live.specs.printing.FieldLines.{behind_blank}
+use Rattle.ws_live.specs.printing.PlayLines.{host_event_text}
+use Rattle.ws_live.specs.printing.ToldLines.{before_blanks, told_text, with_first}
 
 -- The bytes of a field before those that show blanks at its end.
 

@@ -1,5 +1,12 @@
 ghost use Rattle.std.specs.Prelude.{◌≡◌, ◌++◌, List, ℕ, IfOk, string_bytes};
-ghost use Rattle.ws_live.specs.CauseTexts as Spec;
+ghost use Rattle.ws_live.specs.cause.CauseTexts as Spec;
+
+pub(crate) mod cause_kinds;
+pub(crate) mod cause_lines;
+pub(crate) mod cause_words;
+pub(crate) mod causes;
+pub(crate) mod told_line;
+pub(crate) mod vocabulary;
 
 use std::alloc::{AllocError, Global};
 

@@ -1,8 +1,15 @@
 ghost use Rattle.std.specs.Prelude.{IfOk, IfErr};
-ghost use Rattle.ws_live.specs.Script.{IsScript};
-ghost use Rattle.ws_live.specs.ScriptFaults.{IsScriptFault};
+ghost use Rattle.ws_live.specs.script.Script.{IsScript};
+ghost use Rattle.ws_live.specs.script.ScriptFaults.{IsScriptFault};
 
-use crate::script_line::{LineFault, read_line};
+pub(crate) mod extended_key_names;
+pub(crate) mod key_line;
+pub(crate) mod key_name;
+pub(crate) mod named_key;
+pub(crate) mod script_line;
+pub(crate) mod script_move;
+
+use crate::script::script_line::{LineFault, read_line};
 use std::alloc::Global;
 use thiserror::Error;
 use ws_session::Move;

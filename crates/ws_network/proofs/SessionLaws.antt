@@ -9,23 +9,23 @@ use Rattle.ws_nego.specs.Host.{opening}
 use Rattle.ws_record.specs.Encode.{plain_spelling}
 use Rattle.ws_record.specs.declared.record.Item.TheVariants.{Telnet}
 use Rattle.ws_stream.specs.Elements.{element_rules}
-use Rattle.ws_session.specs.Attachments.{AttachedParts}
-use Rattle.ws_session.specs.HostLeads.{HostParts, HostLeads, unopened_host_side, side_after_open}
-use Rattle.ws_session.specs.Displays.{DisplayOf}
-use Rattle.ws_session.specs.PartsOn.{PartsOn}
-use Rattle.ws_session.specs.StationManners.{new_side_on}
-use Rattle.ws_session.specs.Stations.{LeadsOn}
-use Rattle.ws_live.specs.ConnectText.{IsConnectText}
-use Rattle.ws_live.specs.KeyWords.{KeyWords}
-use Rattle.ws_live.specs.LiveScript.{AreLiveLines}
-use Rattle.ws_live.specs.Operating.{OperatedOn}
-use Rattle.ws_live.specs.ServeText.{IsServeText}
-use Rattle.ws_live.specs.declared.connect_line.StationLine.{StationLine}
-use Rattle.ws_live.specs.declared.serve_line.HostLine.{HostLine}
+use Rattle.ws_session.specs.attached.Attachments.{AttachedParts}
+use Rattle.ws_session.specs.host_end.HostLeads.{HostParts, HostLeads, unopened_host_side, side_after_open}
+use Rattle.ws_session.specs.station.Displays.{DisplayOf}
+use Rattle.ws_session.specs.station.PartsOn.{PartsOn}
+use Rattle.ws_session.specs.station.StationManners.{new_side_on}
+use Rattle.ws_session.specs.station.Stations.{LeadsOn}
+use Rattle.ws_live.specs.live.ConnectText.{IsConnectText}
+use Rattle.ws_live.specs.script.KeyWords.{KeyWords}
+use Rattle.ws_live.specs.live.LiveScript.{AreLiveLines}
+use Rattle.ws_live.specs.live.Operating.{OperatedOn}
+use Rattle.ws_live.specs.live.ServeText.{IsServeText}
+use Rattle.ws_live.specs.declared.live.connect_line.StationLine.{StationLine}
+use Rattle.ws_live.specs.declared.live.serve_line.HostLine.{HostLine}
 use Rattle.ws_network.specs.Sessions.{AreFromScript, IsConnected, IsServed}
 use Rattle.ws_network.specs.Times.{ConnectionReads, ConnectionWrites, no_reads, no_writes, timed_devices, timed_writer, tells, rests, begins}
-use Rattle.ws_live.specs.declared.live_asked.ConnectAsked.{ConnectAsked}
-use Rattle.ws_live.specs.declared.live_asked.ServeAsked.{ServeAsked}
+use Rattle.ws_live.specs.declared.asked.live_asked.ConnectAsked.{ConnectAsked}
+use Rattle.ws_live.specs.declared.asked.live_asked.ServeAsked.{ServeAsked}
 
 -- what follows from what a session came to, of what is told of it
 pub judged : {T E : Type 0} (P Q : T → Type 0) (outcome told : Result T E) → IfOk outcome P

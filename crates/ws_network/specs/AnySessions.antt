@@ -7,12 +7,12 @@ use Rattle.ws_nego.specs.Host.{opening}
 use Rattle.ws_record.specs.Encode.{plain_spelling}
 use Rattle.ws_record.specs.RawBody.{raw_rules}
 use Rattle.ws_record.specs.declared.record.Item.TheVariants.{Telnet}
-use Rattle.ws_session.specs.Attachments.{AttachedParts}
-use Rattle.ws_live.specs.LiveText.{HaveRun, IsOverAt}
-use Rattle.ws_live.specs.Waits.{InTime}
+use Rattle.ws_session.specs.attached.Attachments.{AttachedParts}
+use Rattle.ws_live.specs.live.LiveText.{HaveRun, IsOverAt}
+use Rattle.ws_live.specs.live.Waits.{InTime}
 use Rattle.ws_live.specs.declared.live.Closing.{Closing}
 use Rattle.ws_live.specs.declared.live.Ran.{Ran}
-use Rattle.ws_live.specs.declared.watch.WaitSpan.{WaitSpan}
+use Rattle.ws_live.specs.declared.live.watch.WaitSpan.{WaitSpan}
 use Rattle.ws_any_host.specs.AnyLeads.{AnyParts, AnyLeads}
 use Rattle.ws_any_host.specs.AnyOptions.{new_negotiated, once_opened}
 use Rattle.ws_any_host.specs.AnyText.{AnyRuns, any_waits}
@@ -22,9 +22,9 @@ use Rattle.ws_any_host.specs.declared.any_line.AnyLine.TheVariants.{Await}
 use Rattle.ws_network.specs.LiveFaults.{IsSessionFault}
 use Rattle.ws_network.specs.Sessions.{at_connection}
 use Rattle.ws_network.specs.Times.{ConnectionReads, ConnectionWrites, no_writes, timed_devices, timed_writer, tells, begins}
-use Rattle.ws_live.specs.RunFaults.{told_fault}
-use Rattle.ws_live.specs.declared.fault.ToldFault.{ToldFault}
-use Rattle.ws_live.specs.declared.live_asked.ServeAsked.{ServeAsked}
+use Rattle.ws_live.specs.asked.RunFaults.{told_fault}
+use Rattle.ws_live.specs.declared.asked.fault.ToldFault.{ToldFault}
+use Rattle.ws_live.specs.declared.asked.live_asked.ServeAsked.{ServeAsked}
 
 -- lines, and behind them one that is carried out again and again
 module _ {L P : Type 0} (runs : L → P → Result Closing Fault → List ℕ → P → Type 0) (on : L) (ready : Bool) where

@@ -4,11 +4,11 @@ use Rattle.std.specs.Prelude.{◌≡◌, ℕ, ◌+◌, ◌-◌, ◌^◌, List, �
 use Rattle.std.specs.Global.{Global}
 use Rattle.std_io.specs.declared.io.kind.ErrorKind.{ErrorKind}
 use Rattle.std_io.specs.declared.io.kind.ErrorKind.TheVariants.{OutOfMemory}
-use Rattle.ws_live.specs.ToldCauses.{TellsCause}
-use Rattle.ws_live.specs.declared.fault.RunFault.TheVariants.{Read, Memory}
-use Rattle.ws_live.specs.declared.fault.ToldFault.{ToldFault}
-use Rattle.ws_live.specs.declared.fault.ToldFault.TheVariants.{Run, Line}
-use Rattle.ws_live.specs.declared.vocabulary.Vocabulary.{Vocabulary}
+use Rattle.ws_live.specs.cause.ToldCauses.{TellsCause}
+use Rattle.ws_live.specs.declared.asked.fault.RunFault.TheVariants.{Read, Memory}
+use Rattle.ws_live.specs.declared.asked.fault.ToldFault.{ToldFault}
+use Rattle.ws_live.specs.declared.asked.fault.ToldFault.TheVariants.{Run, Line}
+use Rattle.ws_live.specs.declared.cause.vocabulary.Vocabulary.{Vocabulary}
 
 -- why no line was to be had, by the kind of the error
 abbrev pub unread_fault : ErrorKind → ToldFault

@@ -3,14 +3,14 @@
 use Rattle.std.specs.Prelude.{◌≡◌, ℕ, List, ◌⊎◌, Bool, false, Result}
 use Rattle.ws_code.specs.Device.{Writer, Reader, WentOut, Devices}
 use Rattle.ws_code.specs.declared.fault.Fault.{Fault}
-use Rattle.ws_live.specs.LiveText.{HaveRun, IsLiveFault}
-use Rattle.ws_live.specs.ServeText.{AttachedHost, HostRunsInTime, IsAnswerOnFault}
+use Rattle.ws_live.specs.live.LiveText.{HaveRun, IsLiveFault}
+use Rattle.ws_live.specs.live.ServeText.{AttachedHost, HostRunsInTime, IsAnswerOnFault}
 use Rattle.ws_live.specs.declared.live.Closing.{Closing}
-use Rattle.ws_live.specs.declared.serve_line.HostLine.{HostLine}
-use Rattle.ws_live.specs.declared.watch.WaitSpan.{WaitSpan}
+use Rattle.ws_live.specs.declared.live.serve_line.HostLine.{HostLine}
+use Rattle.ws_live.specs.declared.live.watch.WaitSpan.{WaitSpan}
 use Rattle.ws_network.specs.InputLines.{IsInputFault}
-use Rattle.ws_live.specs.RunFaults.{told_fault}
-use Rattle.ws_live.specs.declared.fault.ToldFault.{ToldFault}
+use Rattle.ws_live.specs.asked.RunFaults.{told_fault}
+use Rattle.ws_live.specs.declared.asked.fault.ToldFault.{ToldFault}
 
 module _ {L P : Type 0} (runs : L → P → Result Closing Fault → List ℕ → P → Type 0) (ready : Bool) where
   module _ {O : Type 0} (writer : Writer O) (from to : P) (old new : O) where

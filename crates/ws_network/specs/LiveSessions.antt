@@ -4,13 +4,13 @@ use Rattle.std.specs.Prelude.{ℕ, List, Bool, true, false, Option}
 use Rattle.std.specs.Borrow.{Bor}
 use Rattle.ws_code.specs.Device.{Writer}
 use Rattle.ws_any_host.specs.AnyLines.{IsAnyLine, OpensAnyBlock}
-use Rattle.ws_live.specs.ServeLines.{IsHostLine, OpensHostBlock}
+use Rattle.ws_live.specs.live.ServeLines.{IsHostLine, OpensHostBlock}
 use Rattle.ws_network.specs.AnySessions.{IsAnyServed}
 use Rattle.ws_network.specs.ManySessions.{HasServedBy}
 use Rattle.ws_network.specs.Sessions.{HasConnected, IsServed}
-use Rattle.ws_live.specs.declared.live_asked.Live.{Live}
-use Rattle.ws_live.specs.declared.live_asked.Live.TheVariants.{Connect, Serve}
-use Rattle.ws_live.specs.declared.live_asked.ServeAsked.{ServeAsked}
+use Rattle.ws_live.specs.declared.asked.live_asked.Live.{Live}
+use Rattle.ws_live.specs.declared.asked.live_asked.Live.TheVariants.{Connect, Serve}
+use Rattle.ws_live.specs.declared.asked.live_asked.ServeAsked.{ServeAsked}
 
 -- the script that is named for a live session, if one is
 abbrev pub script_of : Live → Option (Bor (List ℕ))

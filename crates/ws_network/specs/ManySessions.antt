@@ -5,7 +5,7 @@ use Rattle.std.specs.Borrow.{Bor}
 use Rattle.std.specs.Fmt.{decimal}
 use Rattle.ws_code.specs.Device.{Writer, WentOut}
 use Rattle.ws_network.specs.Sessions.{AreFromScript}
-use Rattle.ws_live.specs.declared.live_asked.ServeAsked.{ServeAsked}
+use Rattle.ws_live.specs.declared.asked.live_asked.ServeAsked.{ServeAsked}
 
 -- the line of a session by its number
 abbrev pub number_line : ℕ → List ℕ

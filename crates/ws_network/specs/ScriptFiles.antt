@@ -2,12 +2,12 @@
 
 use Rattle.std.specs.Prelude.{◌⊎◌, ℕ, List}
 use Rattle.std.specs.Str.Lines.{lines}
-use Rattle.ws_live.specs.LiveScript.{IsReadingFault}
+use Rattle.ws_live.specs.live.LiveScript.{IsReadingFault}
 use Rattle.ws_live.specs.declared.script.ScriptFault.TheVariants as script
 use Rattle.ws_network.specs.InputLines.{IsUnreadFault}
-use Rattle.ws_live.specs.ToldCauses.{IsLineTold}
-use Rattle.ws_live.specs.declared.fault.ToldFault.{ToldFault}
-use Rattle.ws_live.specs.declared.vocabulary.Vocabulary.{Vocabulary}
+use Rattle.ws_live.specs.cause.ToldCauses.{IsLineTold}
+use Rattle.ws_live.specs.declared.asked.fault.ToldFault.{ToldFault}
+use Rattle.ws_live.specs.declared.cause.vocabulary.Vocabulary.{Vocabulary}
 
 module _ {L : Type 0} (means : List ℕ → List (List ℕ) → L → Type 0) (opener begins : List ℕ → Type 0)
     (bad_at : List ℕ → List (List ℕ) → ℕ → Type 0) (vocabulary : Vocabulary) where

@@ -9,27 +9,27 @@ use Rattle.ws_record.specs.Encode.{plain_spelling}
 use Rattle.ws_record.specs.declared.record.Item.TheVariants.{Telnet}
 use Rattle.ws_extended.specs.ExtendedElements.{extended_rules}
 use Rattle.ws_extended_station.specs.ExtendedDisplays.{extended}
-use Rattle.ws_session.specs.Attachments.{AttachedParts}
-use Rattle.ws_session.specs.HostLeads.{HostParts, HostLeads, unopened_host_side, side_after_open}
-use Rattle.ws_session.specs.Displays.{DisplayOf}
-use Rattle.ws_session.specs.PartsOn.{PartsOn}
-use Rattle.ws_session.specs.StationManners.{new_side_on}
-use Rattle.ws_session.specs.StationSide.{profile}
-use Rattle.ws_session.specs.Stations.{LeadsOn}
+use Rattle.ws_session.specs.attached.Attachments.{AttachedParts}
+use Rattle.ws_session.specs.host_end.HostLeads.{HostParts, HostLeads, unopened_host_side, side_after_open}
+use Rattle.ws_session.specs.station.Displays.{DisplayOf}
+use Rattle.ws_session.specs.station.PartsOn.{PartsOn}
+use Rattle.ws_session.specs.station.StationManners.{new_side_on}
+use Rattle.ws_session.specs.station.StationSide.{profile}
+use Rattle.ws_session.specs.station.Stations.{LeadsOn}
 use Rattle.ws_stream.specs.Elements.{element_rules}
-use Rattle.ws_live.specs.ConnectLines.{IsStationLine}
-use Rattle.ws_live.specs.ConnectText.{IsConnectText}
-use Rattle.ws_live.specs.ErrorRow.{operated_extended}
-use Rattle.ws_live.specs.ExtendedKeyNames.{extended_words}
-use Rattle.ws_live.specs.KeyWords.{KeyWords, profile_words}
-use Rattle.ws_live.specs.LiveScript.{AreLiveLines}
-use Rattle.ws_live.specs.Operating.{OperatedOn, operated_profile}
-use Rattle.ws_live.specs.ServeText.{IsServeText}
-use Rattle.ws_live.specs.declared.connect_line.StationLine.{StationLine}
-use Rattle.ws_live.specs.declared.serve_line.HostLine.{HostLine}
+use Rattle.ws_live.specs.live.ConnectLines.{IsStationLine}
+use Rattle.ws_live.specs.live.ConnectText.{IsConnectText}
+use Rattle.ws_live.specs.printing.ErrorRow.{operated_extended}
+use Rattle.ws_live.specs.script.ExtendedKeyNames.{extended_words}
+use Rattle.ws_live.specs.script.KeyWords.{KeyWords, profile_words}
+use Rattle.ws_live.specs.live.LiveScript.{AreLiveLines}
+use Rattle.ws_live.specs.live.Operating.{OperatedOn, operated_profile}
+use Rattle.ws_live.specs.live.ServeText.{IsServeText}
+use Rattle.ws_live.specs.declared.live.connect_line.StationLine.{StationLine}
+use Rattle.ws_live.specs.declared.live.serve_line.HostLine.{HostLine}
 use Rattle.ws_network.specs.Times.{ConnectionReads, ConnectionWrites, no_reads, no_writes, timed_devices, timed_writer, tells, rests, begins}
-use Rattle.ws_live.specs.declared.live_asked.ConnectAsked.{ConnectAsked}
-use Rattle.ws_live.specs.declared.live_asked.ServeAsked.{ServeAsked}
+use Rattle.ws_live.specs.declared.asked.live_asked.ConnectAsked.{ConnectAsked}
+use Rattle.ws_live.specs.declared.asked.live_asked.ServeAsked.{ServeAsked}
 
 -- where a script is named, the lines are those that its file, whatever it holds, means
 abbrev pub AreFromScript : {L : Type 0} → (List ℕ → List (List ℕ) → L → Type 0) → (List ℕ → Type 0)

@@ -2,8 +2,8 @@
 ghost use Rattle.std.specs.Iterator.{IsFinite};
 ghost use Rattle.std.specs.Prelude.{◌≡◌};
 ghost use Rattle.std_io.specs.IoError.{error_kind};
-ghost use Rattle.ws_live.specs.RunFaults.{unconnected_by};
-ghost use Rattle.ws_live.specs.declared.fault.ToldFault.TheVariants as told;
+ghost use Rattle.ws_live.specs.asked.RunFaults.{unconnected_by};
+ghost use Rattle.ws_live.specs.declared.asked.fault.ToldFault.TheVariants as told;
 
 use crate::timer::Timer;
 use crate::turns::{by_turns, share};

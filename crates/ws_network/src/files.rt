@@ -1,7 +1,7 @@
 //! The files of a live session: its script, and its recording.
 ghost use Rattle.std.specs.Prelude.{◌≡◌, ℕ, List, true, IfOk, IfErr, MatchOption};
 ghost use Rattle.std.specs.Option.{is_none};
-ghost use Rattle.ws_live.specs.LiveScript.{AreLiveLines};
+ghost use Rattle.ws_live.specs.live.LiveScript.{AreLiveLines};
 ghost use Rattle.ws_network.specs.ScriptFiles.{IsFileFault};
 
 use crate::input_lines::unread_line;

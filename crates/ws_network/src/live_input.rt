@@ -2,13 +2,13 @@
 ghost use Rattle.std.specs.Prelude.{◌≡◌, [], List, ℕ, false, IfOk, IfErr, MatchOption};
 ghost use Rattle.std.specs.Option.{is_some};
 ghost use Rattle.ws_code.specs.Device.{WentOut, on_devices};
-ghost use Rattle.ws_live.specs.ConnectText.{IsConnectText, StationRuns, station_waits};
-ghost use Rattle.ws_live.specs.Waits.{InTime};
-ghost use Rattle.ws_live.specs.LiveText as Spec;
+ghost use Rattle.ws_live.specs.live.ConnectText.{IsConnectText, StationRuns, station_waits};
+ghost use Rattle.ws_live.specs.live.Waits.{InTime};
+ghost use Rattle.ws_live.specs.live.LiveText as Spec;
 ghost use Rattle.ws_network.specs.LiveFaults.{IsServeFault, IsSessionFault};
-ghost use Rattle.ws_live.specs.ServeText.{IsServeText};
-ghost use Rattle.ws_live.specs.declared.connect_line.StationLine.{StationLine as AStationLine};
-ghost use Rattle.ws_live.specs.declared.serve_line.HostLine.{HostLine as AHostLine};
+ghost use Rattle.ws_live.specs.live.ServeText.{IsServeText};
+ghost use Rattle.ws_live.specs.declared.live.connect_line.StationLine.{StationLine as AStationLine};
+ghost use Rattle.ws_live.specs.declared.live.serve_line.HostLine.{HostLine as AHostLine};
 
 use crate::input_lines::{InputLines, next_line};
 use crate::timer::LineWatch;

@@ -1,7 +1,7 @@
 //! Recordings of what both ends sent: a line `MILLISECONDS host|station HEX` for each piece.
 ghost use Rattle.std.specs.Prelude.{◌≡◌, ◌⊎◌, IfOk, IfErr, Ok, Err};
-ghost use Rattle.ws_live.specs.declared.fault.RunFault.TheVariants as run;
-ghost use Rattle.ws_live.specs.declared.fault.ToldFault.TheVariants as told;
+ghost use Rattle.ws_live.specs.declared.asked.fault.RunFault.TheVariants as run;
+ghost use Rattle.ws_live.specs.declared.asked.fault.ToldFault.TheVariants as told;
 ghost use Rattle.ws_network.specs.Recordings as Spec;
 ghost use Rattle.ws_text.specs.Printing.{Prints};
 

@@ -6,9 +6,9 @@ ghost use Rattle.ws_network.specs.AnySessions.{IsAnyServed};
 ghost use Rattle.ws_network.specs.ManySessions.{AreMany, HasServedBy, number_line, session_line};
 ghost use Rattle.ws_network.specs.Sessions.{IsServed};
 ghost use Rattle.ws_text.specs.Printing.{Prints};
-ghost use Rattle.ws_live.specs.OpenStreams.{missing};
-ghost use Rattle.ws_live.specs.declared.fault.RunFault.{RunFault as AFault};
-ghost use Rattle.ws_live.specs.declared.live_asked.ServeAsked.{ServeAsked as AnAsked};
+ghost use Rattle.ws_live.specs.asked.OpenStreams.{missing};
+ghost use Rattle.ws_live.specs.declared.asked.fault.RunFault.{RunFault as AFault};
+ghost use Rattle.ws_live.specs.declared.asked.live_asked.ServeAsked.{ServeAsked as AnAsked};
 
 use crate::any_input::carry_at_any_host;
 use crate::files::{lines_of, make_record, read_script_file};

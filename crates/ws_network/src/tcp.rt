@@ -1,9 +1,9 @@
 ghost use Rattle.std.specs.Prelude.{◌≡◌, List as Seq, IfOk, IfErr};
 ghost use Rattle.ws_code.specs.declared.fault.Fault.{Fault as AFault};
-ghost use Rattle.ws_session.specs.Crossings.{Crossing, AreFaithful, HaveCrossed, AreEnded};
-ghost use Rattle.ws_session.specs.Reports.{IsReport};
-ghost use Rattle.ws_session.specs.TwoLines.{HasRun};
-ghost use Rattle.ws_session.specs.World.{new_world, after_moves};
+ghost use Rattle.ws_session.specs.world.Crossings.{Crossing, AreFaithful, HaveCrossed, AreEnded};
+ghost use Rattle.ws_session.specs.world.Reports.{IsReport};
+ghost use Rattle.ws_session.specs.world.TwoLines.{HasRun};
+ghost use Rattle.ws_session.specs.world.World.{new_world, after_moves};
 ghost use Rattle.ws_network.specs.TcpFaults.{tcp_fault, tcp_run_fault};
 
 use std::alloc::Global;

@@ -5,7 +5,7 @@ use Rattle.ws_code.specs.Code.{Rules}
 use Rattle.ws_code.specs.Device.{Writer, WentOut, FailedWithin}
 use Rattle.ws_code.specs.declared.fault.Fault.{Fault}
 use Rattle.ws_code.specs.declared.fault.Fault.TheVariants as device
-use Rattle.ws_live.specs.Buffering.{Buffering, buffered_writer}
+use Rattle.ws_live.specs.printing.Buffering.{Buffering, buffered_writer}
 use Rattle.ws_live.proofs.Buffers.{flushed_out, fails_behind}
 use Rattle.ws_record.specs.declared.record.Item.{Item}
 use Rattle.ws_stream.specs.Elements.{element_rules}
@@ -26,16 +26,16 @@ use Rattle.ws_program.specs.SoFar.{IsShowFaultWith}
 use Rattle.ws_program.specs.StreamText.{View}
 use Rattle.ws_program.specs.ExtendedView.{extended_view}
 use Rattle.ws_program.specs.Views.{painted_host_view, answer_view, told_view}
-use Rattle.ws_live.specs.declared.paint.Paint.{Paint}
+use Rattle.ws_live.specs.declared.printing.paint.Paint.{Paint}
 use Rattle.ws_program.specs.declared.words.command_line.Asked.{Asked}
 use Rattle.ws_program.specs.declared.words.command_line.Asked.TheVariants.{Check, Show, Play, Make}
-use Rattle.ws_live.specs.declared.sender.Sender.{Sender}
-use Rattle.ws_live.specs.declared.sender.Sender.TheVariants.{Host, ExtendedHost, Station, ExtendedStation}
+use Rattle.ws_live.specs.declared.asked.sender.Sender.{Sender}
+use Rattle.ws_live.specs.declared.asked.sender.Sender.TheVariants.{Host, ExtendedHost, Station, ExtendedStation}
 use Rattle.ws_program.specs.declared.words.command_line.StreamForm.{StreamForm}
-use Rattle.ws_live.specs.declared.fault.RunFault.{RunFault}
-use Rattle.ws_live.specs.declared.fault.RunFault.TheVariants.{Read, NotHex, Line, Memory}
-use Rattle.ws_live.specs.declared.fault.RunFault.TheVariants.{Write, NoConnection, Refused}
-use Rattle.ws_live.specs.declared.fault.RunFault.TheVariants.{Truncated, Failed}
+use Rattle.ws_live.specs.declared.asked.fault.RunFault.{RunFault}
+use Rattle.ws_live.specs.declared.asked.fault.RunFault.TheVariants.{Read, NotHex, Line, Memory}
+use Rattle.ws_live.specs.declared.asked.fault.RunFault.TheVariants.{Write, NoConnection, Refused}
+use Rattle.ws_live.specs.declared.asked.fault.RunFault.TheVariants.{Truncated, Failed}
 
 -- What the program does behind a buffer, where the rest goes out.
 module _ {S : Type 0} (writer : Writer S) (from mid : Buffering S)

@@ -10,7 +10,7 @@ use Rattle.ws_text.specs.declared.items.TextFault.{TextFault as ItemsFault}
 use Rattle.ws_text.specs.declared.items.TextFault.TheVariants as items
 use Rattle.ws_program.specs.Making.{made_stream, AreTold, IsMakeFault}
 use Rattle.ws_text.specs.Printing.{IsPrintingFault}
-use Rattle.ws_live.specs.RunFaults.{run_fault, items_run_fault}
+use Rattle.ws_live.specs.asked.RunFaults.{run_fault, items_run_fault}
 
 -- What `make` answers where it doesn't write all.
 

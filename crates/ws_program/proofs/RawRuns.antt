@@ -3,12 +3,12 @@ use Rattle.std.specs.Prelude.{Bool, true, false, Option, Result, Ok, Err, IfOk, 
 use Rattle.std.specs.declared.num.NonZeroU16.{NonZeroU16}
 use Rattle.ws_code.specs.Device.{Writer}
 use Rattle.ws_code.specs.declared.fault.Fault.TheVariants as device
-use Rattle.ws_live.specs.declared.fault.RunFault.{RunFault}
-use Rattle.ws_live.specs.declared.fault.RunFault.TheVariants.{Read, Write}
-use Rattle.ws_live.specs.declared.fault.ToldFault.{ToldFault}
-use Rattle.ws_live.specs.declared.fault.ToldFault.TheVariants as told
-use Rattle.ws_live.specs.declared.open_streams.OpenStreams.{OpenStreams}
-use Rattle.ws_live.specs.declared.sender.Sender.{Sender}
+use Rattle.ws_live.specs.declared.asked.fault.RunFault.{RunFault}
+use Rattle.ws_live.specs.declared.asked.fault.RunFault.TheVariants.{Read, Write}
+use Rattle.ws_live.specs.declared.asked.fault.ToldFault.{ToldFault}
+use Rattle.ws_live.specs.declared.asked.fault.ToldFault.TheVariants as told
+use Rattle.ws_live.specs.declared.asked.open_streams.OpenStreams.{OpenStreams}
+use Rattle.ws_live.specs.declared.asked.sender.Sender.{Sender}
 use Rattle.ws_program.specs.Answering.{HasCheckedBy, IsCheckFaultBy}
 use Rattle.ws_program.specs.Runs.{HasRunInput, IsFaultOfInput, IsUnread}
 use Rattle.ws_program.specs.Streams.{IsOpenFault}

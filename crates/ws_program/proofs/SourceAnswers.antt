@@ -3,15 +3,15 @@ use Rattle.std.specs.Prelude.{Bool, true, false, Result, Ok, Err, IfOk, IfErr, â
 use Rattle.ws_code.specs.Device.{Writer, WentOut, FailedWithin}
 use Rattle.ws_code.specs.declared.fault.Fault.{Fault}
 use Rattle.ws_code.specs.declared.fault.Fault.TheVariants as device
-use Rattle.ws_live.specs.Buffering.{Buffering, buffered_writer}
+use Rattle.ws_live.specs.printing.Buffering.{Buffering, buffered_writer}
 use Rattle.ws_program.specs.Answering.{HasCheckedBy, IsCheckFaultBy}
-use Rattle.ws_live.specs.RunFaults.{run_fault}
+use Rattle.ws_live.specs.asked.RunFaults.{run_fault}
 use Rattle.ws_program.specs.SourceChecks.{command_outcome}
 use Rattle.ws_program.proofs.Buffers.{unchanged, check_by_flushed, check_fault_by_flushed}
 use Rattle.ws_program.proofs.UnflushedBuffers.{unheld, check_by_unflushed, check_fault_by_unflushed}
-use Rattle.ws_live.specs.declared.fault.RunFault.{RunFault}
-use Rattle.ws_live.specs.declared.fault.RunFault.TheVariants.{Read, Write}
-use Rattle.ws_live.specs.declared.sender.Sender.{Sender}
+use Rattle.ws_live.specs.declared.asked.fault.RunFault.{RunFault}
+use Rattle.ws_live.specs.declared.asked.fault.RunFault.TheVariants.{Read, Write}
+use Rattle.ws_live.specs.declared.asked.sender.Sender.{Sender}
 
 -- what a check came to that met a fault, and what the program comes to by one
 abbrev pub met : Fault â†’ Result Bool Fault

@@ -5,7 +5,7 @@ use Rattle.ws_code.specs.Code.{Rules}
 use Rattle.ws_code.specs.Device.{Writer, FailedWithin}
 use Rattle.ws_code.specs.declared.fault.Fault.{Fault}
 use Rattle.ws_code.specs.declared.fault.Fault.TheVariants as device
-use Rattle.ws_live.specs.Buffering.{Buffering, buffered_writer}
+use Rattle.ws_live.specs.printing.Buffering.{Buffering, buffered_writer}
 use Rattle.ws_live.proofs.Buffers.{flush_fails, fails_behind}
 use Rattle.ws_record.specs.declared.record.Item.{Item}
 use Rattle.ws_stream.specs.Elements.{element_rules}
@@ -26,17 +26,17 @@ use Rattle.ws_program.specs.SoFar.{IsShowFaultWith}
 use Rattle.ws_program.specs.StreamText.{View, Placed, lines_of, AreShown, AreFirstLines}
 use Rattle.ws_program.specs.ExtendedView.{extended_view}
 use Rattle.ws_program.specs.Views.{painted_host_view, answer_view, told_view}
-use Rattle.ws_live.specs.declared.paint.Paint.{Paint}
+use Rattle.ws_live.specs.declared.printing.paint.Paint.{Paint}
 use Rattle.ws_program.specs.declared.words.command_line.Asked.{Asked}
 use Rattle.ws_program.specs.declared.words.command_line.Asked.TheVariants.{Check, Show, Play, Make}
-use Rattle.ws_live.specs.declared.sender.Sender.{Sender}
-use Rattle.ws_live.specs.declared.sender.Sender.TheVariants.{Host, ExtendedHost, Station, ExtendedStation}
+use Rattle.ws_live.specs.declared.asked.sender.Sender.{Sender}
+use Rattle.ws_live.specs.declared.asked.sender.Sender.TheVariants.{Host, ExtendedHost, Station, ExtendedStation}
 use Rattle.ws_program.specs.declared.words.command_line.StreamForm.{StreamForm}
 use Rattle.ws_program.proofs.Buffers.{none_held, none_fails}
-use Rattle.ws_live.specs.declared.fault.RunFault.{RunFault}
-use Rattle.ws_live.specs.declared.fault.RunFault.TheVariants.{Read, NotHex, Line, Memory}
-use Rattle.ws_live.specs.declared.fault.RunFault.TheVariants.{Write, NoConnection, Refused}
-use Rattle.ws_live.specs.declared.fault.RunFault.TheVariants.{Truncated, Failed}
+use Rattle.ws_live.specs.declared.asked.fault.RunFault.{RunFault}
+use Rattle.ws_live.specs.declared.asked.fault.RunFault.TheVariants.{Read, NotHex, Line, Memory}
+use Rattle.ws_live.specs.declared.asked.fault.RunFault.TheVariants.{Write, NoConnection, Refused}
+use Rattle.ws_live.specs.declared.asked.fault.RunFault.TheVariants.{Truncated, Failed}
 
 -- the lines of items are first lines
 first_lines : {Place U : Type 0} {rules : Rules Place U} {view : View U} {bytes : List ℕ} (placed : List (Placed U))

@@ -16,30 +16,30 @@ use Rattle.ws_text.specs.ExtendedAnswerWords.{told_wording}
 use Rattle.ws_text.specs.ExtendedWords.{extended_wording}
 use Rattle.ws_text.specs.Shown.{ShowsElements, ShowsAnswers, ShowsExtended, ShowsTold}
 use Rattle.ws_program.specs.Making.{HasMade, IsMakeFault}
-use Rattle.ws_live.specs.RunFaults.{run_fault}
+use Rattle.ws_live.specs.asked.RunFaults.{run_fault}
 use Rattle.ws_program.specs.SoFar.{IsShownWith, IsShowFaultWith}
 use Rattle.ws_program.specs.StreamBytes.{AreBytesOf, IsFormFault}
 use Rattle.ws_program.specs.StreamText.{View}
 use Rattle.ws_program.specs.ExtendedView.{extended_view}
 use Rattle.ws_program.specs.Views.{painted_host_view, answer_view, told_view}
-use Rattle.ws_live.specs.declared.paint.Paint.{Paint}
+use Rattle.ws_live.specs.declared.printing.paint.Paint.{Paint}
 use Rattle.ws_program.specs.declared.words.command_line.Asked.{Asked}
 use Rattle.ws_program.specs.declared.words.command_line.Asked.TheVariants.{Check, Show, Play, Make}
-use Rattle.ws_live.specs.declared.sender.Sender.{Sender}
-use Rattle.ws_live.specs.declared.sender.Sender.TheVariants.{Host, ExtendedHost, Station, ExtendedStation}
+use Rattle.ws_live.specs.declared.asked.sender.Sender.{Sender}
+use Rattle.ws_live.specs.declared.asked.sender.Sender.TheVariants.{Host, ExtendedHost, Station, ExtendedStation}
 use Rattle.ws_program.specs.declared.words.command_line.StreamForm.{StreamForm}
-use Rattle.ws_live.specs.declared.fault.RunFault.{RunFault}
-use Rattle.ws_live.specs.declared.fault.RunFault.TheVariants.{Read, Line, Memory, Write, NoConnection}
+use Rattle.ws_live.specs.declared.asked.fault.RunFault.{RunFault}
+use Rattle.ws_live.specs.declared.asked.fault.RunFault.TheVariants.{Read, Line, Memory, Write, NoConnection}
 use Rattle.ws_program.specs.declared.verdict.Verdict.{Verdict}
 use Rattle.ws_nego.specs.declared.terminal.TerminalType.TheVariants.{Ibm3179Model2}
 use Rattle.ws_session.specs.declared.world.Move.{Move}
-use Rattle.ws_session.specs.Crossings.{Crossing}
-use Rattle.ws_session.specs.TwoLines.{TwoEnds, HasRun}
-use Rattle.ws_session.specs.World.{World, new_world, after_moves}
-use Rattle.ws_session.specs.StationSide.{screen_at}
-use Rattle.ws_live.specs.Script.{IsScript, IsFirstBad}
-use Rattle.ws_live.specs.ScriptFaults.{IsReadSoFar}
-use Rattle.ws_live.specs.PlayLines.{IsPaintedPlayText, no_end_refuses}
+use Rattle.ws_session.specs.world.Crossings.{Crossing}
+use Rattle.ws_session.specs.world.TwoLines.{TwoEnds, HasRun}
+use Rattle.ws_session.specs.world.World.{World, new_world, after_moves}
+use Rattle.ws_session.specs.station.StationSide.{screen_at}
+use Rattle.ws_live.specs.script.Script.{IsScript, IsFirstBad}
+use Rattle.ws_live.specs.script.ScriptFaults.{IsReadSoFar}
+use Rattle.ws_live.specs.printing.PlayLines.{IsPaintedPlayText, no_end_refuses}
 
 -- what is told of a session, and its screen in a paint where it is asked for
 abbrev pub IsSessionText : Paint → World → Bool → List ℕ → Type 0

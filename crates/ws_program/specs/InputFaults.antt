@@ -1,7 +1,7 @@
 -- The faults of an input as those of the program.
 
-use Rattle.ws_live.specs.declared.fault.RunFault.{RunFault}
-use Rattle.ws_live.specs.declared.fault.RunFault.TheVariants.{NotHex, Line, Memory}
+use Rattle.ws_live.specs.declared.asked.fault.RunFault.{RunFault}
+use Rattle.ws_live.specs.declared.asked.fault.RunFault.TheVariants.{NotHex, Line, Memory}
 use Rattle.ws_program.specs.declared.hex_text.TextFault.{TextFault}
 use Rattle.ws_program.specs.declared.hex_text.TextFault.TheVariants as texts
 use Rattle.ws_program.specs.declared.recorded.RecordingFault.{RecordingFault}

@@ -10,8 +10,8 @@ use Rattle.ws_record.specs.declared.record.Item.{Item}
 use Rattle.ws_text.specs.Items.{AreItems, IsTextFault}
 use Rattle.ws_text.specs.Wording.{Wording}
 use Rattle.ws_text.specs.declared.items.TextFault.TheVariants as items
-use Rattle.ws_live.specs.declared.fault.RunFault.{RunFault}
-use Rattle.ws_live.specs.declared.fault.RunFault.TheVariants.{Line, Memory, Write}
+use Rattle.ws_live.specs.declared.asked.fault.RunFault.{RunFault}
+use Rattle.ws_live.specs.declared.asked.fault.RunFault.TheVariants.{Line, Memory, Write}
 
 module _ {Place U : Type 0} (rules : Rules Place U) where
   -- an item's line: its plain spelling in upper case hex (RFC 1205, section 3; RFC 854; RFC 885)

@@ -3,13 +3,13 @@
 use Rattle.std.specs.Prelude.{◌≡◌, ℕ, List, Bool, Option, None, Some, ◌⊎◌}
 use Rattle.std.specs.Option.{is_none}
 use Rattle.ws_code.specs.Device.{Writer}
-use Rattle.ws_live.specs.declared.fault.RunFault.{RunFault}
-use Rattle.ws_live.specs.declared.fault.RunFault.TheVariants.{Read, Memory}
-use Rattle.ws_live.specs.declared.fault.ToldFault.{ToldFault}
-use Rattle.ws_live.specs.declared.fault.ToldFault.TheVariants as told
-use Rattle.ws_live.specs.declared.live_asked.Live.{Live as ALive}
-use Rattle.ws_live.specs.declared.open_streams.OpenStreams.{OpenStreams}
-use Rattle.ws_live.specs.OpenStreams.{missing}
+use Rattle.ws_live.specs.declared.asked.fault.RunFault.{RunFault}
+use Rattle.ws_live.specs.declared.asked.fault.RunFault.TheVariants.{Read, Memory}
+use Rattle.ws_live.specs.declared.asked.fault.ToldFault.{ToldFault}
+use Rattle.ws_live.specs.declared.asked.fault.ToldFault.TheVariants as told
+use Rattle.ws_live.specs.declared.asked.live_asked.Live.{Live as ALive}
+use Rattle.ws_live.specs.declared.asked.open_streams.OpenStreams.{OpenStreams}
+use Rattle.ws_live.specs.asked.OpenStreams.{missing}
 use Rattle.ws_network.specs.LiveSessions.{HasRunLive, script_of}
 use Rattle.ws_program.specs.Streams.{HasAnsweredOpenly, IsOpenFault}
 use Rattle.ws_program.specs.ToldFaults.{IsToldOf}

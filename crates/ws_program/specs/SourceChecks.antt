@@ -12,13 +12,13 @@ use Rattle.ws_record.specs.Refusal.{IsRefused}
 use Rattle.ws_stream.specs.Elements.{element_rules}
 use Rattle.ws_stream.specs.AnswerParts.{answer_rules}
 use Rattle.ws_program.specs.Checking.{Counts}
-use Rattle.ws_live.specs.RunFaults.{run_fault}
+use Rattle.ws_live.specs.asked.RunFaults.{run_fault}
 use Rattle.ws_program.specs.declared.check.Refusal.{Refusal}
 use Rattle.ws_program.specs.declared.check.Tally.{Tally}
-use Rattle.ws_live.specs.declared.fault.RunFault.{RunFault}
-use Rattle.ws_live.specs.declared.fault.RunFault.TheVariants.{Write}
-use Rattle.ws_live.specs.declared.sender.Sender.{Sender}
-use Rattle.ws_live.specs.declared.sender.Sender.TheVariants.{Host, ExtendedHost, Station, ExtendedStation}
+use Rattle.ws_live.specs.declared.asked.fault.RunFault.{RunFault}
+use Rattle.ws_live.specs.declared.asked.fault.RunFault.TheVariants.{Write}
+use Rattle.ws_live.specs.declared.asked.sender.Sender.{Sender}
+use Rattle.ws_live.specs.declared.asked.sender.Sender.TheVariants.{Host, ExtendedHost, Station, ExtendedStation}
 
 -- no byte is refused, and the tally is of the bytes' items; or this one is
 abbrev pub IsPieceTaken : {Place U : Type 0} → Rules Place U → Watching Place → Tally → List ℕ → Option Refusal → Type 0

@@ -5,8 +5,8 @@ use Rattle.ws_code.specs.Device.{Writer}
 use Rattle.ws_program.specs.declared.words.command_line.Asked.{Asked}
 use Rattle.ws_program.specs.declared.words.command_line.Asked.TheVariants.{Check, Show, Play, Make}
 use Rattle.ws_program.specs.Answering.{HasAnswered, IsAnswerFault}
-use Rattle.ws_live.specs.declared.fault.RunFault.{RunFault}
-use Rattle.ws_live.specs.declared.fault.RunFault.TheVariants.{Write}
+use Rattle.ws_live.specs.declared.asked.fault.RunFault.{RunFault}
+use Rattle.ws_live.specs.declared.asked.fault.RunFault.TheVariants.{Write}
 
 -- what is asked for, without a connection
 abbrev pub in_one_place : Asked → Asked

@@ -1,7 +1,7 @@
 ghost use Rattle.std.specs.Prelude.{◌≡◌, ◌++◌, ◌∷◌, [], List, ℕ, OnOk};
 ghost use Rattle.ws_extended_station.specs.ExtendedDisplays.{standing_row as a_standing_row};
 ghost use Rattle.ws_program.specs.ExtendedView.{extended_view, IsExtendedEnd, MakesDisplay};
-ghost use Rattle.ws_live.specs.declared.paint.Paint.TheVariants.{Plain};
+ghost use Rattle.ws_live.specs.declared.printing.paint.Paint.TheVariants.{Plain};
 
 use crate::extended_record::apply_extended_record;
 use crate::shown::Shown;

@@ -13,7 +13,7 @@ ghost use Rattle.ws_program.specs.CheckLine.{verdict_by};
 ghost use Rattle.ws_program.specs.SoFar.{IsShownSoFar, IsSoFarFault, IsShownWith, IsShowFaultWith};
 ghost use Rattle.ws_program.specs.SoFar.{IsThrough, IsHalted, bytes_before as the_bytes_before};
 ghost use Rattle.ws_program.specs.StreamText.{IsShown, AreFirstLines, IsShowFault, IsStop, HasBegunStream, IsNext, IsNextFault};
-ghost use Rattle.ws_live.specs.declared.paint.Paint.{Paint as APaint};
+ghost use Rattle.ws_live.specs.declared.printing.paint.Paint.{Paint as APaint};
 ghost use Rattle.ws_program.specs.Views.{host_view, painted_host_view, answer_view, told_view, in_paint};
 
 use crate::shown::Shown;

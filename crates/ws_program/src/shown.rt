@@ -4,7 +4,7 @@ ghost use Rattle.ws_screen.specs.Faults.{refusal};
 ghost use Rattle.ws_text.specs.Printing.{Prints};
 ghost use Rattle.ws_program.specs.StreamText.{View, IsWholeItem};
 ghost use Rattle.ws_program.specs.Views.{host_view, answer_view, told_view, IsNoEnd, IsScreenEnd, MakesScreen};
-ghost use Rattle.ws_live.specs.declared.paint.Paint.{Paint as APaint};
+ghost use Rattle.ws_live.specs.declared.printing.paint.Paint.{Paint as APaint};
 
 use ws_code::{Body, Reason, Sink};
 use ws_extended::{ExtendedAnswerPart, ExtendedAnswers};

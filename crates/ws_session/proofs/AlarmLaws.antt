@@ -15,7 +15,7 @@ use Rattle.ws_screen.specs.Bodies.{after_element}
 use Rattle.ws_screen.specs.Events.{ended, did}
 use Rattle.ws_screen.specs.Given.{ends_of, events_of}
 use Rattle.ws_screen.specs.declared.open_write.OpenWrite.{OpenWrite}
-use Rattle.ws_session.specs.Alarms.{alarm_count, alarms_in, alarms_of, is_alarm, sounds_alarm}
+use Rattle.ws_session.specs.station.Alarms.{alarm_count, alarms_in, alarms_of, is_alarm, sounds_alarm}
 use Rattle.ws_session.proofs.Reading.{HasRead, IsSlotRun, ran_none, ran_some, read_all, read_none}
 
 -- How many alarms sound in a body that is read, and by what has happened.

@@ -7,7 +7,7 @@ use C.{HostSide, Reaction, up_bytes, host_did, Element, Refuses, ToHost, GoesOn,
 use C.{Event, World, false, Press, List, Host, Item, zero, ◌++◌, true, Some, Move, Bool, None, refl, ◌∷◌, inr, ◌+◌, ◌≡◌}
 use C.{inl, ap, [], ℕ}
 use Rattle.ws_session.specs.declared.world.Move.TheVariants.{Send}
-use Rattle.ws_session.proofs.Worlds.{sound}
+use Rattle.ws_session.proofs.world.Worlds.{sound}
 use Rattle.std.proofs.lemmas.Bool.{cases_Bool}
 
 -- What stays true of a session at an item that arrives stays true at bytes.

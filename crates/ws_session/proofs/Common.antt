@@ -91,75 +91,75 @@ pub use Rattle.ws_keys.specs.declared.key.Key.{Key}
 pub use Rattle.ws_keys.specs.declared.key.KeyRefusal.{KeyRefusal}
 pub use Rattle.ws_session.specs.declared.world.Move.{Move}
 pub use Rattle.ws_session.specs.Telnets.{telnets}
-pub use Rattle.ws_session.specs.World.{World, new_world, after_moves, IsQuiet, after_move, down_bytes, station_did}
-pub use Rattle.ws_session.specs.World.{station_gets, byte_to_station, up_bytes, host_did, host_gets, byte_to_host}
-pub use Rattle.ws_session.specs.World.{events_with, bytes_to_station, bytes_to_host, station_pressed, host_sent}
-pub use Rattle.ws_session.specs.World.{host_sends, after_press, after_send}
-pub use Rattle.ws_session.specs.Runs.{AreWritable, WorldParts, RunsWith, Runs, IsKey}
+pub use Rattle.ws_session.specs.world.World.{World, new_world, after_moves, IsQuiet, after_move, down_bytes, station_did}
+pub use Rattle.ws_session.specs.world.World.{station_gets, byte_to_station, up_bytes, host_did, host_gets, byte_to_host}
+pub use Rattle.ws_session.specs.world.World.{events_with, bytes_to_station, bytes_to_host, station_pressed, host_sent}
+pub use Rattle.ws_session.specs.world.World.{host_sends, after_press, after_send}
+pub use Rattle.ws_session.specs.world.Runs.{AreWritable, WorldParts, RunsWith, Runs, IsKey}
 pub use Rattle.ws_session.specs.declared.refusal.Refusal.{Refusal}
 pub use Rattle.ws_session.specs.declared.world.Event.{Event}
 pub use Rattle.ws_session.specs.Acts.{Doing, Act, all_came, Did, Happening, Does, doing, items_of, HasGone}
 pub use Rattle.ws_session.specs.Acts.{Arrives, as_list, Manner, AllTaken, Happen, HoldsItems, Goes}
-pub use Rattle.ws_session.specs.Through.{HasRefusedIn, Through}
-pub use Rattle.ws_session.specs.Wires.{WireParts, reported, HasMemory, Comes, AreDelivered}
+pub use Rattle.ws_session.specs.world.Through.{HasRefusedIn, Through}
+pub use Rattle.ws_session.specs.world.Wires.{WireParts, reported, HasMemory, Comes, AreDelivered}
 pub use Rattle.ws_session.specs.declared.refusal.Refusal.TheVariants.{At, Failed, Memory}
 pub use Rattle.ws_session.specs.ActLaws.{came_append, gone_on, bytes_came}
-pub use Rattle.ws_session.specs.Attachments.{AttachedParts, fault_of, HaveLed, HaveLedUnwritten, HasRefusedByte}
-pub use Rattle.ws_session.specs.Attachments.{IsByteFault, HasTakenWaiting, IsWaitingFault, HasHeard, IsHearFault, IsSendFailure}
-pub use Rattle.ws_session.specs.Written.{HasWritten, HasWrittenFront, IsUnheard}
-pub use Rattle.ws_session.specs.StationSide.{StationSide, opcode_events, after_record, after_key, screen_at}
-pub use Rattle.ws_session.specs.StationSide.{opcode_answer, station_applies, station_takes, KeyReaction, RefusesKey}
-pub use Rattle.ws_session.specs.StationSide.{Silent, Answers, Signals, station_key, sends, answers_read}
-pub use Rattle.ws_session.specs.StationSide.{key_by_refusal, new_station_side, presses, answer_record}
-pub use Rattle.ws_session.specs.HostSide.{HostSide, sent_record, is_outstanding, after_read, event_output, ready_event}
-pub use Rattle.ws_session.specs.HostSide.{host_negotiates, host_reads, host_reads_by, host_ends_cancel, signal}
-pub use Rattle.ws_session.specs.HostSide.{host_takes_record, host_takes, HostOutput, TellsAnswer, SendReaction}
-pub use Rattle.ws_session.specs.HostSide.{RefusesSend, Sends}
-pub use Rattle.ws_session.specs.HostSide.{host_cancel, host_send, asked_read, host_sends_body, new_host_side}
-pub use Rattle.ws_session.specs.HostSide.{is_too_big, ready_by_terminal}
+pub use Rattle.ws_session.specs.attached.Attachments.{AttachedParts, fault_of, HaveLed, HaveLedUnwritten, HasRefusedByte}
+pub use Rattle.ws_session.specs.attached.Attachments.{IsByteFault, HasTakenWaiting, IsWaitingFault, HasHeard, IsHearFault, IsSendFailure}
+pub use Rattle.ws_session.specs.attached.Written.{HasWritten, HasWrittenFront, IsUnheard}
+pub use Rattle.ws_session.specs.station.StationSide.{StationSide, opcode_events, after_record, after_key, screen_at}
+pub use Rattle.ws_session.specs.station.StationSide.{opcode_answer, station_applies, station_takes, KeyReaction, RefusesKey}
+pub use Rattle.ws_session.specs.station.StationSide.{Silent, Answers, Signals, station_key, sends, answers_read}
+pub use Rattle.ws_session.specs.station.StationSide.{key_by_refusal, new_station_side, presses, answer_record}
+pub use Rattle.ws_session.specs.host_end.HostSide.{HostSide, sent_record, is_outstanding, after_read, event_output, ready_event}
+pub use Rattle.ws_session.specs.host_end.HostSide.{host_negotiates, host_reads, host_reads_by, host_ends_cancel, signal}
+pub use Rattle.ws_session.specs.host_end.HostSide.{host_takes_record, host_takes, HostOutput, TellsAnswer, SendReaction}
+pub use Rattle.ws_session.specs.host_end.HostSide.{RefusesSend, Sends}
+pub use Rattle.ws_session.specs.host_end.HostSide.{host_cancel, host_send, asked_read, host_sends_body, new_host_side}
+pub use Rattle.ws_session.specs.host_end.HostSide.{is_too_big, ready_by_terminal}
 pub use Rattle.ws_session.specs.Reaction.{empty_record, Refuses, GoesOn, Reaction}
-pub use Rattle.ws_session.specs.Answered.{answers_in, answer_in, items_coming, is_answer, answers_coming, host_answers}
-pub use Rattle.ws_session.specs.declared.host_event.HostEvent.TheVariants.{Answer as Answered, Cancelled}
-pub use Rattle.ws_session.specs.declared.host_event.HostEvent.TheVariants.{Attention as AttentionCame}
-pub use Rattle.ws_session.specs.declared.host_event.HostEvent.TheVariants.{SystemRequest as RequestCame}
+pub use Rattle.ws_session.specs.station.Answered.{answers_in, answer_in, items_coming, is_answer, answers_coming, host_answers}
+pub use Rattle.ws_session.specs.declared.host_end.host_event.HostEvent.TheVariants.{Answer as Answered, Cancelled}
+pub use Rattle.ws_session.specs.declared.host_end.host_event.HostEvent.TheVariants.{Attention as AttentionCame}
+pub use Rattle.ws_session.specs.declared.host_end.host_event.HostEvent.TheVariants.{SystemRequest as RequestCame}
 pub use Rattle.ws_session.specs.declared.world.Event.TheVariants.{Host, KeyRefused, SendRefused, StationRefused}
 pub use Rattle.ws_session.specs.declared.world.Event.TheVariants.{HostRefused}
-pub use Rattle.ws_session.specs.declared.host_event.HostEvent.{HostEvent}
-pub use Rattle.ws_session.specs.declared.send_fault.SendFault.TheVariants.{Failed as SendFailed, Memory as NoMemory}
-pub use Rattle.ws_session.specs.declared.send_fault.SendFault.TheVariants.{NotAllowed, ReadOutstanding, NoReadToCancel}
-pub use Rattle.ws_session.specs.declared.send_fault.SendFault.TheVariants.{BadSequence, TooBig}
-pub use Rattle.ws_session.specs.declared.send_fault.SendFault.TheVariants.{Screen as RefusedByScreen}
-pub use Rattle.ws_session.specs.declared.key_fault.KeyFault.TheVariants.{Failed as KeyFailed, NotReady}
+pub use Rattle.ws_session.specs.declared.host_end.host_event.HostEvent.{HostEvent}
+pub use Rattle.ws_session.specs.declared.host_end.send_fault.SendFault.TheVariants.{Failed as SendFailed, Memory as NoMemory}
+pub use Rattle.ws_session.specs.declared.host_end.send_fault.SendFault.TheVariants.{NotAllowed, ReadOutstanding, NoReadToCancel}
+pub use Rattle.ws_session.specs.declared.host_end.send_fault.SendFault.TheVariants.{BadSequence, TooBig}
+pub use Rattle.ws_session.specs.declared.host_end.send_fault.SendFault.TheVariants.{Screen as RefusedByScreen}
+pub use Rattle.ws_session.specs.declared.station.key_fault.KeyFault.TheVariants.{Failed as KeyFailed, NotReady}
 pub use Rattle.ws_session.specs.declared.world.Move.TheVariants.{ToStation, ToHost, Cancel, Key as Press}
 pub use Rattle.ws_session.specs.declared.world.Move.TheVariants.{Send as SendMove}
-pub use Rattle.ws_session.specs.Refusals.{is_refusal, refusals_in}
-pub use Rattle.ws_session.specs.HostLeads.{AtHost, HostLeads, HostParts, IsSent, IsSendFault, IsHostPushed, HostStands}
-pub use Rattle.ws_session.specs.HostLeads.{IsReacted, unopened_host_side}
-pub use Rattle.ws_session.specs.StationLeads.{AtStation, StationParts, StationLeads, IsPushed, IsKeyed}
-pub use Rattle.ws_session.specs.StationLeads.{is_record, records_in, keeps_body}
+pub use Rattle.ws_session.specs.world.Refusals.{is_refusal, refusals_in}
+pub use Rattle.ws_session.specs.host_end.HostLeads.{AtHost, HostLeads, HostParts, IsSent, IsSendFault, IsHostPushed, HostStands}
+pub use Rattle.ws_session.specs.host_end.HostLeads.{IsReacted, unopened_host_side}
+pub use Rattle.ws_session.specs.station.StationLeads.{AtStation, StationParts, StationLeads, IsPushed, IsKeyed}
+pub use Rattle.ws_session.specs.station.StationLeads.{is_record, records_in, keeps_body}
 pub use Rattle.ws_session.specs.Manners.{station_at_item, StationRefuses, station_manner, station_at_key, host_at_send}
 pub use Rattle.ws_session.specs.Manners.{host_at_item, IsKeyRefusal, StationGoes, host_manner, HostGoes, HostRefuses}
 pub use Rattle.ws_session.specs.Manners.{applied_by, IsKeyTaken, goes_on, told_by}
 pub use Rattle.ws_session.specs.declared.end_step.Applied.{Applied}
-pub use Rattle.ws_session.specs.declared.answer.TheConstants.{ATN, SRQ}
-pub use Rattle.ws_session.specs.declared.key_fault.KeyFault.{KeyFault}
-pub use Rattle.ws_session.specs.AnswerSpelling.{answer_spelling}
+pub use Rattle.ws_session.specs.declared.station.answer.TheConstants.{ATN, SRQ}
+pub use Rattle.ws_session.specs.declared.station.key_fault.KeyFault.{KeyFault}
+pub use Rattle.ws_session.specs.station.AnswerSpelling.{answer_spelling}
 pub use Rattle.ws_session.specs.declared.end_step.Order.TheVariants.{Cancel as Cancelling}
-pub use Rattle.ws_session.specs.declared.send_fault.SendFault.{SendFault}
-pub use Rattle.ws_session.specs.declared.host_event.HostStep.{HostStep}
+pub use Rattle.ws_session.specs.declared.host_end.send_fault.SendFault.{SendFault}
+pub use Rattle.ws_session.specs.declared.host_end.host_event.HostStep.{HostStep}
 pub use Rattle.ws_session.specs.declared.station.StationStep.{StationStep}
 pub use Rattle.ws_session.specs.declared.end_step.Order.{Order}
-pub use Rattle.ws_session.specs.HostFeeds.{HasHostFed, IsHostSilent, EndsAt}
-pub use Rattle.ws_session.specs.HostFronts.{IsHostFronted, quiet, DoesItem, IsHostNewsTaken}
-pub use Rattle.ws_session.specs.TwoLines.{two_ends_of, TwoEnds, key_told, send_told, order_of, HasOrdered, Orders}
-pub use Rattle.ws_session.specs.TwoLines.{all_read, HasMoved, HaveMoved, HasRun, StationIsLed, HostIsLed, all_sent}
-pub use Rattle.ws_session.specs.TwoLines.{HaveCome, ComesDown, ComesUp, IsDeliveredDown, IsDeliveredUp}
-pub use Rattle.ws_session.specs.Crossings.{Crossing, with_piece_at, AreFaithful, HaveCrossed, HasCrossed, IsStopped}
-pub use Rattle.ws_session.specs.Crossings.{IsEnded, AreEnded}
-pub use Rattle.ws_session.specs.Deliveries.{delivery, three_deliveries}
-pub use Rattle.ws_session.specs.declared.player.Player.{Player}
-pub use Rattle.ws_session.specs.Moments.{Presses, outcome, due, later, Moment, Outcome, idle_outcome, outcome_of_both}
-pub use Rattle.ws_session.specs.Moments.{at_item, at_moment, AreTaken, records_in_item, moments_from, moments, at_key}
-pub use Rattle.ws_session.specs.Playing.{HaveBroughtPlayer, HasDone, records_from, keys_left_from}
-pub use Rattle.ws_session.specs.StationRun.{IsRunFault, IsRun, refusal_count, behind, run_text, RunUnwritten}
-pub use Rattle.ws_session.specs.Reports.{IsReport, IsOpened}
+pub use Rattle.ws_session.specs.host_end.HostFeeds.{HasHostFed, IsHostSilent, EndsAt}
+pub use Rattle.ws_session.specs.host_end.HostFronts.{IsHostFronted, quiet, DoesItem, IsHostNewsTaken}
+pub use Rattle.ws_session.specs.world.TwoLines.{two_ends_of, TwoEnds, key_told, send_told, order_of, HasOrdered, Orders}
+pub use Rattle.ws_session.specs.world.TwoLines.{all_read, HasMoved, HaveMoved, HasRun, StationIsLed, HostIsLed, all_sent}
+pub use Rattle.ws_session.specs.world.TwoLines.{HaveCome, ComesDown, ComesUp, IsDeliveredDown, IsDeliveredUp}
+pub use Rattle.ws_session.specs.world.Crossings.{Crossing, with_piece_at, AreFaithful, HaveCrossed, HasCrossed, IsStopped}
+pub use Rattle.ws_session.specs.world.Crossings.{IsEnded, AreEnded}
+pub use Rattle.ws_session.specs.world.Deliveries.{delivery, three_deliveries}
+pub use Rattle.ws_session.specs.declared.attached.player.Player.{Player}
+pub use Rattle.ws_session.specs.station.Moments.{Presses, outcome, due, later, Moment, Outcome, idle_outcome, outcome_of_both}
+pub use Rattle.ws_session.specs.station.Moments.{at_item, at_moment, AreTaken, records_in_item, moments_from, moments, at_key}
+pub use Rattle.ws_session.specs.attached.Playing.{HaveBroughtPlayer, HasDone, records_from, keys_left_from}
+pub use Rattle.ws_session.specs.attached.StationRun.{IsRunFault, IsRun, refusal_count, behind, run_text, RunUnwritten}
+pub use Rattle.ws_session.specs.world.Reports.{IsReport, IsOpened}

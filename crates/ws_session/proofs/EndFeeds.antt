@@ -4,16 +4,16 @@ use C.{all_came, append_assoc, length-take-le, answer_rules, element_rules, host
 use C.{◌≡◌, ◌+◌, ◌≤◌, ◌<◌, ◌^◌, ◌++◌, ◌∷◌, [], List, ℕ, None, Option, inl, inr, refl, sym, ap, ◌∙◌, take}
 use C.{length, arith, Refusal, Failed, take-append-le, IsHostPushed, Err, Ok, Result, IfOk, IfErr, is_some, true}
 use C.{false, ◌-◌, suc, subst}
-use Rattle.ws_session.specs.Displays.{DisplayOf, SideOn}
+use Rattle.ws_session.specs.station.Displays.{DisplayOf, SideOn}
 use Rattle.ws_session.specs.Ends.{IsShut}
-use Rattle.ws_session.specs.HostFeeds.{HostStopsWithin, IsHostSilent, HostStaysSilent}
+use Rattle.ws_session.specs.host_end.HostFeeds.{HostStopsWithin, IsHostSilent, HostStaysSilent}
 use Rattle.ws_session.specs.Manners.{IsHostShut}
-use Rattle.ws_session.specs.PartsOn.{PartsOn}
-use Rattle.ws_session.specs.StationActs.{IsShutOn, RefusesOn, IsSilentOn, StaysSilentOn}
-use Rattle.ws_session.specs.StationManners.{manner_on}
-use Rattle.ws_session.specs.StationNews.{StopsWithinOn}
-use Rattle.ws_session.specs.Stations.{LeadsOn}
-use Rattle.ws_session.proofs.StationSteps.{is_led}
+use Rattle.ws_session.specs.station.PartsOn.{PartsOn}
+use Rattle.ws_session.specs.station.StationActs.{IsShutOn, RefusesOn, IsSilentOn, StaysSilentOn}
+use Rattle.ws_session.specs.station.StationManners.{manner_on}
+use Rattle.ws_session.specs.station.StationNews.{StopsWithinOn}
+use Rattle.ws_session.specs.station.Stations.{LeadsOn}
+use Rattle.ws_session.proofs.station.StationSteps.{is_led}
 use Rattle.ws_session.proofs.Feedings.{come_weaker, value_at}
 use Rattle.std.proofs.Math.Seq.{take-append-add}
 

@@ -6,9 +6,9 @@ use C.{Attend}
 use C.{subst, OnOk, refl, None, Send, Some, Read, ◌∙◌, sym, ◌≡◌, Key, Err, Ok, ap, ℕ}
 use Rattle.std.specs.Option.{option_map}
 use Rattle.ws_keys.specs.declared.answer.Answer.{Answer}
-use Rattle.ws_session.specs.Displays.{IsPressedOnDisplay, ComesTo}
-use Rattle.ws_session.specs.Alarms.{alarm_count}
-use Rattle.ws_session.specs.StationSide.{ProfileGives, ProfileParts, profile}
+use Rattle.ws_session.specs.station.Displays.{IsPressedOnDisplay, ComesTo}
+use Rattle.ws_session.specs.station.Alarms.{alarm_count}
+use Rattle.ws_session.specs.station.StationSide.{ProfileGives, ProfileParts, profile}
 use Rattle.ws_session.proofs.AlarmLaws.{alarms_behind_key}
 
 -- What a key makes of the profile's display.

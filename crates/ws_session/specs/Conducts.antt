@@ -6,16 +6,16 @@ use Rattle.ws_keys.specs.declared.key.Key.{Key}
 use Rattle.ws_stream.specs.Elements.{element_rules}
 use Rattle.ws_session.specs.declared.end_step.Applied.{Applied}
 use Rattle.ws_session.specs.declared.end_step.Order.{Order}
-use Rattle.ws_session.specs.declared.host_event.HostEvent.{HostEvent}
+use Rattle.ws_session.specs.declared.host_end.host_event.HostEvent.{HostEvent}
 use Rattle.ws_session.specs.Conduct.{Conduct}
-use Rattle.ws_session.specs.Displays.{DisplayOf}
-use Rattle.ws_session.specs.HostFeeds.{HostStaysSilent}
-use Rattle.ws_session.specs.HostLeads.{HostParts}
+use Rattle.ws_session.specs.station.Displays.{DisplayOf}
+use Rattle.ws_session.specs.host_end.HostFeeds.{HostStaysSilent}
+use Rattle.ws_session.specs.host_end.HostLeads.{HostParts}
 use Rattle.ws_session.specs.Manners.{HostGoes, HostRefuses}
-use Rattle.ws_session.specs.PartsOn.{PartsOn}
-use Rattle.ws_session.specs.StationActs.{GoesOnDisplay, RefusesOn, StaysSilentOn}
-use Rattle.ws_session.specs.StationLeads.{StationParts}
-use Rattle.ws_session.specs.StationSide.{profile}
+use Rattle.ws_session.specs.station.PartsOn.{PartsOn}
+use Rattle.ws_session.specs.station.StationActs.{GoesOnDisplay, RefusesOn, StaysSilentOn}
+use Rattle.ws_session.specs.station.StationLeads.{StationParts}
+use Rattle.ws_session.specs.station.StationSide.{profile}
 
 -- a station on any display
 abbrev pub station_conduct : {D P U H PlaceV V K R : Type 0} → Rules P U → DisplayOf D U H PlaceV V K R

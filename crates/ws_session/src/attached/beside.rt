@@ -1,6 +1,6 @@
 //! What goes to the other side beside what an end writes.
 ghost use Rattle.std.specs.Prelude.{◌≡◌, Err, true, false, OnOk, IfErr};
-ghost use Rattle.ws_session.specs.Attachments.{HasWrittenBeside, HasFailedBeside};
+ghost use Rattle.ws_session.specs.attached.Attachments.{HasWrittenBeside, HasFailedBeside};
 
 use crate::Attached;
 use ws_code::{Fault, Sink, write_whole};

@@ -2,8 +2,8 @@
 ghost use Rattle.std.specs.Prelude.{◌≡◌, ◌<◌, ◌≤◌, ◌+◌, ◌^◌, ◌++◌, ◌∷◌, [], List, ℕ, None, Some, Err, length, take, IsSome, IfOk, IfErr, OnOk, OnErr};
 ghost use Rattle.ws_session.specs.Acts.{all_came, as_list};
 ghost use Rattle.ws_session.specs.Ends.{CountsUpTo};
-ghost use Rattle.ws_session.specs.HostFeeds.{HasHostFed, IsHostSilent, HostStaysSilent, HostStopsWithin};
-ghost use Rattle.ws_session.specs.HostLeads.{AtHost};
+ghost use Rattle.ws_session.specs.host_end.HostFeeds.{HasHostFed, IsHostSilent, HostStaysSilent, HostStopsWithin};
+ghost use Rattle.ws_session.specs.host_end.HostLeads.{AtHost};
 ghost use Rattle.ws_session.specs.Manners.{HostGoes, HostRefuses};
 
 use super::{HostFront, silence};

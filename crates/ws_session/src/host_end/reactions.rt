@@ -2,12 +2,12 @@
 ghost use Rattle.std.specs.Prelude.{◌≡◌, None, Some, IfOk, IfErr, OnErr};
 ghost use Rattle.ws_nego.specs.Host.{host_answer};
 ghost use Rattle.ws_session.specs.Ends.{StandsAt};
-ghost use Rattle.ws_session.specs.HostLeads.{HostStands, IsReacted};
-ghost use Rattle.ws_session.specs.HostSide.{HostSide, host_takes, host_negotiates, host_takes_record, host_reads_by, host_ends_cancel, ready_event};
-ghost use Rattle.ws_session.specs.HostSide as side_spec;
+ghost use Rattle.ws_session.specs.host_end.HostLeads.{HostStands, IsReacted};
+ghost use Rattle.ws_session.specs.host_end.HostSide.{HostSide, host_takes, host_negotiates, host_takes_record, host_reads_by, host_ends_cancel, ready_event};
+ghost use Rattle.ws_session.specs.host_end.HostSide as side_spec;
 
 use super::told;
-use crate::answer::{ATN, SRQ};
+use crate::station::answer::{ATN, SRQ};
 use crate::{HostEnd, HostEvent, HostStep, Refusal};
 use ws_code::Reason;
 use ws_keys::{HostFault, split_answer};

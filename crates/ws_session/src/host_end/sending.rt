@@ -1,10 +1,10 @@
 //! What a host end sends.
 ghost use Rattle.std.specs.Prelude.{◌≡◌, ◌≢◌, ◌<◌, ◌+◌, ◌^◌, Err, length, IsSome, OnErr, MatchResult};
-ghost use Rattle.ws_session.specs.HostLeads.{AtHost, HostStands, IsSent, IsSendFault};
-ghost use Rattle.ws_session.specs.HostSide.{HostSide, RefusesSend, host_send, host_cancel, is_outstanding};
+ghost use Rattle.ws_session.specs.host_end.HostLeads.{AtHost, HostStands, IsSent, IsSendFault};
+ghost use Rattle.ws_session.specs.host_end.HostSide.{HostSide, RefusesSend, host_send, host_cancel, is_outstanding};
 
-use crate::apply::CANCEL;
-use crate::body::{body_spelling, is_too_big};
+use crate::station::apply::CANCEL;
+use crate::station::body::{body_spelling, is_too_big};
 use crate::{HostEnd, SendFault};
 use arrayvec::ArrayVec;
 use ws_code::VecSink;

@@ -1,14 +1,14 @@
 //! What a station makes of a piece of bytes.
 ghost use Rattle.std.specs.Prelude.{◌≡◌, ◌<◌, ◌≤◌, ◌+◌, ◌^◌, ◌++◌, ◌∷◌, [], List, ℕ, Some, Err, false, length, take, IsSome, IfOk, IfErr, OnOk, OnErr};
 ghost use Rattle.ws_session.specs.Ends.{CountsUpTo};
-ghost use Rattle.ws_session.specs.StationActs.{GoesOnDisplay, HasFedOn, IsSilentOn, RefusesOn, StaysSilentOn};
-ghost use Rattle.ws_session.specs.StationManners.{told_by};
-ghost use Rattle.ws_session.specs.StationNews.{StopsWithinOn};
-ghost use Rattle.ws_session.specs.Stations.{AtStationOn};
+ghost use Rattle.ws_session.specs.station.StationActs.{GoesOnDisplay, HasFedOn, IsSilentOn, RefusesOn, StaysSilentOn};
+ghost use Rattle.ws_session.specs.station.StationManners.{told_by};
+ghost use Rattle.ws_session.specs.station.StationNews.{StopsWithinOn};
+ghost use Rattle.ws_session.specs.station.Stations.{AtStationOn};
 ghost use Rattle.ws_session.specs.Acts.{all_came, as_list};
 
 use super::{StationStep, silence};
-use crate::station_fed::StationFront;
+use crate::station::station_fed::StationFront;
 use crate::{Refusal, StationDisplay, StationOn};
 
 impl<D: StationDisplay> StationOn<D> {

@@ -2,11 +2,11 @@
 ghost use Rattle.std.specs.Prelude.{◌≡◌, List, ℕ, length};
 ghost use Rattle.ws_nego.specs.Station.{station_allows_records};
 ghost use Rattle.ws_record.specs.declared.record.Item.{Item};
-ghost use Rattle.ws_session.specs.Alarms.{alarm_count};
-ghost use Rattle.ws_session.specs.Stations.{AtStationOn, HasStoppedOn};
-ghost use Rattle.ws_session.specs.StationCounts.{records_in};
+ghost use Rattle.ws_session.specs.station.Alarms.{alarm_count};
+ghost use Rattle.ws_session.specs.station.Stations.{AtStationOn, HasStoppedOn};
+ghost use Rattle.ws_session.specs.station.StationCounts.{records_in};
 ghost use Rattle.ws_session.specs.Ends.{refused_byte};
-ghost use Rattle.ws_session.specs.Displays.{SideOn};
+ghost use Rattle.ws_session.specs.station.Displays.{SideOn};
 
 use crate::{Refusal, StationDisplay, StationOn};
 use ws_code::Reason;

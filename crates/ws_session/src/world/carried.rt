@@ -1,13 +1,13 @@
 //! A session whose bytes go over a connection.
 ghost use Rattle.std.specs.Prelude.{◌≡◌, ◌≤◌, ◌+◌, ◌∷◌, [], List as Seq, length, take, IfOk, IfErr, OnOk};
 ghost use Rattle.ws_nego.specs.declared.terminal.TerminalType.{TerminalType as ATerminal};
-ghost use Rattle.ws_session.specs.BrokenOff.{IsDeliveryCut, CutsDown, CutsUp, BreaksOff, HasEndedEarly};
-ghost use Rattle.ws_session.specs.Carried.{HasRunOver};
-ghost use Rattle.ws_session.specs.Crossings.{Crossing, AreFaithful, HaveCrossed, IsEnded, AreEnded};
-ghost use Rattle.ws_session.specs.Runs.{Runs};
-ghost use Rattle.ws_session.specs.TwoLines.{two_ends_of, HasMoved, ComesDown, ComesUp};
-ghost use Rattle.ws_session.specs.World as spec;
-ghost use Rattle.ws_session.specs.World.{World as AWorld, after_move};
+ghost use Rattle.ws_session.specs.world.BrokenOff.{IsDeliveryCut, CutsDown, CutsUp, BreaksOff, HasEndedEarly};
+ghost use Rattle.ws_session.specs.world.Carried.{HasRunOver};
+ghost use Rattle.ws_session.specs.world.Crossings.{Crossing, AreFaithful, HaveCrossed, IsEnded, AreEnded};
+ghost use Rattle.ws_session.specs.world.Runs.{Runs};
+ghost use Rattle.ws_session.specs.world.TwoLines.{two_ends_of, HasMoved, ComesDown, ComesUp};
+ghost use Rattle.ws_session.specs.world.World as spec;
+ghost use Rattle.ws_session.specs.world.World.{World as AWorld, after_move};
 ghost use Rattle.ws_code.specs.Device.{on_devices};
 
 use super::{Move, Report, World};

@@ -5,7 +5,7 @@ use Rattle.ws_text.specs.Printing.{IsOut}
 use Rattle.ws_text.specs.declared.output.Output.{Output}
 use Rattle.ws_text.proofs.Prints.{whole_out}
 use Rattle.ws_live.specs.declared.live.Closing.{Closing}
-use Rattle.ws_live.specs.declared.paint.Paint.TheVariants.{Plain}
+use Rattle.ws_live.specs.declared.printing.paint.Paint.TheVariants.{Plain}
 use Rattle.ws_any_host.proofs.repeated.carry_once.Goals as goal
 
 pub returns-in-Open-clause-carried : goal.returns-in-Open-clause-carried

@@ -1,5 +1,5 @@
 use Rattle.std.proofs.Common.{[], refl, ◌∙◌}
-use Rattle.ws_session.specs.HostLeads.{unopened_host_side}
+use Rattle.ws_session.specs.host_end.HostLeads.{unopened_host_side}
 use Rattle.ws_c.proofs.host.opened_host.Goals as goal
 
 pub returns-clause-host : goal.returns-clause-host

@@ -4,8 +4,8 @@ use Rattle.std.proofs.Common.{false}
 use Rattle.std.proofs.Common.{length, take, drop, refl, sym, subst, ap, ◌∙◌, arith, add-zero}
 use Rattle.std.proofs.lemmas.List.{length-drop}
 use Rattle.ws_session.specs.Ends.{CountsUpTo}
-use Rattle.ws_session.specs.HostFeeds.{HasHostFed, HasHostRefused, IsHostSilent}
-use Rattle.ws_session.specs.declared.host_event.HostEvent.{HostEvent}
+use Rattle.ws_session.specs.host_end.HostFeeds.{HasHostFed, HasHostRefused, IsHostSilent}
+use Rattle.ws_session.specs.declared.host_end.host_event.HostEvent.{HostEvent}
 use Rattle.ws_c.specs.declared.status.Status.TheVariants.{Done, NoRoom}
 use Rattle.ws_c.specs.declared.told.PushedTold.{PushedTold}
 use Rattle.ws_c.specs.Hosts.{HostTells, HostRefusesWithin, IsHostEnd, answer_after, event_told}

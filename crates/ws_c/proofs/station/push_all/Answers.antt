@@ -3,8 +3,8 @@ use Rattle.std.proofs.Common.{◌≡◌, ◌+◌, ◌-◌, ◌<◌, ◌≤◌, �
 use Rattle.std.proofs.Common.{◌∙◌, arith}
 use Rattle.std.proofs.lemmas.List.{length-drop}
 use Rattle.ws_session.specs.Ends.{CountsUpTo}
-use Rattle.ws_session.specs.StationFeeds.{HasFed, HasRefused}
-use Rattle.ws_session.specs.StationSide.{profile}
+use Rattle.ws_session.specs.station.StationFeeds.{HasFed, HasRefused}
+use Rattle.ws_session.specs.station.StationSide.{profile}
 use Rattle.ws_stream.specs.Elements.{element_rules}
 use Rattle.ws_c.specs.declared.status.Status.TheVariants.{Done, NoRoom}
 use Rattle.ws_c.specs.declared.told.PushedTold.{PushedTold}

@@ -5,7 +5,7 @@ use Rattle.std.proofs.lemmas.List.{length-drop}
 use Rattle.ws_extended.specs.ExtendedElements.{extended_rules}
 use Rattle.ws_extended_station.specs.ExtendedDisplays.{DisplayParts, extended, extended_written}
 use Rattle.ws_session.specs.Ends.{CountsUpTo}
-use Rattle.ws_session.specs.StationActs.{HasFedOn, HasRefusedOn, IsSilentOn}
+use Rattle.ws_session.specs.station.StationActs.{HasFedOn, HasRefusedOn, IsSilentOn}
 use Rattle.ws_c.specs.declared.held_station.HeldStation.{HeldStation}
 use Rattle.ws_c.specs.declared.status.Status.TheVariants.{Done}
 use Rattle.ws_c.specs.HeldStations.{waiting}

@@ -1,7 +1,7 @@
 use Rattle.std.proofs.Common.{◌++◌, List, ℕ, inl, inr, refl, subst}
 use Rattle.std.specs.Prelude.{Result}
 use Rattle.ws_code.specs.declared.fault.Fault.{Fault}
-use Rattle.ws_live.specs.LiveText.{closing_text}
+use Rattle.ws_live.specs.live.LiveText.{closing_text}
 use Rattle.ws_text.specs.Printing.{IsOut}
 use Rattle.ws_live.specs.declared.live.Closing.{Closing}
 use Rattle.ws_text.specs.declared.output.Output.{Output}

@@ -1,7 +1,7 @@
 use Rattle.std.proofs.Common.{◌≡◌, ◌++◌, ◌&&◌, Bool, List, ℕ, sym, ap, ◌∙◌, subst, inl}
 use Rattle.std.specs.Option.{is_some}
 use Rattle.ws_code.proofs.DeviceLaws.{went_out_both}
-use Rattle.ws_live.specs.ServeText.{IsServeText}
+use Rattle.ws_live.specs.live.ServeText.{IsServeText}
 use Rattle.ws_live.proofs.ServeRuns.{stopped_text, answered_text}
 use Rattle.ws_network.proofs.LiveFaults.{unanswered}
 use Rattle.ws_network.proofs.live_input.carry_at_host.Goals as goal

@@ -1,6 +1,6 @@
 use Rattle.std.proofs.Common.{ap}
 use Rattle.std.proofs.lemmas.Result.{IfOk-weaker, IfErr-weaker}
-use Rattle.ws_live.specs.Buffering.{Buffering}
+use Rattle.ws_live.specs.printing.Buffering.{Buffering}
 use Rattle.ws_program.proofs.Buffers.{done_flushed, fault_flushed}
 use Rattle.ws_program.proofs.UnflushedBuffers.{outcome_unflushed}
 use Rattle.ws_program.proofs.program.answer_buffered.Goals as goal

@@ -1,5 +1,5 @@
 use Rattle.std.proofs.Common.{ap}
-use Rattle.ws_live.specs.Buffering.{Buffering}
+use Rattle.ws_live.specs.printing.Buffering.{Buffering}
 use Rattle.ws_program.specs.SourceChecks.{HasRefusalBy, GaveEnough, FailedBefore}
 use Rattle.ws_program.proofs.SourceAnswers.{settled_done, settled_write, unflushed_write}
 use Rattle.ws_program.proofs.source_check.check_source_openly.Goals as goal

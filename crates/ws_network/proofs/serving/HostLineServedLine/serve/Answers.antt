@@ -1,5 +1,5 @@
 use Rattle.std.proofs.Common.{◌∙◌, []}
-use Rattle.ws_session.specs.HostLeads.{unopened_host_side}
+use Rattle.ws_session.specs.host_end.HostLeads.{unopened_host_side}
 use Rattle.ws_network.proofs.SessionLaws.{judged, served}
 use Rattle.ws_network.proofs.serving.HostLineServedLine.serve.Goals as goal
 

@@ -1,9 +1,9 @@
 use Rattle.ws_session.proofs.Shuts.{not_shut, shut_fails}
 use Rattle.ws_session.proofs.Common.{[], ◌≡◌, Err, SendFailed, rules, refl, host_send, went_out_none, HostGoes}
 use Rattle.ws_session.proofs.Common.{HostRefuses}
-use Rattle.ws_session.proofs.Reached.{refrains}
+use Rattle.ws_session.proofs.world.Reached.{refrains}
 use Rattle.ws_session.specs.declared.end_step.Order.TheVariants.{Send}
-use Rattle.ws_session.specs.declared.send_fault.SendFault.TheVariants.{Memory}
+use Rattle.ws_session.specs.declared.host_end.send_fault.SendFault.TheVariants.{Memory}
 use Rattle.ws_session.proofs.EndDeeds.{deed_led, send_fails, order_goes, order_refused_goes, sends_as, send_taken}
 use Rattle.ws_session.proofs.EndDeeds.{refrains_as}
 use Rattle.ws_session.proofs.attached.Attached+HostEnd+S+K.send.Goals as goal

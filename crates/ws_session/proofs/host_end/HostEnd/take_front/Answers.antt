@@ -3,7 +3,7 @@ use Rattle.ws_session.proofs.Common.{answer_rules, AnswerPart, HostStep, Refusal
 use Rattle.ws_session.proofs.Common.{HostParts, HostLeads, HostSide}
 use Rattle.ws_session.specs.contracts.host_end.HostEnd.{the_view}
 use Rattle.ws_session.proofs.HostSteps.{host_so_far, host_fronted}
-use Rattle.ws_session.proofs.StationSteps.{front_count}
+use Rattle.ws_session.proofs.station.StationSteps.{front_count}
 use Rattle.ws_session.proofs.host_end.HostEnd.take_front.Goals as goal
 
 -- what the clauses say of a host end before

@@ -3,7 +3,7 @@ use Rattle.ws_session.proofs.Common.{HasHostFed, HostLeads, HostEvent, HostStep,
 use Rattle.ws_session.proofs.Common.{arith, false, None, Some, refl, take, ◌≡◌, ◌+◌, ◌-◌, sym, []}
 use Rattle.ws_session.proofs.Counts.{counted_on, counted_up}
 use Rattle.ws_session.proofs.Feedings.{none_silent, quiet_upto, none_come, quiet_on, value_at, split_on}
-use Rattle.ws_session.proofs.StationFeedings.{host_refused_on, host_fed_on, no_reply}
+use Rattle.ws_session.proofs.station.StationFeedings.{host_refused_on, host_fed_on, no_reply}
 use Rattle.ws_session.proofs.host_end.HostEnd.take_piece.Goals as goal
 
 -- an event that is none

@@ -1,6 +1,6 @@
 use Rattle.ws_session.proofs.Common.{min, ◌+◌, ◌-◌, ◌^◌, ◌≡◌, ℕ, List, [], sym, ap, ◌∙◌, Head}
 use Rattle.ws_session.specs.contracts.station.StationOn.{the_view}
-use Rattle.ws_session.proofs.StationSteps.{closes}
+use Rattle.ws_session.proofs.station.StationSteps.{closes}
 use Rattle.ws_session.proofs.station.StationOn.close.Goals as goal
 
 pub returns-in-Ok-clause-closed : goal.returns-in-Ok-clause-closed

@@ -2,7 +2,7 @@ use Rattle.ws_session.proofs.Common.{station_allows_records, false, Bool}
 use Rattle.ws_session.proofs.Common.{refl, ◌&&◌}
 use Rattle.ws_session.proofs.Common.{true, not, sym, ◌∙◌, Err, ◌≡◌, Ok, ap}
 use Rattle.ws_session.specs.contracts.station.StationOn.{the_view}
-use Rattle.ws_session.proofs.StationSteps.{pressed}
+use Rattle.ws_session.proofs.station.StationSteps.{pressed}
 use Rattle.ws_session.proofs.station.StationOn.key.Goals.{else-sends-via-then-sends+else-not-records_allowed, in-Err}
 use Rattle.ws_session.proofs.station.StationOn.key.Goals.{else-sends-via-else-sends, in-Ok}
 use Rattle.ws_session.proofs.station.StationOn.key.Goals as goal

@@ -1,4 +1,4 @@
-use Rattle.ws_session.proofs.StationSteps.{pushed_of}
+use Rattle.ws_session.proofs.station.StationSteps.{pushed_of}
 use Rattle.ws_session.proofs.station.StationOn.push.Goals as goal
 
 pub returns-clause-pushed : goal.returns-clause-pushed

@@ -1,4 +1,4 @@
-use Rattle.ws_session.proofs.StationSteps.{none_complete}
+use Rattle.ws_session.proofs.station.StationSteps.{none_complete}
 use Rattle.ws_session.proofs.station.StationOn.react.Goals as goal
 
 pub returns-in-More-clause-reacted : goal.returns-in-More-clause-reacted

@@ -1,4 +1,4 @@
-use Rattle.ws_session.proofs.StationSteps.{one_fronted}
+use Rattle.ws_session.proofs.station.StationSteps.{one_fronted}
 use Rattle.ws_session.proofs.station.StationOn.step.Goals as goal
 
 pub returns-clause-stepped : goal.returns-clause-stepped

@@ -1,5 +1,5 @@
 use Rattle.ws_session.specs.contracts.station.StationOn.{the_view}
-use Rattle.ws_session.proofs.StationSteps.{front_count, fronted, so_far, is_led}
+use Rattle.ws_session.proofs.station.StationSteps.{front_count, fronted, so_far, is_led}
 use Rattle.ws_session.proofs.station.StationOn.take_front.Goals as goal
 
 pub returns-clause-fronted : goal.returns-clause-fronted

@@ -1,8 +1,8 @@
 use Rattle.ws_session.proofs.Common.{◌≡◌, ◌≤◌, ◌+◌, ◌-◌, [], ◌∷◌, ◌++◌, length, refl, arith, drop_all}
 use Rattle.ws_session.proofs.Common.{err_from_is_err_and, bytes_to_station, two_ends_of}
-use Rattle.ws_session.proofs.LineMoves.{down_none, down_more, down_all, crossed_on, stopped_behind, faithful_front}
-use Rattle.ws_session.proofs.LineMoves.{faithful_back, cut_of_more}
-use Rattle.ws_session.proofs.ByteSteps.{stops, none_comes, bytes_on}
+use Rattle.ws_session.proofs.world.LineMoves.{down_none, down_more, down_all, crossed_on, stopped_behind, faithful_front}
+use Rattle.ws_session.proofs.world.LineMoves.{faithful_back, cut_of_more}
+use Rattle.ws_session.proofs.world.ByteSteps.{stops, none_comes, bytes_on}
 use Rattle.ws_session.proofs.world.World.carry_to_station.Goals as goal
 use Rattle.ws_code.specs.Device.{on_devices}
 

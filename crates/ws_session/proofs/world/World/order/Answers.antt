@@ -1,6 +1,6 @@
 use Rattle.ws_session.proofs.Common.{rules, ◌≡◌, on_ok_weaker, CancelInvite}
 use Rattle.ws_session.proofs.EndDeeds.{other_order}
-use Rattle.ws_session.proofs.Reached.{other_send}
+use Rattle.ws_session.proofs.world.Reached.{other_send}
 use Rattle.ws_session.proofs.world.World.order.Goals as goal
 
 pub returns-then-eq-clause-sent : goal.returns-then-eq-clause-sent

@@ -2,7 +2,7 @@ use Rattle.ws_session.proofs.Common.{◌≡◌, length, List, ℕ, [], ◌∷◌
 use Rattle.ws_session.proofs.Common.{length-take-le, length-drop, err_from_is_err_and, on_ok_weaker, IfErr-weaker}
 use Rattle.ws_session.proofs.Common.{with_piece_at, WireParts, append-nil, sym, ◌≤◌}
 use Rattle.ws_session.specs.contracts.world.World.{the_view}
-use Rattle.ws_session.proofs.LineMoves.{both_of_ok, up_piece, written_back}
+use Rattle.ws_session.proofs.world.LineMoves.{both_of_ok, up_piece, written_back}
 use Rattle.ws_session.proofs.world.World.piece_to_host.Goals as goal
 
 pub returns-in_err-carry-clause-fault : goal.returns-in_err-carry-clause-fault

@@ -3,10 +3,10 @@ use Rattle.ws_session.proofs.Common.{take_all}
 use Rattle.ws_session.proofs.Common.{◌∙◌, ap, append-nil, append_assoc, take-append-drop}
 use Rattle.ws_session.proofs.Common.{err_from_is_err_and, IfErr-weaker, TwoEnds, two_ends_of, all_read, StationIsLed}
 use Rattle.ws_session.proofs.Common.{HostIsLed, new_world, after_moves, longer_by}
-use Rattle.ws_session.proofs.LineLeads.{station_is_led, host_is_led}
-use Rattle.ws_session.proofs.LineMoves.{both_if_ok, begun, moved_on, crossed_on, either_behind, faithful_front}
-use Rattle.ws_session.proofs.LineMoves.{faithful_back}
-use Rattle.ws_session.proofs.Reached.{more_moves, weaker_ok}
+use Rattle.ws_session.proofs.world.LineLeads.{station_is_led, host_is_led}
+use Rattle.ws_session.proofs.world.LineMoves.{both_if_ok, begun, moved_on, crossed_on, either_behind, faithful_front}
+use Rattle.ws_session.proofs.world.LineMoves.{faithful_back}
+use Rattle.ws_session.proofs.world.Reached.{more_moves, weaker_ok}
 use Rattle.ws_session.proofs.world.World.run_carried.Goals as goal
 
 pub loop-step-init : goal.loop-step-init

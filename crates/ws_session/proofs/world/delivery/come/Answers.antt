@@ -1,5 +1,5 @@
 use Rattle.ws_session.proofs.Common.{◌≡◌, ◌++◌, Ok, Err, ap, ◌∙◌, refl, Failed, length, take, take_all, arith, Refusal}
-use Rattle.ws_session.proofs.Arriving.{goes_come, refused_come}
+use Rattle.ws_session.proofs.world.Arriving.{goes_come, refused_come}
 use Rattle.ws_session.proofs.world.delivery.come.Goals as goal
 
 pub returns-in_ok-tell-in-Ok-clause-come : goal.returns-in_ok-tell-in-Ok-clause-come

@@ -1,5 +1,5 @@
 use Rattle.ws_session.proofs.Common.{arith, ◌+◌, ◌≤◌, ap, length-take, take, ℕ}
-use Rattle.ws_session.proofs.Arriving.{none_delivered, some_delivered, all_come}
+use Rattle.ws_session.proofs.world.Arriving.{none_delivered, some_delivered, all_come}
 use Rattle.ws_session.proofs.world.delivery.deliver.Goals as goal
 
 pub loop-left-init : goal.loop-left-init

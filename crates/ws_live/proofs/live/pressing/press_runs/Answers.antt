@@ -1,0 +1,47 @@
+use Rattle.std.proofs.Common.{◌≡◌, ℕ, List, false, subst}
+use Rattle.std.specs.Prelude.{Result, IfOk, replicate}
+use Rattle.ws_code.specs.declared.fault.Fault.{Fault}
+use Rattle.ws_live.specs.live.ConnectText.{KeysUntil}
+use Rattle.ws_live.specs.declared.live.Closing.{Closing}
+use Rattle.ws_live.proofs.StrokeRuns.{run_more, run_stops, until_quiet}
+use Rattle.ws_text.specs.Printing.{Prints}
+use Rattle.ws_text.proofs.Prints.{prints_both}
+use Rattle.ws_live.proofs.live.pressing.press_runs.Goals as goal
+use Rattle.ws_code.specs.Device.{on_devices}
+
+pub returns-then-not-is_done-clause-runs : goal.returns-then-not-is_done-clause-runs
+returns-then-not-is_done-clause-runs g c =
+    let so_far = c.loop-run.invariant in
+    let one = c.press_times-carried.ensures.runs in
+    let profile = g.D.Key.NamedKey.words.profile in
+    let run = c.run-item.result in
+    let to = c.press_times-carried.new.attached in
+    let keys = subst (λ k. KeysUntil g.D.Commands.Code.rules g.D.StationDisplay.does (on_devices g.K.Sink.writer g.S.Source.reader) g.D.Key.NamedKey.words (replicate run.times k) c.loop-run.attached
+    c.press_times-carried.result.outcome one.0 to) c.from_profile-key.ensures one.1 in (
+      one.0,
+      run_stops g.D.Commands.Code.rules g.D.StationDisplay.does (on_devices g.K.Sink.writer g.S.Source.reader) g.D.Key.NamedKey.words profile c.args.runs.now c.loop-run.run-index run c.loop-run-test.true c.run-item.is
+          c.args.attached.now c.loop-run.attached to c.press_times-carried.result.outcome one.0 so_far.0 keys
+          (c.is_done.ensures.undone c.if-not-is_done.true),
+      prints_both so_far.1 one.2,
+    )
+
+pub loop-run-preserved : goal.loop-run-preserved
+loop-run-preserved g c =
+    let so_far = c.loop-run.invariant in
+    let one = c.press_times-carried.ensures.runs in
+    let profile = g.D.Key.NamedKey.words.profile in
+    let run = c.run-item.result in
+    let to = c.press_times-carried.new.attached in
+    let done = c.is_done.ensures.done c.if-not-is_done.false in
+    let keys = subst (λ k. KeysUntil g.D.Commands.Code.rules g.D.StationDisplay.does (on_devices g.K.Sink.writer g.S.Source.reader) g.D.Key.NamedKey.words (replicate run.times k) c.loop-run.attached
+    c.press_times-carried.result.outcome one.0 to) c.from_profile-key.ensures one.1 in
+    let quiet = until_quiet g.D.Commands.Code.rules g.D.StationDisplay.does (on_devices g.K.Sink.writer g.S.Source.reader) g.D.Key.NamedKey.words (replicate run.times (profile run.key)) c.loop-run.attached to one.0
+    (subst (λ (o : Result Closing Fault). KeysUntil g.D.Commands.Code.rules g.D.StationDisplay.does (on_devices g.K.Sink.writer g.S.Source.reader) g.D.Key.NamedKey.words (replicate run.times (profile run.key)) c.loop-run.attached
+    o one.0 to) done keys) in (
+      run_more g.D.Commands.Code.rules g.D.StationDisplay.does (on_devices g.K.Sink.writer g.S.Source.reader) g.D.Key.NamedKey.words profile c.args.runs.now c.loop-run.run-index run c.loop-run-test.true c.run-item.is
+          c.args.attached.now c.loop-run.attached to c.press_times-carried.result.outcome one.0 so_far.0 keys done,
+      prints_both so_far.1 (subst (λ (z : List ℕ). Prints g.O.Sink.writer c.loop-run.out
+          c.press_times-carried.new.out c.loop-run.output c.press_times-carried.result.output z) quiet one.2),
+      subst (λ (o : Result Closing Fault). IfOk o (λ closing. to.broken ≡ false)) done
+          c.press_times-carried.ensures.works,
+    )

@@ -1,0 +1,16 @@
+use Rattle.std.proofs.Common.{◌≡◌, List, length, false}
+use Rattle.std.specs.List.{flat_map}
+use Rattle.ws_session.specs.declared.host_end.host_event.HostEvent.{HostEvent}
+use Rattle.ws_live.specs.printing.ToldLines.{told_text}
+use Rattle.ws_live.specs.live.ServeText.{HaveToldBeforeAnswer}
+use Rattle.ws_text.specs.Printing.{Prints}
+use Rattle.ws_live.proofs.live.serve.hear_answer.Given as goal
+use Rattle.ws_code.specs.Device.{on_devices}
+
+-- what was told and printed so far, none of which is the answer
+abbrev pub invariant-loop : goal.invariant-loop
+invariant-loop g l = (told : List HostEvent)
+    × HaveToldBeforeAnswer (on_devices g.K.Sink.writer g.S.Source.reader) l.awaited l.fn.attached told l.attached
+    × (length told ≡ l.counter)
+    × Prints g.O.Sink.writer l.fn.out l.out l.fn.output l.output (flat_map told_text told)
+    × (l.attached.broken ≡ false)

@@ -1,0 +1,10 @@
+pub mod ConnectLines
+pub mod ConnectText
+pub mod LiveScript
+pub mod LiveText
+pub mod Operating
+pub mod ServeLines
+pub mod ServeText
+pub mod Stroking
+pub mod Waits
+pub mod WireLines

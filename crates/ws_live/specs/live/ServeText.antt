@@ -1,0 +1,241 @@
+-- What a line of a script for a host does there, and what it prints, by what the host end is told.
+
+use Rattle.std.specs.Prelude.{◌≡◌, ℕ, List, [], ◌∷◌, ◌++◌, ◌⊎◌, Bool, true, false, Option, None, Some}
+use Rattle.std.specs.Prelude.{IfSome, IfNone, not, ◌&&◌, ◌==◌, length, replicate, string_bytes}
+use Rattle.std.specs.List.{flat_map}
+use Rattle.std.specs.Prelude.{Result, Ok, Err}
+use Rattle.ws_code.specs.Device.{Writer, Reader, WentOut, FailedWithin, most_reads, Devices}
+use Rattle.ws_code.specs.declared.fault.Fault.{Fault}
+use Rattle.ws_code.specs.declared.fault.Fault.TheVariants as fault
+use Rattle.ws_session.specs.Acts.{Did}
+use Rattle.ws_session.specs.attached.Attachments.{AttachedParts, HaveLed, IsSendFailure, HasHeard, IsHearFault}
+use Rattle.ws_session.specs.host_end.HostLeads.{HostParts}
+use Rattle.ws_session.specs.host_end.HostSide.{HostSide, SendReaction, host_send, host_cancel}
+use Rattle.ws_session.specs.Conducts.{host_conduct}
+use Rattle.ws_session.specs.Manners.{IsSendRefusal, IsSendTaken}
+use Rattle.ws_record.specs.declared.opcode.Opcode.TheVariants.{CancelInvite}
+use Rattle.ws_session.specs.declared.end_step.Order.{Order}
+use Rattle.ws_session.specs.declared.end_step.Order.TheVariants.{Send, Cancel}
+use Rattle.ws_session.specs.declared.host_end.host_event.HostEvent.{HostEvent}
+use Rattle.ws_session.specs.declared.host_end.host_event.HostEvent.TheVariants.{Answer}
+use Rattle.ws_session.specs.declared.host_end.send_fault.SendFault.{SendFault}
+use Rattle.ws_session.specs.declared.world.Event.TheVariants.{SendRefused, HostRefused}
+use Rattle.ws_live.specs.live.LiveText.{HaveRun, IsOverAt, bad_outcome, bad_text, stops}
+use Rattle.ws_live.specs.live.Waits.{InTime}
+use Rattle.ws_live.specs.printing.PlayLines.{event_text}
+use Rattle.ws_live.specs.printing.ToldLines.{told_text}
+use Rattle.ws_live.specs.printing.ScreenLines.{IsScreenText}
+use Rattle.ws_live.specs.live.WireLines.{WireRuns}
+use Rattle.ws_text.specs.Printing.{IsOut}
+use Rattle.ws_live.specs.declared.live.serve_line.AnswerAwaited.{AnswerAwaited}
+use Rattle.ws_live.specs.declared.live.serve_line.AnswerAwaited.TheVariants.{Any, By}
+use Rattle.ws_live.specs.declared.live.serve_line.HostLine.{HostLine}
+use Rattle.ws_live.specs.declared.live.serve_line.HostLine.TheVariants.{Nothing as NoLine, Give, Await, AwaitAnswer}
+use Rattle.ws_live.specs.declared.live.serve_line.HostLine.TheVariants.{Show, Wire, Bad}
+use Rattle.ws_text.specs.declared.output.Output.{Output}
+use Rattle.ws_live.specs.declared.live.Closing.{Closing}
+use Rattle.ws_live.specs.declared.live.Ran.{Ran}
+use Rattle.ws_live.specs.declared.printing.paint.Paint.TheVariants.{Plain}
+use Rattle.ws_live.specs.declared.live.watch.WaitSpan.{WaitSpan}
+use Rattle.ws_live.specs.declared.live.watch.WaitSpan.TheVariants.{Whole}
+use Rattle.ws_live.specs.declared.live.Closing.TheVariants.{Nothing, Done, Declined, Late, Ended, Stopped}
+
+-- how a send or a cancel closes, and what it prints
+abbrev pub given_outcome : Result (Option SendFault) Fault → Result Closing Fault
+given_outcome (Ok None) = Ok Done
+given_outcome (Ok (Some why)) = Ok Declined
+given_outcome (Err why) = Err why
+
+-- what an order to the host end prints: why the record couldn't be sent, or nothing
+abbrev pub given_text : Result (Option SendFault) Fault → List ℕ
+given_text (Ok (Some why)) = event_text (SendRefused why)
+given_text given = []
+
+-- the wait closed with something that was told
+abbrev pub is_told : Closing → Bool
+is_told Done = true
+is_told closing = false
+
+-- how a wait closes that a fault ended, late or not, and what it prints
+abbrev pub unheard_outcome : Bool → Fault → Result Closing Fault
+unheard_outcome late (fault.Refused place reason) = Ok Stopped
+unheard_outcome true fault.Read = Ok Late
+unheard_outcome late why = Err why
+
+-- how long a line waits, if it does
+abbrev pub host_waits : HostLine → Option WaitSpan
+host_waits Await = Some Whole
+host_waits (AwaitAnswer awaited) = Some Whole
+host_waits line = None
+
+-- the answer is the one that a wait is for
+abbrev pub is_awaited_aid : AnswerAwaited → ℕ → Bool
+is_awaited_aid Any aid = true
+is_awaited_aid (By key) aid = aid == key
+
+-- what the host end tells is the answer that a wait is for
+abbrev pub is_awaited : AnswerAwaited → HostEvent → Bool
+is_awaited awaited (Answer answer) = is_awaited_aid awaited answer.aid
+is_awaited awaited told = false
+
+-- what the host end's fault prints: the byte that it refused, or nothing
+abbrev pub unheard_text : Fault → List ℕ
+unheard_text (fault.Refused place reason) = event_text (HostRefused place reason)
+unheard_text why = []
+
+-- what the host end does at an order: a send of Cancel Invite is a cancel
+abbrev pub deed_of : Order → Order
+deed_of (Send CancelInvite body) = Cancel
+deed_of order = order
+
+-- what the host end makes of an order: a record to be sent, or a cancel of the read that is out
+abbrev pub reaction_to : Order → HostSide → SendReaction
+reaction_to (Send opcode body) side = host_send side opcode body
+reaction_to Cancel side = host_cancel side
+
+module _ {S K : Type 0} (devices : Devices S K) where
+  -- a host end on a source and a sink
+  abbrev pub AttachedHost : Type 0
+  AttachedHost = AttachedParts HostParts S K
+
+  -- the same with the number of records that are ahead, which no line of a host takes
+  abbrev pub HostAndAhead : Type 0
+  HostAndAhead = AttachedHost × ℕ
+
+  -- the host end did this: it was written, or refused, and nothing is changed; no byte was read or taken
+  pub record IsDone (order : Order) (from : AttachedHost) (refused : Option SendFault) (to : AttachedHost) : Type 0 where
+    pub led : HaveLed host_conduct devices from to (Did order ∷ []) []
+    pub same : IfSome refused (λ why. to ≡ from)
+    pub why : IfSome refused (IsSendRefusal from.end (reaction_to order))
+    pub taken : IfNone refused (IsSendTaken from.end (reaction_to order))
+    pub waiting : to.waiting ≡ from.waiting
+    pub unread : to.source ≡ from.source
+
+  -- what the host end was told to do is done, or a write failed, or for want of memory nothing is
+  abbrev pub IsGiven : Order → AttachedHost → Result (Option SendFault) Fault → AttachedHost → Type 0
+  IsGiven order from (Ok refused) to = IsDone (deed_of order) from refused to
+  IsGiven order from (Err why) to = IsSendFailure host_conduct devices from to
+      (Did (deed_of order) ∷ []) why
+
+  -- things were told one after another, none of which is the answer that is awaited
+  abbrev pub HaveToldBeforeAnswer : AnswerAwaited → AttachedHost → List HostEvent → AttachedHost → Type 0
+  HaveToldBeforeAnswer awaited from [] to = to ≡ from
+  HaveToldBeforeAnswer awaited from (event ∷ more) to = (mid : AttachedHost)
+      × HasHeard host_conduct devices from mid (Some event)
+      × (is_awaited awaited event ≡ false) × HaveToldBeforeAnswer awaited mid more to
+
+  -- What a wait comes to, at a watch that tells of a source whether the read that failed was late.
+  module _ (tells : S → Bool → Type 0) where
+    -- the host end heard the station, and tells nothing more: the station closed, or a fault came
+    abbrev pub HostHearsNone : AttachedHost → Result Closing Fault → List ℕ → AttachedHost → Type 0
+    HostHearsNone from outcome text to =
+        (HasHeard host_conduct devices from to None
+        × (outcome ≡ Ok Ended) × (text ≡ []))
+        ⊎ ((why : Fault) × (late : Bool)
+        × IsHearFault host_conduct devices from to why × (why ≡ fault.Read → tells to.source late)
+        × (outcome ≡ unheard_outcome late why) × (text ≡ unheard_text why))
+
+    -- the host end heard the station up to the first thing that it tells, which is printed, or none came
+    abbrev pub HostHearsOne : AttachedHost → Result Closing Fault → List ℕ → AttachedHost → Type 0
+    HostHearsOne from outcome text to =
+        ((event : HostEvent) × HasHeard host_conduct devices from to (Some event)
+        × (outcome ≡ Ok Done) × (text ≡ told_text event))
+        ⊎ HostHearsNone from outcome text to
+
+    -- Waits for this answer.
+    module _ (awaited : AnswerAwaited) where
+      -- behind so many things the answer is told; or none more is; or as many were told as one wait takes
+      abbrev pub AnswerComes : ℕ → AttachedHost → Result Closing Fault → List ℕ → AttachedHost → Type 0
+      AnswerComes told from outcome text to =
+          ((event : HostEvent) × HasHeard host_conduct devices from to (Some event)
+          × (is_awaited awaited event ≡ true) × (outcome ≡ Ok Done) × (text ≡ told_text event))
+          ⊎ (HostHearsNone from outcome text to
+          ⊎ ((told ≡ most_reads) × (to ≡ from) × (outcome ≡ Err fault.Read) × (text ≡ [])))
+
+      -- the host end heard the station up to the answer, and printed all that it told
+      pub record HearsAnswer (from : AttachedHost) (outcome : Result Closing Fault) (text : List ℕ) (to : AttachedHost) : Type 0 where
+        pub told : List HostEvent
+        pub mid : AttachedHost
+        pub before : HaveToldBeforeAnswer awaited from told mid
+        pub last : List ℕ
+        pub came : AnswerComes (length told) mid outcome last to
+        pub all : text ≡ flat_map told_text told ++ last
+
+    -- what a line does at a host end, how it closed, and what it printed
+    abbrev pub HostDoes : HostLine → AttachedHost → Result Closing Fault → List ℕ → AttachedHost → Type 0
+    HostDoes NoLine from outcome text to = (to ≡ from) × (outcome ≡ Ok Nothing) × (text ≡ [])
+    HostDoes (Give order) from outcome text to = (given : Result (Option SendFault) Fault) × IsGiven order from given to
+        × (outcome ≡ given_outcome given) × (text ≡ given_text given)
+    HostDoes Await from outcome text to = HostHearsOne from outcome text to
+    HostDoes (AwaitAnswer awaited) from outcome text to = HearsAnswer awaited from outcome text to
+    HostDoes Show from outcome text to = (to ≡ from) × (outcome ≡ Ok Done) × IsScreenText Plain from.end.screen text
+    HostDoes (Wire line) from outcome text to = WireRuns devices.writer line from outcome to × (text ≡ [])
+    HostDoes (Bad cause) from outcome text to = (to ≡ from) × (outcome ≡ bad_outcome)
+        × (text ≡ bad_text (string_bytes cause))
+
+    -- a line at it, how it closed, and what it printed
+    abbrev pub HostRuns : HostLine → HostAndAhead → Result Closing Fault → List ℕ → HostAndAhead → Type 0
+    HostRuns line from outcome text to = HostDoes line from.0 outcome text to.0 × (to.1 ≡ from.1)
+
+    module _ {W : Type 0} (begins : W → S → WaitSpan → W → Type 0) (begun : W → ℕ) where
+      -- a line at a host and a watch, how it closed, and what it printed
+      abbrev pub HostRunsInTime : HostLine → (HostAndAhead × W) → Result Closing Fault → List ℕ → (HostAndAhead × W) → Type 0
+      HostRunsInTime = InTime HostRuns host_waits begins begun
+
+      -- a wait for the next thing, which begins then
+      abbrev pub AwaitsNext : (HostAndAhead × W) → Result Closing Fault → List ℕ → (HostAndAhead × W) → Type 0
+      AwaitsNext from outcome text to = HostRunsInTime Await from outcome text to
+
+      -- what the host end tells behind a script: things were told and printed, and then this came
+      pub record AnswersOn (from to : HostAndAhead × W) (outcome : Result Closing Fault) (text : List ℕ) : Type 0 where
+        pub count : ℕ
+        pub printed : List ℕ
+        pub mid : HostAndAhead × W
+        pub ran : HaveRun HostRunsInTime false from (replicate count Await) true printed mid
+        pub last : List ℕ
+        pub came : AwaitsNext mid outcome last to
+        pub all : text ≡ printed ++ last
+
+      -- what is printed behind a script, up to the first thing that isn't told: the station closed, the wait was over,
+      -- or a byte was refused
+      abbrev pub IsAnsweringText : (HostAndAhead × W) → Bool → List ℕ → (HostAndAhead × W) → Type 0
+      IsAnsweringText from all_well text to = (closing : Closing) × AnswersOn from to (Ok closing) text
+          × (is_told closing ≡ false) × (all_well ≡ not (stops closing))
+
+      -- What the lines of a script at a host print, and behind them what the host end is told, and whether all went well:
+      -- where a line stopped the session, nothing stands behind it.
+      abbrev pub IsServeText : Bool → (HostAndAhead × W) → List HostLine → Bool → List ℕ → (HostAndAhead × W) → Type 0
+      IsServeText ready from lines all_well text to =
+          ((well : Bool) × (mid : HostAndAhead × W) × (printed : List ℕ) × (answers_well : Bool) × (told : List ℕ)
+          × HaveRun HostRunsInTime ready from lines well printed mid × IsAnsweringText mid answers_well told to
+          × (all_well ≡ well && answers_well) × (text ≡ printed ++ told))
+          ⊎ ((ran : Ran) × IsOverAt HostRunsInTime ready from lines ran text to × (all_well ≡ ran.all_well))
+
+      module _ {O : Type 0} (printer : Writer O) (from to : HostAndAhead × W) (old new : O) where
+        -- the next thing that the host end tells is printed, or none came
+        abbrev pub HasAnsweredOnce : Closing → Type 0
+        HasAnsweredOnce closing = (text : List ℕ) × AwaitsNext from (Ok closing) text to
+            × WentOut printer old new text
+
+        -- why the next thing wasn't printed: a device failed, memory was wanting, or it didn't go out
+        abbrev pub IsAnswerOnceFault : Fault → Type 0
+        IsAnswerOnceFault why = ((text : List ℕ) × (output : Output) × AwaitsNext from (Err why) text to
+            × IsOut printer old new output text)
+            ⊎ ((why ≡ fault.Write) × ((closing : Closing) × (text : List ℕ) × AwaitsNext from (Ok closing) text to
+            × FailedWithin printer old new text))
+
+        -- what the host end tells behind a script is printed, up to the first thing that isn't told
+        abbrev pub HasAnsweredOn : Bool → Type 0
+        HasAnsweredOn all_well = (text : List ℕ) × IsAnsweringText from all_well text to
+            × WentOut printer old new text
+
+        -- why not all that the host end tells was printed: a device failed, memory was wanting, it didn't go out, or
+        -- too much was told
+        abbrev pub IsAnswerOnFault : Fault → Type 0
+        IsAnswerOnFault why = ((text : List ℕ) × (output : Output) × AnswersOn from to (Err why) text
+            × IsOut printer old new output text)
+            ⊎ (((why ≡ fault.Write) × ((closing : Closing) × (text : List ℕ) × AnswersOn from to (Ok closing) text
+            × FailedWithin printer old new text))
+            ⊎ ((why ≡ fault.Read) × ((text : List ℕ)
+            × HaveRun HostRunsInTime false from (replicate most_reads Await) true text to
+            × WentOut printer old new text)))

@@ -1,0 +1,5 @@
+pub mod ExtendedKeyNames
+pub mod KeyNames
+pub mod KeyWords
+pub mod Script
+pub mod ScriptFaults

@@ -1,0 +1,45 @@
+use crate::asked::live_address::HostPort;
+use crate::printing::paint::Paint;
+use ws_nego::TerminalType;
+
+/// A live session that a command line asks for.
+#[derive(Clone, Copy, Debug, PartialEq, Eq)]
+pub enum Live<'a> {
+    Connect(ConnectAsked<'a>),
+    Serve(ServeAsked<'a>),
+}
+
+/// A station at a host.
+#[derive(Clone, Copy, Debug, PartialEq, Eq)]
+pub struct ConnectAsked<'a> {
+    pub host: HostPort<'a>,
+    pub terminal: TerminalType,
+    /// In seconds, 1 to 86,400.
+    pub wait: u32,
+    pub ready: bool,
+    /// Of the screens that are printed.
+    pub paint: Paint,
+    /// Whether its display also takes what live hosts send beside the profile.
+    pub extended: bool,
+    /// The file of a recording; without it, none is made.
+    pub record: Option<&'a str>,
+    /// The file of a script; without it, standard input is read.
+    pub script: Option<&'a str>,
+}
+
+/// A host for one station, or for some one after another.
+#[derive(Clone, Copy, Debug, PartialEq, Eq)]
+pub struct ServeAsked<'a> {
+    pub address: HostPort<'a>,
+    /// In seconds, 1 to 86,400.
+    pub wait: u32,
+    pub ready: bool,
+    /// Whether it takes any terminal name and any record, and judges none.
+    pub any: bool,
+    /// How many stations it serves one after another, 1 to 1,000,000; without it one. Then a script is named.
+    pub sessions: Option<u32>,
+    /// The file of a recording; without it, none is made.
+    pub record: Option<&'a str>,
+    /// The file of a script; without it, standard input is read.
+    pub script: Option<&'a str>,
+}

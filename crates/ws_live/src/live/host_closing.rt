@@ -1,0 +1,80 @@
+//! How a send of a host closes, and a wait that a fault ended: at a host of the profile, and at one that takes any
+//! record.
+ghost use Rattle.std.specs.Prelude.{◌≡◌, Bool};
+ghost use Rattle.ws_live.specs.live.ServeText as Spec;
+ghost use Rattle.ws_text.specs.Printing.{Prints};
+
+use crate::live::{Carried, Closing};
+use crate::printing::play::put_event;
+use crate::live::watch::Watch;
+use ws_code::{Fault, Sink};
+use ws_session::{Event, SendFault};
+use ws_text::Output;
+
+/// Tells what came of a send: nothing where it went out, and how it was refused.
+pub fn put_given<O: Sink>(
+    out: &mut O,
+    output: Output,
+    given: Result<Option<SendFault>, Fault>,
+) -> Carried
+    ensures outcome { result.outcome ≡ Spec.given_outcome given }
+    ensures text { Prints O.writer out.old out.new output result.output
+        (Spec.given_text given) }
+{
+    match given {
+        Ok(None) => Carried {
+            output,
+            outcome: Ok(Closing::Done),
+        },
+        Ok(Some(fault)) => Carried {
+            output: put_event(out, output, &Event::SendRefused(fault)),
+            outcome: Ok(Closing::Declined),
+        },
+        Err(fault) => Carried {
+            output,
+            outcome: Err(fault),
+        },
+    }
+}
+
+/// Tells what came of a wait that a fault ended: the byte that was refused, if one was. Where a read failed, the watch
+/// says whether that is for want of time.
+pub fn put_unheard<S, W: Watch<S>, O: Sink>(
+    watch: &W,
+    source: &S,
+    out: &mut O,
+    output: Output,
+    fault: Fault,
+) -> Carried
+    ensures { (late : Bool) × (fault ≡ Fault.Read → W.tells source.now late)
+        × (result.outcome ≡ Spec.unheard_outcome late fault)
+        × Prints O.writer out.old out.new output result.output
+        (Spec.unheard_text fault) }
+{
+    match fault {
+        Fault::Refused { place, reason } => Carried {
+            output: put_event(out, output, &Event::HostRefused { place, reason }),
+            outcome: Ok(Closing::Stopped),
+        },
+        Fault::Read => Carried {
+            output,
+            outcome: unread(watch, source),
+        },
+        _ => Carried {
+            output,
+            outcome: Err(fault),
+        },
+    }
+}
+
+// How a wait closes at which a read failed.
+fn unread<S, W: Watch<S>>(watch: &W, source: &S) -> Result<Closing, Fault>
+    ensures { (late : Bool) × W.tells source.now late
+        × (result ≡ Spec.unheard_outcome late Fault.Read) }
+{
+    if watch.is_late(source) {
+        Ok(Closing::Late)
+    } else {
+        Err(Fault::Read)
+    }
+}

@@ -1,0 +1,265 @@
+//! The lines of a script, carried out at a host; and what is told behind them.
+ghost use Rattle.std.specs.Prelude.{◌≡◌, [], false, Bool, List, ℕ, IfOk, IfErr};
+ghost use Rattle.ws_session.specs.declared.end_step.Order.TheVariants.{Send};
+ghost use Rattle.ws_live.specs.live.ServeText as Spec;
+ghost use Rattle.ws_live.specs.live.LiveText.{stops};
+ghost use Rattle.ws_text.specs.Printing.{Prints};
+ghost use Rattle.ws_code.specs.Device.{on_devices};
+
+use crate::printing::buffered_sink::BufferedSink;
+use crate::live::host_closing::{put_given, put_unheard};
+use crate::live::{Carried, Closing, LiveMove, hand_on, put_bad};
+use crate::printing::paint::Paint;
+use crate::printing::screen_lines::put_screen;
+use crate::live::serve_line::{AnswerAwaited, HostLine};
+use crate::printing::told_event::put_told;
+use crate::live::watch::{WaitSpan, Watch};
+use crate::live::wire_line::carry_wire;
+use ws_code::{Fault, Sink, Source};
+use ws_record::Opcode;
+use ws_session::{Attached, HostEnd, HostEvent, Order, SendFault};
+use ws_stream::Element;
+use ws_text::Output;
+
+impl<S: Source, K: Sink> LiveMove<HostEnd, S, K> for HostLine {
+    ghost runs = { λ tells rests paint.
+        Spec.HostRuns (on_devices K.writer S.reader) tells };
+
+    ghost waits = { Spec.host_waits };
+
+    fn carry_out<W: Watch<S>, O: Sink>(
+        &self,
+        attached: &mut Attached<HostEnd, S, K>,
+        _ahead: &mut u64,
+        watch: &mut W,
+        _paint: Paint,
+        out: &mut O,
+        output: Output,
+    ) -> Carried {
+        match self {
+            HostLine::Nothing => Carried {
+                output,
+                outcome: Ok(Closing::Nothing),
+            },
+            HostLine::Give(order) => put_given(out, output, give(attached, order)),
+            HostLine::Await => {
+                watch.begin(attached.source(), WaitSpan::Whole);
+                hear_event(attached, watch, out, output)
+            }
+            HostLine::AwaitAnswer(awaited) => {
+                let source = attached.source();
+                watch.begin(source, WaitSpan::Whole);
+                hear_answer(attached, watch, awaited, out, output)
+            }
+            HostLine::Show => Carried {
+                output: put_screen(out, output, Paint::Plain, attached.end().screen()),
+                outcome: Ok(Closing::Done),
+            },
+            HostLine::Wire(line) => Carried {
+                output,
+                outcome: carry_wire(attached, watch, line),
+            },
+            HostLine::Bad(cause) => put_bad(out, output, cause.as_str()),
+        }
+    }
+}
+
+// Sends a record, or cancels the read.
+fn give<S: Source, K: Sink>(
+    attached: &mut Attached<HostEnd, S, K>,
+    order: &Order,
+) -> Result<Option<SendFault>, Fault>
+    requires works { attached.old.broken ≡ false }
+    ensures given { Spec.IsGiven (on_devices K.writer S.reader) order.now
+        attached.old result attached.new }
+    ensures works { IfOk result (λ refused. attached.new.broken ≡ false) }
+{
+    match order {
+        Order::Cancel => attached.cancel(),
+        Order::Send(opcode, body) => give_record(attached, *opcode, body.as_slice()),
+    }
+}
+
+// Sends a record; one of Cancel Invite is a cancel.
+fn give_record<S: Source, K: Sink>(
+    attached: &mut Attached<HostEnd, S, K>,
+    opcode: Opcode,
+    body: &[Element],
+) -> Result<Option<SendFault>, Fault>
+    requires works { attached.old.broken ≡ false }
+    ensures given { Spec.IsGiven (on_devices K.writer S.reader) (Send opcode body.now)
+        attached.old result attached.new }
+    ensures works { IfOk result (λ refused. attached.new.broken ≡ false) }
+{
+    match opcode {
+        Opcode::CancelInvite => attached.cancel(),
+        _ => attached.send(opcode, body),
+    }
+}
+
+// Takes what the station sends up to the first thing that the host end tells, and prints it.
+fn hear_event<S: Source, K: Sink, W: Watch<S>, O: Sink>(
+    attached: &mut Attached<HostEnd, S, K>,
+    watch: &W,
+    out: &mut O,
+    output: Output,
+) -> Carried
+    requires works { attached.old.broken ≡ false }
+    ensures heard { (text : List ℕ) × Spec.HostHearsOne (on_devices K.writer S.reader)
+        W.tells attached.old result.outcome text attached.new
+        × Prints O.writer out.old out.new output result.output text }
+    ensures works { IfOk result.outcome (λ closing.
+        stops closing ≡ false → attached.new.broken ≡ false) }
+{
+    match attached.hear() {
+        Ok(Some(event)) => Carried {
+            output: put_told(out, output, &event),
+            outcome: Ok(Closing::Done),
+        },
+        Ok(None) => Carried {
+            output,
+            outcome: Ok(Closing::Ended),
+        },
+        Err(fault) => put_unheard(watch, attached.source(), out, output, fault),
+    }
+}
+
+// Takes what the station sends up to the answer that is awaited, and prints what the host end tells.
+fn hear_answer<S: Source, K: Sink, W: Watch<S>, O: Sink>(
+    attached: &mut Attached<HostEnd, S, K>,
+    watch: &W,
+    awaited: &AnswerAwaited,
+    out: &mut O,
+    output: Output,
+) -> Carried
+    requires works { attached.old.broken ≡ false }
+    ensures heard { (text : List ℕ) × Spec.HearsAnswer (on_devices K.writer S.reader)
+        W.tells awaited.now attached.old result.outcome text attached.new
+        × Prints O.writer out.old out.new output result.output text }
+    ensures works { IfOk result.outcome (λ closing.
+        stops closing ≡ false → attached.new.broken ≡ false) }
+{
+    let mut output = output;
+    for _ in 0..4_294_967_296u64 {
+        match attached.hear() {
+            Ok(Some(event)) => {
+                output = put_told(out, output, &event);
+                if is_awaited(awaited, &event) {
+                    return Carried {
+                        output,
+                        outcome: Ok(Closing::Done),
+                    };
+                }
+            }
+            Ok(None) => return Carried {
+                output,
+                outcome: Ok(Closing::Ended),
+            },
+            Err(fault) => return put_unheard(watch, attached.source(), out, output, fault),
+        }
+    }
+    Carried {
+        output,
+        outcome: Err(Fault::Read),
+    }
+}
+
+// Whether the host end tells the answer that is awaited.
+fn is_awaited(awaited: &AnswerAwaited, event: &HostEvent) -> bool
+    ensures { result ≡ Spec.is_awaited awaited.now event.now }
+{
+    match event {
+        HostEvent::Answer(answer) => match awaited {
+            AnswerAwaited::Any => true,
+            AnswerAwaited::By(aid) => answer.aid == *aid,
+        },
+        _ => false,
+    }
+}
+
+/// Answers a station on, and prints what the host end tells, until the station closes the connection, a wait for the
+/// next thing is over, or a byte is refused: true where none is.
+///
+/// `Write` where the sink or the connection failed, `Read` where a read failed, though not for want of time, or
+/// 4,294,967,296 things were told; `Memory` where a growth was refused.
+pub fn answer_on<S: Source, K: Sink, W: Watch<S>, O: Sink>(
+    attached: &mut Attached<HostEnd, S, K>,
+    ahead: &mut u64,
+    watch: &mut W,
+    out: &mut BufferedSink<O>,
+) -> Result<bool, Fault>
+    // At an end that works, with nothing held back.
+    requires works { attached.old.broken ≡ false }
+    requires empty { out.old.held ≡ [] }
+    // What was printed, or why not all; what was is out.
+    ensures answered { IfOk result (Spec.HasAnsweredOn (on_devices K.writer S.reader)
+        W.tells W.begins W.begun O.writer
+        ((attached.old, ahead.old), watch.old) ((attached.new, ahead.new), watch.new)
+        out.old.sink out.new.sink) }
+    ensures fault { IfErr result (Spec.IsAnswerOnFault (on_devices K.writer S.reader)
+        W.tells W.begins W.begun O.writer
+        ((attached.old, ahead.old), watch.old) ((attached.new, ahead.new), watch.new)
+        out.old.sink out.new.sink) }
+    ensures held { out.new.held ≡ [] }
+{
+    for _ in 0..4_294_967_296u64 {
+        match answer_once(attached, ahead, watch, out) {
+            Ok(closing) => {
+                if !is_told(closing) {
+                    return Ok(!closing.ran().is_over);
+                }
+            }
+            Err(fault) => return Err(fault),
+        }
+    }
+    Err(Fault::Read)
+}
+
+// Takes what the station sends up to the next thing that the host end tells, and prints it: how the wait closed.
+fn answer_once<S: Source, K: Sink, W: Watch<S>, O: Sink>(
+    attached: &mut Attached<HostEnd, S, K>,
+    ahead: &mut u64,
+    watch: &mut W,
+    out: &mut BufferedSink<O>,
+) -> Result<Closing, Fault>
+    // At an end that works, with nothing held back.
+    requires works { attached.old.broken ≡ false }
+    requires empty { out.old.held ≡ [] }
+    // What was printed, or why not all.
+    ensures answered { IfOk result (Spec.HasAnsweredOnce (on_devices K.writer S.reader)
+        W.tells W.begins W.begun O.writer
+        ((attached.old, ahead.old), watch.old) ((attached.new, ahead.new), watch.new)
+        out.old.sink out.new.sink) }
+    ensures fault { IfErr result (Spec.IsAnswerOnceFault (on_devices K.writer S.reader)
+        W.tells W.begins W.begun O.writer
+        ((attached.old, ahead.old), watch.old) ((attached.new, ahead.new), watch.new)
+        out.old.sink out.new.sink) }
+    // The end works on unless the session is over, and nothing is held back.
+    ensures works { IfOk result (λ closing.
+        stops closing ≡ false → attached.new.broken ≡ false) }
+    ensures held { out.new.held ≡ [] }
+{
+    let carried = HostLine::Await.carry_out(
+        attached,
+        ahead,
+        watch,
+        Paint::Plain,
+        out,
+        Output::Open,
+    );
+    let output = hand_on(out, carried.output);
+    match carried.outcome {
+        Ok(closing) => match output {
+            Output::Open => Ok(closing),
+            Output::Failed => Err(Fault::Write),
+        },
+        Err(fault) => Err(fault),
+    }
+}
+
+// Whether a wait closed with something that was told.
+fn is_told(closing: Closing) -> bool
+    ensures { result ≡ Spec.is_told closing }
+{
+    matches!(closing, Closing::Done)
+}

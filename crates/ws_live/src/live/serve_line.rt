@@ -1,0 +1,204 @@
+ghost use Rattle.std.specs.Prelude.{◌≡◌, ◌++◌, [], ◌<◌, ℕ, List as Seq, true, length, codes, IfOk, IfErr, MatchOption};
+ghost use Rattle.ws_session.specs.declared.end_step.Order.TheVariants.{Send};
+ghost use Rattle.ws_live.specs.live.LiveScript.{IsBlockFault};
+ghost use Rattle.ws_live.specs.live.ServeLines.{BeginsHostLine, IsBadHostLineAt, IsHostLine, IsOneLine, OpensHostBlock};
+ghost use Rattle.ws_live.specs.live.ServeLines as Spec;
+ghost use Rattle.ws_live.specs.live.ServeLines.{IsAnswerAwaited};
+ghost use Rattle.ws_live.specs.script.ScriptFaults.{IsLineFault, IsNoComment, has_no_blank};
+ghost use Rattle.ws_live.specs.declared.live.serve_line.HostLine.TheVariants.{Bad};
+
+use crate::script::key_name::aid_named;
+use crate::live::live_line::LiveLine;
+use crate::script::ScriptFault;
+use crate::script::script_line::LineFault;
+use crate::script::script_move::{read_move, read_opcode, split_word};
+use crate::live::wire_line::WireLine;
+use crate::live::wire_words::read_wire;
+use std::alloc::Global;
+use std::str;
+use ws_code::Aid;
+use ws_record::Opcode;
+use ws_session::{Move, Order};
+use ws_text::{TextFault, read_elements};
+
+/// The answer that a host waits for.
+#[derive(Clone, Copy, Debug, PartialEq, Eq)]
+pub enum AnswerAwaited {
+    /// Any answer.
+    Any,
+    /// One by this key.
+    By(Aid),
+}
+
+/// A line of a script for a host of one station.
+#[derive(Drop)]
+pub enum HostLine {
+    /// An empty line, a comment, or the end of the lines that belong to the one before.
+    Nothing,
+    /// The host end is told to send a record, or to cancel its read.
+    Give(Order),
+    /// The host end takes what the station sends, until it tells something.
+    Await,
+    /// The host end takes what the station sends, until it tells this answer.
+    AwaitAnswer(AnswerAwaited),
+    /// The screen that the host end keeps is printed.
+    Show,
+    /// Something is done at the connection itself.
+    Wire(WireLine),
+    /// A line that is bad for this cause, which is told.
+    Bad(String),
+}
+
+impl LiveLine for HostLine {
+    ghost means = { IsHostLine };
+
+    ghost begins = { BeginsHostLine };
+
+    ghost opener = { OpensHostBlock };
+
+    ghost bad_at = { IsBadHostLineAt };
+
+    ghost bad_line = { λ cause. Bad cause };
+
+    fn opens(line: &[u8]) -> bool {
+        sent_alone(line).is_some()
+    }
+
+    fn read(alloc: Global, line: &[u8], inside: &[u8]) -> Result<Self, ScriptFault> {
+        if inside.is_empty() {
+            return read_alone(alloc, line);
+        }
+        match sent_alone(line) {
+            Some(opcode) => match read_elements(alloc, opcode, inside) {
+                Ok(body) => Ok(HostLine::Give(Order::Send(opcode, body))),
+                Err(TextFault::Line(at)) => Err(ScriptFault::Line(at.saturating_add(1))),
+                Err(TextFault::Memory) => Err(ScriptFault::Memory),
+            },
+            None => Err(ScriptFault::Line(1)),
+        }
+    }
+
+    fn bad(cause: String) -> Self {
+        HostLine::Bad(cause)
+    }
+}
+
+// A line that no other belongs to.
+fn read_alone(alloc: Global, line: &[u8]) -> Result<HostLine, ScriptFault>
+    ensures line { IfOk result (IsHostLine line.now []) }
+    ensures fault { IfErr result
+        (IsBlockFault IsHostLine BeginsHostLine IsBadHostLineAt line.now []) }
+{
+    match read_line(alloc, line) {
+        Ok(read) => Ok(read),
+        Err(LineFault::Bad) => Err(ScriptFault::Line(1)),
+        Err(LineFault::Memory) => Err(ScriptFault::Memory),
+    }
+}
+
+// A line by itself.
+fn read_line(alloc: Global, line: &[u8]) -> Result<HostLine, LineFault>
+    ensures line { IfOk result (IsOneLine line.now) }
+    ensures fault { IfErr result (IsLineFault (IsOneLine line.now)
+        (Spec.IsOneSoFar line.now)) }
+{
+    let Ok(text) = str::from_utf8(line) else {
+        return Err(LineFault::Bad);
+    };
+    if text.is_empty() {
+        return Ok(HostLine::Nothing);
+    }
+    if text.strip_prefix('#').is_some() {
+        return Ok(HostLine::Nothing);
+    }
+    match split_word(text) {
+        None => read_word(text),
+        Some((command, words)) => read_command(alloc, text, command, words),
+    }
+}
+
+// A line that is one word.
+fn read_word(word: &str) -> Result<HostLine, LineFault>
+    // A word alone on its line.
+    requires some { 0 < length word.now }
+    requires no_blank { has_no_blank word.now ≡ true }
+    requires no_comment { IsNoComment word.now }
+    // What it means, or that it means nothing.
+    ensures line { IfOk result (Spec.MeansHostLine word.now) }
+    ensures fault { IfErr result (IsLineFault (Spec.MeansHostLine word.now) ⊥) }
+{
+    match word {
+        "await" => Ok(HostLine::Await),
+        "cancel" => Ok(HostLine::Give(Order::Cancel)),
+        "close" => Ok(HostLine::Wire(WireLine::Close)),
+        "end" => Ok(HostLine::Nothing),
+        "show" => Ok(HostLine::Show),
+        _ => Err(LineFault::Bad),
+    }
+}
+
+// A command with words behind its blank: a record to be sent, as in a script of both ends, a wait for an answer, or what
+// is done at the connection.
+fn read_command(
+    alloc: Global,
+    line: &str,
+    command: &str,
+    words: &str,
+) -> Result<HostLine, LineFault>
+    // A line of a command and its words.
+    requires is { line.now ≡ command.now ++ codes " " ++ words.now }
+    requires no_blank { has_no_blank command.now ≡ true }
+    requires no_comment { IsNoComment (command.now ++ codes " " ++ words.now) }
+    // What it means, or that it means nothing.
+    ensures line { IfOk result (Spec.MeansHostLine (command.now ++ codes " " ++ words.now)) }
+    ensures fault { IfErr result
+        (IsLineFault (Spec.MeansHostLine (command.now ++ codes " " ++ words.now))
+        (Spec.IsHostBegun (command.now ++ codes " " ++ words.now))) }
+{
+    match command {
+        "send" => match read_move(alloc, command, words) {
+            Ok(Move::Send(opcode, body)) => Ok(HostLine::Give(Order::Send(opcode, body))),
+            Ok(_) => Err(LineFault::Bad),
+            Err(fault) => Err(fault),
+        },
+        "await" => match read_awaited(words) {
+            Ok(awaited) => Ok(HostLine::AwaitAnswer(awaited)),
+            Err(fault) => Err(fault),
+        },
+        _ => match read_wire(alloc, line) {
+            Ok(wire) => Ok(HostLine::Wire(wire)),
+            Err(fault) => Err(fault),
+        },
+    }
+}
+
+// The answer that is awaited.
+fn read_awaited(words: &str) -> Result<AnswerAwaited, LineFault>
+    ensures awaited { IfOk result (IsAnswerAwaited words.now) }
+    ensures fault { IfErr result (IsLineFault (IsAnswerAwaited words.now) ⊥) }
+{
+    if words == "answer" {
+        return Ok(AnswerAwaited::Any);
+    }
+    match aid_named(words) {
+        Some(aid) => Ok(AnswerAwaited::By(aid)),
+        None => Err(LineFault::Bad),
+    }
+}
+
+// The opcode of a line that sends a record and says no more of it.
+fn sent_alone(line: &[u8]) -> Option<Opcode>
+    ensures { MatchOption result (OpensHostBlock line.now → ⊥)
+        (λ opcode. (number : Seq ℕ) × Spec.SendsAlone line.now number opcode) }
+{
+    let Ok(text) = str::from_utf8(line) else {
+        return None;
+    };
+    let Some(number) = text.strip_prefix("send ") else {
+        return None;
+    };
+    match read_opcode(number) {
+        Ok(opcode) => Some(opcode),
+        Err(_) => None,
+    }
+}

@@ -1,0 +1,85 @@
+//! The words of a line that presses keys by the screen.
+ghost use Rattle.std.specs.Prelude.{IfOk, IfErr};
+ghost use Rattle.ws_live.specs.live.ConnectLines as Spec;
+ghost use Rattle.ws_live.specs.script.ScriptFaults.{IsLineFault};
+ghost use Rattle.ws_live.specs.declared.live.stroke.Filling.{Filling as AFilling};
+ghost use Rattle.ws_text.specs.Words.{IsCell, IsSmall};
+
+use crate::script::key_line::typed_keys;
+use crate::script::named_key::NamedKey;
+use crate::script::script_line::LineFault;
+use crate::script::script_move::split_word;
+use crate::live::stroke::Filling;
+use std::alloc::Global;
+use ws_code::Address;
+use ws_screen::MAX_FIELDS;
+use ws_text::read_number;
+
+/// The cell of a row and a column, with a blank between them.
+pub fn read_cell(words: &str) -> Result<Address, LineFault>
+    ensures cell { IfOk result (Spec.IsCellText words.now) }
+    ensures fault { IfErr result (IsLineFault (Spec.IsCellText words.now) ⊥) }
+{
+    match split_word(words) {
+        Some((row, column)) => read_place(row, column),
+        None => Err(LineFault::Bad),
+    }
+}
+
+/// The cell of this row and this column.
+pub fn read_place(row: &str, column: &str) -> Result<Address, LineFault>
+    ensures cell { IfOk result (IsCell row.now column.now) }
+    ensures fault { IfErr result (IsLineFault (IsCell row.now column.now) ⊥) }
+{
+    let at_row = read_small(row)?;
+    let at_column = read_small(column)?;
+    match Address::new(at_row, at_column) {
+        Some(cell) => Ok(cell),
+        None => Err(LineFault::Bad),
+    }
+}
+
+/// The byte that a word writes as a number.
+pub fn read_small(word: &str) -> Result<u8, LineFault>
+    ensures ok { IfOk result (IsSmall word.now) }
+    ensures fault { IfErr result (IsLineFault (IsSmall word.now) ⊥) }
+{
+    match read_number(word) {
+        Some(number) if number < 256 => Ok(number as u8),
+        _ => Err(LineFault::Bad),
+    }
+}
+
+/// The number of a field, and the keys of the text behind it.
+pub fn read_filling<Q: NamedKey>(alloc: Global, words: &str) -> Result<Filling<Q>, LineFault>
+    ensures filling { IfOk result (Spec.IsFilling Q.words words.now) }
+    ensures fault { IfErr result (IsLineFault (Spec.IsFilling Q.words words.now)
+        ((filling : AFilling Q) × Spec.IsFilling Q.words words.now filling)) }
+{
+    match split_word(words) {
+        Some((word, text)) => read_field(alloc, word, text),
+        None => Err(LineFault::Bad),
+    }
+}
+
+// The field of this number, and the keys of a text.
+fn read_field<Q: NamedKey>(alloc: Global, word: &str, text: &str) -> Result<Filling<Q>, LineFault>
+    ensures filling { IfOk result (Spec.IsFieldText Q.words word.now text.now) }
+    ensures fault { IfErr result (IsLineFault (Spec.IsFieldText Q.words word.now text.now)
+        ((filling : AFilling Q) × Spec.IsFieldText Q.words word.now text.now filling)) }
+{
+    let number = read_field_number(word)?;
+    let keys = typed_keys(alloc, text, false)?;
+    Ok(Filling { number, keys })
+}
+
+// The number of a field that a screen may have.
+fn read_field_number(word: &str) -> Result<u16, LineFault>
+    ensures ok { IfOk result (Spec.IsFieldNumber word.now) }
+    ensures fault { IfErr result (IsLineFault (Spec.IsFieldNumber word.now) ⊥) }
+{
+    match read_number(word) {
+        Some(number) if number >= 1 && number <= MAX_FIELDS as u32 => Ok(number as u16),
+        _ => Err(LineFault::Bad),
+    }
+}

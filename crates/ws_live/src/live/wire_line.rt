@@ -1,0 +1,45 @@
+ghost use Rattle.std.specs.Prelude.{◌≡◌, false, IfOk};
+ghost use Rattle.ws_live.specs.live.LiveText.{stops};
+ghost use Rattle.ws_live.specs.live.WireLines as Spec;
+
+use crate::live::Closing;
+use crate::live::watch::Watch;
+use ws_code::{Fault, List, Sink};
+use ws_session::Attached;
+
+/// A line of a script for a host that works on the connection itself, beside the host's end.
+#[derive(Drop)]
+pub enum WireLine {
+    /// These bytes are written as they are.
+    Raw(List<u8>),
+    /// So many milliseconds go by, in which nothing is read or written.
+    Pause(u32),
+    /// The connection is closed, and the session is over.
+    Close,
+}
+
+/// Carries such a line out: how it closes.
+///
+/// `Write` where a write failed, or took no byte: a proper prefix of the bytes went out.
+pub fn carry_wire<E, S, K: Sink, W: Watch<S>>(
+    attached: &mut Attached<E, S, K>,
+    watch: &mut W,
+    line: &WireLine,
+) -> Result<Closing, Fault>
+    requires works { attached.old.broken ≡ false }
+    ensures runs { Spec.WireRuns K.writer line.now attached.old result attached.new }
+    ensures same { watch.new ≡ watch.old }
+    ensures works { IfOk result (λ closing. stops closing ≡ false → attached.new.broken ≡ false) }
+{
+    match line {
+        WireLine::Raw(bytes) => match attached.write(bytes.as_slice()) {
+            Ok(()) => Ok(Closing::Done),
+            Err(fault) => Err(fault),
+        },
+        WireLine::Pause(milliseconds) => {
+            watch.pause(*milliseconds);
+            Ok(Closing::Done)
+        }
+        WireLine::Close => Ok(Closing::Closed),
+    }
+}

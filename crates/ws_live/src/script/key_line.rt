@@ -1,0 +1,39 @@
+//! The keys of a line.
+ghost use Rattle.std.specs.Prelude.{◌≡◌, List as Seq, IfOk, IfErr};
+ghost use Rattle.ws_live.specs.live.ConnectLines as Spec;
+ghost use Rattle.ws_live.specs.script.ScriptFaults.{IsLineFault};
+
+use crate::script::named_key::NamedKey;
+use crate::script::script_line::{LineFault, add, typed_key};
+use std::alloc::Global;
+use ws_code::List;
+
+/// A key for each character of a text.
+pub fn typed_keys<Q: NamedKey>(
+    alloc: Global,
+    text: &str,
+    inserts: bool,
+) -> Result<List<Q>, LineFault>
+    ensures keys { IfOk result (Spec.AreKeysOf Q.words inserts text.now) }
+    ensures fault { IfErr result (λ fault. fault ≡ LineFault.Memory) }
+{
+    let mut keys = Vec::new(alloc);
+    for character in text.chars() {
+        add(&mut keys, Q::from_profile(typed_key(inserts, character)))?;
+    }
+    Ok(List::of(keys))
+}
+
+/// The key of this name.
+pub fn named_key<Q: NamedKey>(alloc: Global, name: &str) -> Result<List<Q>, LineFault>
+    ensures keys { IfOk result (Spec.AreNamed Q.words name.now) }
+    ensures fault { IfErr result (IsLineFault (Spec.AreNamed Q.words name.now)
+        ((keys : Seq Q) × Spec.AreNamed Q.words name.now keys)) }
+{
+    let Some(key) = Q::named(name) else {
+        return Err(LineFault::Bad);
+    };
+    let mut keys = Vec::new(alloc);
+    add(&mut keys, key)?;
+    Ok(List::of(keys))
+}

@@ -1,0 +1,2 @@
+pub mod StationFeedings
+pub mod StationSteps

@@ -1,0 +1,176 @@
+use Rattle.ws_session.proofs.Common as C
+use C.{length-append, CompletesUnit, IsHostFronted, host_at_item, arith}
+use C.{answer_rules, IsHostPushed, append_assoc, StationStep, AnswerPart, true}
+use C.{bytes_came, HasHostFed, HostLeads, nat_tests, HostEvent, HostParts, HostSide, At}
+use C.{HostStep, as_list, left_of, Refusal, told_by, goes_on, Failed, length, GoesOn, AtHost, Option}
+use C.{Result, Memory, EndsAt, Order, false, subst, Item, List, ◌++◌, None, ◌==◌, refl, Bool, take, ◌∙◌, ◌≡◌, ◌∷◌}
+use C.{◌^◌, ◌+◌, ◌≤◌, Err, inl, inr, sym, ◌<◌, [], Ok, ap, ℕ}
+use C.{Rules}
+use Rattle.ws_session.specs.station.Displays.{DisplayOf, SideOn}
+use Rattle.ws_session.specs.station.PartsOn.{PartsOn}
+use Rattle.ws_session.specs.station.Stations.{AtStationOn, LeadsOn, IsPushedOn}
+use Rattle.ws_session.specs.station.StationActs.{HasFedOn, HasTakenAllOn}
+use Rattle.ws_session.specs.host_end.HostFeeds.{HasHostTakenAll}
+use Rattle.ws_session.proofs.Common.{suc, ◌-◌}
+use Rattle.ws_session.specs.station.StationNews.{IsFrontedOn}
+use Rattle.ws_session.specs.station.StationManners.{at_item_on}
+use Rattle.ws_session.proofs.EndSteps.{host_holds, none_went, one_went, told_of, on_holds}
+use Rattle.ws_session.proofs.Feedings.{front_silent, front_brings, front_on, fails_on, AreHeld}
+use Rattle.ws_record.specs.Taking.{EndIn}
+
+-- What a front of a piece gives a station.
+
+module _ {D P U H PlaceV V K R : Type 0} (rules : Rules P U) (d : DisplayOf D U H PlaceV V K R) where
+  module _ (old new : PartsOn D P)
+      (bytes : List ℕ) (items : List (Item U)) (side : SideOn H) (left : List ℕ) (used : ℕ)
+      (within : used ≤ length left) (some : 0 < used) (held : AreHeld rules K bytes items left used) where
+    -- what its last byte gives
+    front_fed : (step : StationStep R) → IsFrontedOn rules d old new (bytes ++ take used left) items side (Ok step)
+        → HasFedOn rules d new bytes items side (take used left) (d.written new.screen step.reply) step.ends_record
+    front_fed step (inl q) = none_went (bytes_came K (take used left)) (front_silent rules K bytes items
+        left used within held (on_holds rules d q.0.leads)) q.0.silent (ap (λ (b : Bool). as_list (told_by b)) q.1)
+        q.0.leads
+    front_fed step (inr q) = one_went (bytes_came K (take used left)) q.0.item
+        (at_item_on d side q.0.item (GoesOn q.0.next q.0.writes)) (ap (at_item_on d side q.0.item) q.0.goes_on)
+        (front_brings rules K bytes items q.0.item left used within some held (on_holds rules d q.0.leads))
+        (ap goes_on q.0.goes_on) q.0.spelled (ap (λ (b : Bool). as_list (told_by b)) q.1 ∙ told_of q.0.item)
+        q.0.leads
+
+  pushed_at_last : (old mid new : PartsOn D P) (bytes : List ℕ) (items : List (Item U))
+      (side : SideOn H) (byte : ℕ) (refusal : Refusal) → mid.screen ≡ old.screen → IsFrontedOn rules d mid new
+      (bytes ++ byte ∷ []) items side (Err refusal) → IsPushedOn rules d old new bytes items side byte (Err refusal)
+  pushed_at_last old mid new bytes items side byte (At place reason) same f =
+      (omega (arith, f.0, length-append bytes (byte ∷ [])), f.1 ∙ same, f.2, f.3)
+  pushed_at_last old mid new bytes items side byte why same f = f
+
+  module _ (bytes : List ℕ) (items : List (Item U)) (side : SideOn H) (piece : List ℕ) (i : ℕ)
+      (now : PartsOn D P) (before : HasFedOn rules d now bytes items side (take i piece) [] false) where
+    -- a front more is fed
+    pub fed_on : (new : PartsOn D P) (k : ℕ) (step : StationStep R)
+        → k ≤ length (left_of piece i) → 0 < k → AtStationOn rules d now (λ b its s. length b + length (left_of piece i) < 2 ^ 64
+        → IsFrontedOn rules d now new (b ++ take k (left_of piece i)) its s (Ok step)) → AtStationOn rules d now
+        (λ b its s. AreHeld rules K b its (left_of piece i) k) → length bytes + length piece < 2 ^ 64
+        → i ≤ length piece
+        → HasFedOn rules d new bytes items side (take (i + k) piece) (d.written new.screen step.reply) step.ends_record
+    fed_on new k step within some fronted held fits inside = front_on _ _ _ bytes items side piece i
+        (LeadsOn rules d now) before _ k _ _ (λ b its s l room. front_fed now new b its s _ k within some
+        (held b its s l) step (fronted b its s l room)) fits inside
+
+    -- it is refused at its last byte
+    pub refused_on : (old new : PartsOn D P) (k byte : ℕ) (refusal : Refusal) → now.screen ≡ old.screen
+        → k ≤ length (left_of piece i)
+        → take (suc (k - 1)) (left_of piece i) ≡ take (k - 1) (left_of piece i) ++ byte ∷ []
+        → ((refusal ≡ Failed → ⊥) → 0 < k) → AtStationOn rules d now (λ b its s. length b + length
+        (left_of piece i) < 2 ^ 64 → IsFrontedOn rules d now new (b ++ take k (left_of piece i)) its s (Err refusal))
+        → AtStationOn rules d now (λ b its s. AreHeld rules K b its (left_of piece i) k)
+        → length bytes + length piece < 2 ^ 64 → i ≤ length piece
+        → HasTakenAllOn rules d (λ b its s. IsPushedOn rules d old new b its s byte (Err refusal)) bytes items side
+        (take (i + (k - 1)) piece) [] []
+    refused_on old new k byte refusal same within upto when fronted held fits inside =
+        let left = left_of piece i in
+        fails_on _ _ _ bytes items side piece i _ before (λ b its s. IsPushedOn rules d old new b its s
+        byte (Err refusal)) k byte within upto (λ b its s l room. when (λ e. subst (λ (r : Refusal). IsFrontedOn rules
+        d now new (b ++ take k left) its s (Err r)) e (fronted b its s l room))) (λ b its s front l room upto.
+        pushed_at_last old now new _ its s byte _ same (subst (λ (x : List ℕ). IsFrontedOn rules d now new x its s
+        (Err refusal))
+        (ap (λ z. b ++ z) upto ∙ sym (append_assoc b front (byte ∷ []))) (fronted b its s l room))) held fits inside
+
+-- a reply that is empty
+no_bytes : (xs : List ℕ) → length xs ≡ 0 → xs ≡ []
+no_bytes [] e = refl
+no_bytes (x ∷ xs) e = absurd (omega (arith, e))
+
+pub no_reply : (reply text : List ℕ) → text ≡ reply → (b : Bool) → b ≡ (length text == 0) → b ≡ true → reply ≡ []
+no_reply reply text same b is so =
+    let none : length text ≡ 0 = grind (arith, nat_tests) in
+    sym same ∙ no_bytes text none
+
+-- What a front of a piece gives a host end.
+
+-- two lists that end with one value each
+pub same_end : (xs ys : List ℕ) (x y : ℕ) → xs ++ x ∷ [] ≡ ys ++ y ∷ [] → (xs ≡ ys) × (x ≡ y)
+same_end [] [] x y e = (refl, (let h : x ≡ y = cc in h))
+same_end [] (b ∷ ys) x y e = absurd (omega (arith, ap length e, length-append ys (y ∷ [])))
+same_end (a ∷ xs) [] x y e = absurd (omega (arith, ap length e, length-append xs (x ∷ [])))
+same_end (a ∷ xs) (b ∷ ys) x y e =
+    let h : a ≡ b = cc in
+    let t : xs ++ x ∷ [] ≡ ys ++ y ∷ [] = cc in
+    let p = same_end xs ys x y t in
+    (ap (λ z. z ∷ xs) h ∙ ap (λ z. b ∷ z) p.0, p.1)
+
+module _ (old mid new : HostParts) (bytes : List ℕ) (items : List (Item AnswerPart)) (side : HostSide) (byte : ℕ) where
+  -- what the last byte of a front gives is what that byte gives
+  last_wanting : EndIn (bytes ++ byte ∷ []) (λ before last. CompletesUnit answer_rules before items last)
+      → CompletesUnit answer_rules bytes items byte
+  last_wanting e =
+      let s = same_end bytes e.0 byte e.1 e.2 in
+      rw (s.1, s.0) e.3
+
+  pub host_at_last : (refusal : Refusal) → mid.screen ≡ old.screen → IsHostFronted mid new
+      (bytes ++ byte ∷ []) items side (Err refusal) → EndsAt old new byte refusal bytes items side
+  host_at_last (At place reason) same f =
+      let taken : new.receiver.live.taken ≡ length bytes + 1 = omega (arith, f.2, length-append bytes (byte ∷ [])) in
+      ((omega (arith, f.0, length-append bytes (byte ∷ [])), f.1 ∙ same, f.3, f.4, taken), taken)
+  host_at_last Memory same f =
+      let taken : new.receiver.live.taken ≡ length bytes + 1 = omega (arith, f.1, length-append bytes (byte ∷ [])) in
+      ((f.0 ∙ same, elim f.2 [ inl e ↦ inl (last_wanting e) | inr w ↦ inr w ], f.3, taken), taken)
+  host_at_last Failed same f = absurd f
+
+-- what a byte gives
+host_stepped : (old new : HostParts) (bytes : List ℕ) (items : List (Item AnswerPart)) (side : HostSide) (byte : ℕ)
+    (result : Result HostStep Refusal) → IsHostFronted old new (bytes ++ byte ∷ []) items side result
+    → IsHostPushed old new bytes items side byte result
+host_stepped old new bytes items side byte (Ok step) f = f
+host_stepped old new bytes items side byte (Err refusal) f = (host_at_last old old new bytes items side byte _ refl f).0
+
+-- of one byte
+pub host_one_fronted : (old new : HostParts) (bytes : List ℕ) (items : List (Item AnswerPart)) (side : HostSide)
+    (byte used : ℕ) (result : Result HostStep Refusal) → used ≤ 1 → ((result ≡ Err Failed → ⊥) → 0 < used)
+    → IsHostFronted old new (bytes ++ take used (byte ∷ [])) items side result
+    → IsHostPushed old new bytes items side byte result
+host_one_fronted old new bytes items side byte used result few some f =
+    let one : used ≡ 1 = omega (arith, few, some (λ e. rw e at f)) in
+    host_stepped old new bytes items side byte _ (rw one at f)
+
+module _ (old new : HostParts) (bytes : List ℕ) (items : List (Item AnswerPart)) (side : HostSide) (left : List ℕ)
+    (used : ℕ) (within : used ≤ length left) (some : 0 < used)
+    (held : AreHeld answer_rules Order bytes items left used) where
+  -- what the last byte of a front gives
+  pub host_front_fed : (step : HostStep) → IsHostFronted old new (bytes ++ take used left) items side (Ok step)
+      → HasHostFed new bytes items side (take used left) step.reply step.event
+  host_front_fed step (inl q) = none_went (bytes_came Order (take used left))
+      (front_silent answer_rules Order bytes items left used within held (host_holds q.leads)) q.silent
+      (ap (λ (o : Option HostEvent). as_list o) q.untold) q.leads
+  host_front_fed step (inr t) = one_went (bytes_came Order (take used left)) t.item
+      (host_at_item side (GoesOn t.next t.told)) (ap (host_at_item side) t.goes_on)
+      (front_brings answer_rules Order bytes items t.item left used within some held (host_holds t.leads))
+      (ap goes_on t.goes_on) t.spelled (ap (λ (z : Option HostEvent). as_list z) t.event) t.leads
+
+module _ (bytes : List ℕ) (items : List (Item AnswerPart)) (side : HostSide)
+    (piece : List ℕ) (i : ℕ) (now : HostParts) (before : HasHostFed now bytes items side (take i piece) [] None) where
+  -- a front more is fed
+  pub host_fed_on : (new : HostParts) (k : ℕ) (step : HostStep)
+      → k ≤ length (left_of piece i) → 0 < k → AtHost now (λ b its s. length b + length (left_of piece i) < 2 ^ 64
+      → IsHostFronted now new (b ++ take k (left_of piece i)) its s (Ok step)) → AtHost now
+      (λ b its s. AreHeld answer_rules Order b its (left_of piece i) k) → length bytes + length piece < 2 ^ 64
+      → i ≤ length piece → HasHostFed new bytes items side (take (i + k) piece) step.reply step.event
+  host_fed_on new k step within some fronted held fits inside = front_on _ _ _ bytes items side piece i
+      (HostLeads now) before _ k _ _ (λ b its s l room. host_front_fed now new b its s _ k within some
+      (held b its s l) step (fronted b its s l room)) fits inside
+
+  -- it fails at its last byte
+  pub host_refused_on : (old new : HostParts) (k byte : ℕ) (refusal : Refusal) → now.screen ≡ old.screen
+      → k ≤ length (left_of piece i)
+      → take (suc (k - 1)) (left_of piece i) ≡ take (k - 1) (left_of piece i) ++ byte ∷ []
+      → ((refusal ≡ Failed → ⊥) → 0 < k) → AtHost now (λ b its s. length b + length
+      (left_of piece i) < 2 ^ 64 → IsHostFronted now new (b ++ take k (left_of piece i)) its s (Err refusal))
+      → AtHost now (λ b its s. AreHeld answer_rules Order b its (left_of piece i) k) → length
+      bytes + length piece < 2 ^ 64 → i ≤ length piece
+      → HasHostTakenAll (EndsAt old new byte refusal) bytes items side (take (i + (k - 1)) piece) [] []
+  host_refused_on old new k byte refusal same within upto when fronted held fits inside =
+      let left = left_of piece i in
+      fails_on _ _ _ bytes items side piece i _ before (λ b its s. EndsAt old new byte refusal b its s)
+      k byte within upto (λ b its s l room. when (λ e. subst (λ (r : Refusal). IsHostFronted now new
+      (b ++ take k left) its s (Err r)) e (fronted b its s l room))) (λ b its s front l room upto.
+      host_at_last old now new _ its s byte _ same (subst (λ (x : List ℕ). IsHostFronted now new x its s (Err refusal))
+      (ap (λ z. b ++ z) upto ∙ sym (append_assoc b front (byte ∷ []))) (fronted b its s l room))) held fits inside

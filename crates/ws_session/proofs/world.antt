@@ -1,0 +1,12 @@
+pub mod Arriving
+pub mod BetweenSteps
+pub mod Betweens
+pub mod ByteSteps
+pub mod Bytes
+pub mod LineLeads
+pub mod LineMoves
+pub mod OneByOne
+pub mod Reached
+pub mod ReportLaws
+pub mod Turns
+pub mod Worlds

@@ -1,0 +1,245 @@
+use Rattle.ws_session.proofs.Common as C
+use C.{length-append, append_assoc, AreDelivered, length-take, length-drop, length-take-le, append-nil, HasMemory}
+use C.{WireParts, take_all, reported, flat_map, flat_map-append, cases_lt, add-zero, Refusal, Reason, length, arith}
+use C.{Comes, Through, Event, subst, None, List, ℕ, refl, Some, Option, drop, take, min, ◌++◌, ◌≡◌, ◌^◌, ◌≤◌, sym, ◌∷◌}
+use C.{◌<◌, ◌∙◌, Act, ◌-◌, inl, inr, ◌+◌, [], ap, all_came, came_append, take-add, take-take, drop-drop, At}
+use Rattle.ws_session.specs.world.Wires.{HasCome, Telling}
+use Rattle.ws_session.specs.Conduct.{Conduct}
+
+-- Bytes that arrive at an end, piece by piece.
+
+module _ {E Deed Told : Type 0} (conduct : Conduct E Deed Told) (telling : Telling Told) where
+  -- bytes at which the end goes on
+  pub goes_come : (old new : E) (bytes : List ℕ) (reply : List ℕ)
+      (told : List Told) (to to' : WireParts) (events events' : List Event) → conduct.goes old (all_came bytes) reply told new
+      → (conduct.over old → ⊥) → to' ≡ record to { bytes = to.bytes ++ reply } → events' ≡ events ++ flat_map telling.tells told
+      → HasCome conduct telling old bytes new to to' events events'
+  goes_come old new bytes reply told to to' events events' led works t e = record {
+    written = reply;
+    events = flat_map telling.tells told;
+    comes = record {
+      told = told;
+      why = None;
+      through = led;
+      reports = refl;
+      has_memory = tt;
+      stays = λ o. absurd (works o);
+    };
+    to_is = t;
+    told_is = e;
+  }
+
+  -- bytes of which it refuses one
+  pub refused_come : (stays : (e : E) → conduct.goes e [] [] [] e) (old new : E) (bytes front after : List ℕ) (byte : ℕ)
+      (why : Refusal) → bytes ≡ front ++ byte ∷ after
+      → HasMemory (Some why) → (to : WireParts) (events events' : List Event) → conduct.refuses old front byte why new
+      → conduct.over new → (conduct.over old → (new ≡ old) × (reported conduct telling [] (Some why) ≡ []))
+      → events' ≡ events ++ reported conduct telling [] (Some why)
+      → HasCome conduct telling old bytes new to to events events'
+  refused_come stays old new bytes front after byte why split memory to events events' r o same e = record {
+    written = [];
+    events = reported conduct telling [] (Some why);
+    comes = record {
+      told = [];
+      why = Some why;
+      through = record {
+        before = [];
+        front = front;
+        byte = byte;
+        after = after;
+        split = split;
+        last = old;
+        led = stays old;
+        refused = r;
+        is_over = o;
+      };
+      reports = refl;
+      has_memory = memory;
+      stays = λ p. ((same p).0, refl, (same p).1);
+    };
+    to_is = rw (append-nil to.bytes);
+    told_is = e;
+  }
+
+  -- no byte
+  pub none_comes : ((e : E) → conduct.goes e [] [] [] e) → (e : E) → Comes conduct telling e [] e [] []
+  none_comes stays e = record {
+    told = [];
+    why = None;
+    through = stays e;
+    reports = refl;
+    has_memory = tt;
+    stays = λ o. (refl, refl, refl);
+  }
+
+  reported_behind : (told more : List Told) (why : Option Refusal) → flat_map telling.tells told
+      ++ reported conduct telling more why ≡ reported conduct telling (told ++ more) why
+  reported_behind told more None = sym (flat_map-append telling.tells told more)
+  reported_behind told more (Some (At place reason)) =
+      sym (append_assoc (flat_map telling.tells told) (flat_map telling.tells more) (telling.refusal place reason ∷ []))
+      ∙ ap (λ z. z ++ telling.refusal place reason ∷ []) (sym (flat_map-append telling.tells told more))
+  reported_behind told more (Some why) = sym (flat_map-append telling.tells told more)
+
+  module _ (follows : (a b c : E) (xs ys : List (Act Deed)) (v w : List ℕ) (s t : List Told) → conduct.goes a xs v s b
+      → conduct.goes b ys w t c → conduct.goes a (xs ++ ys) (v ++ w) (s ++ t) c) where
+    -- bytes, and then further ones
+    pub come_on : (a b c : E) (xs ys : List ℕ) (v w : List ℕ) (s t : List Event)
+        → Comes conduct telling a xs b v s → Comes conduct telling b ys c w t
+        → Comes conduct telling a (xs ++ ys) c (v ++ w) (s ++ t)
+    come_on a b c xs ys v w s t p q = first p.why p.through p.reports p.has_memory where
+      both : conduct.over a → (c ≡ a) × (v ++ w ≡ []) × (s ++ t ≡ [])
+      both o =
+          let n = p.stays o in
+          let m = q.stays (subst conduct.over (sym n.0) o) in
+          (m.0 ∙ n.0, ap (λ z. z ++ w) n.1 ∙ m.1, ap (λ z. z ++ t) n.2 ∙ m.2)
+
+      second : (why : Option Refusal) → Through conduct b ys w q.told why c
+          → t ≡ reported conduct telling q.told why → HasMemory why
+          → conduct.goes a (all_came xs) v p.told b → s ≡ flat_map telling.tells p.told
+          → Comes conduct telling a (xs ++ ys) c (v ++ w) (s ++ t)
+      second None h f memory g e = record {
+        told = p.told ++ q.told;
+        why = None;
+        through = subst (λ (z : List (Act Deed)). conduct.goes a z (v ++ w) (p.told ++ q.told) c) (sym (came_append xs ys)) (follows a b c (all_came xs) (all_came ys) v w p.told q.told g h);
+        reports = rw (e, f) (reported_behind p.told q.told None);
+        has_memory = tt;
+        stays = both;
+      }
+      second (Some why) h f memory g e = record {
+        told = p.told ++ q.told;
+        why = Some why;
+        through = record {
+          before = xs ++ h.before;
+          front = h.front;
+          byte = h.byte;
+          after = h.after;
+          split = ap (λ z. xs ++ z) h.split ∙ sym (append_assoc xs h.before (h.front ++ h.byte ∷ h.after));
+          last = h.last;
+          led = rw (came_append xs h.before) (follows a b h.last (all_came xs) (all_came h.before) v w p.told q.told g
+              h.led);
+          refused = h.refused;
+          is_over = h.is_over;
+        };
+        reports = rw (e, f) (reported_behind p.told q.told (Some why));
+        has_memory = memory;
+        stays = both;
+      }
+
+      first : (why : Option Refusal) → Through conduct a xs v p.told why b
+          → s ≡ reported conduct telling p.told why → HasMemory why
+          → Comes conduct telling a (xs ++ ys) c (v ++ w) (s ++ t)
+      first None g e memory = second q.why q.through q.reports q.has_memory g e
+      first (Some why) h e memory =
+          let n = q.stays h.is_over in
+          record {
+            told = p.told;
+            why = Some why;
+            through = rw (n.0, n.1, append-nil v) (record {
+              before = h.before;
+              front = h.front;
+              byte = h.byte;
+              after = h.after ++ ys;
+              split = ap (λ z. z ++ ys) h.split ∙ append_assoc h.before (h.front ++ h.byte ∷ h.after) ys
+                  ∙ ap (λ z. h.before ++ z) (append_assoc h.front (h.byte ∷ h.after) ys);
+              last = h.last;
+              led = h.led;
+              refused = h.refused;
+              is_over = h.is_over;
+            });
+            reports = rw (n.2, append-nil s) e;
+            has_memory = memory;
+            stays = both;
+          }
+
+  pub none_delivered : ((e : E) → conduct.goes e [] [] [] e) → (e : E) (from to : WireParts) (told : List Event)
+      → length from.bytes + 1 < 2 ^ 64 → AreDelivered conduct telling e e from from to to told told 0
+  none_delivered stays e from to told few = record {
+    bytes = [];
+    written = [];
+    events = [];
+    first = refl;
+    few = few;
+    come = none_comes stays e;
+    from_is = rw (add-zero from.at);
+    to_is = rw (append-nil to.bytes);
+    told_is = sym (append-nil told);
+  }
+
+  module _ (a b : E) (from f to t : WireParts) (told e : List Event) (n : ℕ)
+      (d : AreDelivered conduct telling a b from f to t told e n) where
+    -- so many came, and no byte more was written
+    came : (f.at ≡ from.at + min n (length from.bytes - from.at)) × (length f.bytes ≡ length from.bytes)
+        × (length d.bytes ≡ min n (length from.bytes - from.at))
+    came =
+        let size : length d.bytes ≡ min n (length from.bytes - from.at) = ap (λ z. length z) d.first
+        ∙ length-take n (drop from.at from.bytes) ∙ ap (min n) (length-drop from.at from.bytes) in
+        (rw (d.from_is, size), ap (λ (z : WireParts). length z.bytes) d.from_is, size)
+
+    -- others wait
+    pub more_wait : (k left : ℕ) → from.at + k ≡ length from.bytes → n + left ≤ k → f.at + left ≤ length f.bytes
+    more_wait k left all more = omega (arith, all, more, came)
+
+    -- all have come
+    pub all_delivered : (m : ℕ) → n ≤ m → length f.bytes ≤ f.at
+        → AreDelivered conduct telling a b from f to t told e m
+    all_delivered m le all =
+        let rest : List ℕ = drop from.at from.bytes in
+        let whole : length rest ≤ n = omega (arith, all, came, length-drop from.at from.bytes) in
+        record {
+          bytes = d.bytes;
+          written = d.written;
+          events = d.events;
+          few = d.few;
+          come = d.come;
+          from_is = d.from_is;
+          to_is = d.to_is;
+          told_is = d.told_is;
+          first = d.first ∙ take_all n rest whole ∙ sym (take_all m rest (omega (arith, whole, le)));
+        }
+
+    -- so many, or all that were in flight
+    pub all_come : (k m : ℕ) → from.at + k ≡ length from.bytes → n ≡ min m k
+        → AreDelivered conduct telling a b from f to t told e m
+    all_come k m all is = elim (cases_lt m k) [
+      | inl h ↦ rw (← (let q : n ≡ m = omega (arith, is, h) in q)) d
+      | inr h ↦ all_delivered m (omega (arith, is, h)) (omega (arith, h, is, all, came))
+    ]
+
+    -- a piece more
+    pub some_delivered : ((a b c : E) (xs ys : List (Act Deed)) (v w : List ℕ) (s t : List Told) → conduct.goes a xs v s b
+        → conduct.goes b ys w t c → conduct.goes a (xs ++ ys) (v ++ w) (s ++ t) c) → (k left used : ℕ)
+        → from.at + k ≡ length from.bytes → n + left ≤ k → used ≤ left → (xs : List ℕ)
+        → xs ≡ take used (take left (drop f.at f.bytes)) → (f' : WireParts) → f' ≡ record f { at = f.at + used }
+        → (c : E) (t' : WireParts) (e' : List Event) → HasCome conduct telling b xs c t t' e e'
+        → AreDelivered conduct telling a c from f' to t' told e' (n + used)
+    some_delivered follows k left used all more within xs is f' on c t' e' h =
+        let rest : List ℕ = drop from.at from.bytes in
+        let count : length d.bytes ≡ n = omega (arith, all, more, came) in
+        let same : f.bytes ≡ from.bytes = ap (λ (z : WireParts). z.bytes) d.from_is in
+        let at : f.at ≡ from.at + n = ap (λ (z : WireParts). z.at) d.from_is ∙ ap (λ k. from.at + k) count in
+        let next : drop f.at f.bytes ≡ drop n rest = ap (drop f.at) same ∙ ap (λ k. drop k from.bytes) at
+        ∙ sym (drop-drop n from.at from.bytes) in
+        let piece : xs ≡ take used (drop n rest) = is ∙ take-take used left (drop f.at f.bytes) within
+        ∙ ap (take used) next in
+        let size : length xs ≡ used = ap (λ z. length z) piece
+        ∙ length-take-le used (drop n rest) (omega (
+          arith,
+          length-drop n rest,
+          length-drop from.at from.bytes,
+          all,
+          more,
+          within,
+        )) in
+        let joined : (from.at + length d.bytes) + used ≡ from.at + length
+        (d.bytes ++ xs) = omega (arith, length-append d.bytes xs, size) in
+        record {
+          bytes = d.bytes ++ xs;
+          written = d.written ++ h.written;
+          events = d.events ++ h.events;
+          first = ap (λ z. z ++ xs) d.first ∙ ap (λ z. take n rest ++ z) piece ∙ sym (take-add n used rest);
+          few = d.few;
+          come = come_on follows a b c d.bytes xs d.written h.written d.events h.events d.come h.comes;
+          from_is = rw (on, d.from_is, joined);
+          to_is = rw (h.to_is, d.to_is, append_assoc to.bytes d.written h.written);
+          told_is = rw (h.told_is, d.told_is, append_assoc told d.events h.events);
+        }

@@ -1,0 +1,391 @@
+use Rattle.ws_session.proofs.Common as C
+use C.{element_prefix_free, bytes_to_station, byte_to_station, station_at_item, plain_spelling, StationRefused, as_list}
+use C.{element_begins, StationRefuses, length-take, station_manner, element_bytes, station_takes, element_rules}
+use C.{if◌then◌else◌, StationParts, station_gets, host_at_item, StationLeads, answer_rules, IsHostPushed, AreDelivered}
+use C.{byte_to_host, TerminalType, host_manner, HostRefused, HostRefuses, StationGoes, events_with, false, station_did}
+use C.{StationSide, AreWritable, WorldParts, host_takes, false≢true, append-nil, HostOutput, AnswerPart, ℕ, down_bytes}
+use C.{ending_at, HostParts, HostLeads, nat_tests, HasMemory, host_gets, ToStation, HostEvent, WireParts, up_bytes}
+use C.{flat_map, HostSide, Reaction, host_did, IsPushed, HostGoes, Refuses, Applied, goes_on, arrived, Element, length}
+use C.{ToHost, subst₂, Failed, GoesOn, Option, nat_lt, Memory, Bool, bytes_to_host, get_or, World, arith, subst, ◌++◌}
+use C.{Some, None, Runs, RunsWith, true, Item, Host, List, take, refl, ◌≤◌, ◌∷◌, Refusal, min, ◌+◌, Err, ◌<◌, ◌∙◌, ◌≡◌}
+use C.{sym, inl, inr, At, ap, [], Event, IsSome, HoldsItems, Arrives}
+use Rattle.ws_session.specs.Manners.{IsHostShut}
+use Rattle.ws_session.specs.station.StationActs.{IsShutOn}
+use Rattle.ws_session.proofs.world.OneByOne.{Later, gone_first, delivered, many_on, stop}
+use Rattle.ws_record.proofs.Flights.{byte_more, ByteMore}
+use Rattle.ws_session.proofs.Writables.{host_writes_well, answers_writable, WritesWell}
+use Rattle.ws_session.proofs.world.Bytes.{byte_down, byte_up}
+use Rattle.ws_session.proofs.world.Reached.{station_writes, going_station, host_writes, going_host, is_sound, OfStation, OfHost}
+use Rattle.ws_stream.specs.AnswerLaws.{part_prefix_free, part_begins, part_bytes}
+use Rattle.ws_session.specs.Conducts.{host_conduct}
+use Rattle.ws_session.specs.Conducts.{profile_conduct}
+use Rattle.ws_session.specs.host_end.HostFeeds.{HostStaysSilent}
+use Rattle.ws_session.specs.station.StationActs.{StaysSilentOn}
+use Rattle.ws_session.specs.world.Wires.{host_telling, station_telling}
+use Rattle.ws_session.specs.station.StationSide.{profile}
+
+-- A byte comes to the station of a running session.
+
+module _ {S : OfStation} {H : OfHost} {t : TerminalType} {w : World} {old : WorldParts} (r : RunsWith S H t old w) where
+  module _ (more : old.at_station < length old.down) (byte : ℕ) (is : byte ≡ get_or old.down old.at_station byte) where
+    more_in : w.at_station < length (down_bytes w)
+    more_in = omega (arith, more, r.at_station, ap length r.down)
+
+    abbrev byte_on : World
+    byte_on = record w { at_station = w.at_station + 1 }
+
+    abbrev ends : Option (Item Element)
+    ends = ending_at element_rules w.down (w.at_station + 1)
+
+    abbrev done : List (Item Element)
+    done = arrived element_rules w.down w.at_station
+
+    abbrev front : List ℕ
+    front = take w.at_station (down_bytes w) ++ byte ∷ []
+
+    came : ByteMore element_rules w.down w.at_station byte
+    came = byte_more _ element_bytes element_prefix_free element_begins _ r.writable_down _ more_in byte
+        (is ∙ ap (λ z. get_or z old.at_station byte) r.down ∙ ap (λ n. get_or (down_bytes w) n byte) r.at_station)
+
+    steps : (o : Option (Item Element)) → ends ≡ o → byte_to_station w ≡ station_gets byte_on false o
+    steps o e =
+        let less : nat_lt w.at_station (length (down_bytes w)) ≡ true = grind (arith, nat_tests, more_in) in
+        ap (λ (b : Bool). if b then station_gets byte_on w.station_refused ends else w) less
+        ∙ ap (λ b. station_gets byte_on b ends) (going_station r) ∙ ap (station_gets byte_on false) e
+
+    module _ (Then : OfStation) (station : StationParts) where
+      abbrev After : List ℕ → Type 0
+      After reply = RunsWith Then H t
+          (record old { at_station = old.at_station + 1; station = station; up = old.up ++ reply }) (byte_to_station w)
+
+      -- a byte at which the station goes on
+      goes : (side : StationSide) (writes : List (Item AnswerPart)) (reply : List ℕ) (items : List (Item Element))
+          → reply ≡ plain_spelling answer_rules writes → AreWritable answer_rules writes
+          → HoldsItems element_rules front items → Then front items side → byte_to_station w
+          ≡ record w { at_station = w.at_station + 1; station = side; up = w.up ++ writes } → After reply
+      goes side writes reply items spelled fit held leads does =
+          let q = came.goes_on items held in
+          station_writes r (ToStation 1) Then side writes (w.at_station + 1) w.answered station reply
+          (old.at_station + 1) does spelled fit (ap (λ n. n + 1) r.at_station)
+          (subst₂ (λ x its. Then x its side) q.0 q.1 leads)
+
+      -- no item is complete with it
+      pub station_inside : HoldsItems element_rules front done → Then front done w.station → After []
+      station_inside held leads = goes w.station [] [] done refl (tt, tt) held leads (steps None (came.none_ends held)
+          ∙ ap (λ z. record w { at_station = w.at_station + 1; up = z }) (sym (append-nil w.up)))
+
+      -- an item that is whole, by the reaction to it
+      pub station_taken : (reply : List ℕ) (item : Item Element) (z : Reaction StationSide (List (Item AnswerPart)))
+          → station_takes w.station item ≡ z → goes_on z ≡ true
+          → reply ≡ plain_spelling answer_rules (station_at_item w.station item z).written
+          → HoldsItems element_rules front (done ++ item ∷ [])
+          → Then front (done ++ item ∷ []) (station_at_item w.station item z).side → After reply
+      station_taken reply item (Refuses reason) does on spelled held leads = absurd (false≢true on)
+      station_taken reply item (GoesOn next writes) does on spelled held leads =
+          let o = came.one_ends item held in
+          goes next writes reply (done ++ item ∷ []) spelled (answers_writable w.station item next writes o.1 does)
+          held leads (steps (Some item) o.0 ∙ ap (station_did byte_on) does)
+
+    -- no byte is refused
+    pub station_never : (from station : StationParts) (refusal : Refusal) → IsPushed from station
+        (take w.at_station (down_bytes w)) done w.station byte (Err refusal) → ⊥
+    station_never from station (At at reason) p = elim p.2 [
+      | inl refused ↦ came.none_refused at reason refused
+      | inr item ↦ (let o = came.one_ends item.item (item.so_far, item.begun, item.holds) in
+          let e : true ≡ false = ap (λ (z : World). z.station_refused) (sym (steps (Some item.item) o.0
+          ∙ ap (station_did byte_on) item.refuses)) ∙ (byte_down t w (is_sound r)).station_going in cc)
+    ]
+    station_never from station why p = p
+
+  -- another thing holds of what came to the station
+  pub with_station : {S' : OfStation} (station : StationParts)
+      → (S (take w.at_station (down_bytes w)) (arrived element_rules w.down w.at_station) w.station
+      → S' (take w.at_station (down_bytes w)) (arrived element_rules w.down w.at_station) w.station)
+      → RunsWith S' H t (record old { station = station }) w
+  with_station station on = record {
+    moves = r.moves;
+    reached = r.reached;
+    down = r.down;
+    up = r.up;
+    at_station = r.at_station;
+    at_host = r.at_host;
+    writable_down = r.writable_down;
+    writable_up = r.writable_up;
+    station = on r.station;
+    host = r.host;
+    events = r.events;
+  }
+
+  pub at_most_down : length (take w.at_station (down_bytes w)) ≤ min old.at_station (length old.down)
+  at_most_down = omega (arith, r.at_station, ap length r.down, length-take w.at_station (down_bytes w))
+
+  pub none_comes : length old.down ≤ old.at_station → byte_to_station w ≡ w
+  none_comes all =
+      let less : nat_lt w.at_station
+      (length (down_bytes w)) ≡ false = grind (arith, nat_tests, all, r.at_station, ap length r.down) in
+      ap (λ (b : Bool). if b then station_gets (record w { at_station = w.at_station + 1 }) w.station_refused
+      (ending_at element_rules w.down (w.at_station + 1)) else w) less
+
+none_told : (told : List Applied) → flat_map (λ (a : Applied). let z : List Event = [] in z) told ≡ []
+none_told [] = refl
+none_told (a ∷ told) = none_told told
+
+-- a byte that comes, and others behind it
+abbrev StationLater : OfStation → List ℕ → List ℕ → List Applied → OfStation
+StationLater = Later element_rules answer_rules station_manner
+
+station_next : {H : OfHost} {t : TerminalType} {w : World} {old : WorldParts} (Then : OfStation) (x : ℕ)
+    (xs v : List ℕ) (told : List Applied) (r : RunsWith (StationLater Then (x ∷ xs) v told) H t old w)
+    → old.at_station < length old.down → x ≡ get_or old.down old.at_station x
+    → (v' : List ℕ) × (later : List ℕ) × (told' : List Applied) × (more : List Applied) × (v ≡ v' ++ later)
+    × (told ≡ told' ++ more) × RunsWith (StationLater Then xs later more) H t (record old {
+      at_station = old.at_station + 1;
+      up = old.up ++ v';
+      events = old.events ++ flat_map (λ (a : Applied). let z : List Event = [] in z) told';
+    }) (byte_to_station w)
+station_next {H} {t} {w} {old} Then x xs v told r more is = elim (gone_first element_rules answer_rules station_manner
+    Then (take w.at_station (down_bytes w)) (arrived element_rules w.down w.at_station) w.station x xs v told r.station) [
+      | inl n ↦ (
+        [],
+        v,
+        [],
+        told,
+        refl,
+        refl,
+        rw (append-nil old.events)
+            (station_inside r more x is (StationLater Then xs v told) old.station n.0 n.1),
+      )
+      | inr k ↦ (
+        plain_spelling answer_rules (station_manner.at w.station (Arrives k.0)).written,
+        k.3,
+        (station_manner.at w.station (Arrives k.0)).told,
+        k.4,
+        k.5,
+        k.6,
+        rw (none_told (station_manner.at w.station (Arrives k.0)).told, append-nil old.events)
+            (station_taken r more x is (StationLater Then xs k.3 k.4) old.station _ k.0 (station_takes w.station k.0)
+            refl k.2 refl k.1 k.7),
+      )
+    ]
+
+-- once nothing is in flight, more bytes make no difference
+pub stops : (n m : ℕ) → n ≤ m → (w : World) → byte_to_station (bytes_to_station n w) ≡ bytes_to_station n w
+    → bytes_to_station m w ≡ bytes_to_station n w
+stops = stop _ _ (λ w. refl) (λ n w. refl)
+
+-- so many bytes, and then so many more
+pub bytes_on : (m n : ℕ) (w : World) → bytes_to_station n (bytes_to_station m w) ≡ bytes_to_station (m + n) w
+bytes_on = many_on byte_to_station bytes_to_station (λ w. refl) (λ n w. refl)
+
+-- so many of the bytes in flight, or all that are
+pub station_delivered : {t : TerminalType} {w : World} {old : WorldParts}
+    → Runs t old w → {station : StationParts} {from to : WireParts} {events : List Event} {count : ℕ} → AreDelivered
+    profile_conduct station_telling old.station station (record { bytes = old.down; at = old.at_station })
+    from (record { bytes = old.up; at = old.at_host }) to old.events events count → Runs t (record old {
+      station = station;
+      down = from.bytes;
+      at_station = from.at;
+      up = to.bytes;
+      at_host = to.at;
+      events = events;
+    }) (bytes_to_station count w)
+station_delivered {t} {w} {old} r {station} {from} {to} {events} {count} d =
+    let Now : OfStation → ℕ → List ℕ → List Event → World → Type 0 = λ S n up told w'. RunsWith S (HostLeads old.host) t
+    (record old { station = station; at_station = n; up = up; events = told }) w' in
+    rw (d.from_is, d.to_is, d.told_is) (delivered byte_to_station bytes_to_station (λ w. refl) (λ n w. refl)
+    element_rules answer_rules station_manner (λ (a : Applied). let z : List Event = [] in z) old.down Now
+    (λ A B n up told w' h on. with_station h station (on _ _ _ (at_most_down h)))
+    (λ A n up told w' h. (_, _, _, h.station))
+    (λ Then x xs v said n up told w' h more is. station_next Then x xs v said h more is)
+    (λ A n up told w' h all. none_comes h all) StationLeads IsShutOn StationRefuses
+    (StaysSilentOn element_rules profile) (λ (e : StationParts). IsSome e.ended) (λ place reason. StationRefused place reason)
+    (λ e byte why e' b i s. IsPushed e e' b i s byte (Err why))
+    (λ e front byte why e' refuses b i s l few. refuses.led b i s l few)
+    (λ e byte why e' n up told w' h more is memory. station_never h more byte is e e' why h.station)
+    old.station old.at_station old.up old.events w (with_station r station (λ l. l)) station from to old.at_host events
+    count d)
+
+-- A byte comes to the host end of a running session.
+
+abbrev pub host_tells : HostEvent → List Event
+host_tells event = Host event ∷ []
+
+one_told : (events : List Event) (event : Option HostEvent) → events ++ flat_map host_tells (as_list event)
+    ≡ events_with events event
+one_told events None = append-nil events
+one_told events (Some event) = refl
+
+module _ {S : OfStation} {H : OfHost} {t : TerminalType} {w : World} {old : WorldParts} (r : RunsWith S H t old w) where
+  module _ (more : old.at_host < length old.up) (byte : ℕ) (is : byte ≡ get_or old.up old.at_host byte) where
+    more_up : w.at_host < length (up_bytes w)
+    more_up = omega (arith, more, r.at_host, ap length r.up)
+
+    abbrev byte_off : World
+    byte_off = record w { at_host = w.at_host + 1 }
+
+    abbrev ends_up : Option (Item AnswerPart)
+    ends_up = ending_at answer_rules w.up (w.at_host + 1)
+
+    abbrev done_up : List (Item AnswerPart)
+    done_up = arrived answer_rules w.up w.at_host
+
+    abbrev front_up : List ℕ
+    front_up = take w.at_host (up_bytes w) ++ byte ∷ []
+
+    came_up : ByteMore answer_rules w.up w.at_host byte
+    came_up = byte_more _ part_bytes part_prefix_free part_begins w.up r.writable_up _ more_up byte
+        (is ∙ ap (λ z. get_or z old.at_host byte) r.up ∙ ap (λ n. get_or (up_bytes w) n byte) r.at_host)
+
+    steps_up : (o : Option (Item AnswerPart)) → ends_up ≡ o → byte_to_host w ≡ host_gets byte_off false o
+    steps_up o e =
+        let less : nat_lt w.at_host (length (up_bytes w)) ≡ true = grind (arith, nat_tests, more_up) in
+        ap (λ (b : Bool). if b then host_gets byte_off w.host_refused ends_up else w) less
+        ∙ ap (λ b. host_gets byte_off b ends_up) (going_host r) ∙ ap (host_gets byte_off false) e
+
+    module _ (Then : OfHost) (host : HostParts) where
+      abbrev AfterUp : List ℕ → List Event → Type 0
+      AfterUp reply events = RunsWith S Then t
+          (record old { at_host = old.at_host + 1; host = host; down = old.down ++ reply; events = events })
+          (byte_to_host w)
+
+      goes_up : (side : HostSide) (writes : List (Item Element)) (event : Option HostEvent)
+          (reply : List ℕ) (events : List Event) (items : List (Item AnswerPart)) → reply
+          ≡ plain_spelling element_rules writes → AreWritable element_rules writes → events ≡ events_with old.events event
+          → HoldsItems answer_rules front_up items → Then front_up items side → byte_to_host w ≡ record w {
+            at_host = w.at_host + 1;
+            host = side;
+            down = w.down ++ writes;
+            events = events_with w.events event;
+          } → AfterUp reply events
+      goes_up side writes event reply events items spelled fit told held leads does =
+          let q = came_up.goes_on items held in
+          host_writes r (ToHost 1) Then side writes (w.at_host + 1) (events_with w.events event) host reply
+          (old.at_host + 1) events does spelled fit (ap (λ n. n + 1) r.at_host)
+          (told ∙ ap (λ z. events_with z event) r.events) (subst₂ (λ x its. Then x its side) q.0 q.1 leads)
+
+      pub host_inside : HoldsItems answer_rules front_up done_up → Then front_up done_up w.host → AfterUp [] old.events
+      host_inside held leads = goes_up w.host [] None [] old.events done_up refl (tt, tt) refl held leads
+          (steps_up None (came_up.none_ends held)
+          ∙ ap (λ z. record w { at_host = w.at_host + 1; down = z }) (sym (append-nil w.down)))
+
+      -- an item that is whole, by the reaction to it
+      pub host_taken : (reply : List ℕ) (events : List Event) (item : Item AnswerPart) (z : Reaction HostSide HostOutput)
+          → events ≡ old.events ++ flat_map host_tells (host_at_item w.host z).told
+          → host_takes w.host item ≡ z → goes_on z ≡ true
+          → reply ≡ plain_spelling element_rules (host_at_item w.host z).written
+          → HoldsItems answer_rules front_up (done_up ++ item ∷ [])
+          → Then front_up (done_up ++ item ∷ []) (host_at_item w.host z).side → AfterUp reply events
+      host_taken reply events item (Refuses reason) e does on spelled held leads = absurd (false≢true on)
+      host_taken reply events item (GoesOn next output) e does on spelled held leads =
+          let o = came_up.one_ends item held in
+          goes_up next output.items output.event reply events (done_up ++ item ∷ []) spelled (subst WritesWell does
+          (host_writes_well w.host item o.1)) (e ∙ one_told old.events output.event) held leads
+          (steps_up (Some item) o.0 ∙ ap (host_did byte_off) does)
+
+    pub host_never : (from host : HostParts) (why : Refusal) → IsHostPushed from host (take w.at_host (up_bytes w))
+        done_up w.host byte (Err why) → HasMemory (Some why) → ⊥
+    host_never from host Failed p m = p
+    host_never from host Memory p m = m
+    host_never from host (At at reason) p m = elim p.2 [
+      | inl refused ↦ came_up.none_refused at reason refused
+      | inr item ↦ (let o = came_up.one_ends item.item (item.so_far, item.begun, item.holds) in
+          let e : true ≡ false = ap (λ (z : World). z.host_refused) (sym (steps_up (Some item.item) o.0
+          ∙ ap (host_did byte_off) item.refuses)) ∙ (byte_up t w (is_sound r)).host_going in cc)
+    ]
+
+  pub with_host : {H' : OfHost} (host : HostParts)
+      → (H (take w.at_host (up_bytes w)) (arrived answer_rules w.up w.at_host) w.host
+      → H' (take w.at_host (up_bytes w)) (arrived answer_rules w.up w.at_host) w.host)
+      → RunsWith S H' t (record old { host = host }) w
+  with_host host on = record {
+    moves = r.moves;
+    reached = r.reached;
+    down = r.down;
+    up = r.up;
+    at_station = r.at_station;
+    at_host = r.at_host;
+    writable_down = r.writable_down;
+    writable_up = r.writable_up;
+    station = r.station;
+    host = on r.host;
+    events = r.events;
+  }
+
+  pub at_most_up : length (take w.at_host (up_bytes w)) ≤ min old.at_host (length old.up)
+  at_most_up = omega (arith, r.at_host, ap length r.up, length-take w.at_host (up_bytes w))
+
+  pub none_comes_up : length old.up ≤ old.at_host → byte_to_host w ≡ w
+  none_comes_up all =
+      let less : nat_lt w.at_host (length (up_bytes w)) ≡ false =
+      grind (arith, nat_tests, all, r.at_host, ap length r.up) in ap (λ (b : Bool). if b then host_gets
+      (record w { at_host = w.at_host + 1 }) w.host_refused (ending_at answer_rules w.up (w.at_host + 1)) else w) less
+
+abbrev HostLater : OfHost → List ℕ → List ℕ → List HostEvent → OfHost
+HostLater = Later answer_rules element_rules host_manner
+
+host_next : {S : OfStation} {t : TerminalType} {w : World} {old : WorldParts} (Then : OfHost) (x : ℕ) (xs v : List ℕ)
+    (told : List HostEvent) (r : RunsWith S (HostLater Then (x ∷ xs) v told) t old w)
+    → old.at_host < length old.up → x ≡ get_or old.up old.at_host x
+    → (v' : List ℕ) × (later : List ℕ) × (told' : List HostEvent) × (more : List HostEvent) × (v ≡ v' ++ later)
+    × (told ≡ told' ++ more) × RunsWith S (HostLater Then xs later more) t (record old {
+      at_host = old.at_host + 1;
+      down = old.down ++ v';
+      events = old.events ++ flat_map host_tells told';
+    }) (byte_to_host w)
+host_next {S} {t} {w} {old} Then x xs v told r more is = elim (gone_first answer_rules element_rules host_manner Then
+    (take w.at_host (up_bytes w)) (arrived answer_rules w.up w.at_host) w.host x xs v told r.host) [
+      | inl n ↦ (
+        [],
+        v,
+        [],
+        told,
+        refl,
+        refl,
+        rw (append-nil old.events)
+            (host_inside r more x is (HostLater Then xs v told) old.host n.0 n.1),
+      )
+      | inr k ↦ (
+        plain_spelling element_rules (host_manner.at w.host (Arrives k.0)).written,
+        k.3,
+        (host_manner.at w.host (Arrives k.0)).told,
+        k.4,
+        k.5,
+        k.6,
+        host_taken r more x is (HostLater Then xs k.3 k.4) old.host _ _ k.0 (host_takes w.host k.0) refl refl k.2 refl
+            k.1 k.7,
+      )
+    ]
+
+pub host_stops : (n m : ℕ) → n ≤ m → (w : World) → byte_to_host (bytes_to_host n w) ≡ bytes_to_host n w
+    → bytes_to_host m w ≡ bytes_to_host n w
+host_stops = stop _ _ (λ w. refl) (λ n w. refl)
+
+pub host_bytes_on : (m n : ℕ) (w : World) → bytes_to_host n (bytes_to_host m w) ≡ bytes_to_host (m + n) w
+host_bytes_on = many_on byte_to_host bytes_to_host (λ w. refl) (λ n w. refl)
+
+-- so many of the bytes in flight, or all that are
+pub host_delivered : {t : TerminalType} {w : World} {old : WorldParts}
+    → Runs t old w → {host : HostParts} {from to : WireParts} {events : List Event} {count : ℕ}
+    → AreDelivered host_conduct host_telling old.host host (record { bytes = old.up; at = old.at_host }) from
+    (record { bytes = old.down; at = old.at_station }) to old.events events count → Runs t (record old {
+      host = host;
+      up = from.bytes;
+      at_host = from.at;
+      down = to.bytes;
+      at_station = to.at;
+      events = events;
+    }) (bytes_to_host count w)
+host_delivered {t} {w} {old} r {host} {from} {to} {events} {count} d =
+    let Now : OfHost → ℕ → List ℕ → List Event → World → Type 0 = λ H n down told w'. RunsWith
+    (StationLeads old.station) H t (record old { host = host; at_host = n; down = down; events = told }) w' in
+    rw (d.from_is, d.to_is, d.told_is) (delivered byte_to_host bytes_to_host (λ w. refl) (λ n w. refl)
+    answer_rules element_rules host_manner host_tells old.up Now
+    (λ A B n down told w' h on. with_host h host (on _ _ _ (at_most_up h)))
+    (λ A n down told w' h. (_, _, _, h.host))
+    (λ Then x xs v said n down told w' h more is. host_next Then x xs v said h more is)
+    (λ A n down told w' h all. none_comes_up h all) HostLeads IsHostShut HostRefuses
+    HostStaysSilent (λ (e : HostParts). IsSome e.ended) (λ place reason. HostRefused place reason)
+    (λ e byte why e' b i s. IsHostPushed e e' b i s byte (Err why))
+    (λ e front byte why e' refuses b i s l few. refuses.led b i s l few)
+    (λ e byte why e' n down told w' h more is memory. host_never h more byte is e e' why h.host memory)
+    old.host old.at_host old.down old.events w (with_host r host (λ l. l)) host from to old.at_station events count d)

@@ -1,0 +1,329 @@
+use Rattle.ws_session.proofs.Common as C
+use C.{IfOk, OnOk, ◌≡◌, ℕ, ◌+◌, ◌-◌, ◌≤◌, List, [], ◌∷◌, ◌++◌, Result, Ok, Err, length, take, drop, refl, ap, ◌∙◌, sym}
+use C.{arith, append_assoc, length-append, length-drop, append-nil, length-take-le, take_all, drop_all, drop-drop}
+use C.{drop-append-le, flat_map-append, take-add, drop-append_seam, take-append-add, Reason, Refusal, Event, Move}
+use C.{Act, Crossing, with_piece_at, HostParts, StationParts, TerminalType, WorldParts, Runs, new_world, TwoEnds}
+use C.{two_ends_of, all_sent, all_read, HaveCome, ComesDown, ComesUp, IsDeliveredDown, IsDeliveredUp, HasMoved}
+use C.{HaveMoved, HasRun, WireParts, AreDelivered, inl, inr, subst, take-append-drop, Fault, Writer}
+use C.{StationGoes, HostGoes, element_rules, answer_rules, station_manner, host_manner, StationLeads, HostLeads, Key}
+use C.{Applied, HostEvent, Reader, AreFaithful, HaveCrossed, HasCrossed, IsStopped, IsEnded, AreEnded}
+use Rattle.std.specs.List.{AllByRecursion}
+use Rattle.ws_session.specs.declared.world.line.Line.{Line}
+use Rattle.ws_session.specs.world.BrokenOff.{AreNext, IsDeliveryCut}
+use Rattle.ws_session.specs.ActLaws.{goes_none, goes_on}
+use Rattle.ws_session.specs.Manners.{IsHostShut}
+use Rattle.ws_session.specs.station.StationActs.{IsShutOn}
+use Rattle.ws_session.specs.declared.end_step.Order.{Order}
+use Rattle.ws_session.proofs.world.Arriving.{come_on, none_comes}
+use Rattle.ws_code.specs.Device.{Devices}
+use Rattle.ws_session.specs.Conduct.{Conduct}
+use Rattle.ws_session.specs.world.Wires.{Telling}
+
+-- Moves of a session whose bytes go over two lines.
+
+pub both_of_ok : {A E : Type 0} (r : Result A E) (P Q : Type 0) → OnOk r P → OnOk r Q → OnOk r (P × Q)
+both_of_ok (Ok a) P Q p q = (p, q)
+both_of_ok (Err e) P Q p q = tt
+
+pub both_if_ok : {A E : Type 0} (r : Result A E) (P Q : A → Type 0) → IfOk r P → IfOk r Q → IfOk r (λ a. P a × Q a)
+both_if_ok (Ok a) P Q p q = (p, q)
+both_if_ok (Err e) P Q p q = tt
+
+-- what a piece makes of the bytes in flight
+module _ (bytes : List ℕ) (at : ℕ) (read : List ℕ) (fits : at + length read ≤ length bytes) where
+  front : length (take at bytes) ≡ at
+  front = length-take-le at bytes (omega (arith, fits))
+
+  behind_front : drop at (with_piece_at bytes at read) ≡ read ++ drop (at + length read) bytes
+  behind_front = ap (λ n. drop n (with_piece_at bytes at read)) (sym front)
+      ∙ ap (drop (length (take at bytes))) (append_assoc (take at bytes) read (drop (at + length read) bytes))
+      ∙ drop-append_seam (take at bytes) (read ++ drop (at + length read) bytes)
+
+  pub piece_first : take (length read) (drop at (with_piece_at bytes at read)) ≡ read
+  piece_first = ap (take (length read)) behind_front ∙ ap
+      (λ n. take n (read ++ drop (at + length read) bytes)) (let e : length read ≡ length read + 0 = omega arith in e)
+      ∙ take-append-add read (drop (at + length read) bytes) 0 ∙ append-nil read
+
+  pub piece_left : drop (at + length read) (with_piece_at bytes at read) ≡ drop (length read) (drop at bytes)
+  piece_left = sym (drop-drop (length read) at (with_piece_at bytes at read)) ∙ ap (drop (length read)) behind_front
+      ∙ drop-append_seam read (drop (at + length read) bytes) ∙ sym (drop-drop (length read) at bytes)
+
+-- pieces of at most 4,096 bytes, and then further ones
+abbrev AreSmall : List Crossing → Type 0
+AreSmall crossings = AllByRecursion (λ (c : Crossing). length c.sent ≤ 4096) crossings
+
+pieces_append : (cs ds : List Crossing) → AreSmall cs → AreSmall ds → AreSmall (cs ++ ds)
+pieces_append [] ds p q = q
+pieces_append (c ∷ cs) ds p q = (p.0, pieces_append cs ds p.1 q)
+
+module _ {E Deed Told : Type 0} (conduct : Conduct E Deed Told) (telling : Telling Told) where
+  pub none_come : ((e : E) → conduct.goes e [] [] [] e) → (e : E) (flight : List ℕ)
+      → HaveCome conduct telling 0 [] flight flight e e [] []
+  none_come stays e flight = record {
+    sent = refl;
+    pieces = tt;
+    as_many = refl;
+    left = refl;
+    come = none_comes conduct telling stays e;
+  }
+
+  -- a piece that crossed
+  pub piece_comes : (old new : E) (bytes : List ℕ) (at n : ℕ) (read : List ℕ) (from' to to' : WireParts)
+      (told told' : List Event) → length read ≡ n → at + n ≤ length bytes → n ≤ 4096 → (d : AreDelivered conduct telling old new (record { bytes = with_piece_at bytes at read; at = at }) from' to to' told told' n)
+      → HaveCome conduct telling n (record { sent = take n (drop at bytes); read = read } ∷ [])
+      (drop at bytes) (drop from'.at from'.bytes) old new d.written d.events
+  piece_comes old new bytes at n read from' to to' told told' is fits small d =
+      let room : at + length read ≤ length bytes = omega (arith, is, fits) in
+      let same : d.bytes ≡ read = d.first
+      ∙ ap (λ k. take k (drop at (with_piece_at bytes at read))) (sym is) ∙ piece_first bytes at read room in
+      record {
+        sent = append-nil (take n (drop at bytes));
+        pieces = (
+          omega (arith, small, length-take-le n (drop at bytes) (omega (arith, fits, length-drop at bytes))),
+          tt,
+        );
+        as_many = ap (λ (z : List ℕ). length z) (append-nil read)
+            ∙ is ∙ sym (length-take-le n (drop at bytes) (omega (arith, fits, length-drop at bytes)))
+            ∙ ap (λ (z : List ℕ). length z) (sym (append-nil (take n (drop at bytes))));
+        left = ap (λ (z : WireParts). drop z.at z.bytes) d.from_is ∙ ap (λ (z : List ℕ). drop (at + length z)
+            (with_piece_at bytes at read)) same ∙ piece_left bytes at read room ∙ ap (λ k. drop k (drop at bytes)) is;
+        come = rw (← (same ∙ sym (append-nil read))) d.come;
+      }
+
+  module _ (a b : ℕ) (cs ds : List Crossing) (f g h : List ℕ) (old mid new : E) (v w : List ℕ) (s t : List Event) where
+    pub more_come : ((a b c : E) (xs ys : List (Act Deed)) (v w : List ℕ) (s t : List Told) → conduct.goes a xs v s b
+        → conduct.goes b ys w t c → conduct.goes a (xs ++ ys) (v ++ w) (s ++ t) c) → HaveCome conduct telling a cs f g old mid v s
+        → HaveCome conduct telling b ds g h mid new w t
+        → HaveCome conduct telling (a + b) (cs ++ ds) f h old new (v ++ w) (s ++ t)
+    more_come follows p q =
+        let sents : all_sent
+        (cs ++ ds) ≡ all_sent cs ++ all_sent ds = flat_map-append (λ (c : Crossing). c.sent) cs ds in
+        let reads : all_read
+        (cs ++ ds) ≡ all_read cs ++ all_read ds = flat_map-append (λ (c : Crossing). c.read) cs ds in
+        record {
+          sent = sents ∙ ap (λ z. z ++ all_sent ds) p.sent
+              ∙ ap (λ z. take a f ++ z) q.sent ∙ ap (λ z. take a f ++ take b z) p.left ∙ sym (take-add a b f);
+          pieces = pieces_append cs ds p.pieces q.pieces;
+          as_many = omega (
+            arith,
+            p.as_many,
+            q.as_many,
+            ap (λ (z : List ℕ). length z) sents,
+            ap (λ (z : List ℕ). length z) reads,
+            length-append (all_sent cs) (all_sent ds),
+            length-append (all_read cs) (all_read ds),
+          );
+          left = q.left ∙ ap (drop b) p.left ∙ drop-drop b a f;
+          come = rw reads
+              (come_on conduct telling follows old mid new (all_read cs) (all_read ds) v w s t p.come q.come);
+        }
+
+  -- all that were in flight have come
+  pub all_have_come : (a b : ℕ) (cs : List Crossing) (f g : List ℕ) (old new : E) (v : List ℕ) (s : List Event)
+      → a ≤ b → g ≡ [] → HaveCome conduct telling a cs f g old new v s
+      → HaveCome conduct telling b cs f g old new v s
+  all_have_come a b cs f g old new v s le none p =
+      let few : length f ≤ a = omega (arith, ap (λ (z : List ℕ). length z) (sym p.left ∙ none), length-drop a f) in
+      record {
+        sent = p.sent ∙ take_all a f few ∙ sym (take_all b f (omega (arith, few, le)));
+        pieces = p.pieces;
+        as_many = p.as_many;
+        left = none ∙ sym (drop_all b f (omega (arith, few, le)));
+        come = p.come;
+      }
+
+-- both ends, part by part
+pub same_ends : {s s' : StationParts} {h h' : HostParts} {a a' b b' : List ℕ} {e e' : List Event} → s ≡ s' → h ≡ h'
+    → a ≡ a' → b ≡ b' → e ≡ e' → ◌≡◌ {A = TwoEnds}
+    (record { station = s; host = h; to_station = a; to_host = b; events = e })
+    (record { station = s'; host = h'; to_station = a'; to_host = b'; events = e' })
+same_ends p q r s t = cc
+
+-- without an act both ends stay as they are, and acts go on where others have led
+station_stays : (s : StationParts) → StationGoes s [] [] [] s
+station_stays = goes_none element_rules answer_rules station_manner StationLeads IsShutOn
+
+station_follows : (a b c : StationParts) (xs ys : List (Act Key)) (v w : List ℕ) (s t : List Applied)
+    → StationGoes a xs v s b → StationGoes b ys w t c → StationGoes a (xs ++ ys) (v ++ w) (s ++ t) c
+station_follows = goes_on element_rules answer_rules station_manner StationLeads IsShutOn
+
+host_stays : (h : HostParts) → HostGoes h [] [] [] h
+host_stays = goes_none answer_rules element_rules host_manner HostLeads IsHostShut
+
+host_follows : (a b c : HostParts) (xs ys : List (Act Order)) (v w : List ℕ) (s t : List HostEvent)
+    → HostGoes a xs v s b → HostGoes b ys w t c → HostGoes a (xs ++ ys) (v ++ w) (s ++ t) c
+host_follows = goes_on answer_rules element_rules host_manner HostLeads IsHostShut
+
+-- bytes down
+
+pub down_none : (now : WorldParts) → ComesDown (two_ends_of now) 0 [] (two_ends_of now)
+down_none now = ([], [], none_come _ _ station_stays _ _, rw (append-nil (drop now.at_host now.up), append-nil now.events))
+
+pub up_none : (now : WorldParts) → ComesUp (two_ends_of now) 0 [] (two_ends_of now)
+up_none now = ([], [], none_come _ _ host_stays _ _, rw (append-nil (drop now.at_station now.down), append-nil now.events))
+
+-- what went over a line, written in the place of the bytes in flight
+module _ (old new : WorldParts) (n : ℕ) (read : List ℕ) (is : length read ≡ n) where
+  pub down_piece : old.at_station + n ≤ length old.down → n ≤ 4096 → old.at_host ≤ length old.up
+      → IsDeliveredDown (record old { down = with_piece_at old.down old.at_station read }) n new → ComesDown
+      (two_ends_of old) n (record { sent = take n (drop old.at_station old.down); read = read } ∷ []) (two_ends_of new)
+  down_piece fits small room d =
+      let upward : drop new.at_host new.up ≡ drop old.at_host old.up ++ d.0.written =
+      ap (λ (z : WireParts). drop z.at z.bytes) d.0.to_is ∙ drop-append-le old.at_host old.up d.0.written room in (
+        d.0.written,
+        d.0.events,
+        piece_comes _ _ _ _ _ _ n read _ _ _ _ _ is
+            fits small d.0,
+        same_ends refl d.1 refl upward d.0.told_is,
+      )
+
+  pub up_piece : old.at_host + n ≤ length old.up → n ≤ 4096 → old.at_station ≤ length old.down
+      → IsDeliveredUp (record old { up = with_piece_at old.up old.at_host read }) n new
+      → ComesUp (two_ends_of old) n (record { sent = take n (drop old.at_host old.up); read = read } ∷ []) (two_ends_of new)
+  up_piece fits small room d =
+      let downward : drop new.at_station new.down ≡ drop old.at_station old.down ++ d.0.written =
+      ap (λ (z : WireParts). drop z.at z.bytes) d.0.to_is ∙ drop-append-le old.at_station old.down d.0.written room in (
+        d.0.written,
+        d.0.events,
+        piece_comes _ _ _ _ _ _ n read _ _ _ _ _ is fits small d.0,
+        same_ends d.1 refl downward refl d.0.told_is,
+      )
+
+module _ (x y z : TwoEnds) (a b : ℕ) (cs ds : List Crossing) where
+  pub down_more : ComesDown x a cs y → ComesDown y b ds z → ComesDown x (a + b) (cs ++ ds) z
+  down_more p q = (
+    p.0 ++ q.0,
+    p.1 ++ q.1,
+    more_come _ _ a b cs ds _ _ _ _ _ _ p.0 q.0 p.1 q.1 station_follows p.2 q.2,
+    cc (q.3, p.3, append_assoc x.to_host p.0 q.0, append_assoc x.events p.1 q.1),
+  )
+
+  pub up_more : ComesUp x a cs y → ComesUp y b ds z → ComesUp x (a + b) (cs ++ ds) z
+  up_more p q = (
+    p.0 ++ q.0,
+    p.1 ++ q.1,
+    more_come _ _ a b cs ds _ _ _ _ _ _ p.0 q.0 p.1 q.1 host_follows p.2 q.2,
+    cc (q.3, p.3, append_assoc x.to_station p.0 q.0, append_assoc x.events p.1 q.1),
+  )
+
+module _ (x y : TwoEnds) (a b : ℕ) (cs : List Crossing) (le : a ≤ b) where
+  pub down_all : y.to_station ≡ [] → ComesDown x a cs y → ComesDown x b cs y
+  down_all none p = (p.0, p.1, all_have_come _ _ a b cs _ _ _ _ p.0 p.1 le none p.2, p.3)
+
+  pub up_all : y.to_host ≡ [] → ComesUp x a cs y → ComesUp x b cs y
+  up_all none p = (p.0, p.1, all_have_come _ _ a b cs _ _ _ _ p.0 p.1 le none p.2, p.3)
+
+-- the next of some bytes are the next of more
+next_of_more : (bytes flight : List ℕ) (n m : ℕ) → n ≤ m → AreNext bytes (take n flight) → AreNext bytes (take m flight)
+next_of_more bytes flight n m le next =
+    let more = take (m - n) (drop n flight) in
+    let sum : m ≡ n + (m - n) = omega (arith, le) in (
+      next.0 ++ more,
+      ap (λ k. take k flight) sum ∙ take-add n (m - n) flight ∙ ap (λ z. z ++ more) next.1
+          ∙ append_assoc bytes next.0 more,
+      next.2,
+    )
+
+-- what is cut of some bytes is cut of more
+pub cut_of_more : {S R : Type 0} (devices : Devices R S)
+    (flight : List ℕ) (n m : ℕ) (from to : Line S R) (fault : Fault) → n ≤ m
+    → IsDeliveryCut devices (take n flight) from to fault
+    → IsDeliveryCut devices (take m flight) from to fault
+cut_of_more devices flight n m from to fault le (inl c) =
+    inl (c.0, c.1, next_of_more c.1.sent flight n m le c.2, c.3)
+cut_of_more devices flight n m from to fault le (inr c) =
+    inr (c.0, c.1, next_of_more c.0 flight n m le c.2, c.3)
+
+-- one move more
+pub moved_on : (a b c : TwoEnds) (ms : List Move) (m : Move) (ds us es vs : List Crossing)
+    → HaveMoved a ms ds us b → HasMoved b m es vs c → HaveMoved a (ms ++ m ∷ []) (ds ++ es) (us ++ vs) c
+moved_on a b c [] m ds us es vs p q =
+    let downs : ds ++ es ≡ es ++ [] = rw p.0 (sym (append-nil es)) in
+    let ups : us ++ vs ≡ vs ++ [] = rw p.1 (sym (append-nil vs)) in
+    (es, vs, [], [], c, rw (← p.2) q, (refl, refl, refl), downs, ups)
+moved_on a b c (x ∷ ms) m ds us es vs p q =
+    let rest = moved_on p.4 b c ms m p.2 p.3 es vs p.6 q in
+    let downs : ds ++ es ≡ p.0 ++ (p.2 ++ es) = rw p.7 (append_assoc p.0 p.2 es) in
+    let ups : us ++ vs ≡ p.1 ++ (p.3 ++ vs) = rw p.8 (append_assoc p.1 p.3 vs) in
+    (p.0, p.1, p.2 ++ es, p.3 ++ vs, p.4, p.5, rest, downs, ups)
+
+-- before the first move
+pub begun : (t : TerminalType) (now : WorldParts) → Runs t now (new_world t) → HasRun t [] [] [] (two_ends_of now)
+begun t now r = (
+  two_ends_of now,
+  record {
+    station = r.station;
+    host = r.host;
+    to_station = ap (λ n. drop n now.down) r.at_station ∙ r.down;
+    to_host = ap (λ n. drop n now.up) r.at_host ∙ r.up;
+    untold = r.events;
+  },
+  (refl, refl, refl),
+)
+
+-- What has crossed a line
+
+module _ {S R : Type 0} (devices : Devices R S) where
+  -- pieces, and then further ones
+  pub crossed_on : (a b c : Line S R) (cs ds : List Crossing) → HaveCrossed devices a cs b
+      → HaveCrossed devices b ds c → HaveCrossed devices a (cs ++ ds) c
+  crossed_on a b c [] ds p q = rw p q
+  crossed_on a b c (x ∷ cs) ds p q = (p.0, p.1, crossed_on p.0 b c cs ds p.2 q)
+
+  pub crossed_behind : (a b c : Line S R) (cs : List Crossing) → HaveCrossed devices a cs b
+      → HasCrossed devices b c → HasCrossed devices a c
+  crossed_behind a b c cs p q = (cs ++ q.0, crossed_on a b c cs q.0 p q.1)
+
+  -- a stop behind pieces that crossed
+  pub stop_behind : (a b c : Line S R) (cs : List Crossing) (fault : Fault) → HaveCrossed devices a cs b → IsStopped devices b c fault → IsStopped devices a c fault
+  stop_behind a b c cs fault p q = record {
+    crossings = cs ++ q.crossings;
+    last = q.last;
+    crossed = crossed_on a b _ cs _ p q.crossed;
+    bytes = q.bytes;
+    slice = q.slice;
+    failed = q.failed;
+  }
+
+  pub stopped_behind : (a b c : Line S R) (cs : List Crossing) (fault : Fault) → HaveCrossed devices a cs b → IsEnded devices b c fault → IsEnded devices a c fault
+  stopped_behind a b c cs fault p (inl m) = inl (m.0, crossed_behind a b c cs p m.1)
+  stopped_behind a b c cs fault p (inr k) = inr (stop_behind a b c cs fault p k)
+
+-- one of two lines stops
+module _ {S R T Q : Type 0} (devices : Devices R S)
+    (devices' : Devices Q T) where
+  pub either_behind : (a b c : Line S R) (cs : List Crossing) (a' b' c' : Line T Q) (cs' : List Crossing)
+      (fault : Fault) → HaveCrossed devices a cs b → HaveCrossed devices' a' cs' b' → AreEnded devices devices' b c b' c' fault
+      → AreEnded devices devices' a c a' c' fault
+  either_behind a b c cs a' b' c' cs' fault p p'
+      (inl m) = inl (m.0, crossed_behind devices a b c cs p m.1, crossed_behind _ a' b' c' cs' p' m.2)
+  either_behind a b c cs a' b' c' cs' fault p p' (inr (inl k)) =
+      inr (inl (stop_behind devices a b c cs fault p k.0, crossed_behind _ a' b' c' cs' p' k.1))
+  either_behind a b c cs a' b' c' cs' fault p p' (inr (inr k)) =
+      inr (inr (crossed_behind devices a b c cs p k.0, stop_behind _ a' b' c' cs' fault p' k.1))
+
+  pub first_stops : (a c : Line S R) (a' : Line T Q) (fault : Fault) → IsEnded devices a c fault
+      → AreEnded devices devices' a c a' a' fault
+  first_stops a c a' fault (inl m) = inl (m.0, m.1, ([], refl))
+  first_stops a c a' fault (inr k) = inr (inl (k, ([], refl)))
+
+  pub second_stops : (a : Line S R) (a' c' : Line T Q) (fault : Fault) → IsEnded devices' a' c' fault → AreEnded devices devices' a a a' c' fault
+  second_stops a a' c' fault (inl m) = inl (m.0, ([], refl), m.1)
+  second_stops a a' c' fault (inr k) = inr (inr (([], refl), k))
+
+pub faithful_front : (cs ds : List Crossing) → AreFaithful (cs ++ ds) → AreFaithful cs
+faithful_front [] ds f = tt
+faithful_front (c ∷ cs) ds f = (f.0, faithful_front cs ds f.1)
+
+pub faithful_back : (cs ds : List Crossing) → AreFaithful (cs ++ ds) → AreFaithful ds
+faithful_back [] ds f = f
+faithful_back (c ∷ cs) ds f = faithful_back cs ds f.1
+
+-- what stands at a place, put there again
+pub written_back : (bytes : List ℕ) (at n : ℕ) → at + n ≤ length bytes → with_piece_at bytes at
+    (take n (drop at bytes)) ≡ bytes
+written_back bytes at n h =
+    let room : n ≤ length (drop at bytes) = subst (λ k. n ≤ k) (sym (length-drop at bytes)) (omega (arith, h)) in
+    let long : length (take n (drop at bytes)) ≡ n = length-take-le n (drop at bytes) room in
+    ap (λ k. take at bytes ++ take n (drop at bytes) ++ drop (at + k) bytes) long
+    ∙ ap (λ l. l ++ drop (at + n) bytes) (sym (take-add at n bytes)) ∙ take-append-drop (at + n) bytes

@@ -1,0 +1,244 @@
+use Rattle.ws_session.proofs.Common as C
+use C.{answer_spelling, station_pressed, flat_map-append, record_spelling, plain_spelling, key_by_refusal, StationLeads}
+use C.{SystemRequest, item_spelling, answer_record, header_length, if◌then◌else◌, element_rules, SendReaction, NoMemory}
+use C.{empty_record, CanBeEncoded, answer_rules, StationParts, answer_parts, CancelInvite, answers_read, TerminalType}
+use C.{NoOperation, IsSendFault, after_press, AreWritable, SendRefused, KeyReaction, key_refusal, after_moves, AreBytes}
+use C.{RefusesSend, ScreenParts, station_key, spelling_of, StationSide, length-take, HostAnswer, one_screen, after_move}
+use C.{down_bytes, host_sends, AnswerPart, RefusesKey, after_send, KeyRefusal, SendFailed, KeyRefused, append-nil, Move}
+use C.{WorldParts, screen_at, answer_of, host_send, Attention, new_world, IsInRange, KeyFailed, HostLeads, AtStation, ℕ}
+use C.{host_sent, HostParts, SendFault, NotReady, up_bytes, HostSide, KeyFault, ReadKind, Signals, presses, Element, []}
+use C.{IsLegal, IsKeyed, arrived, Answers, Result, header, Option, length, AtHost, PutGet, Opcode, Silent, IsSent, ◌++◌}
+use C.{RunsWith, false, Press, subst, World, Event, arith, IsKey, List, take, Item, Bool, Runs, IfOk, Read, refl, Some, None, ◌≤◌}
+use C.{Send, true, ◌+◌, ap₂, ◌^◌, ◌∙◌, ◌≡◌, sym, ◌<◌, ◌∷◌, Key, SRQ, ATN, Err, ap, Ok}
+use Rattle.ws_record.proofs.Flights.{writable_append, still_led, not_more}
+use Rattle.ws_session.proofs.world.Betweens.{Sound}
+use Rattle.ws_session.proofs.world.Worlds.{sound}
+use Rattle.ws_code.specs.Aid.{IsAid}
+use Rattle.ws_keys.specs.declared.answer.Answer.{Answer}
+use Rattle.ws_keys.proofs.WholeLaws.{answer_whole, answer_short}
+
+-- A running session is a world that its moves lead to.
+
+pub more_moves : (moves : List Move) (move : Move) (w : World) → after_moves w (moves ++ move ∷ []) ≡ after_move
+    (after_moves w moves) move
+more_moves [] move w = refl
+more_moves (m ∷ moves) move w = more_moves moves move _
+
+-- what holds of the bytes that came to an end, of their items and of its side
+abbrev pub OfStation : Type 1
+OfStation = List ℕ → List (Item Element) → StationSide → Type 0
+
+abbrev pub OfHost : Type 1
+OfHost = List ℕ → List (Item AnswerPart) → HostSide → Type 0
+
+module _ {S : OfStation} {H : OfHost} {t : TerminalType} {w : World} {old : WorldParts} (r : RunsWith S H t old w) where
+  pub is_sound : Sound t w
+  is_sound = subst (Sound t) (sym r.reached) (sound t r.moves)
+
+  pub going_station : w.station_refused ≡ false
+  going_station = is_sound.station_going
+
+  pub reached_by : (move : Move) → after_move w move ≡ after_moves (new_world t) (r.moves ++ move ∷ [])
+  reached_by move = ap (λ z. after_move z move) r.reached ∙ sym (more_moves r.moves move (new_world t))
+
+  pub going_host : w.host_refused ≡ false
+  going_host = is_sound.host_going
+
+  -- a move more, by the world behind it and by what a session keeps then
+  module _ (move : Move) where
+    runs_with : (S' : OfStation) (H' : OfHost) (next : World) (new : WorldParts) → after_move w move ≡ next
+        → new.down ≡ down_bytes next → new.up ≡ up_bytes next → new.at_station ≡ next.at_station
+        → new.at_host ≡ next.at_host → AreWritable element_rules next.down → AreWritable answer_rules next.up
+        → S' (take next.at_station (down_bytes next)) (arrived element_rules next.down next.at_station) next.station
+        → H' (take next.at_host (up_bytes next)) (arrived answer_rules next.up next.at_host) next.host
+        → new.events ≡ next.events → RunsWith S' H' t new (after_move w move)
+    runs_with S' H' next new does down up at_station at_host writable_down writable_up station host events =
+        subst (RunsWith S' H' t new) (sym does) (record {
+          moves = r.moves ++ move ∷ [];
+          reached = sym does ∙ reached_by move;
+          down = down;
+          up = up;
+          at_station = at_station;
+          at_host = at_host;
+          writable_down = writable_down;
+          writable_up = writable_up;
+          station = station;
+          host = host;
+          events = events;
+        })
+
+    pub runs_on : (next : World) (new : WorldParts) → after_move w move ≡ next → new.down ≡ down_bytes next
+        → new.up ≡ up_bytes next → new.at_station ≡ next.at_station → new.at_host ≡ next.at_host
+        → AreWritable element_rules next.down → AreWritable answer_rules next.up → StationLeads new.station
+        (take next.at_station (down_bytes next)) (arrived element_rules next.down next.at_station) next.station
+        → HostLeads new.host (take next.at_host (up_bytes next)) (arrived answer_rules next.up next.at_host) next.host
+        → new.events ≡ next.events → Runs t new (after_move w move)
+    runs_on next new = runs_with (StationLeads new.station) (HostLeads new.host) next new
+
+    -- at which the station writes
+    pub station_writes : (Then : OfStation) (side : StationSide) (items : List (Item AnswerPart)) (n : ℕ)
+        (answered : List HostAnswer) (station : StationParts) (text : List ℕ) (at : ℕ)
+        → after_move w move ≡ record w { station = side; up = w.up ++ items; at_station = n; answered = answered }
+        → text ≡ plain_spelling answer_rules items → AreWritable answer_rules items → at ≡ n
+        → Then (take n (down_bytes w)) (arrived element_rules w.down n) side
+        → RunsWith Then H t (record old { station = station; up = old.up ++ text; at_station = at }) (after_move w move)
+    station_writes Then side items n answered station text at does spelled fit same leads =
+        runs_with Then H (record w { station = side; up = w.up ++ items; at_station = n; answered = answered })
+        (record old { station = station; up = old.up ++ text; at_station = at }) does r.down
+        (ap₂ (λ x y. x ++ y) r.up spelled ∙ sym (flat_map-append (item_spelling answer_rules) w.up items))
+        same r.at_host r.writable_down (writable_append answer_rules w.up items r.writable_up fit) leads
+        (still_led answer_rules (λ x its. H x its w.host) w.up items w.at_host
+        (not_more answer_rules w.up w.at_host _ is_sound.up) r.host) r.events
+
+    -- at which the host end does
+    pub host_writes : (Then : OfHost) (side : HostSide) (items : List (Item Element)) (n : ℕ) (events : List Event)
+        (host : HostParts) (text : List ℕ) (at : ℕ) (told : List Event)
+        → after_move w move ≡ record w { host = side; down = w.down ++ items; at_host = n; events = events }
+        → text ≡ plain_spelling element_rules items → AreWritable element_rules items → at ≡ n → told ≡ events
+        → Then (take n (up_bytes w)) (arrived answer_rules w.up n) side
+        → RunsWith S Then t (record old { host = host; down = old.down ++ text; at_host = at; events = told })
+        (after_move w move)
+    host_writes Then side items n events host text at told does spelled fit same is leads =
+        runs_with S Then (record w { host = side; down = w.down ++ items; at_host = n; events = events })
+        (record old { host = host; down = old.down ++ text; at_host = at; events = told }) does
+        (ap₂ (λ x y. x ++ y) r.down spelled ∙ sym (flat_map-append (item_spelling element_rules) w.down items)) r.up
+        r.at_station same (writable_append element_rules w.down items r.writable_down fit) r.writable_up
+        (still_led element_rules (λ x its. S x its w.station) w.down items w.at_station
+        (not_more element_rules w.down w.at_station _ is_sound.down) r.station) leads is
+
+-- The host end of a running session sends or cancels.
+
+by_going : (w : World) (reaction : SendReaction) → w.host_refused ≡ false → after_send w reaction ≡ host_sent w reaction
+by_going w reaction e = ap (λ (b : Bool). host_sent w (if b then RefusesSend SendFailed else reaction)) e
+
+-- what has arrived can be counted
+pub few_down : {t : TerminalType} {w : World} {old : WorldParts} → Runs t old w → length old.down + 1 < 2 ^ 64
+    → length (take w.at_station (down_bytes w)) + 1 < 2 ^ 64
+few_down {w = w} r few = omega (arith, few, ap (λ z. length z) r.down, length-take w.at_station (down_bytes w))
+
+pub few_up : {t : TerminalType} {w : World} {old : WorldParts} → Runs t old w → length old.up + 1 < 2 ^ 64
+    → length (take w.at_host (up_bytes w)) + 1 < 2 ^ 64
+few_up {w = w} r few = omega (arith, few, ap (λ z. length z) r.up, length-take w.at_host (up_bytes w))
+
+module _ {t : TerminalType} {w : World} {old : WorldParts} (r : Runs t old w) (move : Move)
+    (reacts : HostSide → SendReaction) (moves_by : after_move w move ≡ after_send w (reacts w.host)) where
+  pub host_wrote : length old.up + 1 < 2 ^ 64 → (host : HostParts) (text : List ℕ)
+      → AtHost old.host (λ bytes items side. length bytes + 1 < 2 ^ 64 → IsSent host bytes items (reacts side) text)
+      → Runs t (record old { host = host; down = old.down ++ text }) (after_send w (reacts w.host))
+  host_wrote few host text p =
+      let x = p _ _ _ r.host (few_up r few) in
+      rw (← moves_by) (host_writes r move (HostLeads host) x.0 (x.1 ∷ []) w.at_host w.events host text old.at_host old.events
+      (moves_by ∙ by_going w (reacts w.host) (going_host r) ∙ ap (host_sent w) x.2)
+      (x.3 ∙ sym (append-nil (item_spelling element_rules x.1))) ((x.4, tt), (x.5, tt)) r.at_host r.events x.6)
+
+  pub host_refrained : (fault : SendFault) → reacts w.host ≡ RefusesSend fault
+      → Runs t (record old { events = old.events ++ SendRefused fault ∷ [] }) (after_send w (reacts w.host))
+  host_refrained fault e = rw (← moves_by) (runs_on r move (record w { events = w.events ++ SendRefused fault ∷ [] })
+      (record old { events = old.events ++ SendRefused fault ∷ [] }) (moves_by ∙ by_going w _ (going_host r)
+      ∙ ap (host_sent w) e) r.down r.up r.at_station r.at_host r.writable_down r.writable_up r.station r.host
+      (ap (λ z. z ++ SendRefused fault ∷ []) r.events))
+
+pub other_send : (o : Opcode) → (o ≡ CancelInvite → ⊥) → (h : HostSide) (body : List Element) → host_sends h o body
+    ≡ host_send h o body
+other_send CancelInvite ne h body = absurd (ne refl)
+other_send o ne h body = refl
+
+pub weaker_ok : {A E : Type 0} (r : Result A E) (P Q : A → Type 0) → ((a : A) → P a → Q a) → IfOk r P → IfOk r Q
+weaker_ok (Ok a) P Q f p = f a p
+weaker_ok (Err e) P Q f p = tt
+
+-- a send that is refused for another reason than want of memory
+pub refrains : (reaction : SendReaction) (fault : SendFault) → (fault ≡ NoMemory → ⊥) → IsSendFault reaction fault
+    → reaction ≡ RefusesSend fault
+refrains reaction SendFailed ne f = absurd f
+refrains reaction NoMemory ne f = absurd (ne refl)
+refrains reaction fault ne f = f
+
+-- What a key makes of a running session.
+
+-- the AID of an answer is a key's
+abbrev AidIs : KeyReaction → Type 0
+AidIs (Answers next kind aid) = IsAid aid
+AidIs reaction = Unit {0}
+
+aid_is : (s : StationSide) (key : Key) → IsKey key → AidIs (station_key s key)
+aid_is s key h = by_ready _ where
+  by_kind : (aid : ℕ) → IsAid aid → (o : Option ReadKind) → AidIs (answers_read s aid o)
+  by_kind aid h None = tt
+  by_kind aid h (Some kind) = h
+
+  by_key : (key : Key) → IsKey key → AidIs (presses s key)
+  by_key (Send aid) h = by_kind aid h _
+  by_key key h = tt
+
+  by_refusal : (o : Option KeyRefusal) → AidIs (key_by_refusal s key o)
+  by_refusal None = by_key key h
+  by_refusal (Some refusal) = tt
+
+  by_ready : (b : Bool) → AidIs (if b then RefusesKey NotReady else key_by_refusal s key
+      (key_refusal (screen_at s) key))
+  by_ready true = tt
+  by_ready false = by_refusal _
+
+module _ {t : TerminalType} {w : World} {old : WorldParts} (r : Runs t old w) (key : Key) where
+  by_key : (reaction : KeyReaction) → station_key w.station key ≡ reaction → after_press w key
+      ≡ station_pressed w reaction
+  by_key reaction e = ap (λ (b : Bool). station_pressed w
+      (if b then RefusesKey KeyFailed else station_key w.station key)) (going_station r) ∙ ap (station_pressed w) e
+
+  module _ (few : length old.down + 1 < 2 ^ 64) (station : StationParts) where
+    abbrev Keys : Result (Option Answer) KeyFault → Type 0
+    Keys result = AtStation old.station (λ bytes items side. length bytes + 1 < 2 ^ 64
+        → IsKeyed old.station station bytes items side key result)
+
+    pub key_silent : Keys (Ok None) → Runs t (record old { station = station }) (after_press w key)
+    key_silent p =
+        let k = p _ _ _ r.station (few_down r few) in
+        runs_on r (Press key) (record w { station = k.0 }) (record old { station = station })
+        (by_key (Silent k.0) k.1) r.down r.up r.at_station r.at_host r.writable_down r.writable_up k.2 r.host r.events
+
+    pub key_refused : (fault : KeyFault) → Keys (Err fault)
+        → Runs t (record old { station = station; events = old.events ++ KeyRefused fault ∷ [] }) (after_press w key)
+    key_refused fault p =
+        let k = p _ _ _ r.station (few_down r few) in
+        runs_on r (Press key) (record w { events = w.events ++ KeyRefused fault ∷ [] })
+        (record old { station = station; events = old.events ++ KeyRefused fault ∷ [] }) (by_key (RefusesKey fault) k.0)
+        r.down r.up r.at_station r.at_host r.writable_down r.writable_up (rw k.1 r.station) r.host
+        (ap (λ z. z ++ KeyRefused fault ∷ []) r.events)
+
+    wrote : (side : StationSide) (item : Item AnswerPart) (told : List HostAnswer)
+        (text : List ℕ) → text ≡ item_spelling answer_rules item → CanBeEncoded answer_rules item → IsInRange item
+        → StationLeads station (take w.at_station (down_bytes w)) (arrived element_rules w.down w.at_station) side
+        → after_press w key ≡ record w { station = side; up = w.up ++ item ∷ []; answered = told }
+        → Runs t (record old { station = station; up = old.up ++ text }) (after_press w key)
+    wrote side item told text spelled fit range leads does =
+        station_writes r (Press key) (StationLeads station) side (item ∷ []) w.at_station told station text old.at_station does
+        (spelled ∙ sym (append-nil (item_spelling answer_rules item))) ((fit, tt), (range, tt)) r.at_station leads
+
+    pub key_wrote : IsKey key → IsLegal old.station.screen.screen → AreBytes old.station.screen.screen.cells
+        → old.station.screen.screen.cursor < 1920 → (answer : Answer) → Keys (Ok (Some answer))
+        → Runs t (record old { station = station; up = old.up ++ answer_spelling answer }) (after_press w key)
+    key_wrote known legal bytes small (Read body) p =
+        let k = p _ _ _ r.station (few_down r few) in
+        let shown : ScreenParts = screen_at w.station in
+        let parts : List AnswerPart = answer_parts k.1 shown k.2 in
+        let aid : IsAid k.2 = subst AidIs k.3 (aid_is w.station key known) in
+        let same : old.station.screen.screen ≡ shown =
+        one_screen w.station.happened old.station.screen.screen r.station.given.shows legal.size in
+        let lawful : IsLegal shown = subst IsLegal same legal in
+        let whole = answer_whole k.1 shown k.2 lawful (subst (λ (z : ScreenParts). AreBytes z.cells) same bytes)
+        (subst (λ (z : ScreenParts). z.cursor < 1920) same small) aid in
+        let fits : length (spelling_of answer_rules parts) ≤ 2691 = answer_short k.1 shown k.2 lawful in
+        let all = header_length (10 + length (spelling_of answer_rules parts)) 0 PutGet
+        (spelling_of answer_rules parts) in
+        wrote k.0 (answer_record shown k.1 k.2) (w.answered ++ answer_of k.1 shown k.2 ∷ [])
+        (answer_spelling (Read body)) (ap (λ z. record_spelling (header (10 + length z) 0 PutGet ++ z)) k.4)
+        (whole, omega (arith, all, fits)) (omega arith) k.5 (by_key (Answers k.0 k.1 k.2) k.3)
+    key_wrote known legal bytes small Attention p =
+        let k = p _ _ _ r.station (few_down r few) in
+        wrote w.station (empty_record ATN NoOperation) w.answered (answer_spelling Attention) refl
+        (record { chain = tt; ends = refl }, omega arith) (omega arith) k.1 (by_key (Signals NoOperation ATN) k.0)
+    key_wrote known legal bytes small SystemRequest p =
+        let k = p _ _ _ r.station (few_down r few) in
+        wrote w.station (empty_record SRQ NoOperation) w.answered (answer_spelling SystemRequest) refl
+        (record { chain = tt; ends = refl }, omega arith) (omega arith) k.1 (by_key (Signals NoOperation SRQ) k.0)

@@ -1,0 +1,4 @@
+pub mod Attachments
+pub mod Playing
+pub mod StationRun
+pub mod Written

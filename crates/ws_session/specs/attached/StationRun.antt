@@ -1,0 +1,137 @@
+-- A station that reads a source to its end and answers into a sink
+
+use Rattle.std.specs.Prelude.{◌≡◌, ℕ, ◌-◌, ◌^◌, ◌≤◌, ◌<◌, min, List, [], ◌∷◌, ◌++◌, ◌⊎◌, Some, Result, Ok, Err, length}
+use Rattle.ws_code.specs.declared.fault.Fault.{Fault}
+use Rattle.ws_code.specs.declared.fault.Fault.TheVariants.{Refused, Truncated, Read, Write}
+use Rattle.ws_code.specs.declared.reason.Reason.{Reason}
+use Rattle.ws_code.specs.Device.{Writer, Reader, WentOut, FailedWithin, Gave, GaveAll, ReadFault, most_reads}
+use Rattle.ws_nego.specs.declared.terminal.TerminalType.{TerminalType}
+use Rattle.ws_record.specs.declared.record.Item.{Item}
+use Rattle.ws_record.specs.Encode.{plain_spelling}
+use Rattle.ws_record.specs.Grammar.{Holds, IsInGrammar}
+use Rattle.ws_record.specs.Refusal.{IsRefused, IsTruncated}
+use Rattle.ws_stream.specs.AnswerParts.{answer_rules}
+use Rattle.ws_stream.specs.Elements.{element_rules}
+use Rattle.ws_stream.specs.declared.element.Element.{Element}
+use Rattle.ws_keys.specs.declared.key.Key.{Key}
+use Rattle.ws_session.specs.declared.attached.run.Played.{Played}
+use Rattle.ws_session.specs.Acts.{HoldsItems}
+use Rattle.ws_session.specs.station.Moments.{Outcome, outcome, AreTaken, moments}
+use Rattle.ws_session.specs.station.StationLeads.{StationParts, StationLeads, IsItemRefused}
+use Rattle.ws_session.specs.station.StationSide.{new_station_side}
+
+-- the count of refused keys stops at the greatest number of 32 bits
+abbrev pub refusal_count : ℕ → ℕ
+refusal_count n = min n (2 ^ 32 - 1)
+
+module _ (terminal : TerminalType) (keys : List (ℕ × Key)) where
+  -- what a new station has done behind these items and the keys that were due
+  abbrev pub behind : List (Item Element) → Outcome
+  behind items = outcome (new_station_side terminal) (moments keys items)
+
+  -- what a new station has written behind these items and the keys that were due
+  abbrev pub run_text : List (Item Element) → List ℕ
+  run_text items = plain_spelling answer_rules (behind items).written
+
+  -- the bytes hold these items, none of them is refused, and the station is one behind them and the keys that were due
+  pub record IsBehind (bytes : List ℕ) (items : List (Item Element)) (station : StationParts) : Type 0 where
+    pub leads : StationLeads station bytes items (behind items).side
+    pub taken : AreTaken (new_station_side terminal) (moments keys items)
+
+  module _ {S : Type 0} (writer : Writer S) (from to : S) where
+    -- A byte of these is refused, and not one of the first so many; all that was to be written before it went out. The
+    -- station stood behind a front of the bytes before it, and no item is complete with the others.
+    pub record RunRefuses (first : ℕ) (bytes : List ℕ) (place : ℕ) (reason : Reason) : Type 0 where
+      pub before : List ℕ
+      pub front : List ℕ
+      pub byte : ℕ
+      pub after : List ℕ
+      pub split : bytes ≡ (before ++ front) ++ byte ∷ after
+      pub at_place : place ≡ length (before ++ front)
+      pub prompt : first ≤ place
+      pub items : List (Item Element)
+      pub station : StationParts
+      pub is_behind : IsBehind before items station
+      pub inside : HoldsItems element_rules (before ++ front) items
+      pub why : IsRefused element_rules ((before ++ front) ++ byte ∷ []) place reason
+          ⊎ IsItemRefused (before ++ front) items (behind items).side byte reason
+      pub wrote : WentOut writer from to (run_text items)
+
+    -- A write failed, in what was to be written behind items of these bytes.
+    pub record RunUnwritten (bytes : List ℕ) : Type 0 where
+      pub before : List ℕ
+      pub after : List ℕ
+      pub split : bytes ≡ before ++ after
+      pub items : List (Item Element)
+      pub so_far : List ℕ
+      pub begun : List ℕ
+      pub holds : Holds element_rules before items so_far begun
+      pub taken : AreTaken (new_station_side terminal) (moments keys items)
+      pub failed : FailedWithin writer from to (run_text items)
+
+    -- why a run stops within these bytes
+    abbrev pub IsRunFault : ℕ → List ℕ → Fault → Type 0
+    IsRunFault first bytes (Refused place reason) = RunRefuses first bytes place reason
+    IsRunFault first bytes Write = RunUnwritten bytes
+    IsRunFault first bytes fault = ⊥
+
+  module _ {R S : Type 0} (reader : Reader R) (source source' : R) (writer : Writer S) (sink sink' : S) where
+    -- the source gave its end, and the station took all
+    pub record IsPlayed (played : Played) : Type 0 where
+      pub bytes : List ℕ
+      pub items : List (Item Element)
+      pub gave : GaveAll reader source source' bytes
+      pub accepted : IsInGrammar element_rules bytes items
+      pub is_behind : IsBehind bytes items played.station
+      pub refused : played.keys_refused ≡ refusal_count (behind items).refused
+      pub wrote : WentOut writer sink sink' (run_text items)
+
+    -- the source gave its end inside a token or a record
+    pub record IsRunTruncated (n : ℕ) : Type 0 where
+      pub bytes : List ℕ
+      pub items : List (Item Element)
+      pub station : StationParts
+      pub gave : GaveAll reader source source' bytes
+      pub at_end : n ≡ length bytes
+      pub truncated : IsTruncated element_rules bytes
+      pub is_behind : IsBehind bytes items station
+      pub wrote : WentOut writer sink sink' (run_text items)
+
+    -- a read of the source failed, or there were too many
+    pub record IsRunUnread : Type 0 where
+      pub bytes : List ℕ
+      pub items : List (Item Element)
+      pub station : StationParts
+      pub failed : ReadFault reader source source' bytes
+      pub is_behind : IsBehind bytes items station
+      pub wrote : WentOut writer sink sink' (run_text items)
+
+    -- a byte of the last read is refused, and all that was to be written before it went out
+    pub record IsRunRefused (place : ℕ) (reason : Reason) : Type 0 where
+      pub first : List ℕ
+      pub last : List ℕ
+      pub reads : ℕ
+      pub before : R
+      pub room : ℕ
+      pub gave : Gave reader source before reads first
+      pub one_left : reads < most_reads
+      pub gave_last : reader.gives before room (Some last) source'
+      pub uncounted : reader.failures source' ≡ reader.failures source
+      pub refuses : RunRefuses writer sink sink' (length first) (first ++ last) place reason
+
+    -- a write failed
+    pub record IsRunUnwritten : Type 0 where
+      pub bytes : List ℕ
+      pub reads : ℕ
+      pub gave : Gave reader source source' reads bytes
+      pub unwritten : RunUnwritten writer sink sink' bytes
+
+    -- what a run comes to: played, refused, truncated, a failed read or a failed write, each with what was read and
+    -- what went out
+    abbrev pub IsRun : Result Played Fault → Type 0
+    IsRun (Ok played) = IsPlayed played
+    IsRun (Err (Refused place reason)) = IsRunRefused place reason
+    IsRun (Err (Truncated n)) = IsRunTruncated n
+    IsRun (Err Read) = IsRunUnread
+    IsRun (Err Write) = IsRunUnwritten
+    IsRun (Err fault) = ⊥

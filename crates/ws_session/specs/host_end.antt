@@ -1,0 +1,4 @@
+pub mod HostFeeds
+pub mod HostFronts
+pub mod HostLeads
+pub mod HostSide

@@ -1,0 +1,14 @@
+pub mod Alarms
+pub mod AnswerSpelling
+pub mod Answered
+pub mod Displays
+pub mod Moments
+pub mod PartsOn
+pub mod StationActs
+pub mod StationCounts
+pub mod StationFeeds
+pub mod StationLeads
+pub mod StationManners
+pub mod StationNews
+pub mod StationSide
+pub mod Stations

@@ -1,0 +1,75 @@
+-- A station on any display: what it makes of news, and of a front of a piece (RFC 1205, 4777)
+
+use Rattle.std.specs.Prelude.{◌≡◌, ℕ, ◌+◌, ◌-◌, ◌^◌, ◌<◌, ◌++◌, ◌∷◌, false, List, take}
+use Rattle.std.specs.Prelude.{[], ◌⊎◌, Some, length, Result, Ok, Err}
+use Rattle.ws_code.specs.Code.{Rules, IsChain, spelling_of}
+use Rattle.ws_telnet.specs.declared.token.Sub.{Sub as ASub}
+use Rattle.ws_telnet.specs.declared.token.Telnet.{Telnet}
+use Rattle.ws_telnet.specs.declared.token.Telnet.TheVariants as telnet
+use Rattle.ws_nego.specs.Options.{telnet_bytes}
+use Rattle.ws_nego.specs.Station.{station_answer}
+use Rattle.ws_record.specs.declared.record.Item.{Item}
+use Rattle.ws_record.specs.declared.news.News.{News}
+use Rattle.ws_record.specs.declared.news.News.TheVariants as news
+use Rattle.ws_record.specs.DataStep.{record_of}
+use Rattle.ws_record.specs.Refusal.{IsRefused}
+use Rattle.ws_session.specs.declared.refusal.Refusal.{Refusal}
+use Rattle.ws_session.specs.declared.refusal.Refusal.TheVariants.{At, Failed, Memory}
+use Rattle.ws_session.specs.declared.station.StationStep.{StationStep}
+use Rattle.ws_session.specs.station.Displays.{DisplayOf, SideOn}
+use Rattle.ws_session.specs.station.StationCounts.{is_record}
+use Rattle.ws_session.specs.station.PartsOn.{PartsOn}
+use Rattle.ws_session.specs.station.Stations.{StaysInsideOn, TakesItemOn, RefusesItemOn, IsClosedOn, HasStoppedOn, AtStationOn}
+use Rattle.ws_session.specs.station.Stations.{IsPushedOn}
+use Rattle.ws_session.specs.station.StationActs.{HasTakenAllOn}
+
+module _ {D P U H PlaceV V K R : Type 0} (rules : Rules P U) (d : DisplayOf D U H PlaceV V K R) where
+  -- what a station answers where these bytes are written, and no record ends
+  abbrev pub IsMid : PartsOn D P → Result (StationStep R) Refusal → List ℕ → Type 0
+  IsMid new result bytes = (step : StationStep R) × (result ≡ Ok step) × (d.written new.screen step.reply ≡ bytes)
+      × (step.ends_record ≡ false)
+
+  -- what a station makes of a Telnet command: it answers it
+  abbrev pub IsAnsweredOn : PartsOn D P → Telnet → PartsOn D P → Result (StationStep R) Refusal → Type 0
+  IsAnsweredOn old token new result = IsMid new result (telnet_bytes (station_answer old.options token).reply)
+      × (new ≡ record old { options = (station_answer old.options token).after })
+
+  -- what a station makes of news that came with the last byte taken; a subnegotiation is taken out
+  abbrev pub IsNewsTakenOn : PartsOn D P → News → PartsOn D P → Result (StationStep R) Refusal → Type 0
+  IsNewsTakenOn old news.More new result = IsMid new result [] × (new ≡ old)
+  IsNewsTakenOn old news.Unit new result = IsMid new result [] × (new ≡ old)
+  IsNewsTakenOn old (news.Open head) new result = IsMid new result [] × (new ≡ old)
+  IsNewsTakenOn old (news.Close head) new result = (side : SideOn H) (units : List U)
+      → IsChain rules rules.first units → old.body_bytes ≡ spelling_of rules units
+      → old.options ≡ side.options → d.gives side.happened old.screen
+      → IsClosedOn rules d old new side (record_of head units) (old.live.taken - 1) result
+  IsNewsTakenOn old (news.Command code) new result = IsAnsweredOn old (telnet.Command code) new result
+  IsNewsTakenOn old (news.Option verb option) new result = IsAnsweredOn old (telnet.Option verb option) new result
+  IsNewsTakenOn old news.Sub new result = old.live.begun ≡ [] → (left : ASub)
+      × IsAnsweredOn (record old { live = record old.live { sub = left } }) (telnet.Sub old.live.sub) new result
+  IsNewsTakenOn old (news.Refused reason) new result = (result ≡ Err (At (old.live.taken - 1) reason))
+      × (new ≡ record old { ended = Some (At (old.live.taken - 1) reason) })
+  IsNewsTakenOn old news.NoMemory new result = (result ≡ Err Failed) × (new ≡ record old { ended = Some Failed })
+  IsNewsTakenOn old news.Failed new result = (result ≡ Err Failed) × (new ≡ record old { ended = Some Failed })
+
+  -- the station refuses the byte behind so many of the piece, as it refuses that byte alone; at those it writes and
+  -- tells nothing
+  pub record StopsWithinOn (old new : PartsOn D P) (piece : List ℕ) (used : ℕ) (why : Refusal) : Type 0 where
+    pub byte : ℕ
+    pub rest : List ℕ
+    pub split : piece ≡ take used piece ++ byte ∷ rest
+    pub refused : AtStationOn rules d old (λ bytes items side. length bytes + length piece < 2 ^ 64
+        → HasTakenAllOn rules d (λ bytes' items' side'. IsPushedOn rules d old new bytes' items' side' byte (Err why))
+        bytes items side (take used piece) [] [])
+
+  -- what the last of these bytes gives, where no item is complete before it
+  abbrev pub IsFrontedOn : PartsOn D P → PartsOn D P → List ℕ → List (Item U) → SideOn H
+      → Result (StationStep R) Refusal → Type 0
+  IsFrontedOn old new bytes items side (Ok step) =
+      (StaysInsideOn rules d old new bytes items side step.reply × (step.ends_record ≡ false))
+      ⊎ ((taken : TakesItemOn rules d new bytes items side step.reply) × (step.ends_record ≡ is_record taken.item))
+  IsFrontedOn old new bytes items side (Err (At place reason)) = (length bytes ≡ place + 1)
+      × (new.screen ≡ old.screen) × (IsRefused rules bytes place reason ⊎ RefusesItemOn rules d bytes items side reason)
+      × HasStoppedOn rules d new (length bytes) items side
+  IsFrontedOn old new bytes items side (Err Failed) = ⊥
+  IsFrontedOn old new bytes items side (Err Memory) = ⊥

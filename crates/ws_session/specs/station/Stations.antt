@@ -1,0 +1,146 @@
+-- A station on any display, by the bytes that lead to it, and what a byte or a key makes of it (RFC 1205, 4777)
+
+use Rattle.std.specs.Prelude.{◌≡◌, ℕ, ◌+◌, ◌-◌, ◌^◌, min, true, false, List}
+use Rattle.std.specs.Prelude.{[], ◌∷◌, ◌++◌, ◌⊎◌, Option, Some, None, length, drop, Result, Ok, Err}
+use Rattle.ws_code.specs.Code.{Rules}
+use Rattle.ws_code.specs.declared.reason.Reason.{Reason}
+use Rattle.ws_nego.specs.declared.terminal.TerminalType.{TerminalType}
+use Rattle.ws_record.specs.declared.record.Head.{Head}
+use Rattle.ws_record.specs.declared.record.Record.{Record}
+use Rattle.ws_record.specs.declared.record.Item.{Item}
+use Rattle.ws_record.specs.declared.record.Item.TheVariants.{Record as RecordItem}
+use Rattle.ws_record.specs.declared.opcode.Opcode.TheVariants.{NoOperation}
+use Rattle.ws_record.specs.Encode.{plain_spelling}
+use Rattle.ws_record.specs.Grammar.{Holds}
+use Rattle.ws_record.specs.Live.{LeadsWith}
+use Rattle.ws_record.specs.Refusal.{IsRefused}
+use Rattle.ws_screen.specs.declared.read_kind.ReadKind.{ReadKind}
+use Rattle.ws_keys.specs.Contents.{answer_bytes}
+use Rattle.ws_keys.specs.declared.answer.Answer.{Answer}
+use Rattle.ws_keys.specs.declared.answer.Answer.TheVariants.{Read, Attention, SystemRequest}
+use Rattle.ws_session.specs.declared.refusal.Refusal.{Refusal}
+use Rattle.ws_session.specs.declared.refusal.Refusal.TheVariants.{At, Failed, Memory}
+use Rattle.ws_session.specs.declared.station.StationStep.{StationStep}
+use Rattle.ws_session.specs.declared.station.key_fault.KeyFault.{KeyFault}
+use Rattle.ws_session.specs.declared.station.answer.TheConstants.{ATN, SRQ}
+use Rattle.ws_session.specs.Reaction.{Refuses, GoesOn}
+use Rattle.ws_session.specs.station.Displays.{DisplayOf, SideOn, RefusesKey, Silent, Answers, Signals}
+use Rattle.ws_session.specs.station.StationCounts.{is_record, records_in}
+use Rattle.ws_session.specs.station.PartsOn.{PartsOn}
+use Rattle.ws_session.specs.station.StationManners.{new_side_on, takes_on, key_on}
+
+module _ {D P U H PlaceV V K R : Type 0} (rules : Rules P U) (d : DisplayOf D U H PlaceV V K R) where
+  -- The bytes lead to the station: they hold these items, none of them is refused, and what the station did at them and
+  -- at the keys between them left it on this side.
+  pub record LeadsOn (station : PartsOn D P) (bytes : List ℕ) (items : List (Item U)) (side : SideOn H) : Type 0 where
+    pub head : Option Head
+    pub units : List U
+    pub leads : LeadsWith rules station.live bytes items head units
+    pub body : station.body_bytes ≡ drop 10 leads.0
+    pub options : station.options ≡ side.options
+    pub given : d.gives side.happened station.screen
+    pub counted : station.records ≡ records_in items
+    pub works : station.ended ≡ None
+
+  -- this holds of whatever led to the station: the bytes, their items, and the side on which they left it
+  abbrev pub AtStationOn : PartsOn D P → (List ℕ → List (Item U) → SideOn H → Type 0) → Type 0
+  AtStationOn station Holds = (bytes : List ℕ) (items : List (Item U)) (side : SideOn H)
+      → LeadsOn station bytes items side → Holds bytes items side
+
+  -- the station has taken no byte and no key
+  pub record FreshOn (station : PartsOn D P) : Type 0 where
+    pub terminal : TerminalType
+    pub leads : LeadsOn station [] [] (new_side_on d terminal)
+
+  -- the last of these bytes completes no item: nothing is written, and the screen is as it was
+  pub record StaysInsideOn (old new : PartsOn D P) (bytes : List ℕ) (items : List (Item U)) (side : SideOn H)
+      (reply : R) : Type 0 where
+    pub silent : d.written new.screen reply ≡ []
+    pub same : new.screen ≡ old.screen
+    pub leads : LeadsOn new bytes items side
+
+  -- the last of these bytes completes an item, at which the station goes on with this reply
+  pub record TakesItemOn (new : PartsOn D P) (bytes : List ℕ) (items : List (Item U)) (side : SideOn H) (reply : R)
+      : Type 0 where
+    pub item : Item U
+    pub next : SideOn H
+    pub writes : List (Item V)
+    pub goes_on : takes_on d side item ≡ GoesOn next writes
+    pub spelled : d.written new.screen reply ≡ plain_spelling d.out writes
+    pub leads : LeadsOn new bytes (items ++ item ∷ []) next
+
+  -- behind a refused byte: the station has taken so many bytes, that one too, and its options, its screen and its count
+  -- are those that the items left
+  pub record HasStoppedOn (station : PartsOn D P) (count : ℕ) (items : List (Item U)) (side : SideOn H) : Type 0 where
+    pub taken : station.live.taken ≡ count
+    pub options : station.options ≡ side.options
+    pub given : d.gives side.happened station.screen
+    pub counted : station.records ≡ records_in items
+
+  -- the last of these bytes completes an item that the station refuses for this reason
+  pub record RefusesItemOn (bytes : List ℕ) (items : List (Item U)) (side : SideOn H) (reason : Reason) : Type 0 where
+    pub item : Item U
+    pub so_far : List ℕ
+    pub begun : List ℕ
+    pub holds : Holds rules bytes (items ++ item ∷ []) so_far begun
+    pub refuses : takes_on d side item ≡ Refuses reason
+
+  -- the byte behind these completes no item: nothing is written, and the screen is as it was
+  abbrev pub IsInsideOn : PartsOn D P → PartsOn D P → List ℕ → List (Item U) → SideOn H → ℕ → R → Type 0
+  IsInsideOn old new bytes items side byte reply = StaysInsideOn old new (bytes ++ byte ∷ []) items side reply
+
+  -- the byte behind these completes an item that the station takes, with this reply
+  abbrev pub IsTakenOn : PartsOn D P → List ℕ → List (Item U) → SideOn H → ℕ → R → Type 0
+  IsTakenOn new bytes items side byte reply = TakesItemOn new (bytes ++ byte ∷ []) items side reply
+
+  -- the byte behind these completes an item that the station refuses, for this reason
+  abbrev pub IsItemRefusedOn : List ℕ → List (Item U) → SideOn H → ℕ → Reason → Type 0
+  IsItemRefusedOn bytes items side byte reason = RefusesItemOn (bytes ++ byte ∷ []) items side reason
+
+  -- what the end of a record gives, whose elements are these: the reply, or the refusal of the record
+  abbrev pub IsClosedOn : PartsOn D P → PartsOn D P → SideOn H → Record U → ℕ → Result (StationStep R) Refusal → Type 0
+  IsClosedOn old new side r place (Ok step) = (next : SideOn H) × (writes : List (Item V))
+      × (takes_on d side (RecordItem r) ≡ GoesOn next writes)
+      × (d.written new.screen step.reply ≡ plain_spelling d.out writes) × (step.ends_record ≡ true)
+      × (new ≡ record old { body_bytes = []; screen = new.screen; records = min (old.records + 1) (2 ^ 64 - 1) })
+      × (old.options ≡ next.options)
+      × d.gives next.happened new.screen
+  IsClosedOn old new side r place (Err (At p reason)) = (p ≡ place) × (takes_on d side (RecordItem r) ≡ Refuses reason)
+      × (new ≡ record old { ended = Some (At p reason) })
+  IsClosedOn old new side r place (Err Failed) = ⊥
+  IsClosedOn old new side r place (Err Memory) = ⊥
+
+  -- what a byte gives: nothing, the reply to the item that it completes, or a refusal at this byte, of the byte or of
+  -- its item
+  abbrev pub IsPushedOn : PartsOn D P → PartsOn D P → List ℕ → List (Item U) → SideOn H → ℕ → Result R Refusal → Type 0
+  IsPushedOn old new bytes items side byte (Ok reply) = IsInsideOn old new bytes items side byte reply
+      ⊎ IsTakenOn new bytes items side byte reply
+  IsPushedOn old new bytes items side byte (Err (At place reason)) =
+      (place ≡ length bytes) × (new.screen ≡ old.screen)
+      × (IsRefused rules (bytes ++ byte ∷ []) place reason ⊎ IsItemRefusedOn bytes items side byte reason)
+      × HasStoppedOn new (length (bytes ++ byte ∷ [])) items side
+  IsPushedOn old new bytes items side byte (Err Failed) = ⊥
+  IsPushedOn old new bytes items side byte (Err Memory) = ⊥
+
+  -- what a byte gives, and whether it ends a record
+  abbrev pub IsSteppedOn : PartsOn D P → PartsOn D P → List ℕ → List (Item U) → SideOn H → ℕ
+      → Result (StationStep R) Refusal → Type 0
+  IsSteppedOn old new bytes items side byte (Ok step) =
+      (IsInsideOn old new bytes items side byte step.reply × (step.ends_record ≡ false))
+      ⊎ ((taken : IsTakenOn new bytes items side byte step.reply) × (step.ends_record ≡ is_record taken.item))
+  IsSteppedOn old new bytes items side byte (Err refusal) = IsPushedOn old new bytes items side byte (Err refusal)
+
+  -- what a key gives: its refusal, with the station as it was; or what it sends: nothing, a read's answer, Attention or
+  -- System Request
+  abbrev pub IsKeyedOn : PartsOn D P → PartsOn D P → List ℕ → List (Item U) → SideOn H → K
+      → Result (Option Answer) KeyFault → Type 0
+  IsKeyedOn old new bytes items side key (Err fault) = (key_on d side key ≡ RefusesKey fault) × (new ≡ old)
+  IsKeyedOn old new bytes items side key (Ok None) = (next : SideOn H) × (key_on d side key ≡ Silent next)
+      × LeadsOn new bytes items next
+  IsKeyedOn old new bytes items side key (Ok (Some (Read body))) = (next : SideOn H) × (kind : ReadKind) × (aid : ℕ)
+      × (key_on d side key ≡ Answers next kind aid)
+      × (body ≡ answer_bytes kind (d.shows side.happened) aid) × LeadsOn new bytes items next
+  IsKeyedOn old new bytes items side key (Ok (Some Attention)) = (key_on d side key ≡ Signals NoOperation ATN)
+      × LeadsOn new bytes items side
+  IsKeyedOn old new bytes items side key (Ok (Some SystemRequest)) = (key_on d side key ≡ Signals NoOperation SRQ)
+      × LeadsOn new bytes items side

@@ -1,0 +1,12 @@
+pub mod BrokenOff
+pub mod Carried
+pub mod Carrying
+pub mod Crossings
+pub mod Deliveries
+pub mod Refusals
+pub mod Reports
+pub mod Runs
+pub mod Through
+pub mod TwoLines
+pub mod Wires
+pub mod World

@@ -1,0 +1,63 @@
+-- A session that runs, against the world of whole items.
+
+use Rattle.std.specs.Prelude.{◌≡◌, ℕ, List, take}
+use Rattle.std.specs.List.{AllByRecursion}
+use Rattle.ws_code.specs.Aid.{IsAid}
+use Rattle.ws_code.specs.Code.{Rules}
+use Rattle.ws_keys.specs.declared.key.Key.{Key}
+use Rattle.ws_keys.specs.declared.key.Key.TheVariants.{Aid as Send}
+use Rattle.ws_nego.specs.declared.terminal.TerminalType.{TerminalType}
+use Rattle.ws_record.specs.declared.record.Item.{Item}
+use Rattle.ws_record.specs.Encode.{CanAllBeEncoded, IsInRange}
+use Rattle.ws_stream.specs.AnswerParts.{answer_rules}
+use Rattle.ws_stream.specs.Elements.{element_rules}
+use Rattle.ws_stream.specs.declared.answer_part.AnswerPart.{AnswerPart}
+use Rattle.ws_stream.specs.declared.element.Element.{Element}
+use Rattle.ws_session.specs.declared.world.Event.{Event}
+use Rattle.ws_session.specs.declared.world.Move.{Move}
+use Rattle.ws_session.specs.host_end.HostLeads.{HostParts, HostLeads}
+use Rattle.ws_session.specs.host_end.HostSide.{HostSide}
+use Rattle.ws_session.specs.station.StationSide.{StationSide}
+use Rattle.ws_session.specs.station.StationLeads.{StationParts, StationLeads}
+use Rattle.ws_record.specs.Arrived.{arrived}
+use Rattle.ws_session.specs.world.World.{World, new_world, after_moves, down_bytes, up_bytes}
+
+-- What a running session keeps: both ends, all bytes that each has written, how many of them have arrived, and what
+-- was told.
+pub record WorldParts : Type 0 where
+  pub station : StationParts
+  pub host : HostParts
+  pub down : List ℕ
+  pub at_station : ℕ
+  pub up : List ℕ
+  pub at_host : ℕ
+  pub events : List Event
+
+-- items that can be written
+abbrev pub AreWritable : {Place U : Type 0} → Rules Place U → List (Item U) → Type 0
+AreWritable rules items = CanAllBeEncoded rules items × AllByRecursion IsInRange items
+
+-- The running session is this world of whole items: some moves lead to it; what each end has taken is what has arrived
+-- of the other's spelling, and this holds of that, of its items and of the end's side.
+pub record RunsWith (AtStation : List ℕ → List (Item Element) → StationSide → Type 0) (AtHost : List ℕ
+    → List (Item AnswerPart) → HostSide → Type 0) (t : TerminalType) (now : WorldParts) (w : World) : Type 0 where
+  pub moves : List Move
+  pub reached : w ≡ after_moves (new_world t) moves
+  pub down : now.down ≡ down_bytes w
+  pub up : now.up ≡ up_bytes w
+  pub at_station : now.at_station ≡ w.at_station
+  pub at_host : now.at_host ≡ w.at_host
+  pub writable_down : AreWritable element_rules w.down
+  pub writable_up : AreWritable answer_rules w.up
+  pub station : AtStation (take w.at_station (down_bytes w)) (arrived element_rules w.down w.at_station) w.station
+  pub host : AtHost (take w.at_host (up_bytes w)) (arrived answer_rules w.up w.at_host) w.host
+  pub events : now.events ≡ w.events
+
+-- the running session is this world, and what has arrived leads to both ends
+abbrev pub Runs : TerminalType → WorldParts → World → Type 0
+Runs t now w = RunsWith (StationLeads now.station) (HostLeads now.host) t now w
+
+-- a key's AID is one
+abbrev pub IsKey : Key → Type 0
+IsKey (Send aid) = IsAid aid
+IsKey key = Unit {0}

@@ -1,0 +1,226 @@
+-- A session whose bytes go over two lines: what each move does, whatever the lines bring.
+
+use Rattle.std.specs.Prelude.{◌≡◌, ℕ, ◌+◌, ◌^◌, ◌<◌, ◌≤◌, ◌⊎◌, List, [], ◌∷◌, ◌++◌, IsSome, flat_map}
+use Rattle.std.specs.Prelude.{length, take, drop}
+use Rattle.std.specs.List.{AllByRecursion}
+use Rattle.ws_nego.specs.declared.terminal.TerminalType.{TerminalType}
+use Rattle.ws_nego.specs.Host.{opening}
+use Rattle.ws_record.specs.declared.opcode.Opcode.{Opcode}
+use Rattle.ws_record.specs.declared.opcode.Opcode.TheVariants.{CancelInvite}
+use Rattle.ws_record.specs.declared.record.Item.{Item}
+use Rattle.ws_record.specs.declared.record.Item.TheVariants.{Telnet as TelnetItem}
+use Rattle.ws_record.specs.Encode.{plain_spelling}
+use Rattle.ws_stream.specs.Elements.{element_rules}
+use Rattle.ws_stream.specs.declared.answer_part.AnswerPart.{AnswerPart}
+use Rattle.ws_stream.specs.declared.element.Element.{Element}
+use Rattle.ws_keys.specs.declared.key.Key.{Key}
+use Rattle.ws_session.specs.declared.end_step.Applied.{Applied}
+use Rattle.ws_session.specs.declared.end_step.Order.{Order}
+use Rattle.ws_session.specs.declared.end_step.Order.TheVariants.{Send as Sending, Cancel as Cancelling}
+use Rattle.ws_session.specs.declared.host_end.host_event.HostEvent.{HostEvent}
+use Rattle.ws_session.specs.declared.station.key_fault.KeyFault.TheVariants.{Failed as KeyFailed}
+use Rattle.ws_session.specs.declared.host_end.send_fault.SendFault.TheVariants.{Failed as SendFailed}
+use Rattle.ws_session.specs.declared.world.Event.{Event}
+use Rattle.ws_session.specs.declared.world.Event.TheVariants.{KeyRefused, SendRefused}
+use Rattle.ws_session.specs.declared.world.Move.{Move}
+use Rattle.ws_session.specs.declared.world.Move.TheVariants.{Send, Cancel, ToStation, ToHost, Key as Press}
+use Rattle.ws_session.specs.Acts.{Did}
+use Rattle.ws_session.specs.Conduct.{Conduct}
+use Rattle.ws_session.specs.Conducts.{host_conduct, profile_conduct}
+use Rattle.ws_session.specs.world.Crossings.{Crossing}
+use Rattle.ws_session.specs.host_end.HostLeads.{AtHost, HostParts, HostLeads}
+use Rattle.ws_session.specs.host_end.HostSide.{HostSide, new_host_side, host_cancel, SendReaction, RefusesSend}
+use Rattle.ws_session.specs.station.StationActs.{IsShutOn}
+use Rattle.ws_session.specs.Manners.{StationGoes, HostGoes, IsHostShut}
+use Rattle.ws_session.specs.world.Runs.{WorldParts}
+use Rattle.ws_session.specs.station.StationLeads.{AtStation, StationParts, StationLeads}
+use Rattle.ws_session.specs.station.StationSide.{StationSide, new_station_side, station_key, KeyReaction, RefusesKey}
+use Rattle.ws_session.specs.world.Wires.{WireParts, Telling, station_telling, host_telling, Comes, AreDelivered}
+use Rattle.ws_session.specs.world.World.{host_sends}
+
+-- where a session stands: both ends, the bytes in flight to each, and what was told
+pub record TwoEnds : Type 0 where
+  pub station : StationParts
+  pub host : HostParts
+  pub to_station : List ℕ
+  pub to_host : List ℕ
+  pub events : List Event
+
+-- where a running session stands
+abbrev pub two_ends_of : WorldParts → TwoEnds
+two_ends_of w = record {
+  station = w.station;
+  host = w.host;
+  to_station = drop w.at_station w.down;
+  to_host = drop w.at_host w.up;
+  events = w.events;
+}
+
+-- a session over two lines at its start: both ends are new, and what opens the session is in flight to the station
+pub record IsBegun (terminal : TerminalType) (now : TwoEnds) : Type 0 where
+  pub station : StationLeads now.station [] [] (new_station_side terminal)
+  pub host : HostLeads now.host [] [] new_host_side
+  pub to_station : now.to_station ≡ plain_spelling element_rules (TelnetItem opening ∷ [])
+  pub to_host : now.to_host ≡ []
+  pub untold : now.events ≡ []
+
+-- what went into a line, and what came out of it, its pieces joined
+abbrev pub all_sent : List Crossing → List ℕ
+all_sent crossings = flat_map (λ (c : Crossing). c.sent) crossings
+
+-- all bytes that crossings have read, in order
+abbrev pub all_read : List Crossing → List ℕ
+all_read crossings = flat_map (λ (c : Crossing). c.read) crossings
+
+module _ {E Deed Told : Type 0} (conduct : Conduct E Deed Told) (telling : Telling Told) where
+  -- So many of the bytes in flight go into the line, or all where there are fewer. As many that came out of it come
+  -- to the end, whatever they are; what it writes and tells at them is this.
+  pub record HaveCome (count : ℕ) (crossings : List Crossing) (flight flight' : List ℕ) (old new : E)
+      (written : List ℕ) (told : List Event) : Type 0 where
+    pub sent : all_sent crossings ≡ take count flight
+    -- in pieces of at most 4,096 bytes
+    pub pieces : AllByRecursion (λ (c : Crossing). length c.sent ≤ 4096) crossings
+    pub as_many : length (all_read crossings) ≡ length (all_sent crossings)
+    pub left : flight' ≡ drop count flight
+    pub come : Comes conduct telling old (all_read crossings) new written told
+
+-- bytes come to the station: it tells a refusal alone
+abbrev pub StationHears : ℕ → List Crossing → List ℕ → List ℕ → StationParts → StationParts → List ℕ → List Event
+    → Type 0
+StationHears = HaveCome profile_conduct station_telling
+
+-- bytes come to the host end: its events are told, and a refusal
+abbrev pub HostHears : ℕ → List Crossing → List ℕ → List ℕ → HostParts → HostParts → List ℕ → List Event → Type 0
+HostHears = HaveCome host_conduct host_telling
+
+-- what is told of a key: that it was refused, and why; or nothing
+abbrev pub key_told : KeyReaction → List Event
+key_told (RefusesKey fault) = KeyRefused fault ∷ []
+key_told reaction = []
+
+-- what is told of a send or a cancel: that it was refused, and why; or nothing
+abbrev pub send_told : SendReaction → List Event
+send_told (RefusesSend fault) = SendRefused fault ∷ []
+send_told reaction = []
+
+-- what the host end does when it is to send or to cancel
+abbrev pub host_orders : HostSide → Order → SendReaction
+host_orders side (Sending opcode body) = host_sends side opcode body
+host_orders side Cancelling = host_cancel side
+
+-- what a send is: with Cancel Invite it is a cancel
+abbrev pub order_of : Opcode → List Element → Order
+order_of CancelInvite body = Cancelling
+order_of opcode body = Sending opcode body
+
+-- A key at the station: what it writes and what is told. A station that is shut stays as it is.
+pub record HasPressed (old : StationParts) (key : Key) (new : StationParts) (written : List ℕ)
+    (told : List Event) : Type 0 where
+  pub led : StationGoes old (Did key ∷ []) written [] new
+  pub tells : AtStation old (λ bytes items side. length bytes + 1 < 2 ^ 64 → told ≡ key_told (station_key side key))
+  pub stays : IsShutOn old → (new ≡ old) × (written ≡ []) × (told ≡ KeyRefused KeyFailed ∷ [])
+
+-- A send or a cancel at the host end: what it writes and what is told. A host end that is shut stays as it is.
+pub record HasOrdered (old : HostParts) (order : Order) (new : HostParts) (written : List ℕ)
+    (told : List Event) : Type 0 where
+  pub led : HostGoes old (Did order ∷ []) written [] new
+  pub tells : AtHost old (λ bytes items side. length bytes + 1 < 2 ^ 64 → told ≡ send_told (host_orders side order))
+  pub stays : IsHostShut old → (new ≡ old) × (written ≡ []) × (told ≡ SendRefused SendFailed ∷ [])
+
+-- What each act makes of both ends: what an end writes is in flight to the other, behind what was.
+
+-- a key is pressed at the station; the host end and what is on its way to the station stay
+abbrev pub Presses : TwoEnds → Key → TwoEnds → Type 0
+Presses old key new = (written : List ℕ) × (told : List Event)
+    × HasPressed old.station key new.station written told
+    × (new ≡ record old {
+      station = new.station;
+      to_host = old.to_host ++ written;
+      events = old.events ++ told;
+    })
+
+-- the host end carries out an order; the station and what is on its way to the host end stay
+abbrev pub Orders : TwoEnds → Order → TwoEnds → Type 0
+Orders old order new = (written : List ℕ) × (told : List Event)
+    × HasOrdered old.host order new.host written told
+    × (new ≡ record old {
+      host = new.host;
+      to_station = old.to_station ++ written;
+      events = old.events ++ told;
+    })
+
+-- so many bytes come down to the station, in these pieces; the host end stays
+abbrev pub ComesDown : TwoEnds → ℕ → List Crossing → TwoEnds → Type 0
+ComesDown old count crossings new = (written : List ℕ) × (told : List Event)
+    × StationHears count crossings old.to_station new.to_station old.station new.station written told
+    × (new ≡ record old {
+      station = new.station;
+      to_station = new.to_station;
+      to_host = old.to_host ++ written;
+      events = old.events ++ told;
+    })
+
+-- so many bytes come up to the host end, in these pieces; the station stays
+abbrev pub ComesUp : TwoEnds → ℕ → List Crossing → TwoEnds → Type 0
+ComesUp old count crossings new = (written : List ℕ) × (told : List Event)
+    × HostHears count crossings old.to_host new.to_host old.host new.host written told
+    × (new ≡ record old {
+      host = new.host;
+      to_station = old.to_station ++ written;
+      to_host = new.to_host;
+      events = old.events ++ told;
+    })
+
+-- a move of a session over two lines, and the pieces that cross the line down and the line up in it
+abbrev pub HasMoved : TwoEnds → Move → List Crossing → List Crossing → TwoEnds → Type 0
+HasMoved old (Send opcode body) downs ups new = (downs ≡ []) × (ups ≡ []) × Orders old (order_of opcode body) new
+HasMoved old Cancel downs ups new = (downs ≡ []) × (ups ≡ []) × Orders old Cancelling new
+HasMoved old (ToStation count) downs ups new = (ups ≡ []) × ComesDown old count downs new
+HasMoved old (ToHost count) downs ups new = (downs ≡ []) × ComesUp old count ups new
+HasMoved old (Press key) downs ups new = (downs ≡ []) × (ups ≡ []) × Presses old key new
+
+-- moves, one after another, and the pieces that cross the lines in them
+abbrev pub HaveMoved : TwoEnds → List Move → List Crossing → List Crossing → TwoEnds → Type 0
+HaveMoved old [] downs ups new = (downs ≡ []) × (ups ≡ []) × (new ≡ old)
+HaveMoved old (move ∷ moves) downs ups new = (first_downs : List Crossing) × (first_ups : List Crossing)
+    × (later_downs : List Crossing) × (later_ups : List Crossing) × (next : TwoEnds)
+    × HasMoved old move first_downs first_ups next × HaveMoved next moves later_downs later_ups new
+    × (downs ≡ first_downs ++ later_downs) × (ups ≡ first_ups ++ later_ups)
+
+-- a session of new ends: the moves led to where it stands, and these pieces crossed the lines in them
+abbrev pub HasRun : TerminalType → List Move → List Crossing → List Crossing → TwoEnds → Type 0
+HasRun terminal moves downs ups now = (begun : TwoEnds) × IsBegun terminal begun
+    × HaveMoved begun moves downs ups now
+
+-- The bytes lead to the end: they hold items, none of them is refused, and what it did at them and at the acts between
+-- them left it on a side. Or it has refused a byte, and takes no more.
+abbrev pub StationIsLed : StationParts → List ℕ → Type 0
+StationIsLed station bytes = ((items : List (Item Element)) × (side : StationSide)
+    × StationLeads station bytes items side) ⊎ IsSome station.ended
+
+-- the host end is the one that these bytes and its orders lead to, or it has ended
+abbrev pub HostIsLed : HostParts → List ℕ → Type 0
+HostIsLed host bytes = ((items : List (Item AnswerPart)) × (side : HostSide) × HostLeads host bytes items side)
+    ⊎ IsSome host.ended
+
+-- the wires of a running session
+abbrev pub down_wire : WorldParts → WireParts
+down_wire w = record { bytes = w.down; at = w.at_station }
+
+-- the line from the station up to the host end: all that was written to it, and how much has arrived
+abbrev pub up_wire : WorldParts → WireParts
+up_wire w = record { bytes = w.up; at = w.at_host }
+
+-- so many of the bytes in flight, as they stand there, have come to the station
+abbrev pub IsDeliveredDown : WorldParts → ℕ → WorldParts → Type 0
+IsDeliveredDown old count new =
+    AreDelivered profile_conduct station_telling
+    old.station new.station (down_wire old) (down_wire new) (up_wire old) (up_wire new) old.events new.events count
+    × (new.host ≡ old.host)
+
+-- so many of the bytes in flight, as they stand there, have come to the host end
+abbrev pub IsDeliveredUp : WorldParts → ℕ → WorldParts → Type 0
+IsDeliveredUp old count new =
+    AreDelivered host_conduct host_telling
+    old.host new.host (up_wire old) (up_wire new) (down_wire old) (down_wire new) old.events new.events count
+    × (new.station ≡ old.station)

@@ -1,0 +1,71 @@
+-- The bytes between the ends of a session, and what they do where they arrive
+
+use Rattle.std.specs.Prelude.{◌≡◌, ℕ, ◌+◌, ◌^◌, ◌<◌, List, [], ◌∷◌, ◌++◌, Option, Some, flat_map, length, take, drop}
+use Rattle.ws_code.specs.declared.reason.Reason.{Reason}
+use Rattle.ws_session.specs.declared.refusal.Refusal.{Refusal}
+use Rattle.ws_session.specs.declared.refusal.Refusal.TheVariants.{At, Memory}
+use Rattle.ws_session.specs.declared.end_step.Applied.{Applied}
+use Rattle.ws_session.specs.declared.host_end.host_event.HostEvent.{HostEvent}
+use Rattle.ws_session.specs.declared.world.Event.{Event}
+use Rattle.ws_session.specs.declared.world.Event.TheVariants.{Host, StationRefused, HostRefused}
+use Rattle.ws_session.specs.Conduct.{Conduct}
+use Rattle.ws_session.specs.world.Through.{Through}
+
+-- all that one end has written for the other, and how many bytes of it have arrived
+pub record WireParts : Type 0 where
+  pub bytes : List ℕ
+  pub at : ℕ
+
+-- the end hasn't stopped for want of memory
+abbrev pub HasMemory : Option Refusal → Type 0
+HasMemory (Some Memory) = ⊥
+HasMemory why = Unit {0}
+
+-- what a session tells of an end: what the end tells, and a byte that it refuses
+pub record Telling (Told : Type 0) : Type 0 where
+  pub tells : Told → List Event
+  pub refusal : ℕ → Reason → Event
+
+-- of a station, a refusal alone
+abbrev pub station_telling : Telling Applied
+station_telling = record { tells = λ applied. []; refusal = λ place reason. StationRefused place reason }
+
+-- of a host end, its events and a refusal
+abbrev pub host_telling : Telling HostEvent
+host_telling = record { tells = λ event. Host event ∷ []; refusal = λ place reason. HostRefused place reason }
+
+module _ {E Deed Told : Type 0} (conduct : Conduct E Deed Told) (telling : Telling Told) where
+  -- what a report tells of it
+  abbrev pub reported : List Told → Option Refusal → List Event
+  reported told (Some (At place reason)) = flat_map telling.tells told ++ telling.refusal place reason ∷ []
+  reported told why = flat_map telling.tells told
+
+  -- Bytes come: the end goes on, or refuses one of them. One that has refused a byte stays as it is.
+  pub record Comes (old : E) (bytes : List ℕ) (new : E) (written : List ℕ) (events : List Event) : Type 0 where
+    pub told : List Told
+    pub why : Option Refusal
+    pub through : Through conduct old bytes written told why new
+    pub reports : events ≡ reported told why
+    pub has_memory : HasMemory why
+    pub stays : conduct.over old → (new ≡ old) × (written ≡ []) × (events ≡ [])
+
+  -- bytes came to it, and what it wrote is on its way
+  pub record HasCome (old : E) (bytes : List ℕ) (new : E) (to to' : WireParts) (told told' : List Event) : Type 0 where
+    pub written : List ℕ
+    pub events : List Event
+    pub comes : Comes old bytes new written events
+    pub to_is : to' ≡ record to { bytes = to.bytes ++ written }
+    pub told_is : told' ≡ told ++ events
+
+  -- so many of the bytes in flight have come to an end, or all where there were fewer
+  pub record AreDelivered (old new : E) (from from' to to' : WireParts) (told told' : List Event)
+      (count : ℕ) : Type 0 where
+    pub bytes : List ℕ
+    pub written : List ℕ
+    pub events : List Event
+    pub first : bytes ≡ take count (drop from.at from.bytes)
+    pub few : length from.bytes + 1 < 2 ^ 64
+    pub come : Comes old bytes new written events
+    pub from_is : from' ≡ record from { at = from.at + length bytes }
+    pub to_is : to' ≡ record to { bytes = to.bytes ++ written }
+    pub told_is : told' ≡ told ++ events
