@@ -1,5 +1,5 @@
-use Rattle.std.proofs.Common.{◌≡◌, ◌≢◌, ℕ, ◌+◌, ◌<◌, ◌^◌, List, [], ◌∷◌, Option, Some, None, Ok}
-use Rattle.std.proofs.Common.{length, inl, inr, refl, sym, ap, ◌∙◌, arith, take, get_or, ◌++◌}
+use Rattle.std.proofs.Common.{◌≡◌, ◌≢◌, ℕ, ◌+◌, ◌<◌, ◌^◌, List, [], ◌∷◌, Option, Some, None, Ok, length, inl, inr, refl}
+use Rattle.std.proofs.Common.{sym, ap, ◌∙◌, arith, take, get_or, ◌++◌}
 use Rattle.std.proofs.lemmas.List.{append-nil}
 use Rattle.ws_record.specs.Encode.{item_spelling}
 use Rattle.ws_record.specs.RawBody.{raw_rules}
@@ -8,10 +8,10 @@ use Rattle.ws_record.specs.declared.record.Item.TheVariants.{Record as RecordIte
 use Rattle.ws_record.specs.declared.record.Record.{Record}
 use Rattle.ws_session.specs.Acts.{Came, Did, HoldsItems, all_came, as_list}
 use Rattle.ws_session.specs.Reaction.{GoesOn}
-use Rattle.ws_session.specs.station.StationManners.{goes_on}
-use Rattle.ws_session.specs.declared.refusal.Refusal.{Refusal}
 use Rattle.ws_session.specs.declared.host_end.send_fault.SendFault.{SendFault}
 use Rattle.ws_session.specs.declared.host_end.send_fault.SendFault.TheVariants as why
+use Rattle.ws_session.specs.declared.refusal.Refusal.{Refusal}
+use Rattle.ws_session.specs.station.StationManners.{goes_on}
 use Rattle.ws_session.proofs.EndDeeds.{deed_gone}
 use Rattle.ws_session.proofs.EndSteps.{none_went, one_went}
 use Rattle.ws_any_host.specs.AnyLeads.{AnyGoes, AnyLeads, AnyParts, AnyStep, IsAnyPushed, IsAnyShut, IsAnySendFault}

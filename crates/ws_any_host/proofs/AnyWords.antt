@@ -1,23 +1,23 @@
-use Rattle.std.proofs.Common.{◌≡◌, ◌≢◌, ℕ, List, [], ◌∷◌, ◌++◌, true, inl, inr, refl, sym, ap, ◌∙◌, subst}
 use Rattle.std.specs.Prelude.{codes, Bool, false, ◌==◌}
-use Rattle.std.proofs.lemmas.Bool.{false≢true}
 use Rattle.std.specs.Str.Parse.{digits_value}
+use Rattle.std.proofs.Common.{◌≡◌, ◌≢◌, ℕ, List, [], ◌∷◌, ◌++◌, true, inl, inr, refl, sym, ap, ◌∙◌, subst}
+use Rattle.std.proofs.lemmas.Bool.{false≢true}
 use Rattle.ws_record.specs.declared.opcode.Opcode.{Opcode}
 use Rattle.ws_record.specs.declared.record.Record.{Record}
 use Rattle.ws_record.proofs.Reading.{opcode_same}
 use Rattle.ws_text.specs.Words.{IsHex}
 use Rattle.ws_text.specs.declared.items.TextFault.TheVariants as items
-use Rattle.ws_live.specs.live.LiveScript.{IsBlockFault}
-use Rattle.ws_live.specs.script.ScriptFaults.{has_no_blank}
-use Rattle.ws_live.specs.declared.script.ScriptFault.{ScriptFault}
-use Rattle.ws_live.specs.declared.script.ScriptFault.TheVariants.{Line, Memory}
-use Rattle.ws_live.specs.live.WireLines.{MeansWire}
 use Rattle.ws_live.specs.declared.live.wire_line.WireLine.{WireLine}
 use Rattle.ws_live.specs.declared.live.wire_line.WireLine.TheVariants.{Raw, Pause, Close}
+use Rattle.ws_live.specs.declared.script.ScriptFault.{ScriptFault}
+use Rattle.ws_live.specs.declared.script.ScriptFault.TheVariants.{Line, Memory}
+use Rattle.ws_live.specs.live.LiveScript.{IsBlockFault}
+use Rattle.ws_live.specs.live.WireLines.{MeansWire}
+use Rattle.ws_live.specs.script.ScriptFaults.{has_no_blank}
 use Rattle.ws_live.proofs.ScriptWords.{blank_inside, split_unique, digits_have_no_blank}
-use Rattle.ws_any_host.specs.AnyLines.{AreExtendedBadAt, BeginsAnyLine, IsAnyLine, IsBadAnyLineAt, IsAnyLineFault, IsLineBegun}
-use Rattle.ws_any_host.specs.AnyLines.{IsOpcode, IsAnySendBegun, IsSendText, IsWordFault, MeansAnyLine, OpensAnyBlock}
-use Rattle.ws_any_host.specs.AnyLines.{SayBytes, SendsAnyOpcodeAlone}
+use Rattle.ws_any_host.specs.AnyLines.{AreExtendedBadAt, BeginsAnyLine, IsAnyLine, IsBadAnyLineAt, IsAnyLineFault}
+use Rattle.ws_any_host.specs.AnyLines.{IsLineBegun, IsOpcode, IsAnySendBegun, IsSendText, IsWordFault, MeansAnyLine}
+use Rattle.ws_any_host.specs.AnyLines.{OpensAnyBlock, SayBytes, SendsAnyOpcodeAlone}
 use Rattle.ws_any_host.specs.declared.any_line.AnyLine.{AnyLine}
 use Rattle.ws_any_host.specs.declared.any_line.AnyLine.TheVariants.{Nothing, Send, Await, AwaitKey, Wire, Bad}
 

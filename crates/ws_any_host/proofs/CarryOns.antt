@@ -1,21 +1,22 @@
-use Rattle.std.proofs.Common.{◌≡◌, ℕ, ◌+◌, List, [], ◌∷◌, ◌++◌, true, false, inl, inr, refl, ap, subst}
 use Rattle.std.specs.Prelude.{Bool, Result, Ok, Err, replicate}
+use Rattle.std.proofs.Common.{◌≡◌, ℕ, ◌+◌, List, [], ◌∷◌, ◌++◌, true, false, inl, inr, refl, ap, subst}
 use Rattle.std.proofs.lemmas.Bool.{false≢true}
 use Rattle.std.proofs.lemmas.List.{append-nil, replicate-append-replicate}
 use Rattle.ws_code.specs.Device.{Writer, WentOut, most_reads}
-use Rattle.ws_code.proofs.DeviceLaws.{went_out_both}
-use Rattle.ws_code.proofs.Parts.{fails_last}
 use Rattle.ws_code.specs.declared.fault.Fault.{Fault}
 use Rattle.ws_code.specs.declared.fault.Fault.TheVariants as fault
+use Rattle.ws_code.proofs.DeviceLaws.{went_out_both}
+use Rattle.ws_code.proofs.Parts.{fails_last}
 use Rattle.ws_text.specs.Printing.{IsOut}
 use Rattle.ws_text.specs.declared.output.Output.{Output}
 use Rattle.ws_text.specs.declared.output.Output.TheVariants.{Open, Failed as Unwritten}
-use Rattle.ws_live.specs.live.LiveText.{HaveRun, stops}
-use Rattle.ws_live.specs.live.ServeText.{is_told}
 use Rattle.ws_live.specs.declared.live.Closing.{Closing}
 use Rattle.ws_live.specs.declared.live.Closing.TheVariants.{Nothing, Done, Declined, Late, Ended, Stopped, Closed}
+use Rattle.ws_live.specs.live.LiveText.{HaveRun, stops}
+use Rattle.ws_live.specs.live.ServeText.{is_told}
 use Rattle.ws_live.proofs.LiveRuns.{run_more}
-use Rattle.ws_any_host.specs.CarryingOn.{CarriesOn, HasCarriedOnce, IsOnceFault, HasCarriedOn, IsCarryOnFault, goes_well}
+use Rattle.ws_any_host.specs.CarryingOn.{CarriesOn, HasCarriedOnce, IsOnceFault, HasCarriedOn, IsCarryOnFault}
+use Rattle.ws_any_host.specs.CarryingOn.{goes_well}
 
 -- A line that is carried out again and again.
 

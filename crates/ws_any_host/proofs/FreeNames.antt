@@ -3,13 +3,13 @@ use Rattle.std.proofs.lemmas.Bool.{false≢true}
 use Rattle.ws_telnet.specs.declared.token.Sub.{Sub}
 use Rattle.ws_telnet.specs.declared.token.Telnet.{Telnet}
 use Rattle.ws_telnet.specs.declared.token.Telnet.TheVariants.{Command, Option as Negotiate, Sub as Subnegotiate}
+use Rattle.ws_nego.specs.Host.{HostState, host_answer, host_judgement, host_name_answer, host_sub_answer, name_in}
+use Rattle.ws_nego.specs.Options.{Answer}
+use Rattle.ws_nego.specs.Terminal.{terminal_type_name, terminal_named}
 use Rattle.ws_nego.specs.declared.host.TerminalName.{TerminalName}
 use Rattle.ws_nego.specs.declared.host.TerminalName.TheVariants.{Unknown, Requested, Accepted}
 use Rattle.ws_nego.specs.declared.terminal.TerminalType.{TerminalType}
 use Rattle.ws_nego.specs.declared.terminal.TerminalType.TheVariants.{Ibm3179Model2}
-use Rattle.ws_nego.specs.Host.{HostState, host_answer, host_judgement, host_name_answer, host_sub_answer, name_in}
-use Rattle.ws_nego.specs.Options.{Answer}
-use Rattle.ws_nego.specs.Terminal.{terminal_type_name, terminal_named}
 use Rattle.ws_any_host.specs.AnyOptions.{AnswersAlike, Negotiated, answer_with, any_answer, known_sub, name_after}
 
 -- Any name is one that a host end knows.

@@ -1,5 +1,5 @@
-use Rattle.std.proofs.Common.{◌≡◌, ℕ, List, [], ◌∷◌, ◌++◌, false, refl, subst}
 use Rattle.std.specs.Prelude.{Some}
+use Rattle.std.proofs.Common.{◌≡◌, ℕ, List, [], ◌∷◌, ◌++◌, false, refl, subst}
 use Rattle.ws_code.specs.Device.{Writer, Reader, Devices}
 use Rattle.ws_session.specs.attached.Attachments.{AttachedParts, HasHeard}
 use Rattle.ws_any_host.specs.AnyLeads.{AnyParts, any_conduct}

@@ -11,24 +11,24 @@ use Rattle.ws_stream.specs.Elements.{element_rules}
 use Rattle.ws_stream.specs.declared.answer_part.AnswerPart.{AnswerPart}
 use Rattle.ws_session.specs.ActLaws.{bytes_came}
 use Rattle.ws_session.specs.Acts.{all_came, as_list, bytes_of}
-use Rattle.ws_session.specs.station.Displays.{DisplayOf, SideOn}
 use Rattle.ws_session.specs.Ends.{CountsUpTo}
+use Rattle.ws_session.specs.Manners.{host_manner, told_by}
+use Rattle.ws_session.specs.declared.end_step.Order.{Order}
+use Rattle.ws_session.specs.declared.refusal.Refusal.{Refusal}
+use Rattle.ws_session.specs.declared.refusal.Refusal.TheVariants.{At, Failed, Memory}
 use Rattle.ws_session.specs.host_end.HostFeeds.{HasHostFed, HasHostRefused}
 use Rattle.ws_session.specs.host_end.HostLeads.{HostParts, HostLeads}
 use Rattle.ws_session.specs.host_end.HostSide.{HostSide}
-use Rattle.ws_session.specs.Manners.{host_manner, told_by}
+use Rattle.ws_session.specs.station.Displays.{DisplayOf, SideOn}
 use Rattle.ws_session.specs.station.PartsOn.{PartsOn}
 use Rattle.ws_session.specs.station.StationActs.{HasFedOn, HasRefusedOn, IsSilentOn}
 use Rattle.ws_session.specs.station.StationManners.{manner_on}
 use Rattle.ws_session.specs.station.Stations.{LeadsOn}
-use Rattle.ws_session.specs.declared.end_step.Order.{Order}
-use Rattle.ws_session.specs.declared.refusal.Refusal.{Refusal}
-use Rattle.ws_session.specs.declared.refusal.Refusal.TheVariants.{At, Failed, Memory}
 use Rattle.ws_session.proofs.Counts.{counted_on}
 use Rattle.ws_session.proofs.Feedings.{none_come}
-use Rattle.ws_c.specs.declared.host.HeldHost.{HeldHost}
 use Rattle.ws_c.specs.Hosts.{HostTakes, HostRefusesWithin}
 use Rattle.ws_c.specs.Pushes.{BringsAtMostOn, StationTakesOn, StationRefusesOn, StandsBehind, place_refused_at}
+use Rattle.ws_c.specs.declared.host.HeldHost.{HeldHost}
 use Rattle.ws_c.proofs.PushLaws.{come_on}
 
 module _ {D P U H PlaceV V K R : Type 0} (rules : Rules P U) (d : DisplayOf D U H PlaceV V K R) where

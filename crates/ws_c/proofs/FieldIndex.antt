@@ -1,10 +1,10 @@
 -- The index of a cell's field, as the fields are passed in screen order.
 use Rattle.std.proofs.Common.{◌≡◌, ℕ, ◌+◌, ◌<◌, ◌≤◌, List, [], ◌∷◌, Bool, true, false, ◌&&◌, if◌then◌else◌, nat_le}
 use Rattle.std.proofs.Common.{length, get_or, refl, sym, ap, ◌∙◌, subst, arith}
-use borrow.Author.Tests.{le-ltb}
 use Rattle.std.proofs.lemmas.Bool.{lt-leb}
-use Rattle.ws_screen.specs.declared.field.Field.{Field}
+use borrow.Author.Tests.{le-ltb}
 use Rattle.ws_screen.specs.ScreenParts.{AreApart}
+use Rattle.ws_screen.specs.declared.field.Field.{Field}
 use Rattle.ws_c.specs.Calls.{index_from}
 use Rattle.ws_c.specs.Cells.{AreInOrder, EndsBehind, IsPast, IsPassed}
 

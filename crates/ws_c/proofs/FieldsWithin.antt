@@ -1,8 +1,8 @@
 -- A field of the table ends on the screen.
-use Rattle.std.proofs.Common.{◌≡◌, ℕ, ◌+◌, ◌≤◌, List, [], ◌∷◌, Some, ap, subst, unwrap_or, zero, suc}
 use Rattle.std.specs.Prelude.{slice_get}
-use Rattle.ws_screen.specs.declared.field.Field.{Field}
+use Rattle.std.proofs.Common.{◌≡◌, ℕ, ◌+◌, ◌≤◌, List, [], ◌∷◌, Some, ap, subst, unwrap_or, zero, suc}
 use Rattle.ws_screen.specs.ScreenParts.{AreApart}
+use Rattle.ws_screen.specs.declared.field.Field.{Field}
 use Rattle.ws_screen.proofs.Legal.{apart-le}
 
 pub ends_within : (low : ℕ) (fs : List Field) (i : ℕ) (f : Field) → AreApart low fs → slice_get fs i ≡ Some f

@@ -1,26 +1,26 @@
 -- A station as live hosts use it at a push of bytes: what has gone out, and what waits
 
-use Rattle.std.proofs.Common.{◌≡◌, ◌≢◌, ℕ, ◌+◌, ◌-◌, ◌^◌, ◌<◌, ◌≤◌, inl, inr, List, [], ◌++◌, length, take, drop}
 use Rattle.std.specs.Prelude.{◌==◌, true, false, min}
-use borrow.Author.Tests.{eqb-true, eqb-false}
-use Rattle.std.proofs.Common.{refl, sym, ap, ◌∙◌, subst, arith, length-append, append_assoc}
+use Rattle.std.proofs.Common.{◌≡◌, ◌≢◌, ℕ, ◌+◌, ◌-◌, ◌^◌, ◌<◌, ◌≤◌, inl, inr, List, [], ◌++◌, length, take, drop, refl}
+use Rattle.std.proofs.Common.{sym, ap, ◌∙◌, subst, arith, length-append, append_assoc}
 use Rattle.std.proofs.lemmas.Bool.{cases_lt}
 use Rattle.std.proofs.lemmas.List.{append-nil, drop_all, length-drop, nil_from_length}
+use borrow.Author.Tests.{eqb-true, eqb-false}
 use Rattle.ws_record.specs.declared.record.Item.{Item}
 use Rattle.ws_extended.specs.ExtendedElements.{extended_rules}
 use Rattle.ws_extended.specs.declared.extended_element.ExtendedElement.{ExtendedElement}
 use Rattle.ws_extended.specs.declared.extended_place.ExtendedPlace.{ExtendedPlace}
-use Rattle.ws_extended_station.specs.ExtendedDisplays.{DisplayParts, ExtendedSide, extended}
 use Rattle.ws_session.specs.station.PartsOn.{PartsOn}
 use Rattle.ws_session.specs.station.StationActs.{IsSilentOn}
 use Rattle.ws_session.specs.station.Stations.{LeadsOn}
-use Rattle.ws_c.specs.declared.held_station.HeldStation.{HeldStation}
-use Rattle.ws_c.specs.declared.told.PushedTold.{PushedTold}
+use Rattle.ws_extended_station.specs.ExtendedDisplays.{DisplayParts, ExtendedSide, extended}
 use Rattle.ws_c.specs.Calls.{holds_front}
 use Rattle.ws_c.specs.HeldStations.{HandsOut, IsHeldPush, waiting}
 use Rattle.ws_c.specs.Pushes.{BringsAtMostOn, IsEndOn, StationTakesOn, nothing_pushed, pushed_told}
+use Rattle.ws_c.specs.declared.held_station.HeldStation.{HeldStation}
 use Rattle.ws_c.specs.declared.status.Status.{Status}
 use Rattle.ws_c.specs.declared.status.Status.TheVariants.{NoRoom}
+use Rattle.ws_c.specs.declared.told.PushedTold.{PushedTold}
 use Rattle.ws_c.proofs.FeedLaws.{station_brings, station_takes_none}
 
 -- whether something waits, by the length of what does

@@ -1,18 +1,16 @@
 -- Bytes that are taken one after another, and a buffer that gets what they bring
 
 use Rattle.std.proofs.Common.{◌≡◌, ℕ, ◌+◌, ◌-◌, ◌^◌, ◌<◌, ◌≤◌, List, [], ◌∷◌, ◌++◌, length, get_or, take, drop, suc}
-use Rattle.std.proofs.Common.{refl, ap}
-use Rattle.std.proofs.Common.{subst, sym, ◌∙◌, arith}
-use Rattle.std.proofs.Common.{append_assoc, length-append}
-use Rattle.std.proofs.lemmas.List.{append-nil, drop_all, take_all, length-drop, length-take-le}
+use Rattle.std.proofs.Common.{refl, ap, subst, sym, ◌∙◌, arith, append_assoc, length-append}
 use Rattle.std.proofs.Math.Seq.{drop-cons, take-add}
+use Rattle.std.proofs.lemmas.List.{append-nil, drop_all, take_all, length-drop, length-take-le}
 use Rattle.ws_code.specs.Code.{Rules}
 use Rattle.ws_record.specs.declared.record.Item.{Item}
 use Rattle.ws_session.specs.ActLaws.{gone_on, came_append, bytes_came}
 use Rattle.ws_session.specs.Acts.{Act, Manner, all_came, HasGone}
-use Rattle.ws_c.specs.declared.told.PushedTold.{PushedTold}
 use Rattle.ws_c.specs.Calls.{holds_front}
 use Rattle.ws_c.specs.Pushes.{TakesAll, pushed_told}
+use Rattle.ws_c.specs.declared.told.PushedTold.{PushedTold}
 
 module _ {S : Type 0} (Takes : S → ℕ → List ℕ → S → Type 0) where
   -- one more byte

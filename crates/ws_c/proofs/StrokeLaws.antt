@@ -1,10 +1,9 @@
 -- Keys at a station, one after another.
+use Rattle.std.specs.Prelude.{Result, Ok, Err}
 use Rattle.std.proofs.Common.{◌≡◌, ℕ, ◌+◌, ◌-◌, ◌<◌, List, [], ◌∷◌, ◌++◌, Option, length, get_or, take, drop, replicate}
 use Rattle.std.proofs.Common.{sym, ap, ◌∙◌, subst, arith, suc}
-use Rattle.std.specs.Prelude.{Result, Ok, Err}
 use Rattle.std.proofs.lemmas.Grind.{flat_map-append}
-use Rattle.std.proofs.lemmas.List.{drop_more, flat_map_more, replicate-append-replicate, take-append-drop}
-use Rattle.std.proofs.lemmas.List.{take_more}
+use Rattle.std.proofs.lemmas.List.{drop_more, flat_map_more, replicate-append-replicate, take-append-drop, take_more}
 use Rattle.ws_keys.specs.Strokes.{keys_of}
 use Rattle.ws_keys.specs.declared.answer.Answer.{Answer}
 use Rattle.ws_keys.specs.declared.key.Key.{Key}

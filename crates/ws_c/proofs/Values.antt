@@ -1,21 +1,21 @@
 -- The machine value of a handle, which is also that of a box taken apart: a pointer, and an allocator that has no
 -- bytes.
+use Rattle.std.specs.contracts.alloc.Global.{the_row as GlobalRow}
+use Rattle.std.specs.declared.alloc.Global.{Global}
 use Rattle.std.proofs.Common.{◌≡◌, ℕ, zero, suc, List, [], ◌∷◌, ◌++◌, refl, ◌∙◌, lit<}
-use seplogic.Ra.Ura.{Ura}
-use mir.Syntax.{ty_ptr}
-use mir.Val.{Val, vunit, vstruct, vcons, vnil, of_list}
-use base.Logic.{ent, emp}
+use Rattle.std.proofs.cell.Inside.{Good}
+use denote.Builtin.{unit}
 use base.Fml.{Fml}
+use base.Logic.{ent, emp}
 use types.Logic.{Logic, sem}
+use seplogic.Ra.Ura.{Ura}
 use denote.RattleType.{RattleType}
 use denote.RawPtr.{Ptr, RawPtr, block_ptr, null_ptr, ptr_val}
-use denote.Builtin.{unit}
-use denote.Signature.{Slot, plain}
 use denote.Shadow.{shadow, makes_shadow}
+use denote.Signature.{Slot, plain}
 use denote.Struct.Struct.{Struct}
-use Rattle.std.proofs.cell.Inside.{Good}
-use Rattle.std.specs.declared.alloc.Global.{Global}
-use Rattle.std.specs.contracts.alloc.Global.{the_row as GlobalRow}
+use mir.Syntax.{ty_ptr}
+use mir.Val.{Val, vunit, vstruct, vcons, vnil, of_list}
 
 -- the slot of a parameter
 abbrev pub slot_at : {n : ℕ} → ℕ → List (Slot n) → Slot n

@@ -1,9 +1,9 @@
+use Rattle.std.specs.List.{flat_map, AllByRecursion}
 use Rattle.std.proofs.Common.{◌≡◌, ℕ, List, [], ◌∷◌, ◌++◌, take, drop, refl, sym, ap, ◌∙◌, ◌<◌, ◌⊎◌, length, ◌≤◌, inl}
 use Rattle.std.proofs.Common.{inr, arith, ◌+◌, zero, suc, get_or, ◌-◌, length-append, length-take}
 use Rattle.std.proofs.lemmas.Grind.{flat_map-append}
 use Rattle.std.proofs.lemmas.List.{append-nil, take-append-drop, take_more, length-take-le, drop-append-le, take_all}
 use Rattle.std.proofs.lemmas.List.{take-take, drop-take}
-use Rattle.std.specs.List.{flat_map, AllByRecursion}
 use Rattle.ws_code.proofs.CodeLaws.{one_begins, no_end}
 use Rattle.ws_code.proofs.DeviceLaws.{rest_from}
 

@@ -1,6 +1,6 @@
+use Rattle.std.specs.List.{flat_map}
 use Rattle.std.proofs.Common.{◌≡◌, ℕ, List, [], ◌++◌, take, drop, ◌<◌, length, ◌+◌, get_or}
 use Rattle.std.proofs.lemmas.List.{append-nil}
-use Rattle.std.specs.List.{flat_map}
 use Rattle.ws_code.specs.Device.{Writer, WentOut, FailedWithin}
 use Rattle.ws_code.proofs.DeviceLaws.{went_out_none, went_out_both, failed_within_both}
 use Rattle.ws_code.proofs.Lists.{spelled_more, spelled_through}

@@ -1,7 +1,7 @@
 use Rattle.std.proofs.Common.{true, false, ◌≡◌, ◌≢◌, ℕ, List, [], ◌∷◌, ◌++◌, inl, inr, refl, sym, ap, ◌∙◌, subst}
 use Rattle.std.proofs.Common.{append_assoc}
-use Rattle.std.proofs.lemmas.List.{append-nil}
 use Rattle.std.proofs.lemmas.Grind.{flat_map-append}
+use Rattle.std.proofs.lemmas.List.{append-nil}
 use Rattle.ws_code.specs.Code.{Rules, Stands, IsSpelled, IsUnfinished, place_after, spelling_of}
 use Rattle.ws_code.specs.Keep.{Keeps}
 use Rattle.ws_code.specs.Run.{Reading, IsAt, HasReadValues, RunsOn, StopsAtLast}

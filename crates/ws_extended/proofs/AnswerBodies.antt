@@ -1,7 +1,7 @@
 -- Bodies of the profile, and what is told at once, among the bodies of a live host's station.
+use Rattle.std.specs.List.{list_all}
 use Rattle.std.proofs.Common.{◌≡◌, ℕ, ◌<◌, List, [], ◌∷◌, ◌++◌, true, length, refl, ap, ◌∙◌, map, nat_lt, suc, drop}
 use Rattle.std.proofs.Common.{subst, arith}
-use Rattle.std.specs.List.{list_all}
 use Rattle.std.proofs.lemmas.Bool.{and_parts, eq-eqb}
 use borrow.Author.Tests.{ltb-true}
 use Rattle.ws_code.specs.Code.{AreBytes, IsChain, IsWhole, place_after, spelling_of}
@@ -15,12 +15,12 @@ use Rattle.ws_stream.specs.declared.answer_part.AnswerPart.{AnswerPart}
 use Rattle.ws_stream.specs.declared.answer_part.AnswerPart.TheVariants.{Byte}
 use Rattle.ws_stream.specs.declared.answer_place.AnswerPlace.TheVariants as answers
 use Rattle.ws_stream.specs.declared.place.Place.TheVariants.{CommandsOnly}
+use Rattle.ws_screen.specs.ScreenParts.{IsClean, IsLegal, ScreenParts}
 use Rattle.ws_screen.specs.declared.read_kind.ReadKind.{ReadKind}
 use Rattle.ws_screen.specs.declared.read_kind.ReadKind.TheVariants.{Input, MdtAlternate}
-use Rattle.ws_screen.specs.ScreenParts.{IsClean, IsLegal, ScreenParts}
 use Rattle.ws_keys.specs.Contents.{data_parts}
-use Rattle.ws_keys.proofs.WholeLaws.{answer_whole}
 use Rattle.ws_keys.proofs.AnswerLemmas.{bytes_spelled}
+use Rattle.ws_keys.proofs.WholeLaws.{answer_whole}
 use Rattle.ws_extended.specs.ExtendedAnswers.{extended_answer_rules}
 use Rattle.ws_extended.specs.ExtendedElements.{extended_rules, extended_spelling}
 use Rattle.ws_extended.specs.ExtendedStates.{saved_screen}

@@ -1,6 +1,6 @@
 -- What the profile's answers take and refuse, of the bytes of a live host's station.
-use Rattle.std.proofs.Common.{◌≡◌, ◌≢◌, ℕ, ◌+◌, ◌%◌, ◌<◌, List, [], ◌∷◌, ◌++◌, Bool, refl, sym, ap, ◌∙◌, arith}
-use Rattle.std.proofs.Common.{inl, inr, if◌then◌else◌, append_assoc}
+use Rattle.std.proofs.Common.{◌≡◌, ◌≢◌, ℕ, ◌+◌, ◌%◌, ◌<◌, List, [], ◌∷◌, ◌++◌, Bool, refl, sym, ap, ◌∙◌, arith, inl}
+use Rattle.std.proofs.Common.{inr, if◌then◌else◌, append_assoc}
 use Rattle.std.proofs.lemmas.Bool.{false≢true}
 use borrow.Author.Tests.{ne_eqb}
 use Rattle.ws_code.specs.Code.{IsPrefix, IsUnfinished, Stands}
@@ -12,8 +12,8 @@ use Rattle.ws_stream.specs.declared.answer_part.AnswerPart.{AnswerPart}
 use Rattle.ws_stream.specs.declared.answer_part.AnswerPart.TheVariants.{Head, Byte, At}
 use Rattle.ws_stream.specs.declared.answer_place.AnswerPlace.{AnswerPlace}
 use Rattle.ws_stream.specs.declared.answer_place.AnswerPlace.TheVariants as answers
-use Rattle.ws_extended.specs.ExtendedAnswers.{answer_reason, extended_answer_rules, head_reason}
 use Rattle.ws_extended.specs.ExtendedAnswerLaws.{third}
+use Rattle.ws_extended.specs.ExtendedAnswers.{answer_reason, extended_answer_rules, head_reason}
 use Rattle.ws_extended.specs.ToldParts.{BeginsTold, answer_place}
 use Rattle.ws_extended.specs.declared.extended_answer_part.ExtendedAnswerPart.{ExtendedAnswerPart}
 use Rattle.ws_extended.specs.declared.extended_answer_part.ExtendedAnswerPart.TheVariants.{Profile, QueryReply, Saved}

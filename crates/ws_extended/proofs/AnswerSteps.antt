@@ -1,6 +1,6 @@
 -- What a machine between the bytes of a part of an answer needs.
-use Rattle.std.proofs.Common.{◌≡◌, ℕ, ◌+◌, ◌-◌, ◌*◌, ◌≤◌, ◌<◌, ◌/◌, ◌%◌, List, [], ◌∷◌, ◌++◌, Bool, true, false}
-use Rattle.std.proofs.Common.{refl, sym, ap, ◌∙◌, subst, arith, take, drop, get_or, nat_le, nat_lt, ◌&&◌, ◌||◌}
+use Rattle.std.proofs.Common.{◌≡◌, ℕ, ◌+◌, ◌-◌, ◌*◌, ◌≤◌, ◌<◌, ◌/◌, ◌%◌, List, [], ◌∷◌, ◌++◌, Bool, true, false, refl}
+use Rattle.std.proofs.Common.{sym, ap, ◌∙◌, subst, arith, take, drop, get_or, nat_le, nat_lt, ◌&&◌, ◌||◌}
 use Rattle.std.proofs.lemmas.Bool.{false≢true}
 use Rattle.std.proofs.lemmas.List.{get_or_default}
 use borrow.Author.Tests.{ltb-true}
@@ -14,9 +14,9 @@ use Rattle.ws_stream.specs.Elements.{row_and_column}
 use Rattle.ws_stream.specs.declared.answer_place.AnswerPlace.TheVariants as answers
 use Rattle.ws_stream.proofs.UnfinishedAddress.{address_bytes}
 use Rattle.ws_screen.proofs.Applies.{cut_at, longer_by}
-use Rattle.ws_extended.specs.ExtendedAnswers.{extended_answer_rules}
 use Rattle.ws_extended.specs.ExtendedAnswerLaws.{element_up}
 use Rattle.ws_extended.specs.ExtendedAnswerMachine.{is_waiting, reply_place, waits_at, waits_behind}
+use Rattle.ws_extended.specs.ExtendedAnswers.{extended_answer_rules}
 use Rattle.ws_extended.specs.ExtendedElements.{extended_rules}
 use Rattle.ws_extended.specs.QueryReply.{reply_head}
 use Rattle.ws_extended.specs.declared.extended_answer_part.ExtendedAnswerPart.{ExtendedAnswerPart}

@@ -1,16 +1,11 @@
 -- An image makes any screen equal to its own.
-use Rattle.std.proofs.Common.{◌≡◌, ℕ, ◌+◌, ◌<◌, List, [], ◌∷◌, ◌++◌, Bool, true, false, Option, Some}
-use Rattle.std.proofs.Common.{None, ◌&&◌, refl, sym, ap, ◌∙◌, subst, arith, map, slice_index, if◌then◌else◌, unwrap_or, replicate}
 use Rattle.std.specs.List.{flat_map, list_any}
+use Rattle.std.proofs.Common.{◌≡◌, ℕ, ◌+◌, ◌<◌, List, [], ◌∷◌, ◌++◌, Bool, true, false, Option, Some, None, ◌&&◌, refl}
+use Rattle.std.proofs.Common.{sym, ap, ◌∙◌, subst, arith, map, slice_index, if◌then◌else◌, unwrap_or, replicate}
 use Rattle.std.proofs.lemmas.List.{length-replicate}
 use Rattle.std.proofs.lemmas.List.FromFn.{get_or-map-range_with_len}
 use Rattle.ws_stream.specs.declared.element.Element.{Element}
 use Rattle.ws_stream.specs.declared.element.Element.TheVariants.{ClearUnit, Write, Soh, Sba, Mc, Put}
-use Rattle.ws_screen.specs.declared.control.TheConstants.{UNLOCK, MESSAGE_ON, MESSAGE_OFF, BLINK_ON, BLINK_OFF}
-use Rattle.ws_screen.specs.declared.field.Field.{Field}
-use Rattle.ws_screen.specs.declared.open_write.OpenWrite.{OpenWrite}
-use Rattle.ws_screen.specs.declared.read_kind.ReadKind.{ReadKind}
-use Rattle.ws_screen.specs.declared.read_kind.ReadKind.TheVariants.{Input, Mdt, MdtAlternate}
 use Rattle.ws_screen.specs.Bodies.{after_elements, after_end, body_fault, screen_of}
 use Rattle.ws_screen.specs.Cells.{cell}
 use Rattle.ws_screen.specs.Controls.{has_bit, is_nulled, light}
@@ -22,15 +17,21 @@ use Rattle.ws_screen.specs.ScreenParts.{AreApart, IsLegal, ScreenParts, holds}
 use Rattle.ws_screen.specs.States.{switches_of}
 use Rattle.ws_screen.specs.Steps.{IsControlCarriedOut, after_cc1, after_cc2, without_format}
 use Rattle.ws_screen.specs.Writes.{open_write}
+use Rattle.ws_screen.specs.declared.control.TheConstants.{UNLOCK, MESSAGE_ON, MESSAGE_OFF, BLINK_ON, BLINK_OFF}
+use Rattle.ws_screen.specs.declared.field.Field.{Field}
+use Rattle.ws_screen.specs.declared.open_write.OpenWrite.{OpenWrite}
+use Rattle.ws_screen.specs.declared.read_kind.ReadKind.{ReadKind}
+use Rattle.ws_screen.specs.declared.read_kind.ReadKind.TheVariants.{Input, Mdt, MdtAlternate}
 use Rattle.ws_screen.proofs.CommandLemmas.{end_follows, read_follows, write_gives}
 use Rattle.ws_screen.proofs.FormatLemmas.{fields-clear_unit}
 use Rattle.ws_screen.proofs.Legal.{zeros}
 use Rattle.ws_screen.proofs.OrderLemmas.{mc_gives, soh_gives}
 use Rattle.ws_screen.proofs.ScreenLaws.{one_screen}
-use Rattle.ws_extended.specs.Image.{field_image, start_of_header_bytes, home_image, image, lights, plain_read, read_image}
-use Rattle.ws_extended.proofs.Starts.{behind_attributes}
+use Rattle.ws_extended.specs.Image.{field_image, start_of_header_bytes, home_image, image, lights, plain_read}
+use Rattle.ws_extended.specs.Image.{read_image}
 use Rattle.ws_extended.proofs.Leads.{Leads, ends_with, leads_by, leads_none}
 use Rattle.ws_extended.proofs.Painting.{fields_lead, home_leads, painted, cells_lead, sba_leads, write_at}
+use Rattle.ws_extended.proofs.Starts.{behind_attributes}
 
 -- THE FRONT
 

@@ -1,22 +1,22 @@
 -- How long an image is, and what it tells of the error line and of the switches.
-use Rattle.std.proofs.Common.{◌≡◌, ℕ, ◌+◌, ◌*◌, ◌≤◌, List, [], ◌∷◌, ◌++◌, Bool, true, false, Option, Some, None}
-use Rattle.std.proofs.Common.{length, refl, ap, ◌∙◌, arith, map, if◌then◌else◌, unwrap_or, length-append, ◌&&◌}
 use Rattle.std.specs.List.{flat_map, AllByRecursion}
 use Rattle.std.specs.Option.{option_or, is_some}
+use Rattle.std.proofs.Common.{◌≡◌, ℕ, ◌+◌, ◌*◌, ◌≤◌, List, [], ◌∷◌, ◌++◌, Bool, true, false, Option, Some, None, length}
+use Rattle.std.proofs.Common.{refl, ap, ◌∙◌, arith, map, if◌then◌else◌, unwrap_or, length-append, ◌&&◌}
 use Rattle.std.proofs.lemmas.Grind.{flat_map-append}
 use Rattle.ws_code.specs.Code.{spelling_of}
 use Rattle.ws_stream.specs.Elements.{element_rules, is_command, spelling}
 use Rattle.ws_stream.specs.declared.element.Element.{Element}
 use Rattle.ws_stream.specs.declared.element.Element.TheVariants.{ClearUnit, Write, Soh, Sba, Mc, Put}
-use Rattle.ws_screen.specs.declared.field.Field.{Field}
-use Rattle.ws_screen.specs.declared.open_write.OpenWrite.{OpenWrite}
-use Rattle.ws_screen.specs.declared.read_kind.ReadKind.{ReadKind}
-use Rattle.ws_screen.specs.declared.read_kind.ReadKind.TheVariants.{Input, Mdt, MdtAlternate}
 use Rattle.ws_screen.specs.Bodies.{after_element, after_elements, after_end}
 use Rattle.ws_screen.specs.Events.{History, did, ended, nearest}
 use Rattle.ws_screen.specs.Given.{ends_of}
 use Rattle.ws_screen.specs.ScreenParts.{IsLegal, ScreenParts}
 use Rattle.ws_screen.specs.Writes.{open_write}
+use Rattle.ws_screen.specs.declared.field.Field.{Field}
+use Rattle.ws_screen.specs.declared.open_write.OpenWrite.{OpenWrite}
+use Rattle.ws_screen.specs.declared.read_kind.ReadKind.{ReadKind}
+use Rattle.ws_screen.specs.declared.read_kind.ReadKind.TheVariants.{Input, Mdt, MdtAlternate}
 use Rattle.ws_extended.specs.ErrorLine.{error_row, row_of, sets_error_row}
 use Rattle.ws_extended.specs.Image.{field_image, start_of_header_bytes, home_image, image, lights, read_image}
 

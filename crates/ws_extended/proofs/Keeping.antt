@@ -1,7 +1,7 @@
 -- An image that is kept piece by piece.
-use Rattle.std.proofs.Common.{ℕ, List, [], ◌∷◌, ◌++◌, map, subst, append_assoc}
 use Rattle.std.specs.List.{flat_map}
 use Rattle.std.specs.Prelude.{OnErr, OnOk, Result, Ok, Err}
+use Rattle.std.proofs.Common.{ℕ, List, [], ◌∷◌, ◌++◌, map, subst, append_assoc}
 use Rattle.ws_code.specs.Keep.{Keeps}
 use Rattle.ws_stream.specs.declared.element.Element.{Element}
 use Rattle.ws_stream.specs.declared.element.Element.TheVariants.{ClearUnit, Write, Soh, Sba, Mc, Put}

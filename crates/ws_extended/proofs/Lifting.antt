@@ -1,14 +1,14 @@
 -- What the profile's machine makes of a byte, told of a live host's elements.
-use Rattle.std.proofs.Common.{◌≡◌, ℕ, List, [], ◌∷◌, ◌++◌, Bool, true, false, refl, sym, ap, ◌∙◌, arith, not}
-use Rattle.std.proofs.Common.{◌==◌, if◌then◌else◌}
+use Rattle.std.proofs.Common.{◌≡◌, ℕ, List, [], ◌∷◌, ◌++◌, Bool, true, false, refl, sym, ap, ◌∙◌, arith, not, ◌==◌}
+use Rattle.std.proofs.Common.{if◌then◌else◌}
 use Rattle.std.proofs.lemmas.Bool.{false≢true}
 use Rattle.std.proofs.lemmas.List.{append-nil}
 use Rattle.ws_code.specs.Code.{IsPrefix, IsSpelled, IsUnfinished, Stands}
 use Rattle.ws_code.specs.Step.{IsStep}
 use Rattle.ws_code.specs.declared.code.Push.{Push}
 use Rattle.ws_code.specs.declared.code.Push.TheVariants as answer
-use Rattle.ws_stream.specs.Elements.{IsElement, element_rules, spelling}
 use Rattle.ws_stream.specs.ElementLaws.{first, no_code}
+use Rattle.ws_stream.specs.Elements.{IsElement, element_rules, spelling}
 use Rattle.ws_stream.specs.Reasons.{is_one_of}
 use Rattle.ws_stream.specs.declared.command_code.TheConstants.{ESCAPE}
 use Rattle.ws_stream.specs.declared.element.Element.{Element}

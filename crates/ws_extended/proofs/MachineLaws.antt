@@ -12,17 +12,16 @@ use Rattle.ws_stream.specs.ElementLaws.{first, second}
 use Rattle.ws_stream.specs.Elements.{allows_orders, element_rules, spelling}
 use Rattle.ws_stream.specs.Reasons.{element_reason}
 use Rattle.ws_stream.specs.declared.command_code.TheConstants.{ESCAPE, WRITE_STRUCTURED_FIELD}
-use Rattle.ws_stream.specs.declared.order_code.TheConstants.{INSERT_CURSOR}
 use Rattle.ws_stream.specs.declared.element.Element.{Element}
 use Rattle.ws_stream.specs.declared.element.Element.TheVariants.{ClearUnit, ClearFormat, Write, ReadInput, ReadMdt}
 use Rattle.ws_stream.specs.declared.element.Element.TheVariants.{ReadMdtAlternate, Ic, Put}
+use Rattle.ws_stream.specs.declared.order_code.TheConstants.{INSERT_CURSOR}
 use Rattle.ws_stream.specs.declared.place.Place.{Place}
 use Rattle.ws_stream.specs.declared.place.Place.TheVariants.{CommandsOnly, Anything}
 use Rattle.ws_screen.proofs.Applies.{cut_at, longer_by}
 use Rattle.ws_extended.specs.ExtendedElements.{extended_follows, extended_rules, extended_spelling, query_field}
 use Rattle.ws_extended.specs.ExtendedLaws.{by_code, other_code, own_code}
 use Rattle.ws_extended.specs.ExtendedMachine.{inner_place, fits_phase}
-use Rattle.ws_extended.proofs.Lifting.{escape_goes_on}
 use Rattle.ws_extended.specs.ExtendedReasons.{extended_reason, is_inner, takes_command, takes_first}
 use Rattle.ws_extended.specs.declared.ask.Ask.{Ask}
 use Rattle.ws_extended.specs.declared.ask.Ask.TheVariants.{Query, SaveScreen}
@@ -33,6 +32,7 @@ use Rattle.ws_extended.specs.declared.extended_element.ExtendedElement.TheVarian
 use Rattle.ws_extended.specs.declared.extended_element.ExtendedElement.TheVariants.{WriteError, Asks}
 use Rattle.ws_extended.specs.declared.extended_place.ExtendedPlace.{ExtendedPlace}
 use Rattle.ws_extended.specs.declared.extended_place.ExtendedPlace.TheVariants.{InProfile, ErrorText, Asked}
+use Rattle.ws_extended.proofs.Lifting.{escape_goes_on}
 
 -- WHAT THE PROFILE'S MACHINE HAS
 

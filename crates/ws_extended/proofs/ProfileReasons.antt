@@ -1,7 +1,7 @@
 -- What the profile takes and refuses, of a live host's bytes.
+use Rattle.std.specs.List.{AllByRecursion}
 use Rattle.std.proofs.Common.{◌≡◌, ℕ, List, [], ◌∷◌, ◌++◌, Bool, true, false, refl, sym, ap, ◌∙◌, subst, inl, inr, ◌==◌}
 use Rattle.std.proofs.Common.{if◌then◌else◌, not}
-use Rattle.std.specs.List.{AllByRecursion}
 use Rattle.std.proofs.lemmas.Bool.{false≢true, or_cases}
 use Rattle.std.proofs.lemmas.List.{append-nil}
 use borrow.Author.Tests.{eqb-true}

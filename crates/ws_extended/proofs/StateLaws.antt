@@ -3,12 +3,12 @@ use Rattle.std.proofs.Common.{◌≡◌, ℕ, ◌<◌, List, [], ◌∷◌, ◌+
 use Rattle.std.proofs.Common.{ap, ◌∙◌, subst, unwrap_or, if◌then◌else◌}
 use Rattle.ws_code.specs.Code.{IsWhole}
 use Rattle.ws_stream.specs.declared.element.Element.{Element}
-use Rattle.ws_screen.specs.declared.open_write.OpenWrite.{OpenWrite}
 use Rattle.ws_screen.specs.Bodies.{after_element, after_elements, after_end, element_fault, screen_of}
 use Rattle.ws_screen.specs.Events.{History}
 use Rattle.ws_screen.specs.Given.{Gives, ends_of}
 use Rattle.ws_screen.specs.ScreenParts.{IsLegal, ScreenParts}
 use Rattle.ws_screen.specs.Writes.{open_write}
+use Rattle.ws_screen.specs.declared.open_write.OpenWrite.{OpenWrite}
 use Rattle.ws_screen.proofs.ScreenLaws.{one_screen}
 use Rattle.ws_extended.specs.ErrorLine.{IsErrorText, IsRow, error_begins, error_row, error_shown, row_cells, row_of}
 use Rattle.ws_extended.specs.ErrorLine.{shows_text, text_cursor}

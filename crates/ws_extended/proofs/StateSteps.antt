@@ -4,20 +4,21 @@ use Rattle.std.proofs.Common.{sym, ap, ◌∙◌, subst, unwrap_or, length, if�
 use Rattle.std.proofs.lemmas.Bool.{false≢true}
 use Rattle.ws_stream.specs.declared.element.Element.{Element}
 use Rattle.ws_stream.specs.declared.element.Element.TheVariants.{Write, Ra, Ea, Sba, Sf, Put}
-use Rattle.ws_screen.specs.declared.open_write.OpenWrite.{OpenWrite}
 use Rattle.ws_screen.specs.Bodies.{after_element, after_elements, after_end}
 use Rattle.ws_screen.specs.Events.{Edit, History, did}
 use Rattle.ws_screen.specs.Faults.{fault}
 use Rattle.ws_screen.specs.Given.{FollowsAll, Gives, ends_of, events_of}
 use Rattle.ws_screen.specs.ScreenParts.{IsLegal, ScreenParts}
 use Rattle.ws_screen.specs.Writes.{open_write}
+use Rattle.ws_screen.specs.declared.open_write.OpenWrite.{OpenWrite}
 use Rattle.ws_screen.proofs.Applies.{gives_next}
 use Rattle.ws_screen.proofs.ScreenLaws.{one_screen}
 use Rattle.ws_keys.specs.Keys.{events_by}
 use Rattle.ws_extended.specs.Carried.{Carries}
-use Rattle.ws_extended.specs.ErrorLine.{IsRow, error_begins, error_row, given_back, row_cells, row_start, sets_error_row}
-use Rattle.ws_extended.specs.ExtendedStates.{ExtendedState, Kept, covered, gives_back, reset_history, state_after_reset, uncovered}
-use Rattle.ws_extended.specs.ExtendedStates.{state_after, uncovers}
+use Rattle.ws_extended.specs.ErrorLine.{IsRow, error_begins, error_row, given_back, row_cells, row_start}
+use Rattle.ws_extended.specs.ErrorLine.{sets_error_row}
+use Rattle.ws_extended.specs.ExtendedStates.{ExtendedState, Kept, covered, gives_back, reset_history, state_after_reset}
+use Rattle.ws_extended.specs.ExtendedStates.{uncovered, state_after, uncovers}
 use Rattle.ws_extended.specs.ExtendedViews.{ExtendedParts, Shows}
 use Rattle.ws_extended.specs.declared.extended_element.ExtendedElement.TheVariants.{Profile}
 use Rattle.ws_extended.proofs.ErrorLaws.{back_unrefused, begins_unrefused}

@@ -1,7 +1,7 @@
 -- What is told of a display, and the bytes of a saved screen.
-use Rattle.std.proofs.Common.{◌≡◌, ℕ, ◌≤◌, List, ◌∷◌, false, Option, Some, None, length, refl, sym, ap}
-use Rattle.std.proofs.Common.{◌∙◌, arith, subst}
 use Rattle.std.specs.Option.{is_some}
+use Rattle.std.proofs.Common.{◌≡◌, ℕ, ◌≤◌, List, ◌∷◌, false, Option, Some, None, length, refl, sym, ap, ◌∙◌, arith}
+use Rattle.std.proofs.Common.{subst}
 use Rattle.std.proofs.lemmas.Bool.{false≢true}
 use Rattle.ws_code.specs.Code.{spelling_of}
 use Rattle.ws_nego.specs.declared.terminal.TerminalType.{TerminalType}

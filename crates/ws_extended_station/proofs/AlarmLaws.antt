@@ -1,8 +1,8 @@
 -- What sounds of what a live host sends, and what doesn't.
-use Rattle.std.proofs.Common.{◌≡◌, ℕ, ◌+◌, List, [], ◌∷◌, ◌++◌, Bool, true, false, Option, Some, None, map, refl, ap, ◌∙◌}
-use Rattle.std.proofs.Common.{arith, replicate, if◌then◌else◌}
-use Rattle.std.specs.Prelude.{cond}
 use Rattle.std.specs.List.{flat_map}
+use Rattle.std.specs.Prelude.{cond}
+use Rattle.std.proofs.Common.{◌≡◌, ℕ, ◌+◌, List, [], ◌∷◌, ◌++◌, Bool, true, false, Option, Some, None, map, refl, ap}
+use Rattle.std.proofs.Common.{◌∙◌, arith, replicate, if◌then◌else◌}
 use Rattle.std.proofs.lemmas.List.Sums.{sum_by-append, sum_by-cons}
 use Rattle.ws_code.specs.declared.address.TheConstants.{COLUMNS}
 use Rattle.ws_record.specs.declared.record.Record.{Record}
@@ -18,14 +18,14 @@ use Rattle.ws_screen.specs.declared.read_kind.ReadKind.{ReadKind}
 use Rattle.ws_screen.specs.declared.read_kind.ReadKind.TheVariants.{Input, Mdt, MdtAlternate}
 use Rattle.ws_extended.specs.ErrorLine.{RESETS, error_begins, error_row, given_back, put_row, row_start, shows_text}
 use Rattle.ws_extended.specs.ExtendedStates.{ExtendedState, Kept, covered, gives_back, reset_history, saved_screen}
-use Rattle.ws_extended.specs.ExtendedStates.{state_after, state_after_all, state_after_reset}
-use Rattle.ws_extended.specs.ExtendedStates.{state_before, uncovered, uncovers}
+use Rattle.ws_extended.specs.ExtendedStates.{state_after, state_after_all, state_after_reset, state_before, uncovered}
+use Rattle.ws_extended.specs.ExtendedStates.{uncovers}
 use Rattle.ws_extended.specs.Image.{field_image, start_of_header_bytes, home_image, image, lights, read_image}
 use Rattle.ws_extended.specs.declared.extended_element.ExtendedElement.{ExtendedElement}
 use Rattle.ws_extended.specs.declared.extended_element.ExtendedElement.TheVariants.{Profile, Text, RestoreScreen}
 use Rattle.ws_extended.specs.declared.extended_element.ExtendedElement.TheVariants.{WriteError, Asks}
-use Rattle.ws_session.specs.station.Alarms.{alarms_in, alarms_of, sounds_alarm}
 use Rattle.ws_session.specs.declared.station.alarm.TheConstants.{ALARM}
+use Rattle.ws_session.specs.station.Alarms.{alarms_in, alarms_of, sounds_alarm}
 use Rattle.ws_session.proofs.AlarmLaws.{alarms_behind, alarms_behind_all, alarms_behind_end, alarms_behind_opcode}
 use Rattle.ws_extended_station.specs.ExtendedAlarms.{extended_alarms_in, extended_sounds}
 use Rattle.ws_extended_station.specs.ExtendedRecords.{state_after_record}

@@ -1,30 +1,29 @@
 -- A record and a key of the profile, where no error stands.
-use Rattle.std.proofs.Common.{◌≡◌, ℕ, List, [], ◌∷◌, ◌++◌, Bool, true, false, Option, Some, None, map, refl, sym, ap}
-use Rattle.std.proofs.Common.{ap₂}
-use Rattle.std.proofs.Common.{◌∙◌, subst, is_some, ◌&&◌, not, if◌then◌else◌}
 use Rattle.std.specs.Option.{option_or}
+use Rattle.std.proofs.Common.{◌≡◌, ℕ, List, [], ◌∷◌, ◌++◌, Bool, true, false, Option, Some, None, map, refl, sym, ap}
+use Rattle.std.proofs.Common.{ap₂, ◌∙◌, subst, is_some, ◌&&◌, not, if◌then◌else◌}
 use Rattle.ws_code.specs.declared.reason.Reason.{Reason}
 use Rattle.ws_code.specs.declared.reason.Reason.TheVariants.{RecordBeforeNegotiation}
+use Rattle.ws_telnet.specs.declared.token.Telnet.{Telnet}
 use Rattle.ws_nego.specs.Station.{station_allows_records, station_answer}
 use Rattle.ws_record.specs.declared.record.Item.{Item}
 use Rattle.ws_record.specs.declared.record.Item.TheVariants.{Record as RecordItem, Telnet as TelnetItem}
 use Rattle.ws_record.specs.declared.record.Record.{Record}
 use Rattle.ws_stream.specs.declared.element.Element.{Element}
-use Rattle.ws_telnet.specs.declared.token.Telnet.{Telnet}
 use Rattle.ws_screen.specs.Bodies.{after_element, after_elements, body_fault}
 use Rattle.ws_screen.specs.Events.{History}
 use Rattle.ws_keys.specs.declared.key.Key.{Key}
+use Rattle.ws_keys.specs.declared.key.KeyRefusal.TheVariants.{Locked}
 use Rattle.ws_extended.specs.Asking.{asks_in, first_ask, second_reason}
 use Rattle.ws_extended.specs.ExtendedKeys.{waits_for_reset}
 use Rattle.ws_extended.specs.ExtendedStates.{ExtendedState, Kept, state_after_all, state_after_end}
 use Rattle.ws_extended.specs.declared.extended_element.ExtendedElement.TheVariants.{Profile}
 use Rattle.ws_extended.proofs.StateLaws.{plain, profile_acts, profile_faults}
-use Rattle.ws_session.specs.station.Displays.{RefusesKey}
 use Rattle.ws_session.specs.Reaction.{Reaction, Refuses, GoesOn}
+use Rattle.ws_session.specs.declared.station.key_fault.KeyFault.TheVariants.{NotReady, Key as Refused}
+use Rattle.ws_session.specs.station.Displays.{RefusesKey}
 use Rattle.ws_session.specs.station.StationManners.{key_on, takes_on}
 use Rattle.ws_session.specs.station.StationSide.{opcode_answer, profile, station_applies}
-use Rattle.ws_session.specs.declared.station.key_fault.KeyFault.TheVariants.{NotReady, Key as Refused}
-use Rattle.ws_keys.specs.declared.key.KeyRefusal.TheVariants.{Locked}
 use Rattle.ws_extended_station.specs.BesideProfile.{NoErrorStands, as_reacted, item_there, record_there}
 use Rattle.ws_extended_station.specs.Bytewise.{by_bytes}
 use Rattle.ws_extended_station.specs.ExtendedDisplays.{ExtendedSide, as_profile, extended, extended_applies}

@@ -1,36 +1,35 @@
 -- Whatever happens at a station of the profile, on the display that live hosts use.
-use Rattle.std.proofs.Common.{◌≡◌, ℕ, ◌+◌, ◌^◌, ◌<◌, List, [], ◌∷◌, ◌++◌, map, refl, sym, ap, ap₂, ◌∙◌, subst, inl}
-use Rattle.std.proofs.Common.{inr, length}
-use Rattle.std.proofs.lemmas.List.{map-append}
 use Rattle.std.specs.List.{AllByRecursion, flat_map}
+use Rattle.std.proofs.Common.{◌≡◌, ℕ, ◌+◌, ◌^◌, ◌<◌, List, [], ◌∷◌, ◌++◌, map, refl, sym, ap, ap₂, ◌∙◌, subst, inl, inr}
+use Rattle.std.proofs.Common.{length}
+use Rattle.std.proofs.lemmas.List.{map-append}
 use Rattle.ws_code.specs.Code.{IsCut}
 use Rattle.ws_telnet.specs.Streams.{command_of, joined}
 use Rattle.ws_telnet.specs.Token.{token_rules}
 use Rattle.ws_telnet.specs.declared.token.Telnet.{Telnet}
 use Rattle.ws_telnet.specs.declared.token.Token.{Token}
+use Rattle.ws_record.specs.Encode.{plain_spelling}
 use Rattle.ws_record.specs.Grammar.{IsRecord, IsStretch, commands, header, record_bytes}
+use Rattle.ws_record.specs.RawBody.{raw_rules}
 use Rattle.ws_record.specs.declared.record.Item.{Item}
 use Rattle.ws_record.specs.declared.record.Item.TheVariants.{Record as RecordItem, Telnet as TelnetItem}
 use Rattle.ws_record.specs.declared.record.Record.{Record}
-use Rattle.ws_stream.specs.Elements.{element_rules}
 use Rattle.ws_stream.specs.AnswerParts.{answer_rules}
+use Rattle.ws_stream.specs.Elements.{element_rules}
 use Rattle.ws_stream.specs.declared.answer_part.AnswerPart.{AnswerPart}
 use Rattle.ws_stream.specs.declared.element.Element.{Element}
-use Rattle.ws_record.specs.Encode.{plain_spelling}
-use Rattle.ws_record.specs.RawBody.{raw_rules}
+use Rattle.ws_screen.specs.Events.{History}
 use Rattle.ws_keys.specs.declared.key.Key.{Key}
 use Rattle.ws_extended.specs.ExtendedElements.{extended_rules}
 use Rattle.ws_extended.specs.declared.extended_element.ExtendedElement.{ExtendedElement}
 use Rattle.ws_extended.proofs.ProfileBodies.{profile_body, profile_spelled}
 use Rattle.ws_session.specs.Acts.{Act, AllTaken, Arrives, Came, Did, Does, Doing, Happen, Happening, HasGone}
-use Rattle.ws_session.specs.Acts.{HoldsItems}
-use Rattle.ws_session.specs.Acts.{bytes_of, doing, IsHappeningTaken, items_of, one_then}
-use Rattle.ws_session.specs.station.Displays.{KeyReactionOn, RefusesKey, Silent, Answers, Signals}
+use Rattle.ws_session.specs.Acts.{HoldsItems, bytes_of, doing, IsHappeningTaken, items_of, one_then}
 use Rattle.ws_session.specs.Reaction.{Reaction, Refuses, GoesOn}
+use Rattle.ws_session.specs.declared.end_step.Applied.{Applied}
+use Rattle.ws_session.specs.station.Displays.{KeyReactionOn, RefusesKey, Silent, Answers, Signals}
 use Rattle.ws_session.specs.station.StationManners.{at_item_on, at_key_on, at_on, goes_on, key_on, manner_on, takes_on}
 use Rattle.ws_session.specs.station.StationSide.{StationSide, profile}
-use Rattle.ws_session.specs.declared.end_step.Applied.{Applied}
-use Rattle.ws_screen.specs.Events.{History}
 use Rattle.ws_extended_station.specs.BesideProfile.{HaveJustArrived, NoErrorStands, act_there, as_reacted, item_there}
 use Rattle.ws_extended_station.specs.BesideProfile.{record_there}
 use Rattle.ws_extended_station.specs.Bytewise.{by_bytes, spelled_alike}

@@ -1,8 +1,8 @@
 -- A body that is carried out on a display, element by element as it is read, and what it asks.
-use Rattle.std.proofs.Common.{◌≡◌, ℕ, List, [], ◌∷◌, ◌++◌, Option, Some, None, refl, sym, ap, ◌∙◌, subst}
-use Rattle.std.proofs.Common.{take, drop, length, take-append-drop, append_assoc, arith}
-use Rattle.std.specs.Prelude.{Ok}
 use Rattle.std.specs.Option.{option_or}
+use Rattle.std.specs.Prelude.{Ok}
+use Rattle.std.proofs.Common.{◌≡◌, ℕ, List, [], ◌∷◌, ◌++◌, Option, Some, None, refl, sym, ap, ◌∙◌, subst, take, drop}
+use Rattle.std.proofs.Common.{length, take-append-drop, append_assoc, arith}
 use Rattle.std.proofs.lemmas.List.{append-nil, take_all}
 use Rattle.ws_code.specs.Code.{IsChain, Stands, spelling_of}
 use Rattle.ws_code.specs.Run.{Reading, IsRunOfValues}
@@ -27,10 +27,10 @@ use Rattle.ws_extended.specs.declared.extended_element.ExtendedElement.{Extended
 use Rattle.ws_extended.specs.declared.extended_element.ExtendedElement.TheVariants.{Profile}
 use Rattle.ws_extended.specs.declared.extended_place.ExtendedPlace.{ExtendedPlace}
 use Rattle.ws_extended.specs.declared.extended_place.ExtendedPlace.TheVariants.{InProfile}
+use Rattle.ws_session.proofs.Reading.{never_bad, read_all, read_run}
 use Rattle.ws_extended_station.specs.CarriedOut.{AreCarriedOut, AsksAndSounds, IsUnderWay}
 use Rattle.ws_extended_station.specs.ExtendedRecords.{elements_fault}
 use Rattle.ws_extended_station.specs.declared.heard.Heard.{Heard}
-use Rattle.ws_session.proofs.Reading.{never_bad, read_all, read_run}
 
 abbrev pub beginning : Reading ExtendedPlace
 beginning = record { place = extended_rules.first; begun = [] }

@@ -1,7 +1,7 @@
 -- The error line is always a row of the screen.
-use Rattle.std.proofs.Common.{◌≡◌, ℕ, Bool, true, false, Option, Some, None, [], ◌∷◌, refl, ap, ap₂, arith}
-use Rattle.std.proofs.Common.{unwrap_or, ◌&&◌, if◌then◌else◌, nat_le, slice_index}
 use Rattle.std.specs.Option.{option_or}
+use Rattle.std.proofs.Common.{◌≡◌, ℕ, Bool, true, false, Option, Some, None, [], ◌∷◌, refl, ap, ap₂, arith, unwrap_or}
+use Rattle.std.proofs.Common.{◌&&◌, if◌then◌else◌, nat_le, slice_index}
 use Rattle.std.proofs.lemmas.Bool.{and_parts, le-leb, leb-true}
 use Rattle.ws_stream.specs.declared.element.Element.TheVariants.{ClearUnit, ClearFormat, Soh}
 use Rattle.ws_screen.specs.Events.{Event, History, did, nearest}

@@ -1,7 +1,7 @@
 -- What a key of the profile makes of a display.
-use Rattle.std.proofs.Common.{◌≡◌, ◌++◌, Bool, true, false, Option, Some, None, Result, Ok, Err}
-use Rattle.std.proofs.Common.{refl, sym, ap, ◌∙◌, subst, is_some, length, ◌&&◌, if◌then◌else◌}
 use Rattle.std.specs.Prelude.{OnErr}
+use Rattle.std.proofs.Common.{◌≡◌, ◌++◌, Bool, true, false, Option, Some, None, Result, Ok, Err, refl, sym, ap, ◌∙◌}
+use Rattle.std.proofs.Common.{subst, is_some, length, ◌&&◌, if◌then◌else◌}
 use Rattle.ws_screen.specs.Events.{Edit, History}
 use Rattle.ws_screen.specs.ScreenParts.{ScreenParts}
 use Rattle.ws_screen.specs.declared.read_kind.ReadKind.{ReadKind}
@@ -16,13 +16,12 @@ use Rattle.ws_keys.proofs.StepLemmas.{does_follow}
 use Rattle.ws_extended.specs.ErrorLine.{error_row}
 use Rattle.ws_extended.specs.ExtendedKeys.{waits_for_reset}
 use Rattle.ws_extended.specs.ExtendedViews.{ExtendedParts}
-use Rattle.ws_session.specs.station.Displays.{IsPressedOnDisplay, RefusesKey, Silent, Answers}
-use Rattle.ws_session.specs.station.StationSide.{KeyReaction, StationSide, answers_read, key_by_refusal, presses, profile}
-use Rattle.ws_session.specs.station.StationSide.{ProfileParts, screen_at}
 use Rattle.ws_session.specs.declared.station.key_fault.KeyFault.TheVariants.{Key as Refused}
+use Rattle.ws_session.specs.station.Displays.{IsPressedOnDisplay, RefusesKey, Silent, Answers}
+use Rattle.ws_session.specs.station.StationSide.{KeyReaction, StationSide, answers_read, key_by_refusal, presses}
+use Rattle.ws_session.specs.station.StationSide.{profile, ProfileParts, screen_at}
 use Rattle.ws_session.proofs.ProfileKeys.{pressed}
-use Rattle.ws_extended_station.specs.ExtendedDisplays.{DisplayParts, ExtendedGives, ExtendedSide, as_profile}
-use Rattle.ws_extended_station.specs.ExtendedDisplays.{extended}
+use Rattle.ws_extended_station.specs.ExtendedDisplays.{DisplayParts, ExtendedGives, ExtendedSide, as_profile, extended}
 use Rattle.ws_extended_station.specs.ExtendedDisplays.{profile_side, with_profile}
 use Rattle.ws_extended_station.specs.declared.extended_key.ExtendedKey.TheVariants.{Profile}
 

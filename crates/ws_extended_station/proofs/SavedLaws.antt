@@ -1,7 +1,7 @@
 -- What a display tells when it is saved, and what it makes of any display; and what Reset takes back.
+use Rattle.std.specs.Option.{option_or}
 use Rattle.std.proofs.Common.{◌≡◌, ℕ, List, [], ◌∷◌, ◌++◌, Option, None, map, refl, sym, ap, ap₂, ◌∙◌, subst, arith}
 use Rattle.std.proofs.Common.{false, unwrap_or}
-use Rattle.std.specs.Option.{option_or}
 use Rattle.ws_code.specs.Code.{IsWhole, spelling_of}
 use Rattle.ws_code.specs.declared.reason.Reason.{Reason}
 use Rattle.ws_code.proofs.CodeLaws.{one_list}

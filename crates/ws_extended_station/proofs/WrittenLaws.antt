@@ -1,13 +1,12 @@
 -- What is written on the display that live hosts use.
-use Rattle.std.proofs.Common.{◌≡◌, ℕ, List, [], ◌∷◌, ◌++◌, Bool, true, false, Option, Some, None, map, refl, sym, ap}
-use Rattle.std.proofs.Common.{◌∙◌}
-use Rattle.std.proofs.Common.{inl, inr, if◌then◌else◌}
 use Rattle.std.specs.List.{AllByRecursion}
+use Rattle.std.proofs.Common.{◌≡◌, ℕ, List, [], ◌∷◌, ◌++◌, Bool, true, false, Option, Some, None, map, refl, sym, ap}
+use Rattle.std.proofs.Common.{◌∙◌, inl, inr, if◌then◌else◌}
 use Rattle.ws_code.specs.declared.reason.Reason.{Reason}
 use Rattle.ws_code.specs.declared.reason.Reason.TheVariants.{RecordBeforeNegotiation}
+use Rattle.ws_telnet.specs.declared.token.Telnet.{Telnet}
 use Rattle.ws_nego.specs.Station.{station_allows_records, station_answer}
 use Rattle.ws_nego.specs.declared.terminal.TerminalType.{TerminalType}
-use Rattle.ws_telnet.specs.declared.token.Telnet.{Telnet}
 use Rattle.ws_record.specs.declared.opcode.Opcode.{Opcode}
 use Rattle.ws_record.specs.declared.opcode.Opcode.TheVariants.{CancelInvite}
 use Rattle.ws_record.specs.declared.record.Item.{Item}
@@ -19,8 +18,8 @@ use Rattle.ws_extended.specs.ExtendedStates.{ExtendedState}
 use Rattle.ws_extended.specs.declared.ask.Ask.{Ask}
 use Rattle.ws_extended.specs.declared.extended_element.ExtendedElement.{ExtendedElement}
 use Rattle.ws_session.specs.Acts.{Arrives, Does, Happening, doing}
-use Rattle.ws_session.specs.station.Displays.{KeyReactionOn, RefusesKey, Silent, Answers, Signals}
 use Rattle.ws_session.specs.Reaction.{Refuses, GoesOn}
+use Rattle.ws_session.specs.station.Displays.{KeyReactionOn, RefusesKey, Silent, Answers, Signals}
 use Rattle.ws_session.specs.station.StationManners.{at_item_on, at_key_on, at_on, key_on, manner_on}
 use Rattle.ws_session.specs.station.StationSide.{opcode_answer}
 use Rattle.ws_extended_station.specs.Bytewise.{by_bytes}

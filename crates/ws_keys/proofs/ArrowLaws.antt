@@ -1,15 +1,13 @@
 -- Keys that are pressed one after another, and where arrows bring the cursor.
-use Rattle.std.proofs.Common.{◌≡◌, ℕ, ◌+◌, ◌-◌, ◌*◌, ◌/◌, ◌%◌, ◌<◌, ◌≤◌, List, [], ◌∷◌, ◌++◌, Bool, true, false, Some}
-use Rattle.std.proofs.Common.{None, length, if◌then◌else◌, refl, sym, ap, ◌∙◌, arith, subst}
-use Rattle.std.proofs.Common.{replicate, suc, zero}
 use Rattle.std.specs.Prelude.{nat_lt}
+use Rattle.std.proofs.Common.{◌≡◌, ℕ, ◌+◌, ◌-◌, ◌*◌, ◌/◌, ◌%◌, ◌<◌, ◌≤◌, List, [], ◌∷◌, ◌++◌, Bool, true, false, Some}
+use Rattle.std.proofs.Common.{None, length, if◌then◌else◌, refl, sym, ap, ◌∙◌, arith, subst, replicate, suc, zero}
 use Rattle.std.proofs.lemmas.Bool.{ltb-true, ltb-false}
 use Rattle.std.proofs.lemmas.List.{append-nil, append_assoc}
 use Rattle.ws_screen.specs.Keyed.{cursor_edit}
 use Rattle.ws_screen.specs.ScreenParts.{IsLegal, ScreenParts}
 use Rattle.ws_keys.specs.Keys.{after_key_edit, answer_to, edit_of, locked_refusal, first_refusal, refusals}
-use Rattle.ws_keys.specs.Strokes.{LeadTo, keys_of}
-use Rattle.ws_keys.specs.Strokes.{run_between, run_of, runs_to}
+use Rattle.ws_keys.specs.Strokes.{LeadTo, keys_of, run_between, run_of, runs_to}
 use Rattle.ws_keys.specs.declared.key.Key.{Key}
 use Rattle.ws_keys.specs.declared.key.Key.TheVariants.{Left, Right, Up, Down}
 use Rattle.ws_keys.specs.declared.key.KeyRefusal.TheVariants.{Locked}

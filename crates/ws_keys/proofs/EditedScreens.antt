@@ -1,26 +1,25 @@
 -- The screen after edits of one field, one after another.
-use Rattle.std.proofs.Common.{◌≡◌, ℕ, ◌+◌, ◌-◌, ◌<◌, ◌≤◌, List, [], ◌∷◌, ◌++◌, Bool, true, false, Some, None}
-use Rattle.std.proofs.Common.{length, if◌then◌else◌, unwrap_or, refl, sym, ap, ◌∙◌, arith, map, find, get_or, take}
-use Rattle.std.proofs.Common.{drop}
-use Rattle.std.proofs.Common.{slice_index, length-append, length-drop, ◌&&◌, not, replicate}
-use Rattle.std.specs.Prelude.{nat_lt, nat_le}
-use Rattle.std.specs.Option.{option_map, option_map_or}
 use Rattle.std.specs.List.{range_with_len}
+use Rattle.std.specs.Option.{option_map, option_map_or}
+use Rattle.std.specs.Prelude.{nat_lt, nat_le}
+use Rattle.std.proofs.Common.{◌≡◌, ℕ, ◌+◌, ◌-◌, ◌<◌, ◌≤◌, List, [], ◌∷◌, ◌++◌, Bool, true, false, Some, None, length}
+use Rattle.std.proofs.Common.{if◌then◌else◌, unwrap_or, refl, sym, ap, ◌∙◌, arith, map, find, get_or, take, drop}
+use Rattle.std.proofs.Common.{slice_index, length-append, length-drop, ◌&&◌, not, replicate}
 use Rattle.std.proofs.Math.Seq.{take-append_seam, drop-append_seam}
 use Rattle.std.proofs.lemmas.Bool.{eq-eqb, and_parts, leb-true, ltb-true}
-use borrow.Author.Tests.{leb-false}
 use Rattle.std.proofs.lemmas.List.{same_lists, append_assoc, get_or_default, get_or-take, get_or-drop, length-take-le}
 use Rattle.std.proofs.lemmas.List.{get_or_append_left, get_or-append_right}
 use Rattle.std.proofs.lemmas.List.FromFn.{get_or-map-range_with_len, length-map-range_with_len}
+use borrow.Author.Tests.{leb-false}
 use Rattle.ws_code.specs.FormatWord.{with_mdt, is_modified, shift_number}
-use Rattle.ws_screen.specs.declared.field.Field.{Field}
 use Rattle.ws_screen.specs.Formats.{starts_at}
 use Rattle.ws_screen.specs.Keyed.{after_edit, cursor_edit, field_edit, cells_of, open_field, only_open, with_mdt_by}
 use Rattle.ws_screen.specs.ScreenParts.{AreApart, ScreenParts, holds, is_non_bypass}
+use Rattle.ws_screen.specs.declared.field.Field.{Field}
 use Rattle.ws_screen.proofs.EditLemmas.{found_low, replaced}
-use Rattle.ws_keys.specs.Strokes.{erasing_edit}
-use Rattle.ws_screen.proofs.Legal.{zeros}
 use Rattle.ws_screen.proofs.FormatLemmas.{bypass-with_mdt, with_mdt-twice, with_mdt-same}
+use Rattle.ws_screen.proofs.Legal.{zeros}
+use Rattle.ws_keys.specs.Strokes.{erasing_edit}
 
 -- two screens whose cells are said by place
 same_cells : (at to : ℕ → ℕ) → ((c : ℕ) → c < 1920 → at c ≡ to c) → map at (range_with_len 0 1920)

@@ -1,15 +1,15 @@
 -- What is read of modified fields fits the fields exactly where the tests of it hold.
-use Rattle.std.proofs.Common.{◌≡◌, ℕ, zero, suc, ◌+◌, ◌<◌, ◌≤◌, List, [], ◌∷◌, true, false, Option, Some, None, length}
-use Rattle.std.proofs.Common.{find, refl, sym, ap, ◌∙◌, subst, arith}
-use Rattle.std.specs.Prelude.{All, ◌&&◌, nat_le, slice_index}
-use Rattle.std.specs.Option.{option_map_or}
 use Rattle.std.specs.List.{flat_map, list_all}
 use Rattle.std.specs.List.Sorted.{IsStrictlyIncreasing}
+use Rattle.std.specs.Option.{option_map_or}
+use Rattle.std.specs.Prelude.{All, ◌&&◌, nat_le, slice_index}
+use Rattle.std.proofs.Common.{◌≡◌, ℕ, zero, suc, ◌+◌, ◌<◌, ◌≤◌, List, [], ◌∷◌, true, false, Option, Some, None, length}
+use Rattle.std.proofs.Common.{find, refl, sym, ap, ◌∙◌, subst, arith}
 use Rattle.std.proofs.lemmas.Bool.{false≢true, and_parts, and_from, leb-true, le-leb}
 use Rattle.std.proofs.lemmas.List.Elements.{All-cons, All-head, All-tail}
 use Rattle.ws_stream.specs.declared.answer_part.AnswerPart.{AnswerPart}
-use Rattle.ws_screen.specs.declared.field.Field.{Field}
 use Rattle.ws_screen.specs.Formats.{starts_at}
+use Rattle.ws_screen.specs.declared.field.Field.{Field}
 use Rattle.ws_keys.specs.Contents.{field_parts, sent_length}
 use Rattle.ws_keys.specs.Parsing.{IsFit, addresses, fits_field, is_rising_from}
 use Rattle.ws_keys.specs.Splits.{ReadsModified, FitsField}

@@ -1,17 +1,17 @@
 -- Parts fit a read, part by part, exactly where something is read of them.
-use Rattle.std.proofs.Common.{◌≡◌, ℕ, ◌+◌, ◌-◌, ◌<◌, ◌≤◌, List, [], ◌∷◌, Bool, true, false, Option, Some, None}
-use Rattle.std.proofs.Common.{length, find, if◌then◌else◌, refl, sym, ap, ◌∙◌, subst, arith, inl, inr}
-use Rattle.std.proofs.lemmas.List.{length-map}
-use Rattle.std.specs.Prelude.{sum_by, ◌==◌, ◌&&◌, nat_le, nat_lt, is_some, Err, ◌⊎◌}
-use Rattle.std.specs.Option.{option_map, option_map_or}
 use Rattle.std.specs.List.{list_all}
+use Rattle.std.specs.Option.{option_map, option_map_or}
+use Rattle.std.specs.Prelude.{sum_by, ◌==◌, ◌&&◌, nat_le, nat_lt, is_some, Err, ◌⊎◌}
+use Rattle.std.proofs.Common.{◌≡◌, ℕ, ◌+◌, ◌-◌, ◌<◌, ◌≤◌, List, [], ◌∷◌, Bool, true, false, Option, Some, None, length}
+use Rattle.std.proofs.Common.{find, if◌then◌else◌, refl, sym, ap, ◌∙◌, subst, arith, inl, inr}
+use Rattle.std.proofs.lemmas.List.{length-map}
 use borrow.Author.Tests.{ne_eqb, le-leb, leb-true, lt-ltb, ltb-true}
 use Rattle.ws_stream.specs.declared.answer_part.AnswerPart.{AnswerPart}
 use Rattle.ws_stream.specs.declared.answer_part.AnswerPart.TheVariants.{Head, Byte, At}
+use Rattle.ws_screen.specs.Formats.{starts_at}
 use Rattle.ws_screen.specs.declared.field.Field.{Field}
 use Rattle.ws_screen.specs.declared.read_kind.ReadKind.{ReadKind}
 use Rattle.ws_screen.specs.declared.read_kind.ReadKind.TheVariants.{Mdt, MdtAlternate}
-use Rattle.ws_screen.specs.Formats.{starts_at}
 use Rattle.ws_keys.specs.Contents.{sent_length}
 use Rattle.ws_keys.specs.Fitting.{at_first, behind_part, fits_from}
 use Rattle.ws_keys.specs.Parsing.{IsFaultOf, fits_field, is_rising_from}

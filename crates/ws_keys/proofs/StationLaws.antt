@@ -1,36 +1,36 @@
 -- A station's answer holds what the station sent, over every list of fields that is the station's but for MDTs.
+use Rattle.std.specs.List.{flat_map, list_any}
+use Rattle.std.specs.List.Sorted.{IsStrictlyIncreasing}
+use Rattle.std.specs.Prelude.{Result, Ok, Err, sum_by, All, ◌==◌, slice_index}
 use Rattle.std.proofs.Common.{◌≡◌, ℕ, zero, suc, ◌+◌, ◌-◌, ◌<◌, ◌≤◌, List, [], ◌∷◌, Bool, true, false, Some, length}
 use Rattle.std.proofs.Common.{find, if◌then◌else◌, refl, sym, ap, ◌∙◌, subst, arith, map, take, drop, get_or, filter}
 use Rattle.std.proofs.Common.{inl, inr, length-append, length-take, length-drop}
-use Rattle.std.specs.Prelude.{Result, Ok, Err, sum_by, All, ◌==◌, slice_index}
-use Rattle.std.specs.List.{flat_map, list_any}
-use Rattle.std.specs.List.Sorted.{IsStrictlyIncreasing}
-use borrow.Author.Tests.{ne_eqb}
 use Rattle.std.proofs.lemmas.Bool.{eq-eqb}
 use Rattle.std.proofs.lemmas.List.{length-map, get_or-map}
 use Rattle.std.proofs.lemmas.List.Elements.{All-cons}
 use Rattle.std.proofs.lemmas.List.Sums.{sum_by-cons}
+use borrow.Author.Tests.{ne_eqb}
 use Rattle.ws_code.specs.FormatWord.{shift_number, with_mdt}
 use Rattle.ws_stream.specs.declared.answer_part.AnswerPart.{AnswerPart}
+use Rattle.ws_screen.specs.ByHost.{layout}
+use Rattle.ws_screen.specs.Formats.{starts_at}
+use Rattle.ws_screen.specs.Keyed.{returns_data}
+use Rattle.ws_screen.specs.ScreenParts.{AreApart, ScreenParts}
 use Rattle.ws_screen.specs.declared.field.Field.{Field}
 use Rattle.ws_screen.specs.declared.read_kind.ReadKind.{ReadKind}
 use Rattle.ws_screen.specs.declared.read_kind.ReadKind.TheVariants.{Input, Mdt, MdtAlternate}
-use Rattle.ws_screen.specs.ByHost.{layout}
-use Rattle.ws_screen.specs.Formats.{starts_at}
-use Rattle.ws_screen.specs.ScreenParts.{AreApart, ScreenParts}
-use Rattle.ws_keys.proofs.AnswerLemmas.{content_short, sent_less}
-use Rattle.ws_keys.proofs.ContentLemmas.{length-with_last_digit_minus}
 use Rattle.ws_screen.proofs.Legal.{apart-le}
-use Rattle.ws_screen.specs.Keyed.{returns_data}
 use Rattle.ws_keys.specs.Contents.{field_parts, field_content, has_mdt, sent_length, sent_cells, is_negative}
 use Rattle.ws_keys.specs.Contents.{with_nulls_as_sent, blank_for_null, as_sent, modified_fields, content, all_input}
 use Rattle.ws_keys.specs.Contents.{data_parts, answer_parts}
 use Rattle.ws_keys.specs.Splits.{CutsInput, ReadsModified, SplitsData, Splits, FitsField, SameFields, input_by_field}
 use Rattle.ws_keys.specs.Splits.{cut_input, read_back, answer_of, IsSplit, ReadsBack}
+use Rattle.ws_keys.specs.declared.host_answer.HostAnswer.{HostAnswer}
 use Rattle.ws_keys.specs.declared.host_answer.HostFault.{HostFault}
 use Rattle.ws_keys.specs.declared.host_answer.HostFault.TheVariants.{Reason, Memory}
-use Rattle.ws_keys.specs.declared.host_answer.HostAnswer.{HostAnswer}
 use Rattle.ws_keys.specs.declared.host_answer.ReadField.{ReadField}
+use Rattle.ws_keys.proofs.AnswerLemmas.{content_short, sent_less}
+use Rattle.ws_keys.proofs.ContentLemmas.{length-with_last_digit_minus}
 use Rattle.ws_keys.proofs.SplitLaws.{same_field, one_split}
 
 shift-kept : (w : ℕ) → shift_number (with_mdt w false) ≡ shift_number w

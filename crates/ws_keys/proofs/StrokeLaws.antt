@@ -1,35 +1,32 @@
 -- What the keys of Erase EOF come to, and those of a field that is emptied.
-use Rattle.std.proofs.Common.{◌≡◌, ℕ, ◌+◌, ◌-◌, ◌<◌, ◌≤◌, List, [], ◌∷◌, ◌++◌, Bool, true, false, Some}
-use Rattle.std.proofs.Common.{None, length, if◌then◌else◌, unwrap_or, refl, sym, ap, ◌∙◌, arith, find, take, drop}
-use Rattle.std.proofs.Common.{subst}
-use Rattle.std.proofs.Common.{replicate, suc, zero, ◌==◌, is_none, length-append, length-drop}
-use Rattle.std.specs.Prelude.{nat_le, nat_lt, slice_get}
-use Rattle.std.proofs.lemmas.Grind.{flat_map-append}
 use Rattle.std.specs.Option.{option_map_or}
+use Rattle.std.specs.Prelude.{nat_le, nat_lt, slice_get}
+use Rattle.std.proofs.Common.{◌≡◌, ℕ, ◌+◌, ◌-◌, ◌<◌, ◌≤◌, List, [], ◌∷◌, ◌++◌, Bool, true, false, Some, None, length}
+use Rattle.std.proofs.Common.{if◌then◌else◌, unwrap_or, refl, sym, ap, ◌∙◌, arith, find, take, drop, subst, replicate}
+use Rattle.std.proofs.Common.{suc, zero, ◌==◌, is_none, length-append, length-drop}
 use Rattle.std.proofs.Math.Seq.{take-append_seam}
 use Rattle.std.proofs.lemmas.Bool.{and_from, and_parts, le-leb, lt-ltb, ltb-true, le-ltb}
+use Rattle.std.proofs.lemmas.Grind.{flat_map-append}
 use Rattle.std.proofs.lemmas.List.{append-nil, append_assoc, length-take-le, length-replicate}
-use Rattle.std.proofs.lemmas.List.{replicate-append-replicate}
-use Rattle.std.proofs.lemmas.List.{take-append-drop}
-use Rattle.ws_screen.specs.declared.field.Field.{Field}
-use Rattle.ws_screen.specs.Keyed.{after_edit, cells_of, only_open, open_field}
-use Rattle.ws_screen.proofs.EditLemmas.{found_low, open_is, open_within}
-use Rattle.ws_screen.specs.ScreenParts.{AreApart, IsLegal, ScreenParts, holds, is_non_bypass}
+use Rattle.std.proofs.lemmas.List.{replicate-append-replicate, take-append-drop}
 use Rattle.ws_code.specs.FormatWord.{with_mdt}
+use Rattle.ws_screen.specs.Keyed.{after_edit, cells_of, only_open, open_field}
+use Rattle.ws_screen.specs.ScreenParts.{AreApart, IsLegal, ScreenParts, holds, is_non_bypass}
+use Rattle.ws_screen.specs.declared.field.Field.{Field}
+use Rattle.ws_screen.proofs.EditLemmas.{found_low, open_is, open_within}
+use Rattle.ws_keys.specs.Contents.{is_signed}
 use Rattle.ws_keys.specs.Edits.{after_delete, digits_of, is_signed_word, sign_of, without_cell}
 use Rattle.ws_keys.specs.Keys.{key_refusal, protected_refusal, first_refusal}
-use Rattle.ws_keys.specs.Contents.{is_signed}
 use Rattle.ws_keys.specs.Strokes.{LeadTo, emptying_runs, erase_eof_runs, erasing_edit, erasing_runs, keys_of}
 use Rattle.ws_keys.specs.Strokes.{numbered_field, run_of, runs_to}
 use Rattle.ws_keys.specs.declared.key.Key.{Key}
 use Rattle.ws_keys.specs.declared.key.Key.TheVariants.{Left, Right, Delete}
 use Rattle.ws_keys.specs.declared.key.KeyRefusal.TheVariants.{Locked, Protected}
+use Rattle.ws_keys.proofs.ArrowLaws.{led_on, led_to, to_left, to_right}
 use Rattle.ws_keys.proofs.DeletedCells.{IsTail, deleted, deleted_between, length-after_delete}
 use Rattle.ws_keys.proofs.EditedScreens.{edited, edited_again, edited_cells, edited_open, edited_size, emptied_is}
-use Rattle.ws_keys.proofs.EditedScreens.{held_by, marked}
-use Rattle.ws_keys.proofs.EditedScreens.{shift_marked}
+use Rattle.ws_keys.proofs.EditedScreens.{held_by, marked, shift_marked}
 use Rattle.ws_keys.proofs.StepLemmas.{cursor_in, in_open, past_open}
-use Rattle.ws_keys.proofs.ArrowLaws.{led_on, led_to, to_left, to_right}
 
 -- DELETE
 

@@ -1,18 +1,18 @@
 -- A field of a screen that events give leaves a cell for its attribute, so a signed numeric one has at most
 -- 1,918 digits.
-use Rattle.std.proofs.Common.{◌≡◌, ℕ, ◌+◌, ◌-◌, ◌≤◌, List, [], ◌∷◌, ◌++◌, Bool, true, false, Option, Some, None, All}
-use Rattle.std.proofs.Common.{length, find, drop, replicate, if◌then◌else◌, refl, sym, ap, ◌∙◌, subst, arith}
-use Rattle.std.proofs.Common.{◌==◌, length-append, length-take}
 use Rattle.std.specs.List.{filter_map, cons_option, range_with_len, Contains}
 use Rattle.std.specs.Option.{option_map_or}
+use Rattle.std.specs.Prelude.{is_some}
+use Rattle.std.proofs.Common.{◌≡◌, ℕ, ◌+◌, ◌-◌, ◌≤◌, List, [], ◌∷◌, ◌++◌, Bool, true, false, Option, Some, None, All}
+use Rattle.std.proofs.Common.{length, find, drop, replicate, if◌then◌else◌, refl, sym, ap, ◌∙◌, subst, arith, ◌==◌}
+use Rattle.std.proofs.Common.{length-append, length-take}
 use Rattle.std.proofs.lemmas.Bool.{false≢true}
 use Rattle.std.proofs.lemmas.List.{length-map}
-use Rattle.std.specs.Prelude.{is_some}
 use Rattle.std.proofs.lemmas.List.Elements.{All-nil, All-cons, All-contains}
 use borrow.Author.Tests.{eqb-true, eqb-false, ne_eqb}
+use Rattle.ws_stream.specs.FieldOrder.{FieldOrder}
 use Rattle.ws_stream.specs.declared.element.Element.TheVariants.{ClearUnit, ClearFormat, Write, ReadInput, ReadMdt}
 use Rattle.ws_stream.specs.declared.element.Element.TheVariants.{ReadMdtAlternate, Soh, Ra, Ea, Sba, Ic, Mc, Sf, Put}
-use Rattle.ws_stream.specs.FieldOrder.{FieldOrder}
 use Rattle.ws_screen.specs.Events.{Event, did, ended, lit, cancelled, keyed, History}
 use Rattle.ws_screen.specs.Formats.{empties_table, field_by, cons_some, input_sfs, starts_at, field_from, fields}
 use Rattle.ws_screen.specs.Given.{Gives}

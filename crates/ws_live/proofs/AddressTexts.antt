@@ -1,15 +1,14 @@
-use Rattle.std.proofs.Common.{◌≡◌, ◌≢◌, ℕ, suc, ◌+◌, ◌<◌, List, [], ◌∷◌, ◌++◌, length, drop, refl, sym, ap, ◌∙◌, subst, arith}
-use Rattle.std.proofs.Common.{Bor}
-use Rattle.std.proofs.lemmas.List.{append-nil}
-use Rattle.std.proofs.lemmas.Str.Pattern.{IsSplitOnceResult, split_parts, strip_prefix_char}
-use Rattle.std.proofs.Common.{inl, inr}
+use Rattle.std.specs.Option.{option_map}
+use Rattle.std.specs.Prelude.{true, false, ◌==◌, MatchOption, Option, None, Some}
+use Rattle.std.specs.Str.Pattern.{FindsCharPrefix}
+use Rattle.std.proofs.Common.{◌≡◌, ◌≢◌, ℕ, suc, ◌+◌, ◌<◌, List, [], ◌∷◌, ◌++◌, length, drop, refl, sym, ap, ◌∙◌, subst}
+use Rattle.std.proofs.Common.{arith, Bor, inl, inr}
 use Rattle.std.proofs.lemmas.Bool.{false≢true}
 use Rattle.std.proofs.lemmas.Bool.Decides.{eqb_tells}
-use Rattle.std.specs.Option.{option_map}
-use Rattle.std.specs.Str.Pattern.{FindsCharPrefix}
-use Rattle.std.specs.Prelude.{true, false, ◌==◌, MatchOption, Option, None, Some}
-use Rattle.ws_live.specs.asked.Addresses.{IsV6, IsPlainV6, IsZone, IsZonedV6, HasNo, IsPort, IsPortOr, IsBehindHost, IsBracketed, IsNamed, IsHostText}
-use Rattle.ws_live.specs.asked.Addresses.{IsHostPort, IsListening}
+use Rattle.std.proofs.lemmas.List.{append-nil}
+use Rattle.std.proofs.lemmas.Str.Pattern.{IsSplitOnceResult, split_parts, strip_prefix_char}
+use Rattle.ws_live.specs.asked.Addresses.{IsV6, IsPlainV6, IsZone, IsZonedV6, HasNo, IsPort, IsPortOr, IsBehindHost}
+use Rattle.ws_live.specs.asked.Addresses.{IsBracketed, IsNamed, IsHostText, IsHostPort, IsListening}
 use Rattle.ws_live.specs.asked.Addresses.IsHostText.{bare, bracketed, named}
 
 -- Where the texts of addresses are cut.

@@ -1,10 +1,10 @@
-use Rattle.std.proofs.Common.{◌≡◌, ℕ, List, [], ◌∷◌, ◌++◌, Bool, false, refl, sym, ap, ◌∙◌, subst}
 use Rattle.std.specs.Prelude.{codes, string_bytes, ◌==◌, Option, None, Some, MatchOption}
+use Rattle.std.proofs.Common.{◌≡◌, ℕ, List, [], ◌∷◌, ◌++◌, Bool, false, refl, sym, ap, ◌∙◌, subst}
 use Rattle.std.proofs.lemmas.Bool.{false≢true}
-use Rattle.ws_live.specs.live.ConnectLines.{IsAwaited, IsMilliseconds, IsPlaced, IsPlacedText, IsQuietAwaited, IsSomeText}
-use Rattle.ws_live.specs.live.ConnectLines.{IsTextAnywhere, IsTextAt}
 use Rattle.ws_live.specs.declared.live.connect_line.Awaited.{Awaited}
 use Rattle.ws_live.specs.declared.live.connect_line.Awaited.TheVariants.{Turn, Record, Text, At, Quiet}
+use Rattle.ws_live.specs.live.ConnectLines.{IsAwaited, IsMilliseconds, IsPlaced, IsPlacedText, IsQuietAwaited}
+use Rattle.ws_live.specs.live.ConnectLines.{IsSomeText, IsTextAnywhere, IsTextAt}
 use Rattle.ws_live.proofs.ReportWords.{one_rest}
 
 -- The words of a line that waits.

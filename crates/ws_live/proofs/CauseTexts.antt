@@ -1,17 +1,17 @@
-use Rattle.std.proofs.Common.{◌≡◌, ◌≤◌, ◌++◌, ◌∷◌, [], List, ℕ, true, sym, ap, ◌∙◌, subst, inl, inr, append_assoc, lit<, Bor, arith, zero, suc, drop, length}
-use Rattle.std.specs.Prelude.{◌==◌}
+use Rattle.std.specs.Prelude.{◌==◌, Option, None, Some, IfSome, MatchOption}
+use Rattle.std.proofs.Common.{◌≡◌, ◌≤◌, ◌++◌, ◌∷◌, [], List, ℕ, true, sym, ap, ◌∙◌, subst, inl, inr, append_assoc, lit<}
+use Rattle.std.proofs.Common.{Bor, arith, zero, suc, drop, length}
 use Rattle.std.proofs.lemmas.Bool.{false≢true}
 use Rattle.std.proofs.lemmas.Bool.Decides.{eqb_tells}
-use Rattle.std.specs.Prelude.{Option, None, Some, IfSome, MatchOption}
-use Rattle.std.proofs.lemmas.Str.Pattern.{IsSplitOnceResult, split_parts}
-use Rattle.ws_live.proofs.ScriptWords.{no_blank_from}
-use Rattle.ws_live.specs.script.ScriptFaults.{has_no_blank}
-use Rattle.ws_text.specs.Words.{IsNumber}
 use Rattle.std.proofs.lemmas.List.{append-nil}
+use Rattle.std.proofs.lemmas.Str.Pattern.{IsSplitOnceResult, split_parts}
+use Rattle.ws_text.specs.Words.{IsNumber}
 use Rattle.ws_live.specs.cause.Causes.{BeginsWith, StandsIn, EndsWith, IsLeft, IsTrueOf, IsCause}
 use Rattle.ws_live.specs.declared.cause.Cause.{Cause}
 use Rattle.ws_live.specs.declared.cause.Cause.TheVariants as a_cause
 use Rattle.ws_live.specs.declared.cause.vocabulary.Vocabulary.{Vocabulary}
+use Rattle.ws_live.specs.script.ScriptFaults.{has_no_blank}
+use Rattle.ws_live.proofs.ScriptWords.{no_blank_from}
 
 -- Where words stand in a line.
 

@@ -1,10 +1,10 @@
+use Rattle.std.specs.Fmt.{decimal}
+use Rattle.std.specs.Prelude.{◌≢◌, ◌==◌, Option, None, Some, codes, encode_utf8}
 use Rattle.std.proofs.Common.{◌≡◌, ℕ, ◌+◌, ◌-◌, ◌<◌, ◌≤◌, true, false, List, [], ◌∷◌, ◌++◌, length, take, get_or, inl}
 use Rattle.std.proofs.Common.{inr, refl, sym, ap, ◌∙◌, subst, arith, append_assoc}
-use Rattle.std.specs.Prelude.{◌≢◌, ◌==◌, Option, None, Some, codes, encode_utf8}
 use Rattle.std.proofs.lemmas.Bool.{false≢true}
 use Rattle.std.proofs.lemmas.Bool.Decides.{eqb_tells}
 use Rattle.std.proofs.lemmas.List.{append-nil, take_more}
-use Rattle.std.specs.Fmt.{decimal}
 use Rattle.ws_screen.specs.declared.shown.Shown.{Shown}
 use Rattle.ws_live.specs.printing.ColoredRows.{sequence_behind, colored_behind, colored_text, reset}
 use Rattle.ws_live.specs.printing.ScreenLines.{indent, row_line}

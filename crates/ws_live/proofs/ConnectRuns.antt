@@ -1,7 +1,7 @@
+use Rattle.std.specs.Prelude.{Result, Ok, Err, Option, Some, is_none}
 use Rattle.std.proofs.Common.{◌≡◌, ℕ, suc, ◌+◌, ◌<◌, ◌≤◌, List, [], ◌∷◌, ◌++◌, Bool, true, false, ◌&&◌, length, get_or}
 use Rattle.std.proofs.Common.{take, drop, take-append-drop, inl, inr, refl, sym, ap, ◌∙◌, subst, arith, append_assoc}
 use Rattle.std.proofs.Common.{length-append}
-use Rattle.std.specs.Prelude.{Result, Ok, Err, Option, Some, is_none}
 use Rattle.std.proofs.Math.Seq.{drop-cons}
 use Rattle.std.proofs.lemmas.Bool.{cases_lt}
 use Rattle.std.proofs.lemmas.List.{append-nil, take_more}
@@ -9,26 +9,27 @@ use Rattle.ws_code.specs.Code.{Rules}
 use Rattle.ws_code.specs.Device.{Writer, Reader, one_more, Devices}
 use Rattle.ws_code.specs.declared.fault.Fault.{Fault}
 use Rattle.ws_code.specs.declared.fault.Fault.TheVariants as fault
+use Rattle.ws_nego.specs.Station.{station_allows_records}
 use Rattle.ws_session.specs.attached.Attachments.{AttachedParts}
-use Rattle.ws_session.specs.station.Displays.{DisplayOf}
-use Rattle.ws_session.specs.station.PartsOn.{PartsOn}
 use Rattle.ws_session.specs.declared.end_step.Applied.{Applied}
 use Rattle.ws_session.specs.declared.station.key_fault.KeyFault.{KeyFault}
+use Rattle.ws_session.specs.station.Displays.{DisplayOf}
+use Rattle.ws_session.specs.station.PartsOn.{PartsOn}
 use Rattle.ws_live.specs.declared.live.Closing.{Closing}
 use Rattle.ws_live.specs.declared.live.connect.Waited.{Waited}
 use Rattle.ws_live.specs.declared.live.connect.Waited.TheVariants as waits
 use Rattle.ws_live.specs.declared.live.connect_line.Awaited.{Awaited}
 use Rattle.ws_live.specs.declared.live.connect_line.Awaited.TheVariants as awaits
-use Rattle.ws_live.specs.live.ConnectText.{key_refused_text, pressed, closing_of_both, IsMet, IsKeyPressed, KeyRuns, ArePressed}
-use Rattle.ws_live.specs.live.ConnectText.{KeysRun, Hears, HasWaited, HearsOne, HearsNone, WaitsFor, IsWaited, IsKeyUnwritten}
-use Rattle.ws_live.specs.live.ConnectText.{IsWorking, Reports, ShowsStation, more_ahead, report_waits, rested}
-use Rattle.ws_live.specs.declared.live.watch.WaitSpan.TheVariants.{AtOnce}
-use Rattle.ws_live.specs.printing.ReportLines.{IsReportText}
 use Rattle.ws_live.specs.declared.live.report.Report.{Report}
 use Rattle.ws_live.specs.declared.live.report.Report.TheVariants as reported
-use Rattle.ws_nego.specs.Station.{station_allows_records}
-use Rattle.ws_live.specs.script.KeyWords.{KeyWords}
+use Rattle.ws_live.specs.declared.live.watch.WaitSpan.TheVariants.{AtOnce}
+use Rattle.ws_live.specs.live.ConnectText.{key_refused_text, pressed, closing_of_both, IsMet, IsKeyPressed, KeyRuns}
+use Rattle.ws_live.specs.live.ConnectText.{ArePressed, KeysRun, Hears, HasWaited, HearsOne, HearsNone, WaitsFor}
+use Rattle.ws_live.specs.live.ConnectText.{IsWaited, IsKeyUnwritten, IsWorking, Reports, ShowsStation, more_ahead}
+use Rattle.ws_live.specs.live.ConnectText.{report_waits, rested}
 use Rattle.ws_live.specs.live.Operating.{OperatedOn}
+use Rattle.ws_live.specs.printing.ReportLines.{IsReportText}
+use Rattle.ws_live.specs.script.KeyWords.{KeyWords}
 
 -- Keys and records at a station, one more at a time.
 

@@ -1,16 +1,16 @@
+use Rattle.std.specs.Char.{len_utf8}
+use Rattle.std.specs.Prelude.{codes, ◌==◌, encode_utf8}
 use Rattle.std.proofs.Common.{◌≡◌, ℕ, zero, suc, ◌+◌, ◌<◌, ◌≤◌, List, [], ◌∷◌, ◌++◌, length, get_or, refl, sym, ap, ◌∙◌}
 use Rattle.std.proofs.Common.{arith, append_assoc, Bool, true, false, cond, nat_lt}
-use Rattle.std.specs.Prelude.{codes, ◌==◌, encode_utf8}
-use Rattle.std.specs.Char.{len_utf8}
-use Rattle.std.proofs.lemmas.Str.{length-encode}
 use Rattle.std.proofs.lemmas.Bool.{false≢true}
 use Rattle.std.proofs.lemmas.List.{append-nil}
+use Rattle.std.proofs.lemmas.Str.{length-encode}
 use Rattle.ws_code.specs.declared.address.TheConstants.{CELLS}
 use Rattle.ws_screen.specs.ScreenParts.{AreApart}
 use Rattle.ws_screen.specs.declared.field.Field.{Field}
+use Rattle.ws_text.proofs.LineEnds.{filled}
 use Rattle.ws_live.specs.printing.FieldLines.{shown_of, field_line, behind_blank, AreLinesOf}
 use Rattle.ws_live.specs.printing.ScreenLines.{IsWithoutLastBlanks}
-use Rattle.ws_text.proofs.LineEnds.{filled}
 
 -- The fields of a screen, one after another.
 

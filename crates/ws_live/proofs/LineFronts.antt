@@ -1,8 +1,7 @@
-use Rattle.std.proofs.Common.{◌≡◌, ◌⊎◌, ℕ, List, [], ◌∷◌, ◌++◌, ◌==◌, Bool, true, false, cond, map, inl, inr}
-use Rattle.std.proofs.Common.{refl, sym, ap, ◌∙◌}
-use Rattle.std.proofs.Common.{append_assoc}
 use Rattle.std.specs.List.{slice_split, onto_first}
 use Rattle.std.specs.Str.Lines.{lines, lines_of_parts, strip_carriage_return}
+use Rattle.std.proofs.Common.{◌≡◌, ◌⊎◌, ℕ, List, [], ◌∷◌, ◌++◌, ◌==◌, Bool, true, false, cond, map, inl, inr, refl, sym}
+use Rattle.std.proofs.Common.{ap, ◌∙◌, append_assoc}
 use Rattle.std.proofs.lemmas.List.{append_cancel_right, append-nil}
 use Rattle.ws_text.specs.FirstLine.{IsBehindLines}
 use Rattle.ws_text.proofs.LineEnds.{split_some}

@@ -1,8 +1,8 @@
 use Rattle.std.proofs.Common.{ℕ, List, [], ◌∷◌, ◌++◌, refl, sym, subst}
 use Rattle.std.proofs.lemmas.List.{append-nil}
 use Rattle.ws_screen.specs.ScreenParts.{ScreenParts}
-use Rattle.ws_live.specs.printing.ScreenLines.{IsScreenText, IsDisplayText}
 use Rattle.ws_live.specs.declared.printing.paint.Paint.{Paint}
+use Rattle.ws_live.specs.printing.ScreenLines.{IsScreenText, IsDisplayText}
 
 -- what is printed behind the lines of a screen stands behind them
 pub display_text : (paint : Paint) (s : ScreenParts) (behind lines : List ℕ) → IsScreenText paint s lines

@@ -1,20 +1,20 @@
-use Rattle.std.proofs.Common.{◌≡◌, ℕ, ◌<◌, List, ◌++◌, true, false, length, inl, inr, refl, sym, ap, ◌∙◌, subst, arith}
 use Rattle.std.specs.Prelude.{codes}
 use Rattle.std.specs.Str.{IsUtf8, bytes_eq}
+use Rattle.std.proofs.Common.{◌≡◌, ℕ, ◌<◌, List, ◌++◌, true, false, length, inl, inr, refl, sym, ap, ◌∙◌, subst, arith}
 use Rattle.std.proofs.lemmas.Bool.{false≢true}
 use Rattle.ws_session.specs.declared.end_step.Order.TheVariants.{Send, Cancel}
 use Rattle.ws_session.specs.declared.world.Move.{Move}
 use Rattle.ws_session.specs.declared.world.Move.TheVariants as moves
-use Rattle.ws_live.specs.live.ConnectLines.{IsNothing}
-use Rattle.ws_live.specs.script.Script.{IsMove}
-use Rattle.ws_live.specs.script.ScriptFaults.{IsNoComment, has_no_blank}
-use Rattle.ws_live.specs.live.ServeLines.{IsAnswerAwaited, IsHostBegun, IsIdle, MeansHostLine as HostMeans, IsOneSoFar}
-use Rattle.ws_live.specs.live.WireLines.{MeansWire}
 use Rattle.ws_live.specs.declared.live.serve_line.AnswerAwaited.{AnswerAwaited}
 use Rattle.ws_live.specs.declared.live.serve_line.HostLine.{HostLine}
 use Rattle.ws_live.specs.declared.live.serve_line.HostLine.TheVariants as host
 use Rattle.ws_live.specs.declared.live.wire_line.WireLine.{WireLine}
 use Rattle.ws_live.specs.declared.live.wire_line.WireLine.TheVariants as wire
+use Rattle.ws_live.specs.live.ConnectLines.{IsNothing}
+use Rattle.ws_live.specs.live.ServeLines.{IsAnswerAwaited, IsHostBegun, IsIdle, MeansHostLine as HostMeans, IsOneSoFar}
+use Rattle.ws_live.specs.live.WireLines.{MeansWire}
+use Rattle.ws_live.specs.script.Script.{IsMove}
+use Rattle.ws_live.specs.script.ScriptFaults.{IsNoComment, has_no_blank}
 use Rattle.ws_live.proofs.ScriptWords.{blank_inside, differ, split_unique}
 
 -- What a line of a live script can't mean.

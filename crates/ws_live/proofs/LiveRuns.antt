@@ -1,20 +1,19 @@
-use Rattle.std.proofs.Common.{◌≡◌, ℕ, ◌+◌, ◌<◌, List, [], ◌∷◌, ◌++◌, Bool, true, false, ◌&&◌, length, take, drop, inl}
-use Rattle.std.proofs.Common.{inr, refl, sym, ap, ◌∙◌, subst, arith, append_assoc}
 use Rattle.std.specs.Prelude.{Result, Ok, Err}
-use Rattle.std.proofs.Common.{suc, get_or, take-append-drop}
+use Rattle.std.proofs.Common.{◌≡◌, ℕ, ◌+◌, ◌<◌, List, [], ◌∷◌, ◌++◌, Bool, true, false, ◌&&◌, length, take, drop, inl}
+use Rattle.std.proofs.Common.{inr, refl, sym, ap, ◌∙◌, subst, arith, append_assoc, suc, get_or, take-append-drop}
 use Rattle.std.proofs.Math.Seq.{drop-cons}
 use Rattle.std.proofs.lemmas.List.{append-nil, take_more}
 use Rattle.ws_code.specs.Device.{Writer, WentOut, FailedWithin}
 use Rattle.ws_code.specs.declared.fault.Fault.{Fault}
 use Rattle.ws_code.proofs.DeviceLaws.{went_out_both}
 use Rattle.ws_code.proofs.Parts.{fails_last}
-use Rattle.ws_live.specs.declared.live.Closing.{Closing}
-use Rattle.ws_live.specs.declared.live.Ran.{Ran}
+use Rattle.ws_text.specs.Printing.{IsOut}
 use Rattle.ws_text.specs.declared.output.Output.{Output}
 use Rattle.ws_text.specs.declared.output.Output.TheVariants.{Open, Failed as Unwritten}
+use Rattle.ws_live.specs.declared.live.Closing.{Closing}
+use Rattle.ws_live.specs.declared.live.Ran.{Ran}
 use Rattle.ws_live.specs.live.LiveText.{closing_text, is_well, stops, ran_by, ran_and, HaveRun, IsStoppedAt, HasCarried}
 use Rattle.ws_live.specs.live.LiveText.{IsLiveLineFault, HasRunLines, IsLiveFault}
-use Rattle.ws_text.specs.Printing.{IsOut}
 
 -- Lines that are carried out one after another.
 

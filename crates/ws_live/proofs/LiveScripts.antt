@@ -1,12 +1,12 @@
-use Rattle.std.proofs.Common.{◌≡◌, ℕ, ◌+◌, ◌-◌, ◌^◌, ◌<◌, ◌≤◌, List, [], ◌∷◌, ◌++◌, length}
-use Rattle.std.proofs.Common.{refl, sym, ap, ◌∙◌, subst, arith}
-use Rattle.std.proofs.Common.{append_assoc, length-append, take, true, inl}
 use Rattle.std.specs.Prelude.{min}
-use Rattle.std.proofs.Math.Seq.{take-append_seam}
 use Rattle.std.specs.Str.Lines.{lines}
-use Rattle.ws_live.specs.live.LiveScript.{is_indented, AreIndented, BeginsFlush, HasInside, IsBlock, HasBlock}
-use Rattle.ws_live.specs.live.LiveScript.{MeanThese, AreLiveLines, IsFirstBadLiveLine, IsGoodBlockSoFar, IsLiveScriptSoFar}
+use Rattle.std.proofs.Common.{◌≡◌, ℕ, ◌+◌, ◌-◌, ◌^◌, ◌<◌, ◌≤◌, List, [], ◌∷◌, ◌++◌, length, refl, sym, ap, ◌∙◌, subst}
+use Rattle.std.proofs.Common.{arith, append_assoc, length-append, take, true, inl}
+use Rattle.std.proofs.Math.Seq.{take-append_seam}
 use Rattle.ws_text.specs.FirstLine.{IsBehindLines}
+use Rattle.ws_live.specs.live.LiveScript.{is_indented, AreIndented, BeginsFlush, HasInside, IsBlock, HasBlock}
+use Rattle.ws_live.specs.live.LiveScript.{MeanThese, AreLiveLines, IsFirstBadLiveLine, IsGoodBlockSoFar}
+use Rattle.ws_live.specs.live.LiveScript.{IsLiveScriptSoFar}
 use Rattle.ws_live.proofs.LineFronts.{behind_more, lines_behind}
 
 -- The lines of a live script, one more at a time.

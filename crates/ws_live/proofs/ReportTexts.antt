@@ -1,10 +1,10 @@
-use Rattle.std.proofs.Common.{◌≡◌, ℕ, ◌+◌, ◌<◌, List, [], ◌∷◌, ◌++◌, length, get_or, take, sym, ap, ◌∙◌}
 use Rattle.std.specs.Prelude.{map}
+use Rattle.std.proofs.Common.{◌≡◌, ℕ, ◌+◌, ◌<◌, List, [], ◌∷◌, ◌++◌, length, get_or, take, sym, ap, ◌∙◌}
 use Rattle.std.proofs.lemmas.List.{map_more}
 use Rattle.hex.specs.Hex.{encode_upper, upper_digits}
 use Rattle.ws_screen.specs.declared.shown.Shown.{Shown}
-use Rattle.ws_live.specs.printing.ReportLines.{attributes_text}
 use Rattle.ws_text.proofs.Prints.{encode_append}
+use Rattle.ws_live.specs.printing.ReportLines.{attributes_text}
 
 -- The attributes of one more cell.
 pub attributes_more : (shown : List Shown) (i : ℕ) (d : Shown) → i < length shown

@@ -1,12 +1,12 @@
-use Rattle.std.proofs.Common.{◌≡◌, ℕ, List, ◌++◌, true, refl, sym, ap, ◌∙◌, subst}
 use Rattle.std.specs.Prelude.{codes}
+use Rattle.std.proofs.Common.{◌≡◌, ℕ, List, ◌++◌, true, refl, sym, ap, ◌∙◌, subst}
 use Rattle.ws_code.specs.Address.{IsRowAndColumn}
 use Rattle.ws_text.specs.Words.{IsSmall, IsCell}
-use Rattle.ws_live.specs.live.ConnectLines.{IsBehindRow, IsCellCount, IsPlaced, IsRowText, IsSpanText}
-use Rattle.ws_live.specs.script.ScriptFaults.{IsLineFault, has_no_blank}
 use Rattle.ws_live.specs.declared.live.report.Span.{Span}
 use Rattle.ws_live.specs.declared.script.script_line.LineFault.{LineFault}
 use Rattle.ws_live.specs.declared.script.script_line.LineFault.TheVariants.{Bad, Memory}
+use Rattle.ws_live.specs.live.ConnectLines.{IsBehindRow, IsCellCount, IsPlaced, IsRowText, IsSpanText}
+use Rattle.ws_live.specs.script.ScriptFaults.{IsLineFault, has_no_blank}
 use Rattle.ws_live.proofs.ScriptWords.{blank_inside, digits_have_no_blank, split_unique}
 use Rattle.ws_live.proofs.StrokeWords.{same_number}
 

@@ -1,19 +1,18 @@
-use Rattle.std.proofs.Common.{◌≡◌, ◌≢◌, ℕ, suc, ◌+◌, ◌<◌, List, [], ◌∷◌, ◌++◌, true, false, not, ◌&&◌, length, get_or}
-use Rattle.std.proofs.Common.{drop, inl, inr, refl, sym, ap, ◌∙◌, subst, arith, append_assoc}
-use Rattle.std.specs.Prelude.{codes, Option, Some, None, MatchOption}
-use Rattle.std.proofs.Common.{lit<, Bor}
-use Rattle.std.proofs.lemmas.Str.Pattern.{IsSplitOnceResult, split_parts, strip_prefix_char}
-use Rattle.std.specs.Str.Pattern.{FindsCharPrefix}
+use Rattle.std.specs.Char.{digit_value}
 use Rattle.std.specs.Option.{is_some}
+use Rattle.std.specs.Prelude.{codes, Option, Some, None, MatchOption}
 use Rattle.std.specs.Str.{bytes_eq}
 use Rattle.std.specs.Str.Parse.{AllDigits}
-use Rattle.std.specs.Char.{digit_value}
+use Rattle.std.specs.Str.Pattern.{FindsCharPrefix}
+use Rattle.std.proofs.Common.{◌≡◌, ◌≢◌, ℕ, suc, ◌+◌, ◌<◌, List, [], ◌∷◌, ◌++◌, true, false, not, ◌&&◌, length, get_or}
+use Rattle.std.proofs.Common.{drop, inl, inr, refl, sym, ap, ◌∙◌, subst, arith, append_assoc, lit<, Bor}
 use Rattle.std.proofs.lemmas.Bool.{false≢true}
 use Rattle.std.proofs.lemmas.Bool.Decides.{eqb_tells}
 use Rattle.std.proofs.lemmas.Slice.Eq.{bytes_eq-Decides}
+use Rattle.std.proofs.lemmas.Str.Pattern.{IsSplitOnceResult, split_parts, strip_prefix_char}
+use Rattle.ws_record.specs.Grammar.{opcode_byte}
 use Rattle.ws_record.specs.declared.opcode.Opcode.{Opcode}
 use Rattle.ws_record.specs.declared.opcode.Opcode.TheVariants.{CancelInvite}
-use Rattle.ws_record.specs.Grammar.{opcode_byte}
 use Rattle.ws_text.specs.Words.{IsNumber}
 use Rattle.ws_live.specs.script.Script.{IsSendOpcode}
 use Rattle.ws_live.specs.script.ScriptFaults.{IsNoComment, has_no_blank}

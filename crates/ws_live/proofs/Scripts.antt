@@ -1,22 +1,22 @@
+use Rattle.std.specs.Prelude.{codes, map, Some, None}
+use Rattle.std.specs.Str.{IsUtf8, chars}
+use Rattle.std.specs.Str.Lines.{lines}
 use Rattle.std.proofs.Common.{◌≡◌, ◌≢◌, ℕ, ◌+◌, ◌<◌, ◌≤◌, List, [], ◌∷◌, ◌++◌, Bool, true, length, inl, inr, refl, sym}
 use Rattle.std.proofs.Common.{ap, ◌∙◌, subst, arith, append_assoc, length-append}
-use Rattle.std.specs.Prelude.{codes, map, Some, None}
-use Rattle.std.specs.Str.Lines.{lines}
 use Rattle.std.proofs.lemmas.Bool.{false≢true}
 use Rattle.std.proofs.lemmas.List.{append-nil}
+use Rattle.std.proofs.lemmas.Str.{scalars-chars, encodes-chars}
 use Rattle.ws_record.specs.declared.opcode.Opcode.{Opcode}
 use Rattle.ws_stream.specs.declared.element.Element.{Element}
 use Rattle.ws_session.specs.declared.world.Move.{Move}
 use Rattle.ws_session.specs.declared.world.Move.TheVariants.{Send, Cancel, ToStation, ToHost, Key as Press}
-use Rattle.ws_live.specs.script.KeyNames.{key_named}
-use Rattle.ws_live.specs.script.Script.{AreTypedMoves, typed_key, IsCount, IsSendOpcode, IsBodyText, IsRecordText, IsMove, MeansMoves}
-use Rattle.ws_live.specs.script.Script.{IsScriptLine, IsBad, AreLines, IsScript, IsFirstBad}
-use Rattle.ws_live.specs.script.Script.Means.{empty, comment, one, settle, typed, inserted}
-use Rattle.std.specs.Str.{IsUtf8, chars}
-use Rattle.std.proofs.lemmas.Str.{scalars-chars, encodes-chars}
-use Rattle.ws_live.specs.script.ScriptFaults.{IsNoComment, IsLineFault, IsGoodSoFar, IsReadSoFar, has_no_blank}
 use Rattle.ws_live.specs.declared.script.script_line.LineFault.{LineFault}
 use Rattle.ws_live.specs.declared.script.script_line.LineFault.TheVariants.{Bad, Memory}
+use Rattle.ws_live.specs.script.KeyNames.{key_named}
+use Rattle.ws_live.specs.script.Script.{AreTypedMoves, typed_key, IsCount, IsSendOpcode, IsBodyText, IsRecordText}
+use Rattle.ws_live.specs.script.Script.{IsMove, MeansMoves, IsScriptLine, IsBad, AreLines, IsScript, IsFirstBad}
+use Rattle.ws_live.specs.script.Script.Means.{empty, comment, one, settle, typed, inserted}
+use Rattle.ws_live.specs.script.ScriptFaults.{IsNoComment, IsLineFault, IsGoodSoFar, IsReadSoFar, has_no_blank}
 use Rattle.ws_live.proofs.ScriptWords.{differ, blank_inside, split_unique, digits_have_no_blank}
 
 -- a fault of a part, as one of what holds the part

@@ -1,35 +1,30 @@
+use Rattle.std.specs.Prelude.{Result, Ok, Err, Option, Some, IfOk, IfErr, IfSome, IfNone, not, replicate}
 use Rattle.std.proofs.Common.{◌≡◌, ◌≢◌, ℕ, ◌+◌, List, [], ◌∷◌, ◌++◌, Bool, true, false, ◌&&◌, inl, inr, refl, sym, ap}
 use Rattle.std.proofs.Common.{◌∙◌, subst}
-use Rattle.std.specs.Prelude.{Result, Ok, Err, Option, Some, IfOk, IfErr, IfSome, IfNone, not, replicate}
 use Rattle.std.proofs.lemmas.Bool.{false≢true}
 use Rattle.std.proofs.lemmas.List.{append-nil, replicate-append-replicate}
 use Rattle.ws_code.specs.Device.{Writer, Reader, WentOut, most_reads, Devices}
-use Rattle.ws_code.proofs.DeviceLaws.{went_out_both}
-use Rattle.ws_code.proofs.Parts.{fails_last}
 use Rattle.ws_code.specs.declared.fault.Fault.{Fault}
 use Rattle.ws_code.specs.declared.fault.Fault.TheVariants as fault
+use Rattle.ws_code.proofs.DeviceLaws.{went_out_both}
+use Rattle.ws_code.proofs.Parts.{fails_last}
 use Rattle.ws_record.specs.declared.opcode.Opcode.{Opcode}
 use Rattle.ws_record.specs.declared.opcode.Opcode.TheVariants.{NoOperation, Invite, OutputOnly, PutGet, SaveScreen}
 use Rattle.ws_record.specs.declared.opcode.Opcode.TheVariants.{RestoreScreen, ReadImmediate, ReadScreen, CancelInvite}
 use Rattle.ws_record.specs.declared.opcode.Opcode.TheVariants.{MessageLightOn, MessageLightOff}
+use Rattle.ws_stream.specs.declared.element.Element.{Element}
+use Rattle.ws_text.specs.Printing.{IsOut}
+use Rattle.ws_text.specs.declared.output.Output.{Output}
+use Rattle.ws_text.specs.declared.output.Output.TheVariants.{Open, Failed as Unwritten}
 use Rattle.ws_session.specs.Acts.{Did}
-use Rattle.ws_session.specs.attached.Attachments.{AttachedParts, HasHeard, HaveLed, HaveLedUnwritten, IsSendFailure}
-use Rattle.ws_session.specs.host_end.HostLeads.{HostParts}
 use Rattle.ws_session.specs.Conducts.{host_conduct}
 use Rattle.ws_session.specs.Manners.{IsSendRefusal, IsSendTaken}
+use Rattle.ws_session.specs.attached.Attachments.{AttachedParts, HasHeard, HaveLed, HaveLedUnwritten, IsSendFailure}
 use Rattle.ws_session.specs.declared.end_step.Order.{Order}
 use Rattle.ws_session.specs.declared.end_step.Order.TheVariants.{Send}
 use Rattle.ws_session.specs.declared.host_end.host_event.HostEvent.{HostEvent}
 use Rattle.ws_session.specs.declared.host_end.send_fault.SendFault.{SendFault}
-use Rattle.ws_stream.specs.declared.element.Element.{Element}
-use Rattle.ws_live.specs.live.LiveText.{HaveRun, IsLiveText, stops}
-use Rattle.ws_live.specs.live.Waits.{InTime}
-use Rattle.ws_live.specs.live.ServeText.{deed_of, reaction_to, is_awaited, is_told, AnswersOn, HasAnsweredOnce, HaveToldBeforeAnswer}
-use Rattle.ws_live.specs.live.ServeText.{HasAnsweredOn, IsAnswerOnceFault, HostRuns, AwaitsNext, host_waits, IsDone, IsGiven, IsAnsweringText}
-use Rattle.ws_live.specs.live.ServeText.{IsAnswerOnFault, IsServeText}
-use Rattle.ws_text.specs.Printing.{IsOut}
-use Rattle.ws_text.specs.declared.output.Output.{Output}
-use Rattle.ws_text.specs.declared.output.Output.TheVariants.{Open, Failed as Unwritten}
+use Rattle.ws_session.specs.host_end.HostLeads.{HostParts}
 use Rattle.ws_live.specs.declared.live.Closing.{Closing}
 use Rattle.ws_live.specs.declared.live.Closing.TheVariants.{Nothing, Done, Declined, Late, Ended, Stopped, Closed}
 use Rattle.ws_live.specs.declared.live.Ran.{Ran}
@@ -37,6 +32,11 @@ use Rattle.ws_live.specs.declared.live.serve_line.AnswerAwaited.{AnswerAwaited}
 use Rattle.ws_live.specs.declared.live.serve_line.HostLine.{HostLine}
 use Rattle.ws_live.specs.declared.live.serve_line.HostLine.TheVariants.{Await}
 use Rattle.ws_live.specs.declared.live.watch.WaitSpan.{WaitSpan}
+use Rattle.ws_live.specs.live.LiveText.{HaveRun, IsLiveText, stops}
+use Rattle.ws_live.specs.live.ServeText.{deed_of, reaction_to, is_awaited, is_told, AnswersOn, HasAnsweredOnce}
+use Rattle.ws_live.specs.live.ServeText.{HaveToldBeforeAnswer, HasAnsweredOn, IsAnswerOnceFault, HostRuns, AwaitsNext}
+use Rattle.ws_live.specs.live.ServeText.{host_waits, IsDone, IsGiven, IsAnsweringText, IsAnswerOnFault, IsServeText}
+use Rattle.ws_live.specs.live.Waits.{InTime}
 use Rattle.ws_live.proofs.LiveRuns.{run_more}
 
 -- A host's lines, and what is told behind them.

@@ -1,21 +1,22 @@
-use Rattle.std.proofs.Common.{◌≡◌, ◌≢◌, ℕ, List, [], ◌∷◌, ◌++◌, ◌==◌, length, false, inl, inr}
-use Rattle.std.proofs.Common.{refl, sym, ap, ◌∙◌, subst, arith}
 use Rattle.std.specs.Prelude.{codes}
 use Rattle.std.specs.Str.Lines.{lines}
 use Rattle.std.specs.Str.Parse.{digits_value}
+use Rattle.std.proofs.Common.{◌≡◌, ◌≢◌, ℕ, List, [], ◌∷◌, ◌++◌, ◌==◌, length, false, inl, inr, refl, sym, ap, ◌∙◌}
+use Rattle.std.proofs.Common.{subst, arith}
 use Rattle.std.proofs.lemmas.Bool.{false≢true}
 use Rattle.ws_record.specs.declared.opcode.Opcode.{Opcode}
 use Rattle.ws_record.specs.declared.record.Record.{Record}
 use Rattle.ws_record.proofs.Reading.{opcode_same}
-use Rattle.ws_stream.specs.declared.element.Element.{Element}
 use Rattle.ws_stream.specs.Elements.{element_rules}
+use Rattle.ws_stream.specs.declared.element.Element.{Element}
 use Rattle.ws_text.specs.BodyLines.{AddUnits, IsAddFault, new_record}
 use Rattle.ws_text.specs.ElementWords.{element_wording}
 use Rattle.ws_text.specs.declared.items.TextFault.TheVariants as items
 use Rattle.ws_text.proofs.LineEnds.{some_lines}
-use Rattle.ws_live.specs.live.LiveScript.{IsBlockFault}
-use Rattle.ws_live.specs.live.ServeLines.{AreBadAt, BeginsHostLine, IsBadHostLineAt, IsHostLine, OpensHostBlock, SendsAlone}
 use Rattle.ws_live.specs.declared.script.ScriptFault.TheVariants.{Line}
+use Rattle.ws_live.specs.live.LiveScript.{IsBlockFault}
+use Rattle.ws_live.specs.live.ServeLines.{AreBadAt, BeginsHostLine, IsBadHostLineAt, IsHostLine, OpensHostBlock}
+use Rattle.ws_live.specs.live.ServeLines.{SendsAlone}
 
 -- Records that are told in words.
 

@@ -1,27 +1,26 @@
-use Rattle.std.proofs.Common.{◌≡◌, ℕ, ◌<◌, List, ◌++◌, true, length, inl, inr, refl, sym, ap, ◌∙◌, subst}
-use Rattle.std.specs.Prelude.{codes, ◌⊎◌, Bool, false, map, [], ◌∷◌}
 use Rattle.std.specs.List.{list_any}
+use Rattle.std.specs.Prelude.{codes, ◌⊎◌, Bool, false, map, [], ◌∷◌}
 use Rattle.std.specs.Str.{IsUtf8, bytes_eq, chars}
-use Rattle.std.proofs.lemmas.Str.{scalars-chars, encodes-chars}
+use Rattle.std.proofs.Common.{◌≡◌, ℕ, ◌<◌, List, ◌++◌, true, length, inl, inr, refl, sym, ap, ◌∙◌, subst}
 use Rattle.std.proofs.lemmas.Bool.{false≢true}
-use Rattle.ws_live.specs.live.ConnectLines.{AreKeysOf, AreNamed, MeansKeys, MeansStroke, MeansWait, IsAwaited}
-use Rattle.ws_live.specs.live.ConnectLines.{IsRowText, IsSpanText, MeansReport}
-use Rattle.ws_live.specs.live.ConnectLines.{IsCellText, IsFilling, IsTextAwaited, IsTextWait, IsCommandSoFar}
-use Rattle.ws_live.specs.live.ConnectLines.{IsStationSoFar, MeansStationLine}
-use Rattle.ws_live.specs.live.ConnectLines.MeansKeys.{typed, inserted, named}
-use Rattle.ws_live.specs.script.KeyWords.{KeyWords}
-use Rattle.ws_live.specs.script.Script.{typed_key}
-use Rattle.ws_live.specs.script.ScriptFaults.{IsNoComment, has_no_blank}
+use Rattle.std.proofs.lemmas.Str.{scalars-chars, encodes-chars}
+use Rattle.ws_live.specs.declared.live.connect_line.Awaited.{Awaited}
 use Rattle.ws_live.specs.declared.live.connect_line.StationLine.{StationLine}
 use Rattle.ws_live.specs.declared.live.connect_line.StationLine.TheVariants.{Nothing, Press, Await, Fields, Show, Bad}
 use Rattle.ws_live.specs.declared.live.connect_line.StationLine.TheVariants.{Stroke as StrokeLine, Report as ReportLine}
 use Rattle.ws_live.specs.declared.live.report.Report.{Report}
 use Rattle.ws_live.specs.declared.live.report.Report.TheVariants.{Status, Cells, Text as ShownText, Note}
 use Rattle.ws_live.specs.declared.live.report.Span.{Span}
-use Rattle.ws_live.specs.declared.live.connect_line.Awaited.{Awaited}
 use Rattle.ws_live.specs.declared.live.stroke.Filling.{Filling}
 use Rattle.ws_live.specs.declared.live.stroke.Stroke.{Stroke}
 use Rattle.ws_live.specs.declared.live.stroke.Stroke.TheVariants.{Cursor, NewLine, EraseEof, Fill}
+use Rattle.ws_live.specs.live.ConnectLines.{AreKeysOf, AreNamed, MeansKeys, MeansStroke, MeansWait, IsAwaited}
+use Rattle.ws_live.specs.live.ConnectLines.{IsRowText, IsSpanText, MeansReport, IsCellText, IsFilling, IsTextAwaited}
+use Rattle.ws_live.specs.live.ConnectLines.{IsTextWait, IsCommandSoFar, IsStationSoFar, MeansStationLine}
+use Rattle.ws_live.specs.live.ConnectLines.MeansKeys.{typed, inserted, named}
+use Rattle.ws_live.specs.script.KeyWords.{KeyWords}
+use Rattle.ws_live.specs.script.Script.{typed_key}
+use Rattle.ws_live.specs.script.ScriptFaults.{IsNoComment, has_no_blank}
 use Rattle.ws_live.proofs.LiveLines.{is_something}
 use Rattle.ws_live.proofs.ScriptWords.{blank_inside, differ, split_unique}
 

@@ -1,29 +1,29 @@
-use Rattle.std.proofs.Common.{◌≡◌, ◌≢◌, ℕ, zero, suc, ◌+◌, ◌-◌, ◌<◌, List, [], ◌∷◌, ◌++◌, length, get_or}
-use Rattle.std.proofs.Common.{take, drop, take-append-drop, inl, inr, refl, sym, ap, ◌∙◌, subst, arith}
-use Rattle.std.specs.Prelude.{Result, Ok, Option, Some, None, is_none, map, replicate}
 use Rattle.std.specs.Option.{option_map}
+use Rattle.std.specs.Prelude.{Result, Ok, Option, Some, None, is_none, map, replicate}
+use Rattle.std.proofs.Common.{◌≡◌, ◌≢◌, ℕ, zero, suc, ◌+◌, ◌-◌, ◌<◌, List, [], ◌∷◌, ◌++◌, length, get_or, take, drop}
+use Rattle.std.proofs.Common.{take-append-drop, inl, inr, refl, sym, ap, ◌∙◌, subst, arith}
 use Rattle.std.proofs.Math.Seq.{drop-cons}
 use Rattle.std.proofs.lemmas.Grind.{flat_map-append}
 use Rattle.std.proofs.lemmas.List.{append-nil, map-append, take_more, replicate-append-replicate}
 use Rattle.ws_code.specs.Code.{Rules}
 use Rattle.ws_code.specs.Device.{Writer, Reader, Devices}
 use Rattle.ws_code.specs.declared.fault.Fault.{Fault}
+use Rattle.ws_screen.specs.ScreenParts.{ScreenParts}
 use Rattle.ws_keys.specs.Strokes.{keys_of}
 use Rattle.ws_keys.specs.declared.key.Key.{Key}
 use Rattle.ws_keys.specs.declared.key_run.KeyRun.{KeyRun}
 use Rattle.ws_session.specs.attached.Attachments.{AttachedParts}
+use Rattle.ws_session.specs.declared.station.key_fault.KeyFault.{KeyFault}
 use Rattle.ws_session.specs.station.Displays.{DisplayOf}
 use Rattle.ws_session.specs.station.PartsOn.{PartsOn}
-use Rattle.ws_session.specs.declared.station.key_fault.KeyFault.{KeyFault}
-use Rattle.ws_screen.specs.ScreenParts.{ScreenParts}
-use Rattle.ws_live.specs.live.ConnectText.{key_refused_text, pressed, KeyRuns, KeysUntil, StrokeRuns}
-use Rattle.ws_live.specs.script.KeyWords.{KeyWords}
-use Rattle.ws_live.specs.live.Stroking.{keys_behind, no_field_text, stroke_keys, stroke_runs}
 use Rattle.ws_live.specs.declared.live.Closing.{Closing}
 use Rattle.ws_live.specs.declared.live.Closing.TheVariants.{Declined, Done}
 use Rattle.ws_live.specs.declared.live.stroke.Filling.{Filling}
 use Rattle.ws_live.specs.declared.live.stroke.Stroke.{Stroke}
 use Rattle.ws_live.specs.declared.live.stroke.Stroke.TheVariants.{Cursor, NewLine, EraseEof, Fill}
+use Rattle.ws_live.specs.live.ConnectText.{key_refused_text, pressed, KeyRuns, KeysUntil, StrokeRuns}
+use Rattle.ws_live.specs.live.Stroking.{keys_behind, no_field_text, stroke_keys, stroke_runs}
+use Rattle.ws_live.specs.script.KeyWords.{KeyWords}
 
 -- Keys one after another, up to the first that isn't taken.
 

@@ -1,11 +1,11 @@
-use Rattle.std.proofs.Common.{◌≡◌, ℕ, List, ◌++◌, true, sym, ap, ◌∙◌, subst}
 use Rattle.std.specs.Prelude.{codes}
+use Rattle.std.proofs.Common.{◌≡◌, ℕ, List, ◌++◌, true, sym, ap, ◌∙◌, subst}
 use Rattle.ws_code.specs.Address.{IsRowAndColumn}
 use Rattle.ws_text.specs.Words.{IsNumber, IsSmall, IsCell}
+use Rattle.ws_live.specs.declared.live.stroke.Filling.{Filling}
 use Rattle.ws_live.specs.live.ConnectLines.{IsCellText, IsFieldText, IsFilling}
 use Rattle.ws_live.specs.script.KeyWords.{KeyWords}
 use Rattle.ws_live.specs.script.ScriptFaults.{has_no_blank}
-use Rattle.ws_live.specs.declared.live.stroke.Filling.{Filling}
 use Rattle.ws_live.proofs.ScriptWords.{blank_inside, digits_have_no_blank, split_unique}
 
 -- The words of a line that presses keys by the screen.

@@ -1,17 +1,18 @@
-use Rattle.std.proofs.Common.{◌≡◌, ◌≢◌, ℕ, ◌+◌, ◌-◌, ◌≤◌, List, [], ◌∷◌, ◌++◌, Bool, true, false, cond, nat_lt, inl, inr, refl, sym, ap}
-use Rattle.std.proofs.Common.{◌∙◌, arith, get_or, length, length-append, take}
-use Rattle.std.specs.Prelude.{◌==◌, if◌then◌else◌, codes, encode_utf8}
 use Rattle.std.specs.Char.{len_utf8}
 use Rattle.std.specs.List.{flat_map}
+use Rattle.std.specs.Prelude.{◌==◌, if◌then◌else◌, codes, encode_utf8}
+use Rattle.std.proofs.Common.{◌≡◌, ◌≢◌, ℕ, ◌+◌, ◌-◌, ◌≤◌, List, [], ◌∷◌, ◌++◌, Bool, true, false, cond, nat_lt, inl}
+use Rattle.std.proofs.Common.{inr, refl, sym, ap, ◌∙◌, arith, get_or, length, length-append, take}
 use Rattle.std.proofs.lemmas.Bool.{false≢true}
 use Rattle.std.proofs.lemmas.Bool.Decides.{eqb_tells}
 use Rattle.std.proofs.lemmas.List.{take_more}
 use Rattle.std.proofs.lemmas.Str.{length-encode}
-use Rattle.ws_keys.specs.declared.host_answer.HostAnswer.{HostAnswer}
-use Rattle.ws_session.specs.declared.host_end.host_event.HostEvent.{HostEvent}
-use Rattle.ws_session.specs.declared.host_end.host_event.HostEvent.TheVariants.{Ready, Answer, Attention, SystemRequest, Cancelled}
-use Rattle.ws_text.proofs.LineEnds.{filled}
 use Rattle.ws_screen.specs.Lines.{shown_char}
+use Rattle.ws_keys.specs.declared.host_answer.HostAnswer.{HostAnswer}
+use Rattle.ws_text.proofs.LineEnds.{filled}
+use Rattle.ws_session.specs.declared.host_end.host_event.HostEvent.{HostEvent}
+use Rattle.ws_session.specs.declared.host_end.host_event.HostEvent.TheVariants.{Ready, Answer, Attention, SystemRequest}
+use Rattle.ws_session.specs.declared.host_end.host_event.HostEvent.TheVariants.{Cancelled}
 use Rattle.ws_live.specs.printing.FieldLines.{behind_blank}
 use Rattle.ws_live.specs.printing.PlayLines.{host_event_text}
 use Rattle.ws_live.specs.printing.ToldLines.{before_blanks, told_text, with_first}

@@ -1,12 +1,12 @@
-use Rattle.std.proofs.Common.{◌≡◌, ℕ, List, [], ◌∷◌, ◌++◌, Bool, false, inl, inr, sym, ap, ◌∙◌, subst}
 use Rattle.std.specs.Prelude.{codes, ◌==◌}
+use Rattle.std.proofs.Common.{◌≡◌, ℕ, List, [], ◌∷◌, ◌++◌, Bool, false, inl, inr, sym, ap, ◌∙◌, subst}
 use Rattle.std.proofs.lemmas.Bool.{false≢true}
 use Rattle.ws_text.specs.Words.{IsHex}
 use Rattle.ws_text.specs.declared.items.TextFault.TheVariants as items
-use Rattle.ws_live.specs.live.ConnectLines.{IsMilliseconds}
-use Rattle.ws_live.specs.live.WireLines.{IsCommandSaid, IsRaw, MeansWire}
 use Rattle.ws_live.specs.declared.live.wire_line.WireLine.{WireLine}
 use Rattle.ws_live.specs.declared.live.wire_line.WireLine.TheVariants.{Raw, Pause, Close}
+use Rattle.ws_live.specs.live.ConnectLines.{IsMilliseconds}
+use Rattle.ws_live.specs.live.WireLines.{IsCommandSaid, IsRaw, MeansWire}
 
 -- The lines that work on a connection itself.
 

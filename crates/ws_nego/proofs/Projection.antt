@@ -4,14 +4,14 @@ use Rattle.std.proofs.Math.Numerals.{add-one}
 use Rattle.std.proofs.Math.Seq.{drop-length}
 use Rattle.std.proofs.lemmas.List.{drop-append-le, length-append}
 use Rattle.ws_telnet.specs.declared.token.Telnet.{Telnet}
-use Rattle.ws_nego.specs.declared.terminal.TerminalType.{TerminalType}
-use Rattle.ws_nego.specs.Options.{Answer}
-use Rattle.ws_nego.specs.Station.{station_answer}
-use Rattle.ws_nego.specs.Host.{HostState, host_answer}
-use Rattle.ws_nego.specs.Exchange.{Exchange, Move, ToStation, ToHost, new_exchange, after_token_moves, IsExchangeQuiet, TablesAgree}
-use Rattle.ws_nego.specs.Exchange.{after_host_answers, after_station_takes, after_host_takes}
 use Rattle.ws_nego.specs.Dialogue.{Dialogue, new_dialogue, after_arrival, after_arrivals, after_station_gets}
 use Rattle.ws_nego.specs.Dialogue.{after_host_gets, after_host_writes, IsAllArrived}
+use Rattle.ws_nego.specs.Exchange.{Exchange, Move, ToStation, ToHost, new_exchange, after_token_moves, IsExchangeQuiet}
+use Rattle.ws_nego.specs.Exchange.{TablesAgree, after_host_answers, after_station_takes, after_host_takes}
+use Rattle.ws_nego.specs.Host.{HostState, host_answer}
+use Rattle.ws_nego.specs.Options.{Answer}
+use Rattle.ws_nego.specs.Station.{station_answer}
+use Rattle.ws_nego.specs.declared.terminal.TerminalType.{TerminalType}
 use Rattle.ws_nego.proofs.Stages.{agrees, at_most_twelve, not_refused}
 
 -- what a dialogue has in flight

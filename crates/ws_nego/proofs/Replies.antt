@@ -1,13 +1,17 @@
+use Rattle.std.specs.List.{AllByRecursion}
 use Rattle.std.proofs.Common.{ℕ, ◌<◌, List, [], ◌∷◌, ◌++◌, Option, Some, None, Bool, true, false, arith, rules}
 use Rattle.std.proofs.Common.{if◌then◌else◌}
-use Rattle.std.specs.List.{AllByRecursion}
 use Rattle.ws_code.proofs.Lists.{AllByRecursion-append}
+use Rattle.ws_telnet.specs.Token.{IsTelnet}
 use Rattle.ws_telnet.specs.declared.codes.TheConstants.{END_OF_RECORD, BINARY}
 use Rattle.ws_telnet.specs.declared.token.Telnet.{Telnet}
 use Rattle.ws_telnet.specs.declared.token.Telnet.TheVariants.{Command, Option as Negotiate, Sub as Subnegotiate}
 use Rattle.ws_telnet.specs.declared.token.Verb.{Verb}
 use Rattle.ws_telnet.specs.declared.token.Verb.TheVariants.{Will, Do}
-use Rattle.ws_telnet.specs.Token.{IsTelnet}
+use Rattle.ws_nego.specs.Host.{HostState, host_answer, host_option_answer, host_table_answer, host_sub_answer}
+use Rattle.ws_nego.specs.Host.{host_name_answer, host_judgement, after_name_request, is_name_offered, request, requests}
+use Rattle.ws_nego.specs.Options.{Answer, option_tokens}
+use Rattle.ws_nego.specs.Station.{StationState, station_answer, station_option_answer, name_answer, name_request}
 use Rattle.ws_nego.specs.declared.host.Mode.{Mode}
 use Rattle.ws_nego.specs.declared.host.Mode.TheVariants.{On}
 use Rattle.ws_nego.specs.declared.host.TerminalName.{TerminalName}
@@ -16,10 +20,6 @@ use Rattle.ws_nego.specs.declared.options.Direction.{Direction}
 use Rattle.ws_nego.specs.declared.options.OptionTable.{OptionTable}
 use Rattle.ws_nego.specs.declared.terminal.TerminalType.{TerminalType}
 use Rattle.ws_nego.specs.declared.terminal.TerminalType.TheVariants.{Ibm5251Model11}
-use Rattle.ws_nego.specs.Options.{Answer, option_tokens}
-use Rattle.ws_nego.specs.Station.{StationState, station_answer, station_option_answer, name_answer, name_request}
-use Rattle.ws_nego.specs.Host.{HostState, host_answer, host_option_answer, host_table_answer, host_sub_answer}
-use Rattle.ws_nego.specs.Host.{host_name_answer, host_judgement, after_name_request, is_name_offered, request, requests}
 
 -- What an end answers to a token that can be written can be written.
 

@@ -1,22 +1,23 @@
 use Rattle.std.proofs.Common.{◌≡◌, ℕ, ◌+◌, ◌≤◌, List, [], ◌∷◌, true, false, Some, length, take, drop, replicate, refl}
 use Rattle.std.proofs.Common.{ap, ◌∙◌, sym, subst, lit≤}
-use Rattle.ws_telnet.specs.declared.token.Verb.TheVariants.{Will, Do}
+use Rattle.ws_telnet.specs.declared.codes.TheConstants.{BINARY, TERMINAL_TYPE, END_OF_RECORD}
 use Rattle.ws_telnet.specs.declared.token.Telnet.{Telnet}
 use Rattle.ws_telnet.specs.declared.token.Telnet.TheVariants.{Option as Negotiate}
-use Rattle.ws_nego.specs.declared.terminal.TerminalType.{TerminalType}
-use Rattle.ws_nego.specs.declared.terminal.TerminalType.TheVariants.{Ibm5251Model11}
-use Rattle.ws_nego.specs.declared.options.Direction.TheVariants.{StationBinary}
+use Rattle.ws_telnet.specs.declared.token.Verb.TheVariants.{Will, Do}
+use Rattle.ws_nego.specs.Exchange.{Exchange, Move, ToStation, ToHost, new_exchange, after_token_move, after_token_moves}
+use Rattle.ws_nego.specs.Exchange.{IsExchangeQuiet, TablesAgree, after_all_to_host, after_delivery}
+use Rattle.ws_nego.specs.Exchange.{after_three_deliveries}
+use Rattle.ws_nego.specs.Host.{HostState, opening, host_allows_records}
+use Rattle.ws_nego.specs.Station.{StationState, new_station, station_answer, station_allows_records, name_request}
+use Rattle.ws_nego.specs.Station.{name_answer}
+use Rattle.ws_nego.specs.Terminal.{terminal_type_name, terminal_named}
 use Rattle.ws_nego.specs.declared.host.Mode.{Mode}
 use Rattle.ws_nego.specs.declared.host.Mode.TheVariants.{Off, Asked, On}
 use Rattle.ws_nego.specs.declared.host.TerminalName.{TerminalName}
 use Rattle.ws_nego.specs.declared.host.TerminalName.TheVariants.{Unknown, Requested, Accepted}
-use Rattle.ws_nego.specs.Terminal.{terminal_type_name, terminal_named}
-use Rattle.ws_telnet.specs.declared.codes.TheConstants.{BINARY, TERMINAL_TYPE, END_OF_RECORD}
-use Rattle.ws_nego.specs.Station.{StationState, new_station, station_answer, station_allows_records, name_request}
-use Rattle.ws_nego.specs.Station.{name_answer}
-use Rattle.ws_nego.specs.Host.{HostState, opening, host_allows_records}
-use Rattle.ws_nego.specs.Exchange.{Exchange, Move, ToStation, ToHost, new_exchange, after_token_move, after_token_moves, IsExchangeQuiet}
-use Rattle.ws_nego.specs.Exchange.{TablesAgree, after_all_to_host, after_delivery, after_three_deliveries}
+use Rattle.ws_nego.specs.declared.options.Direction.TheVariants.{StationBinary}
+use Rattle.ws_nego.specs.declared.terminal.TerminalType.{TerminalType}
+use Rattle.ws_nego.specs.declared.terminal.TerminalType.TheVariants.{Ibm5251Model11}
 
 -- An exchange is determined by how many tokens each end has taken. The stages are named by these two
 -- numbers, the station's first.

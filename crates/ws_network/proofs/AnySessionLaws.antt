@@ -1,5 +1,5 @@
-use Rattle.std.proofs.Common.{◌≡◌, ℕ, List, [], ◌∷◌, ◌++◌, Bool, true, false, ◌&&◌, inl, inr, refl, sym, ap, ◌∙◌, subst}
 use Rattle.std.specs.Prelude.{Result}
+use Rattle.std.proofs.Common.{◌≡◌, ℕ, List, [], ◌∷◌, ◌++◌, Bool, true, false, ◌&&◌, inl, inr, refl, sym, ap, ◌∙◌, subst}
 use Rattle.std.proofs.lemmas.Bool.{false≢true}
 use Rattle.ws_code.specs.Device.{Writer, WentOut}
 use Rattle.ws_code.specs.declared.fault.Fault.{Fault}
@@ -8,20 +8,21 @@ use Rattle.ws_record.specs.Encode.{plain_spelling}
 use Rattle.ws_record.specs.RawBody.{raw_rules}
 use Rattle.ws_record.specs.declared.record.Item.TheVariants.{Telnet}
 use Rattle.ws_session.specs.attached.Attachments.{AttachedParts}
-use Rattle.ws_live.specs.live.LiveText.{HaveRun, IsLiveText}
+use Rattle.ws_live.specs.asked.RunFaults.{told_fault}
+use Rattle.ws_live.specs.declared.asked.fault.ToldFault.{ToldFault}
+use Rattle.ws_live.specs.declared.asked.live_asked.ServeAsked.{ServeAsked}
 use Rattle.ws_live.specs.declared.live.Closing.{Closing}
 use Rattle.ws_live.specs.declared.live.Ran.{Ran}
+use Rattle.ws_live.specs.live.LiveText.{HaveRun, IsLiveText}
 use Rattle.ws_any_host.specs.AnyLeads.{AnyParts, AnyLeads}
 use Rattle.ws_any_host.specs.AnyOptions.{new_negotiated, once_opened}
 use Rattle.ws_any_host.specs.CarryingOn.{IsCarriedText, IsCarryOnFault}
 use Rattle.ws_any_host.specs.declared.any_line.AnyLine.{AnyLine}
 use Rattle.ws_any_host.specs.declared.any_line.AnyLine.TheVariants.{Await}
 use Rattle.ws_network.specs.AnySessions.{IsAnyServed, IsTextAndOn, IsFaultThenOrOn, RunsAny}
-use Rattle.ws_network.specs.Times.{ConnectionReads, ConnectionWrites, no_reads, no_writes, timed_devices, timed_writer, tells, begins}
+use Rattle.ws_network.specs.Times.{ConnectionReads, ConnectionWrites, no_reads, no_writes, timed_devices, timed_writer}
+use Rattle.ws_network.specs.Times.{tells, begins}
 use Rattle.ws_network.proofs.SessionLaws.{new_at}
-use Rattle.ws_live.specs.asked.RunFaults.{told_fault}
-use Rattle.ws_live.specs.declared.asked.fault.ToldFault.{ToldFault}
-use Rattle.ws_live.specs.declared.asked.live_asked.ServeAsked.{ServeAsked}
 
 -- A session at a host that takes any record.
 

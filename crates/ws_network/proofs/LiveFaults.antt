@@ -1,15 +1,15 @@
 use Rattle.std.proofs.Common.{◌≡◌, ℕ, List, Bool, false, inr}
 use Rattle.ws_code.specs.Device.{Writer, Reader, WentOut, Devices}
 use Rattle.ws_code.specs.declared.fault.Fault.{Fault}
-use Rattle.ws_live.specs.live.LiveText.{IsLiveText}
-use Rattle.ws_live.specs.live.ServeText.{AttachedHost, HostRunsInTime, IsAnswerOnFault}
+use Rattle.ws_live.specs.asked.RunFaults.{told_fault}
+use Rattle.ws_live.specs.declared.asked.fault.ToldFault.{ToldFault}
 use Rattle.ws_live.specs.declared.live.Ran.{Ran}
 use Rattle.ws_live.specs.declared.live.serve_line.HostLine.{HostLine}
 use Rattle.ws_live.specs.declared.live.watch.WaitSpan.{WaitSpan}
+use Rattle.ws_live.specs.live.LiveText.{IsLiveText}
+use Rattle.ws_live.specs.live.ServeText.{AttachedHost, HostRunsInTime, IsAnswerOnFault}
 use Rattle.ws_live.proofs.ServeRuns.{all_run}
 use Rattle.ws_network.specs.LiveFaults.{IsServeFault}
-use Rattle.ws_live.specs.asked.RunFaults.{told_fault}
-use Rattle.ws_live.specs.declared.asked.fault.ToldFault.{ToldFault}
 
 -- What was told behind the lines didn't go out, or a device or memory failed.
 

@@ -1,6 +1,6 @@
-use Rattle.std.proofs.Common.{◌≡◌, ℕ, List, [], ◌∷◌, Bool, true, false, sym, subst, ◌∙◌, Bor}
-use Rattle.std.specs.Prelude.{Option, None, Some, MatchOption, Result, IfOk, Ok}
 use Rattle.std.specs.Option.{is_none}
+use Rattle.std.specs.Prelude.{Option, None, Some, MatchOption, Result, IfOk, Ok}
+use Rattle.std.proofs.Common.{◌≡◌, ℕ, List, [], ◌∷◌, Bool, true, false, sym, subst, ◌∙◌, Bor}
 use Rattle.std.proofs.lemmas.Bool.{false≢true}
 use Rattle.std.proofs.lemmas.Result.{IfOk-weaker, IfOk-at_ok}
 use Rattle.ws_code.specs.Code.{Rules}
@@ -15,17 +15,18 @@ use Rattle.ws_session.specs.station.Displays.{DisplayOf}
 use Rattle.ws_session.specs.station.PartsOn.{PartsOn}
 use Rattle.ws_session.specs.station.StationManners.{new_side_on}
 use Rattle.ws_session.specs.station.Stations.{LeadsOn}
+use Rattle.ws_live.specs.declared.asked.live_asked.ConnectAsked.{ConnectAsked}
+use Rattle.ws_live.specs.declared.asked.live_asked.ServeAsked.{ServeAsked}
+use Rattle.ws_live.specs.declared.live.connect_line.StationLine.{StationLine}
+use Rattle.ws_live.specs.declared.live.serve_line.HostLine.{HostLine}
 use Rattle.ws_live.specs.live.ConnectText.{IsConnectText}
-use Rattle.ws_live.specs.script.KeyWords.{KeyWords}
 use Rattle.ws_live.specs.live.LiveScript.{AreLiveLines}
 use Rattle.ws_live.specs.live.Operating.{OperatedOn}
 use Rattle.ws_live.specs.live.ServeText.{IsServeText}
-use Rattle.ws_live.specs.declared.live.connect_line.StationLine.{StationLine}
-use Rattle.ws_live.specs.declared.live.serve_line.HostLine.{HostLine}
+use Rattle.ws_live.specs.script.KeyWords.{KeyWords}
 use Rattle.ws_network.specs.Sessions.{AreFromScript, IsConnected, IsServed}
-use Rattle.ws_network.specs.Times.{ConnectionReads, ConnectionWrites, no_reads, no_writes, timed_devices, timed_writer, tells, rests, begins}
-use Rattle.ws_live.specs.declared.asked.live_asked.ConnectAsked.{ConnectAsked}
-use Rattle.ws_live.specs.declared.asked.live_asked.ServeAsked.{ServeAsked}
+use Rattle.ws_network.specs.Times.{ConnectionReads, ConnectionWrites, no_reads, no_writes, timed_devices, timed_writer}
+use Rattle.ws_network.specs.Times.{tells, rests, begins}
 
 -- what follows from what a session came to, of what is told of it
 pub judged : {T E : Type 0} (P Q : T → Type 0) (outcome told : Result T E) → IfOk outcome P

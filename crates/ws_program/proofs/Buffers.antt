@@ -1,15 +1,12 @@
-use Rattle.std.proofs.Common.{◌≡◌, ℕ, List, [], length, sym, ap, ◌∙◌, subst}
-use Rattle.std.proofs.Common.{arith, inl, inr}
 use Rattle.std.specs.Prelude.{Bool, true, false}
+use Rattle.std.proofs.Common.{◌≡◌, ℕ, List, [], length, sym, ap, ◌∙◌, subst, arith, inl, inr}
 use Rattle.ws_code.specs.Code.{Rules}
 use Rattle.ws_code.specs.Device.{Writer, WentOut, FailedWithin}
 use Rattle.ws_code.specs.declared.fault.Fault.{Fault}
 use Rattle.ws_code.specs.declared.fault.Fault.TheVariants as device
-use Rattle.ws_live.specs.printing.Buffering.{Buffering, buffered_writer}
-use Rattle.ws_live.proofs.Buffers.{flushed_out, fails_behind}
 use Rattle.ws_record.specs.declared.record.Item.{Item}
-use Rattle.ws_stream.specs.Elements.{element_rules}
 use Rattle.ws_stream.specs.AnswerParts.{answer_rules}
+use Rattle.ws_stream.specs.Elements.{element_rules}
 use Rattle.ws_extended.specs.ExtendedAnswers.{extended_answer_rules}
 use Rattle.ws_extended.specs.ExtendedElements.{extended_rules}
 use Rattle.ws_text.specs.AnswerWords.{answer_wording}
@@ -18,24 +15,25 @@ use Rattle.ws_text.specs.ExtendedAnswerWords.{told_wording}
 use Rattle.ws_text.specs.ExtendedWords.{extended_wording}
 use Rattle.ws_text.specs.Shown.{ShowsElements, ShowsAnswers, ShowsExtended, ShowsTold}
 use Rattle.ws_text.specs.Wording.{Wording}
+use Rattle.ws_live.specs.declared.asked.fault.RunFault.{RunFault}
+use Rattle.ws_live.specs.declared.asked.fault.RunFault.TheVariants.{Read, NotHex, Line, Memory, Write, NoConnection}
+use Rattle.ws_live.specs.declared.asked.fault.RunFault.TheVariants.{Refused, Truncated, Failed}
+use Rattle.ws_live.specs.declared.asked.sender.Sender.{Sender}
+use Rattle.ws_live.specs.declared.asked.sender.Sender.TheVariants.{Host, ExtendedHost, Station, ExtendedStation}
+use Rattle.ws_live.specs.declared.printing.paint.Paint.{Paint}
+use Rattle.ws_live.specs.printing.Buffering.{Buffering, buffered_writer}
+use Rattle.ws_live.proofs.Buffers.{flushed_out, fails_behind}
 use Rattle.ws_program.specs.Answering.{HasAnswered, HasChecked, HasCheckedBy, HasShown, HasShownBy, IsAnswerFault}
 use Rattle.ws_program.specs.Answering.{IsBytesFault, IsCheckFaultBy, IsShowFaultBy}
 use Rattle.ws_program.specs.Checking.{IsCheckFault}
+use Rattle.ws_program.specs.ExtendedView.{extended_view}
 use Rattle.ws_program.specs.Making.{HasMade, IsMakeFault}
 use Rattle.ws_program.specs.SoFar.{IsShowFaultWith}
 use Rattle.ws_program.specs.StreamText.{View}
-use Rattle.ws_program.specs.ExtendedView.{extended_view}
 use Rattle.ws_program.specs.Views.{painted_host_view, answer_view, told_view}
-use Rattle.ws_live.specs.declared.printing.paint.Paint.{Paint}
 use Rattle.ws_program.specs.declared.words.command_line.Asked.{Asked}
 use Rattle.ws_program.specs.declared.words.command_line.Asked.TheVariants.{Check, Show, Play, Make}
-use Rattle.ws_live.specs.declared.asked.sender.Sender.{Sender}
-use Rattle.ws_live.specs.declared.asked.sender.Sender.TheVariants.{Host, ExtendedHost, Station, ExtendedStation}
 use Rattle.ws_program.specs.declared.words.command_line.StreamForm.{StreamForm}
-use Rattle.ws_live.specs.declared.asked.fault.RunFault.{RunFault}
-use Rattle.ws_live.specs.declared.asked.fault.RunFault.TheVariants.{Read, NotHex, Line, Memory}
-use Rattle.ws_live.specs.declared.asked.fault.RunFault.TheVariants.{Write, NoConnection, Refused}
-use Rattle.ws_live.specs.declared.asked.fault.RunFault.TheVariants.{Truncated, Failed}
 
 -- What the program does behind a buffer, where the rest goes out.
 module _ {S : Type 0} (writer : Writer S) (from mid : Buffering S)

@@ -5,23 +5,23 @@ use Rattle.std.proofs.lemmas.List.{take-append-drop}
 use Rattle.ws_code.specs.Code.{Rules}
 use Rattle.ws_code.specs.declared.keep.Kept.TheVariants as answer
 use Rattle.ws_code.specs.declared.reason.Reason.{Reason}
+use Rattle.ws_code.proofs.Lists.{same_front}
 use Rattle.ws_telnet.specs.declared.token.Telnet.{Telnet}
 use Rattle.ws_telnet.specs.declared.token.Telnet.TheVariants as telnet
-use Rattle.ws_record.specs.declared.news.News.{News}
-use Rattle.ws_record.specs.declared.news.News.TheVariants as told
-use Rattle.ws_record.specs.declared.record.Item.{Item}
-use Rattle.ws_record.specs.declared.record.Item.TheVariants.{Record as RecordItem, Telnet as TelnetItem}
-use Rattle.ws_record.specs.declared.record.Record.{Record}
 use Rattle.ws_record.specs.Advance.{IsAdvance}
 use Rattle.ws_record.specs.DataStep.{record_of}
 use Rattle.ws_record.specs.Live.{Watching, Leads}
 use Rattle.ws_record.specs.OpenRecord.{RecordSoFar, no_record}
 use Rattle.ws_record.specs.Refusal.{IsRefused}
+use Rattle.ws_record.specs.declared.news.News.{News}
+use Rattle.ws_record.specs.declared.news.News.TheVariants as told
+use Rattle.ws_record.specs.declared.record.Item.{Item}
+use Rattle.ws_record.specs.declared.record.Item.TheVariants.{Record as RecordItem, Telnet as TelnetItem}
+use Rattle.ws_record.specs.declared.record.Record.{Record}
 use Rattle.ws_record.proofs.Receivers.{refused_append}
-use Rattle.ws_code.proofs.Lists.{same_front}
-use Rattle.ws_program.specs.declared.check.Tally.{Tally}
 use Rattle.ws_program.specs.CheckLine.{record_count, command_count}
 use Rattle.ws_program.specs.Checking.{Counts, tally_after, one_record, one_command}
+use Rattle.ws_program.specs.declared.check.Tally.{Tally}
 
 record_count-append : {U : Type 0} (xs ys : List (Item U)) → record_count (xs ++ ys) ≡ record_count xs + record_count ys
 record_count-append [] ys = omega arith

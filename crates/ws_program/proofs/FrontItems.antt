@@ -1,22 +1,22 @@
+use Rattle.std.specs.List.{flat_map, AllByRecursion}
+use Rattle.std.specs.Prelude.{◌⊎◌}
 use Rattle.std.proofs.Common.{◌≡◌, ℕ, List, [], ◌∷◌, ◌++◌, inl, inr, length, map, refl, sym, ap, ◌∙◌, arith}
 use Rattle.std.proofs.Common.{append_assoc, length-append}
-use Rattle.std.specs.Prelude.{◌⊎◌}
-use Rattle.std.specs.List.{flat_map, AllByRecursion}
-use Rattle.std.proofs.lemmas.List.{append-nil, map-append}
 use Rattle.std.proofs.lemmas.Grind.{flat_map-append}
+use Rattle.std.proofs.lemmas.List.{append-nil, map-append}
 use Rattle.ws_code.specs.Code.{Rules, IsPrefixFree, IsCut, spelling_of}
 use Rattle.ws_code.proofs.CodeLaws.{Begins, one_begins, cut_begins, chain_more}
+use Rattle.ws_telnet.specs.Streams.{HasNoEor, joined, command_of}
 use Rattle.ws_telnet.specs.Token.{token_rules}
 use Rattle.ws_telnet.specs.TokenLaws.{token_prefix_free, token_begins}
 use Rattle.ws_telnet.specs.declared.token.Telnet.{Telnet}
 use Rattle.ws_telnet.specs.declared.token.Token.{Token}
 use Rattle.ws_telnet.specs.declared.token.Token.TheVariants.{Eor}
-use Rattle.ws_record.specs.declared.record.Record.{Record}
-use Rattle.ws_record.specs.declared.record.Item.{Item}
-use Rattle.ws_record.specs.declared.record.Item.TheVariants.{Record as RecordItem, Telnet as TelnetItem}
-use Rattle.ws_telnet.specs.Streams.{HasNoEor, joined, command_of}
 use Rattle.ws_telnet.proofs.TokenLists.{one_part, no_part}
 use Rattle.ws_record.specs.Grammar.{Holds, IsStretch, commands}
+use Rattle.ws_record.specs.declared.record.Item.{Item}
+use Rattle.ws_record.specs.declared.record.Item.TheVariants.{Record as RecordItem, Telnet as TelnetItem}
+use Rattle.ws_record.specs.declared.record.Record.{Record}
 use Rattle.ws_record.proofs.Reading.{one_stretches, parts_no_eor}
 
 -- The items that a front of some bytes holds begin those that all of them hold.

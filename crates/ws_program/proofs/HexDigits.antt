@@ -1,19 +1,19 @@
+use Rattle.std.specs.Char.{is_ascii_hexdigit}
+use Rattle.std.specs.List.{concat, slice_split, onto_first, list_all}
+use Rattle.std.specs.Prelude.{not, nat_le, is_some, IsErr, if◌then◌else◌}
 use Rattle.std.proofs.Common.{◌≡◌, ℕ, ◌+◌, ◌-◌, ◌%◌, ◌==◌, ◌&&◌, ◌||◌, Bool, true, false, inl, inr, List, [], ◌∷◌, ◌++◌}
 use Rattle.std.proofs.Common.{length, map, Bor, Some, None, Result, Ok, Err, arith, refl, sym, ap, subst, ◌∙◌, ◌≤◌}
 use Rattle.std.proofs.Common.{take, add-zero, append_assoc}
-use Rattle.std.specs.Prelude.{not, nat_le, is_some, IsErr, if◌then◌else◌}
-use Rattle.std.specs.List.{concat, slice_split, onto_first, list_all}
-use Rattle.std.specs.Char.{is_ascii_hexdigit}
 use Rattle.std.proofs.lemmas.Bool.{or_cases, and_parts, eqb-true, eqb-false}
 use Rattle.std.proofs.lemmas.List.{append-nil, length-append, take_all}
 use Rattle.std.proofs.lemmas.List.Elements.{filter-append}
 use Rattle.std.proofs.lemmas.List.Folds.{list_all-append}
 use Rattle.std.proofs.lemmas.List.Sums.{AllPass-from_list_all, list_all-from_AllPass}
+use mathlib.Core.Bool.{cond, beq, true≢false}
 use Rattle.hex.specs.Hex.{is_hex_digit, decode_of}
 use Rattle.hex.specs.declared.error.FromHexError.{FromHexError}
 use Rattle.hex.proofs.HexLemmas.{decode_of-ok, decode_of-digits}
 use Rattle.ws_program.specs.HexText.{is_blank_byte, without_blanks, IsHexOf}
-use mathlib.Core.Bool.{cond, beq, true≢false}
 
 -- Hex text and its digits.
 

@@ -5,12 +5,12 @@ use Rattle.ws_code.specs.declared.fault.Fault.{Fault}
 use Rattle.ws_code.specs.declared.fault.Fault.TheVariants as device
 use Rattle.ws_record.specs.declared.record.Item.{Item}
 use Rattle.ws_text.specs.Items.{IsPrintingFault as IsItemsFault}
+use Rattle.ws_text.specs.Printing.{IsPrintingFault}
 use Rattle.ws_text.specs.Wording.{Wording}
 use Rattle.ws_text.specs.declared.items.TextFault.{TextFault as ItemsFault}
 use Rattle.ws_text.specs.declared.items.TextFault.TheVariants as items
-use Rattle.ws_program.specs.Making.{made_stream, AreTold, IsMakeFault}
-use Rattle.ws_text.specs.Printing.{IsPrintingFault}
 use Rattle.ws_live.specs.asked.RunFaults.{run_fault, items_run_fault}
+use Rattle.ws_program.specs.Making.{made_stream, AreTold, IsMakeFault}
 
 -- What `make` answers where it doesn't write all.
 

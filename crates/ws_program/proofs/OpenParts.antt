@@ -1,15 +1,15 @@
-use Rattle.std.proofs.Common.{◌≡◌, ◌≢◌, ℕ, Bool, true}
-use Rattle.std.proofs.Common.{false, List, [], ◌∷◌, ◌++◌, Option, Some}
-use Rattle.std.proofs.Common.{take, map, refl, sym, ap, ◌∙◌, subst, append_assoc}
 use Rattle.std.specs.List.{flat_map, AllByRecursion}
-use Rattle.std.proofs.lemmas.List.{append-nil}
+use Rattle.std.proofs.Common.{◌≡◌, ◌≢◌, ℕ, Bool, true, false, List, [], ◌∷◌, ◌++◌, Option, Some, take, map, refl, sym}
+use Rattle.std.proofs.Common.{ap, ◌∙◌, subst, append_assoc}
 use Rattle.std.proofs.lemmas.Grind.{flat_map-append}
+use Rattle.std.proofs.lemmas.List.{append-nil}
 use Rattle.ws_code.specs.Code.{Rules, IsPrefix, IsCut, IsSpelled, IsUnfinished, spelling_of}
 use Rattle.ws_code.specs.declared.keep.Kept.TheVariants as answer
 use Rattle.ws_code.proofs.CodeLaws.{chain_more, cut_bad, cut_more, cut_unit, one_cut}
 use Rattle.ws_telnet.specs.Streams.{HasNoEor, carried, joined}
 use Rattle.ws_telnet.specs.Token.{token_rules}
 use Rattle.ws_telnet.specs.TokenLaws.{token_prefix_free, token_begins}
+use Rattle.ws_telnet.specs.declared.token.Telnet.TheVariants as telnet
 use Rattle.ws_telnet.specs.declared.token.Token.{Token}
 use Rattle.ws_telnet.specs.declared.token.Token.TheVariants.{Data, Eor, Telnet as TelnetToken}
 use Rattle.ws_record.specs.Advance.{IsAdvance, OnLastNews}
@@ -22,9 +22,9 @@ use Rattle.ws_record.specs.declared.news.News.TheVariants as told
 use Rattle.ws_record.specs.declared.record.Head.{Head}
 use Rattle.ws_record.specs.declared.record.Item.{Item}
 use Rattle.ws_record.specs.declared.record.Item.TheVariants.{Record as RecordItem, Telnet as TelnetItem}
-use Rattle.ws_telnet.specs.declared.token.Telnet.TheVariants as telnet
 use Rattle.ws_record.proofs.Reading.{parts_no_eor}
-use Rattle.ws_program.specs.OpenParts.{head_after, units_after, open_behind, open_behind_tokens, TokensRead, NoTokensWith}
+use Rattle.ws_program.specs.OpenParts.{head_after, units_after, open_behind, open_behind_tokens, TokensRead}
+use Rattle.ws_program.specs.OpenParts.{NoTokensWith}
 
 -- What has come of an open record.
 

@@ -1,22 +1,22 @@
+use Rattle.std.specs.Prelude.{IfSome}
 use Rattle.std.proofs.Common.{◌≡◌, ℕ, zero, suc, ◌+◌, ◌-◌, ◌≤◌, Bool, true, false, List, [], ◌∷◌, ◌++◌, Option, Some}
 use Rattle.std.proofs.Common.{None, inl, inr, length, take, drop, refl, sym, ap, ◌∙◌, subst, arith, append_assoc}
 use Rattle.std.proofs.Common.{length-append, take-append-drop}
-use Rattle.std.specs.Prelude.{IfSome}
 use Rattle.std.proofs.Math.Seq.{take-append-add}
 use Rattle.std.proofs.lemmas.List.{append-nil, take-take, take_all}
 use Rattle.ws_code.specs.Code.{Rules, IsPrefixFree}
+use Rattle.ws_code.specs.declared.reason.Reason.{Reason}
 use Rattle.ws_code.proofs.CodeLaws.{Begins}
 use Rattle.ws_telnet.specs.Streams.{IsStream}
 use Rattle.ws_record.specs.Refusal.{Layer, IsRight, IsOpen, IsFirstClosed, IsRefused}
 use Rattle.ws_record.specs.Refusal.Layer.{Tokens, Header, Body}
 use Rattle.ws_record.specs.declared.record.Item.{Item}
 use Rattle.ws_record.proofs.Fronts.{one_holding}
-use Rattle.ws_code.specs.declared.reason.Reason.{Reason}
 use Rattle.ws_program.specs.CheckLine.{line_of}
-use Rattle.ws_program.specs.declared.verdict.Verdict.TheVariants.{Refused}
-use Rattle.ws_program.specs.StreamText.{View, Placed, items_without_places, lines_of, lines_with, HoldsItems, IsComplete, AreShown}
 use Rattle.ws_program.specs.SoFar.{IsShownSoFar, IsSoFarEnd}
-use Rattle.ws_program.specs.StreamText.{IsShown, AreFirstLines, IsEnd}
+use Rattle.ws_program.specs.StreamText.{View, Placed, items_without_places, lines_of, lines_with, HoldsItems}
+use Rattle.ws_program.specs.StreamText.{IsComplete, AreShown, IsShown, AreFirstLines, IsEnd}
+use Rattle.ws_program.specs.declared.verdict.Verdict.TheVariants.{Refused}
 use Rattle.ws_program.proofs.FrontItems.{front_items}
 
 -- A part of what is shown begins the whole.

@@ -5,23 +5,23 @@ use Rattle.ws_screen.specs.ScreenParts.{ScreenParts}
 use Rattle.ws_session.specs.declared.world.Event.{Event}
 use Rattle.ws_session.specs.declared.world.Move.{Move}
 use Rattle.ws_session.specs.host_end.HostLeads.{HostParts}
-use Rattle.ws_session.specs.world.Crossings.{Crossing}
 use Rattle.ws_session.specs.station.StationLeads.{StationParts}
-use Rattle.ws_session.specs.world.TwoLines.{TwoEnds, HasRun}
 use Rattle.ws_session.specs.station.StationSide.{screen_at}
-use Rattle.ws_session.specs.world.World.{World, new_world, after_moves}
+use Rattle.ws_session.specs.world.Crossings.{Crossing}
 use Rattle.ws_session.specs.world.Reports.{IsReport}
-use Rattle.ws_program.specs.Answering.{IsSessionText, IsPlayFault, IsTcpPlayFault}
-use Rattle.ws_live.specs.declared.printing.paint.Paint.{Paint}
-use Rattle.ws_network.specs.declared.tcp.TcpFault.{TcpFault}
-use Rattle.ws_network.specs.declared.tcp.TcpFault.TheVariants.{NoConnection, Write, Read, Memory}
-use Rattle.ws_live.specs.printing.PlayLines.{IsPaintedPlayText, no_end_refuses}
+use Rattle.ws_session.specs.world.TwoLines.{TwoEnds, HasRun}
+use Rattle.ws_session.specs.world.World.{World, new_world, after_moves}
 use Rattle.ws_live.specs.asked.RunFaults.{script_run_fault}
-use Rattle.ws_network.specs.TcpFaults.{tcp_run_fault}
-use Rattle.ws_live.specs.script.Script.{IsScript}
-use Rattle.ws_live.specs.script.ScriptFaults.{IsScriptFault}
+use Rattle.ws_live.specs.declared.printing.paint.Paint.{Paint}
 use Rattle.ws_live.specs.declared.script.ScriptFault.{ScriptFault}
 use Rattle.ws_live.specs.declared.script.ScriptFault.TheVariants as scripts
+use Rattle.ws_live.specs.printing.PlayLines.{IsPaintedPlayText, no_end_refuses}
+use Rattle.ws_live.specs.script.Script.{IsScript}
+use Rattle.ws_live.specs.script.ScriptFaults.{IsScriptFault}
+use Rattle.ws_network.specs.TcpFaults.{tcp_run_fault}
+use Rattle.ws_network.specs.declared.tcp.TcpFault.{TcpFault}
+use Rattle.ws_network.specs.declared.tcp.TcpFault.TheVariants.{NoConnection, Write, Read, Memory}
+use Rattle.ws_program.specs.Answering.{IsSessionText, IsPlayFault, IsTcpPlayFault}
 
 -- What is told of a session is its report's.
 

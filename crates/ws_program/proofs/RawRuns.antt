@@ -1,6 +1,6 @@
-use Rattle.std.proofs.Common.{◌≡◌, ℕ, List, inl, inr, refl, sym, ap, ◌∙◌, subst, Bor}
 use Rattle.std.specs.Prelude.{Bool, true, false, Option, Result, Ok, Err, IfOk, IfErr, IsErrAnd, ◌⊎◌}
 use Rattle.std.specs.declared.num.NonZeroU16.{NonZeroU16}
+use Rattle.std.proofs.Common.{◌≡◌, ℕ, List, inl, inr, refl, sym, ap, ◌∙◌, subst, Bor}
 use Rattle.ws_code.specs.Device.{Writer}
 use Rattle.ws_code.specs.declared.fault.Fault.TheVariants as device
 use Rattle.ws_live.specs.declared.asked.fault.RunFault.{RunFault}

@@ -1,27 +1,27 @@
-use Rattle.std.proofs.Common.{◌≡◌, ℕ, ◌^◌, ◌<◌, List, [], ◌∷◌, ◌++◌, true, length, map, refl, sym, subst}
-use Rattle.std.proofs.Common.{◌∙◌, ap, arith}
-use Rattle.std.specs.Prelude.{codes}
 use Rattle.std.specs.List.{flat_map, AllByRecursion}
+use Rattle.std.specs.Prelude.{codes}
 use Rattle.std.specs.Str.Lines.{lines}
+use Rattle.std.proofs.Common.{◌≡◌, ℕ, ◌^◌, ◌<◌, List, [], ◌∷◌, ◌++◌, true, length, map, refl, sym, subst, ◌∙◌, ap}
+use Rattle.std.proofs.Common.{arith}
 use Rattle.ws_code.specs.Code.{Rules, IsChain}
+use Rattle.ws_code.proofs.Lists.{AllByRecursion-append}
+use Rattle.ws_telnet.specs.Streams.{joined}
 use Rattle.ws_telnet.specs.Token.{token_rules, IsToken}
 use Rattle.ws_telnet.specs.declared.token.Token.{Token}
 use Rattle.ws_telnet.specs.declared.token.Token.TheVariants.{Data, Eor, Telnet as TelnetToken}
 use Rattle.ws_record.specs.Encode.{CanBeEncoded, CanAllBeEncoded, IsInRange}
 use Rattle.ws_record.specs.Grammar.{IsInGrammar, IsStretch, commands}
-use Rattle.ws_telnet.specs.Streams.{joined}
-use Rattle.ws_record.specs.declared.record.Record.{Record}
 use Rattle.ws_record.specs.declared.record.Item.{Item}
 use Rattle.ws_record.specs.declared.record.Item.TheVariants.{Record as RecordItem}
-use Rattle.ws_code.proofs.Lists.{AllByRecursion-append}
+use Rattle.ws_record.specs.declared.record.Record.{Record}
 use Rattle.ws_stream.specs.Elements.{element_rules}
 use Rattle.ws_stream.specs.declared.element.Element.{Element}
 use Rattle.ws_text.specs.Items.{EndsHere}
 use Rattle.ws_text.specs.Shown.{ShowsElements}
 use Rattle.ws_text.proofs.ShownBytes.{literal, line_from, lines_back}
-use Rattle.ws_live.specs.printing.ScreenLines.{state_line}
 use Rattle.ws_live.specs.declared.printing.paint.Paint.{Paint}
 use Rattle.ws_live.specs.declared.printing.paint.Paint.TheVariants.{Plain}
+use Rattle.ws_live.specs.printing.ScreenLines.{state_line}
 use Rattle.ws_program.specs.StreamText.{View, Placed, items_without_places, AreShown, IsShown}
 use Rattle.ws_program.specs.Views.{host_view, IsScreenEnd}
 

@@ -1,26 +1,26 @@
+use Rattle.std.specs.Prelude.{◌⊎◌, Bool, false, true}
 use Rattle.std.proofs.Common.{◌≡◌, ℕ, ◌+◌, ◌-◌, ◌^◌, ◌<◌, ◌≤◌, List, [], ◌∷◌, ◌++◌, Option, None, Some, inl, inr}
 use Rattle.std.proofs.Common.{length, take, drop, refl, sym, ap, ◌∙◌, subst, arith, append_assoc, length-append}
 use Rattle.std.proofs.Common.{length-take, take-append-drop}
-use Rattle.std.specs.Prelude.{◌⊎◌, Bool, false, true}
 use Rattle.std.proofs.Math.Seq.{take-append-add}
-use Rattle.std.proofs.lemmas.List.{append-nil, take_all}
 use Rattle.std.proofs.lemmas.Grind.{flat_map-append}
+use Rattle.std.proofs.lemmas.List.{append-nil, take_all}
 use Rattle.ws_code.specs.Code.{Rules}
 use Rattle.ws_code.specs.Device.{Writer, WentOut, FailedWithin}
-use Rattle.ws_code.proofs.DeviceLaws.{went_out_both}
 use Rattle.ws_code.specs.declared.fault.Fault.{Fault}
 use Rattle.ws_code.specs.declared.fault.Fault.TheVariants as faults
 use Rattle.ws_code.specs.declared.reason.Reason.{Reason}
-use Rattle.ws_record.specs.Grammar.{IsInGrammar}
-use Rattle.ws_record.specs.Refusal.{IsOpen, IsRefused, IsTruncated}
-use Rattle.ws_record.specs.Receiver.{Receiving, HasReceived, HasUnit, IsFeedFault, NoneBefore}
-use Rattle.ws_record.specs.declared.record.Item.{Item}
+use Rattle.ws_code.proofs.DeviceLaws.{went_out_both}
 use Rattle.ws_code.proofs.Parts.{fails_last}
-use Rattle.ws_program.specs.declared.verdict.Verdict.TheVariants.{Refused, Truncated}
+use Rattle.ws_record.specs.Grammar.{IsInGrammar}
+use Rattle.ws_record.specs.Receiver.{Receiving, HasReceived, HasUnit, IsFeedFault, NoneBefore}
+use Rattle.ws_record.specs.Refusal.{IsOpen, IsRefused, IsTruncated}
+use Rattle.ws_record.specs.declared.record.Item.{Item}
 use Rattle.ws_program.specs.CheckLine.{line_of, verdict_by}
-use Rattle.ws_program.specs.StreamText.{View, Placed, items_without_places, lines_of, HoldsItems, IsComplete, AreShown, IsShown}
-use Rattle.ws_program.specs.StreamText.{AreFirstLines, IsShowFault, IsStop, HasTaken, HasBegunStream, IsNextItem}
-use Rattle.ws_program.specs.StreamText.{IsNext, IsNextFault}
+use Rattle.ws_program.specs.StreamText.{View, Placed, items_without_places, lines_of, HoldsItems, IsComplete, AreShown}
+use Rattle.ws_program.specs.StreamText.{IsShown, AreFirstLines, IsShowFault, IsStop, HasTaken, HasBegunStream}
+use Rattle.ws_program.specs.StreamText.{IsNextItem, IsNext, IsNextFault}
+use Rattle.ws_program.specs.declared.verdict.Verdict.TheVariants.{Refused, Truncated}
 
 -- Items that are shown one after another.
 

@@ -1,24 +1,23 @@
-use Rattle.std.proofs.Common.{◌≡◌, ℕ, List, [], ◌++◌, Bool, true}
-use Rattle.std.proofs.Common.{false, None, Some, inl, inr, length, refl, sym, ap}
-use Rattle.std.proofs.Common.{◌∙◌, subst, append_assoc}
 use Rattle.std.specs.Prelude.{Ok, Err}
+use Rattle.std.proofs.Common.{◌≡◌, ℕ, List, [], ◌++◌, Bool, true, false, None, Some, inl, inr, length, refl, sym, ap}
+use Rattle.std.proofs.Common.{◌∙◌, subst, append_assoc}
 use Rattle.ws_code.specs.Code.{Rules}
 use Rattle.ws_code.specs.Device.{Writer, WentOut, FailedWithin}
-use Rattle.ws_code.proofs.DeviceLaws.{went_out_both, failed_within_both}
-use Rattle.ws_code.proofs.Parts.{fails_last}
 use Rattle.ws_code.specs.declared.fault.Fault.{Fault}
 use Rattle.ws_code.specs.declared.fault.Fault.TheVariants as faults
 use Rattle.ws_code.specs.declared.reason.Reason.{Reason}
+use Rattle.ws_code.proofs.DeviceLaws.{went_out_both, failed_within_both}
+use Rattle.ws_code.proofs.Parts.{fails_last}
 use Rattle.ws_record.specs.Grammar.{IsInGrammar}
-use Rattle.ws_record.specs.Refusal.{IsTruncated}
 use Rattle.ws_record.specs.Receiver.{Receiving, HasReceived}
+use Rattle.ws_record.specs.Refusal.{IsTruncated}
 use Rattle.ws_record.specs.declared.record.Item.{Item}
 use Rattle.ws_text.specs.Printing.{IsPrintingFault}
 use Rattle.ws_program.specs.CheckLine.{line_of, is_accepted, verdict_by}
 use Rattle.ws_program.specs.SoFar.{IsShownSoFar, IsShownWith, IsSoFarText, IsSoFarFault, IsThrough, IsHalted}
 use Rattle.ws_program.specs.SoFar.{StopsBehind, IsShowFaultWith, bytes_before}
-use Rattle.ws_program.specs.StreamText.{View, Placed, items_without_places, lines_of, HoldsItems, AreShown, AreFirstLines}
-use Rattle.ws_program.specs.StreamText.{IsComplete, IsNextFault}
+use Rattle.ws_program.specs.StreamText.{View, Placed, items_without_places, lines_of, HoldsItems, AreShown}
+use Rattle.ws_program.specs.StreamText.{AreFirstLines, IsComplete, IsNextFault}
 use Rattle.ws_program.specs.declared.verdict.Verdict.{Verdict}
 use Rattle.ws_program.specs.declared.verdict.Verdict.TheVariants.{Refused, Truncated}
 use Rattle.ws_program.proofs.Shows.{Shows, accepted_behind, unapplied, part, part_more}

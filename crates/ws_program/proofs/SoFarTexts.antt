@@ -1,17 +1,16 @@
-use Rattle.std.proofs.Common.{◌≡◌, ◌≢◌, ℕ, zero, suc, ◌-◌, ◌≤◌, Bool}
-use Rattle.std.proofs.Common.{true, false, List, [], ◌∷◌, ◌++◌, Option, None, Some}
-use Rattle.std.proofs.Common.{inl, inr, length, take, drop, refl, sym, ap, ◌∙◌, subst, arith}
 use Rattle.std.specs.Prelude.{◌==◌, min}
+use Rattle.std.proofs.Common.{◌≡◌, ◌≢◌, ℕ, zero, suc, ◌-◌, ◌≤◌, Bool, true, false, List, [], ◌∷◌, ◌++◌, Option, None}
+use Rattle.std.proofs.Common.{Some, inl, inr, length, take, drop, refl, sym, ap, ◌∙◌, subst, arith}
 use Rattle.std.proofs.Math.Seq.{drop-nil}
 use Rattle.std.proofs.lemmas.Bool.{cases_lt}
-use Rattle.ws_code.proofs.DeviceLaws.{rest_from}
 use Rattle.ws_code.specs.Code.{Rules, IsPrefixFree}
 use Rattle.ws_code.proofs.CodeLaws.{Begins}
-use Rattle.ws_live.specs.declared.printing.paint.Paint.{Paint}
+use Rattle.ws_code.proofs.DeviceLaws.{rest_from}
 use Rattle.ws_record.specs.Live.{HoldsPart}
 use Rattle.ws_record.specs.declared.record.Head.{Head}
 use Rattle.ws_record.specs.declared.record.Item.{Item}
 use Rattle.ws_record.proofs.Fronts.{one_holding}
+use Rattle.ws_live.specs.declared.printing.paint.Paint.{Paint}
 use Rattle.ws_program.specs.SoFar.{AreOpenLines, IsAdded, IsSoFarText, begun_line, lines_so_far, open_lines}
 use Rattle.ws_program.specs.StreamText.{View, HoldsItems}
 use Rattle.ws_program.specs.Views.{in_paint}

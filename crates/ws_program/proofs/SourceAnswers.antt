@@ -1,17 +1,17 @@
-use Rattle.std.proofs.Common.{◌≡◌, ℕ, List, [], inl, inr, refl, ap}
 use Rattle.std.specs.Prelude.{Bool, true, false, Result, Ok, Err, IfOk, IfErr, ◌⊎◌}
+use Rattle.std.proofs.Common.{◌≡◌, ℕ, List, [], inl, inr, refl, ap}
 use Rattle.ws_code.specs.Device.{Writer, WentOut, FailedWithin}
 use Rattle.ws_code.specs.declared.fault.Fault.{Fault}
 use Rattle.ws_code.specs.declared.fault.Fault.TheVariants as device
-use Rattle.ws_live.specs.printing.Buffering.{Buffering, buffered_writer}
-use Rattle.ws_program.specs.Answering.{HasCheckedBy, IsCheckFaultBy}
 use Rattle.ws_live.specs.asked.RunFaults.{run_fault}
-use Rattle.ws_program.specs.SourceChecks.{command_outcome}
-use Rattle.ws_program.proofs.Buffers.{unchanged, check_by_flushed, check_fault_by_flushed}
-use Rattle.ws_program.proofs.UnflushedBuffers.{unheld, check_by_unflushed, check_fault_by_unflushed}
 use Rattle.ws_live.specs.declared.asked.fault.RunFault.{RunFault}
 use Rattle.ws_live.specs.declared.asked.fault.RunFault.TheVariants.{Read, Write}
 use Rattle.ws_live.specs.declared.asked.sender.Sender.{Sender}
+use Rattle.ws_live.specs.printing.Buffering.{Buffering, buffered_writer}
+use Rattle.ws_program.specs.Answering.{HasCheckedBy, IsCheckFaultBy}
+use Rattle.ws_program.specs.SourceChecks.{command_outcome}
+use Rattle.ws_program.proofs.Buffers.{unchanged, check_by_flushed, check_fault_by_flushed}
+use Rattle.ws_program.proofs.UnflushedBuffers.{unheld, check_by_unflushed, check_fault_by_unflushed}
 
 -- what a check came to that met a fault, and what the program comes to by one
 abbrev pub met : Fault → Result Bool Fault

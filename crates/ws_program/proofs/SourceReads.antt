@@ -1,10 +1,10 @@
 use Rattle.std.proofs.Common.{◌≡◌, ℕ, ◌*◌, ◌≤◌, List, ◌∷◌, ◌++◌, [], length, sym, ◌∙◌, subst, append_assoc}
 use Rattle.ws_code.specs.Code.{Rules}
 use Rattle.ws_code.specs.Device.{Reader, Gave}
+use Rattle.ws_telnet.specs.Streams.{IsStream}
 use Rattle.ws_record.specs.Live.{Watching}
 use Rattle.ws_record.specs.Refusal.{Layer, IsOpen, IsRight, IsFirstClosed}
 use Rattle.ws_record.specs.Refusal.Layer.{Tokens, Header, Body}
-use Rattle.ws_telnet.specs.Streams.{IsStream}
 use Rattle.ws_program.specs.Checking.{Counts}
 use Rattle.ws_program.specs.SourceChecks.{HasRefusal}
 use Rattle.ws_program.specs.declared.check.Tally.{Tally}

@@ -1,14 +1,14 @@
-use Rattle.std.proofs.Common.{ℕ, ◌+◌, List, [], ◌∷◌, ◌++◌, take, map, sym, subst}
 use Rattle.std.specs.List.{flat_map, AllByRecursion}
+use Rattle.std.proofs.Common.{ℕ, ◌+◌, List, [], ◌∷◌, ◌++◌, take, map, sym, subst}
 use Rattle.ws_code.specs.Code.{Rules}
 use Rattle.ws_code.proofs.Lists.{AllByRecursion-append, AllByRecursion-last}
-use Rattle.ws_telnet.specs.declared.token.Token.{Token}
-use Rattle.ws_telnet.specs.declared.token.Telnet.{Telnet}
 use Rattle.ws_telnet.specs.Streams.{command_of}
+use Rattle.ws_telnet.specs.declared.token.Telnet.{Telnet}
+use Rattle.ws_telnet.specs.declared.token.Token.{Token}
 use Rattle.ws_record.specs.Grammar.{IsStretch, commands}
-use Rattle.ws_record.specs.declared.record.Record.{Record}
 use Rattle.ws_record.specs.declared.record.Item.{Item}
 use Rattle.ws_record.specs.declared.record.Item.TheVariants.{Record as RecordItem, Telnet as TelnetItem}
+use Rattle.ws_record.specs.declared.record.Record.{Record}
 use Rattle.ws_program.specs.StreamText.{Placed, HoldsItems, IsComplete, IsWholeItem}
 
 -- The records that bytes hold have whole bodies.

@@ -1,16 +1,16 @@
 use Rattle.ws_record.proofs.Common as C
-use C.{◌≡◌, ℕ, ◌*◌, ◌≤◌, List, [], ◌∷◌, ◌++◌, length, drop, take, sym, ap, ◌∙◌, append_assoc, inl, inr}
-use C.{take-append-drop, append-nil, Rules, Reason, Fault, Refused, Truncated, Memory, Item, IsInGrammar, Layer, IsOpen}
-use C.{IsFirstClosed, IsRefused, IsTruncated, Tokens, Receiving, HasReceived, HasItem, MayGrow, IsTakeAllFault}
-use C.{IsDecodeFault, Reader, Gave, GaveAll, IsSourceFault, ◌<◌, ◌⊎◌, Result, Ok, Err, IfOk, IfErr, MatchResult}
-use C.{IsPrefixFree, most_reads, list_reader, Read, Begins, list_gave, list_gave_all, list_no_fault, common_steps, arith}
-use C.{length-append, one_begins, one_cut, token_rules, token_prefix_free, Token, Data, joined}
-use C.{IsBodyReason, IsReason, Header, Body, IsRight}
-use Rattle.ws_record.proofs.Refusals.{held}
+use C.{◌≡◌, ℕ, List, [], ◌∷◌, ◌++◌, take, drop, sym, ap, ◌∙◌, append_assoc, ◌<◌, ◌⊎◌, Result, Ok, Err, IfOk, IfErr}
+use C.{MatchResult, length, ◌*◌, ◌≤◌, inl, inr, arith, length-append, common_steps, append-nil, take-append-drop, Rules}
+use C.{IsPrefixFree, most_reads, list_reader, GaveAll, Reader, Gave, Fault, Refused, Truncated, Memory, Read, Reason}
+use C.{Begins, one_cut, one_begins, list_gave, list_gave_all, list_no_fault, joined, token_rules, token_prefix_free}
+use C.{Token, Data, IsSourceFault, IsInGrammar, MayGrow, IsDecodeFault, Receiving, HasReceived, HasItem, IsTakeAllFault}
+use C.{IsRefused, IsTruncated, Layer, IsRight, IsOpen, IsFirstClosed, IsBodyReason, IsReason, Tokens, Header, Body}
+use C.{Item}
 use Rattle.ws_telnet.proofs.LastRecords.{one_end}
 use Rattle.ws_telnet.proofs.Streams.{stream_of, stream_right, nothing_asked}
-use Rattle.ws_record.proofs.Receivers.{refused_append}
 use Rattle.ws_record.proofs.Reading.{one_items}
+use Rattle.ws_record.proofs.Receivers.{refused_append}
+use Rattle.ws_record.proofs.Refusals.{held}
 
 module _ {Place U : Type 0} (rules : Rules Place U) where
   pub closed_is_not : (l : Layer) (bytes : List ℕ) → IsFirstClosed rules l bytes → IsOpen rules l bytes → ⊥

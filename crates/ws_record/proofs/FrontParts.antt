@@ -1,15 +1,14 @@
 use Rattle.ws_record.proofs.Common as C
-use C.{common_steps, ◌≡◌, ℕ, ◌<◌, ◌≤◌, List, [], ◌∷◌, ◌++◌, inl, inr, Some, None, length, drop, take, refl, sym}
-use C.{ap, ◌∙◌, arith, append_assoc, append-nil, length-append, append_cancel_left, flat_map-append, drop-append-le}
-use C.{Rules, IsChain, IsCut, Begins, Kept, place_after, spelling_of, chain_append, place_after-append}
-use C.{Option, no_end, cut_at, all_but_last, RecordSoFar, Keeping, HasRead, IsHead, Head, IsTaken, OnlyIfOn, News}
-use C.{grown, More, Whole, Open, NoMemory, Item, Watching, Leads, Holds, IAC, cases_lt, take-append-drop}
-use C.{length-take-le}
+use C.{◌≡◌, ℕ, List, [], ◌∷◌, ◌++◌, take, drop, refl, sym, ap, ◌∙◌, append_assoc, ◌<◌, length, ◌≤◌, inl, inr, arith}
+use C.{length-append, Option, Some, None, cases_lt, flat_map-append, common_steps, append-nil, take-append-drop}
+use C.{length-take-le, drop-append-le, append_cancel_left, Rules, IsChain, place_after, spelling_of, IsCut, Kept}
+use C.{Begins, no_end, chain_append, place_after-append, cut_at, all_but_last, IAC, Holds, Watching, Leads, RecordSoFar}
+use C.{Keeping, HasRead, IsHead, IsTaken, grown, OnlyIfOn, News, More, Whole, Open, NoMemory, Head, Item}
 use Rattle.std.proofs.lemmas.List.{length-drop, take-take}
-use Rattle.ws_code.proofs.Cuts.{CutAt}
 use Rattle.ws_code.proofs.CodeLaws.{chain_more}
-use Rattle.ws_record.proofs.Lives.{holds_iac, IsPart}
+use Rattle.ws_code.proofs.Cuts.{CutAt}
 use Rattle.ws_record.specs.declared.news.News.TheVariants.{Refused}
+use Rattle.ws_record.proofs.Lives.{holds_iac, IsPart}
 
 -- What is complete in a front of the values that a record takes.
 

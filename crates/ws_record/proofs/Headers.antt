@@ -1,8 +1,8 @@
-use Rattle.ws_record.proofs.Common.{◌≡◌, ℕ, ◌+◌, ◌-◌, ◌*◌, ◌<◌, ◌≤◌, List, [], ◌∷◌, ◌++◌, inl, inr, length, drop}
-use Rattle.ws_record.proofs.Common.{get_or, refl, ◌∙◌, arith, append_assoc, length-append, replicate, get_or-append}
-use Rattle.ws_record.proofs.Common.{get_or-append_seam, cases_lt, length-replicate, AreBytes, AreBytes-append}
-use Rattle.ws_record.proofs.Common.{zeros_are, Opcode, Invite, IsFramed, header, opcode_byte, CanBeFramed, HeaderSoFar}
-use Rattle.ws_record.proofs.Common.{declared, byte_at, ten_cells, common_steps, zero, suc}
+use Rattle.ws_record.proofs.Common.{◌≡◌, ℕ, List, [], ◌∷◌, ◌++◌, drop, refl, ◌∙◌, append_assoc, ◌<◌, length, ◌*◌, ◌≤◌}
+use Rattle.ws_record.proofs.Common.{inl, inr, arith, ◌+◌, zero, suc, get_or, ◌-◌, length-append, replicate}
+use Rattle.ws_record.proofs.Common.{get_or-append, get_or-append_seam, cases_lt, common_steps, length-replicate}
+use Rattle.ws_record.proofs.Common.{AreBytes, byte_at, AreBytes-append, zeros_are, ten_cells, header, opcode_byte}
+use Rattle.ws_record.proofs.Common.{IsFramed, HeaderSoFar, declared, CanBeFramed, Opcode, Invite}
 
 -- the length of a header is ten
 pub header_length : (n f : ℕ) (o : Opcode) (rest : List ℕ) → length (header n f o ++ rest) ≡ 10 + length rest

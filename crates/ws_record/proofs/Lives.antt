@@ -1,26 +1,26 @@
 use Rattle.ws_record.proofs.Common as C
-use C.{common_steps, ◌≡◌, ℕ, ◌+◌, ◌<◌, ◌≤◌, ◌^◌, List, ◌++◌, Option, None, length, take, arith, Rules, Item, More}
-use C.{RecordSoFar, Watching, Leads, LeadsWith, Kept, bytes_on, each_on, left_of, length_rest, room_on, upto}
-use C.{holds_last, Advance, false, ◌≢◌, refl, [], ◌∷◌, inl, sym, ap, ◌∙◌, append_assoc, length-append}
-use C.{append-nil, IsUnfinished, IsSpelled, AreBytes, AreBytes-front, CanEnd, token_rules, unfinished_token, sub_of, IAC}
-use C.{Telnet, Data, Eor, TelnetToken, TelnetItem, News, Whole, Open, Close, NoMemory, Holds, Keeping, HasRead}
-use C.{IsFrontStep, IsLiveStep, ArePlain, IsTaken, IsRecordEnd, IsWordTaken, IsAdvance, OnLastNews, IsStepOf}
-use C.{Head, HoldsPart, OnlyIfOn, ◌⊎◌, length-take-le, KeepsTold, same_last}
-use C.{AllByRecursion-front, AllByRecursion-last, SpellsBytes, one_last, true, Onward, plain_byte}
-use Rattle.ws_telnet.specs.Words.{IsWord}
-use Rattle.ws_telnet.specs.declared.word.Word.{Word}
-use Rattle.ws_telnet.specs.declared.tokens.Tokens.{Tokens}
-use Rattle.ws_telnet.specs.declared.token.Sub.{Sub as ASub}
-use Rattle.ws_record.specs.declared.news.News.TheVariants.{Refused, Failed}
-use Rattle.ws_record.specs.declared.live.Step.{Step}
-use Rattle.ws_telnet.proofs.Unfinished.{iac_goes_on}
+use C.{true, ◌≡◌, ℕ, List, [], ◌∷◌, ◌++◌, take, refl, sym, ap, ◌∙◌, append_assoc, ◌<◌, ◌⊎◌, length, ◌≤◌, inl, false}
+use C.{arith, ◌+◌, ◌^◌, length-append, ◌≢◌, Option, None, common_steps, append-nil, length-take-le, Rules, IsSpelled}
+use C.{IsUnfinished, AreBytes, holds_last, Kept, SpellsBytes, AreBytes-front, CanEnd, length_rest, AllByRecursion-front}
+use C.{AllByRecursion-last, one_last, same_last, bytes_on, each_on, left_of, room_on, upto, unfinished_token, sub_of}
+use C.{token_rules, IAC, Telnet, Data, Eor, TelnetToken, plain_byte, IsAdvance, OnLastNews, Onward, Holds, Watching}
+use C.{Leads, LeadsWith, IsFrontStep, IsLiveStep, HoldsPart, RecordSoFar, Keeping, HasRead, IsStepOf, ArePlain}
+use C.{KeepsTold, IsTaken, IsRecordEnd, IsWordTaken, OnlyIfOn, Advance, News, More, Whole, Open, Close, NoMemory, Head}
+use C.{Item, TelnetItem}
+use Rattle.ws_code.specs.declared.keep.Kept.TheVariants as answer
 use Rattle.ws_code.proofs.Slots.{only_enough, slot_is}
+use Rattle.ws_telnet.specs.Words.{IsWord}
+use Rattle.ws_telnet.specs.declared.token.Sub.{Sub as ASub}
+use Rattle.ws_telnet.specs.declared.tokens.Tokens.{Tokens}
+use Rattle.ws_telnet.specs.declared.word.Word.{Word}
+use Rattle.ws_telnet.specs.declared.word.Word.TheVariants as word
+use Rattle.ws_telnet.proofs.Unfinished.{iac_goes_on}
+use Rattle.ws_record.specs.declared.live.Step.{Step}
+use Rattle.ws_record.specs.declared.live.Step.TheVariants as steps
+use Rattle.ws_record.specs.declared.news.News.TheVariants as told
+use Rattle.ws_record.specs.declared.news.News.TheVariants.{Refused, Failed}
 use Rattle.ws_record.proofs.Encodings.{holds_more, holds_data, holds_command, holds_record}
 use Rattle.ws_record.proofs.Refusals.{all_open, refuse_token, refuse_data, refuse_end}
-use Rattle.ws_code.specs.declared.keep.Kept.TheVariants as answer
-use Rattle.ws_telnet.specs.declared.word.Word.TheVariants as word
-use Rattle.ws_record.specs.declared.news.News.TheVariants as told
-use Rattle.ws_record.specs.declared.live.Step.TheVariants as steps
 
 -- a decoder that has taken these bytes, and works
 abbrev pub working : {Place : Type 0} → Tokens → Keeping Place → List ℕ → Watching Place

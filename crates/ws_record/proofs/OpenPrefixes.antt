@@ -1,17 +1,11 @@
 use Rattle.ws_record.proofs.Common as C
-use C.{common_steps, arith, ◌≡◌, ℕ, List, [], ◌∷◌, ◌++◌}
-use C.{sym, ◌∙◌, append_assoc, append-nil}
-use C.{token_rules}
-use C.{Eor, joined}
-use C.{cut_at}
-use C.{◌↔◌, ◌+◌, ◌≤◌, zero, suc, length, drop, take}
-use C.{refl, length-append, take-append-le, take-append-drop, take_at, take_more, Rules, Reason, Begins}
-use C.{CanEnd, chain_append, Layer, IsRight, IsOpen, IsRefused, IsTruncated, IsFirstClosed, Tokens}
-use C.{Header, Body, CanBeFramed, BeginsList, IsOpenPrefix, IsFirstClosedTo, AreOpenBelow, IsRefusedByPrefix}
-use C.{IsTruncatedByPrefix, SpellsBytes, drop-front}
+use C.{◌≡◌, ℕ, List, [], ◌∷◌, ◌++◌, take, drop, refl, sym, ◌∙◌, append_assoc, length, ◌≤◌, arith, ◌+◌, zero, suc}
+use C.{length-append, ◌↔◌, common_steps, append-nil, take-append-drop, take_more, take-append-le, take_at, Rules}
+use C.{Reason, SpellsBytes, Begins, CanEnd, chain_append, cut_at, drop-front, joined, token_rules, Eor, BeginsList}
+use C.{IsOpenPrefix, IsFirstClosedTo, AreOpenBelow, IsRefusedByPrefix, IsTruncatedByPrefix, CanBeFramed, IsRefused}
+use C.{IsTruncated, Layer, IsRight, IsOpen, IsFirstClosed, Tokens, Header, Body}
 use Rattle.ws_telnet.proofs.LastRecords.{last_of_stream, stream_of_last}
-use Rattle.ws_telnet.proofs.Streams.{left-append}
-use Rattle.ws_telnet.proofs.Streams.{stream_of, nothing_asked}
+use Rattle.ws_telnet.proofs.Streams.{left-append, stream_of, nothing_asked}
 use Rattle.ws_record.proofs.Faults.{open_tokens}
 use Rattle.ws_record.proofs.OpenRecords.{nothing_framed}
 use Rattle.ws_record.proofs.Refusals.{can_be_body, opens}

@@ -1,20 +1,20 @@
 use Rattle.ws_record.proofs.Common as C
-use C.{common_steps, ◌≡◌, ℕ, ◌+◌, ◌<◌, ◌≤◌, List, [], ◌∷◌, ◌++◌, inl, length, drop, take, get_or, refl, ap, arith}
-use C.{append_assoc, length-append, length-take, drop_of_length-le, append-nil, take-append-drop, Rules, length-take-le}
-use C.{HasReadValues, IsSpelled, IsPrefixFree, AreBytes, Reading, StopsAtLast, Kept, AreBytes-front, Begins, run_unit, News}
-use C.{More, Whole, Open, NoMemory, RecordSoFar, Keeping, HasRead, ArePlain, IsTaken, IsHeaderStep, grown}
-use C.{AllByRecursion-front, AllByRecursion-last, front_bytes, same_front, IsRunOfValues, ◌-◌, ◌*◌, true, inr, Option, Some}
-use C.{None, sym, ◌∙◌, IfSome, slice_index, take-append-le, drop-append-le, take_all, IsPrefix, place_after}
-use C.{spelling_of, AreBytes-append, one_cut, cut_bad, chain_append, place_after-append, Reason, Data, Opcode, Head}
-use C.{IsFramed, opcode_byte, header_reason, HeaderSoFar, declared, head_in, no_record, CanBeFramed, IsHead}
-use C.{IsDataRefused, IsEndRefused, IsWholeRecord, byte_at, empty_take, take_short}
-use Rattle.ws_record.specs.declared.news.News.TheVariants.{Refused}
-use Rattle.ws_code.specs.declared.run.Standing.{Standing}
-use Rattle.ws_code.specs.declared.run.End.{End}
+use C.{IfSome, slice_index, true, ◌≡◌, ℕ, List, [], ◌∷◌, ◌++◌, take, drop, refl, sym, ap, ◌∙◌, append_assoc, ◌<◌}
+use C.{length, ◌*◌, ◌≤◌, inl, inr, arith, ◌+◌, get_or, ◌-◌, length-append, Option, Some, None, length-take}
+use C.{drop_of_length-le, common_steps, append-nil, take-append-drop, length-take-le, take-append-le, drop-append-le}
+use C.{take_all, Rules, IsSpelled, IsPrefix, IsPrefixFree, place_after, spelling_of, AreBytes, Reading, HasReadValues}
+use C.{StopsAtLast, IsRunOfValues, Kept, Reason, byte_at, front_bytes, Begins, one_cut, cut_bad, AreBytes-front}
+use C.{AreBytes-append, chain_append, place_after-append, AllByRecursion-front, AllByRecursion-last, same_front}
+use C.{empty_take, take_short, run_unit, Data, IsWholeRecord, opcode_byte, IsFramed, HeaderSoFar, declared, head_in}
+use C.{CanBeFramed, RecordSoFar, no_record, Keeping, HasRead, IsHead, IsDataRefused, IsEndRefused, header_reason}
+use C.{ArePlain, IsTaken, grown, IsHeaderStep, News, More, Whole, Open, NoMemory, Opcode, Head}
 use Rattle.ws_code.specs.declared.reason.Reason.TheVariants.{TooLong, EndedInside, UnknownOpcode}
+use Rattle.ws_code.specs.declared.run.End.{End}
+use Rattle.ws_code.specs.declared.run.End.TheVariants as end
+use Rattle.ws_code.specs.declared.run.Standing.{Standing}
+use Rattle.ws_record.specs.declared.news.News.TheVariants.{Refused}
 use Rattle.ws_record.proofs.Headers.{can_be_framed, can_means, header_append, empty_header, next_cell, no_room}
 use Rattle.ws_record.proofs.Headers.{header_parts}
-use Rattle.ws_code.specs.declared.run.End.TheVariants as end
 
 pub nothing_framed : CanBeFramed []
 nothing_framed = can_be_framed [] tt empty_header (λ k. absurd (omega arith))

@@ -1,15 +1,15 @@
-use Rattle.ws_record.proofs.Common.{common_steps, true, false, ◌≡◌, ℕ, ◌+◌, ◌<◌, ◌≤◌, List, [], ◌∷◌, ◌++◌, Some, None}
-use Rattle.ws_record.proofs.Common.{Result, Ok, Err, length, drop, take, Vec, Global, sym, ap, ◌∙◌, arith, append_assoc}
-use Rattle.ws_record.proofs.Common.{length-append, append-nil, take-append-drop, length-take-le, Rules, Fault, Reason}
-use Rattle.ws_record.proofs.Common.{Item, News, IsRefused, RecordSoFar, Watching, Leads, CompletesUnit, EndIn}
-use Rattle.ws_record.proofs.Common.{IsAdvance, awaits_more, IsItemOf, Receiving, HasReceived, IsTakeFault, IsFeedFault}
-use Rattle.ws_record.proofs.Common.{◌^◌, given, refl, IfOk, IfErr, IsFedOf, length_rest}
-use Rattle.ws_record.specs.declared.receiver.Fed.{Fed}
-use Rattle.ws_record.proofs.Common.{NoneBefore, bytes_on, left_of, one_last, left_joined}
-use Rattle.ws_record.proofs.Lives.{fetched, Made, IsHeld}
-use Rattle.ws_code.specs.declared.keep.Kept.TheVariants as answer
+use Rattle.ws_record.proofs.Common.{true, ◌≡◌, ℕ, List, [], ◌∷◌, ◌++◌, take, drop, refl, sym, ap, ◌∙◌, append_assoc}
+use Rattle.ws_record.proofs.Common.{◌<◌, Result, Ok, Err, IfOk, IfErr, length, ◌≤◌, false, arith, ◌+◌, ◌^◌}
+use Rattle.ws_record.proofs.Common.{length-append, Some, None, Vec, Global, common_steps, append-nil, take-append-drop}
+use Rattle.ws_record.proofs.Common.{length-take-le, Rules, Fault, Reason, length_rest, one_last, bytes_on, left_of}
+use Rattle.ws_record.proofs.Common.{left_joined, IsAdvance, awaits_more, Watching, Leads, CompletesUnit, RecordSoFar}
+use Rattle.ws_record.proofs.Common.{Receiving, HasReceived, IsTakeFault, IsFeedFault, NoneBefore, given, IsRefused}
+use Rattle.ws_record.proofs.Common.{IsItemOf, IsFedOf, EndIn, News, Item}
 use Rattle.ws_code.specs.declared.fault.Fault.TheVariants as faults
+use Rattle.ws_code.specs.declared.keep.Kept.TheVariants as answer
 use Rattle.ws_record.specs.declared.news.News.TheVariants as told
+use Rattle.ws_record.specs.declared.receiver.Fed.{Fed}
+use Rattle.ws_record.proofs.Lives.{fetched, Made, IsHeld}
 
 -- a refusal stands whatever follows
 pub refused_append : {Place U : Type 0} (rules : Rules Place U) (bytes more : List ℕ) (place : ℕ) (reason : Reason)

@@ -1,14 +1,14 @@
 use Rattle.ws_record.proofs.Common as C
-use C.{common_steps, length-append, ◌≡◌, ℕ, ◌+◌, List, [], ◌∷◌, ◌++◌, inl, inr, map, length, drop, refl, sym, ap, ◌∙◌}
-use C.{arith, AllByRecursion, append-nil, Rules, IsPrefix, IsCut, IsSpelled, AreBytes, spelling_of, Reason}
-use C.{AreBytes-append, CanEnd, cut_ends, one_cut, token_rules, token_prefix_free, Token, Data, Eor, Record, Item}
-use C.{IsBodyBytes, IsRecord, IsStretch, IsStream, Holds, joined, carried, record_bytes, Layer, IsRight, IsOpen}
-use C.{IsRefused, IsTruncated, IsFirstClosed, IsReason, Tokens, Header, Body, CanBeFramed, IsDataRefused, IsEndRefused}
-use C.{AreBytes-apart, SpellsBytes, list_bytes, padding}
-use Rattle.ws_record.proofs.Reading.{parts_no_eor}
+use C.{AllByRecursion, ◌≡◌, ℕ, List, [], ◌∷◌, ◌++◌, drop, refl, sym, ap, ◌∙◌, length, inl, inr, arith, ◌+◌, map}
+use C.{length-append, common_steps, append-nil, Rules, IsSpelled, IsPrefix, spelling_of, AreBytes, IsCut, Reason}
+use C.{AreBytes-apart, SpellsBytes, list_bytes, padding, one_cut, AreBytes-append, CanEnd, cut_ends, IsStream, joined}
+use C.{carried, token_rules, token_prefix_free, Token, Data, Eor, IsRecord, Holds, record_bytes, IsBodyBytes, IsStretch}
+use C.{CanBeFramed, IsDataRefused, IsEndRefused, IsRefused, IsTruncated, Layer, IsRight, IsOpen, IsFirstClosed}
+use C.{IsReason, Tokens, Header, Body, Item, Record}
 use Rattle.ws_telnet.proofs.Streams.{Running, of_parts, left_by, open_stream, ended_stream, bad_token, bad_data}
 use Rattle.ws_telnet.proofs.Streams.{bad_eor, ends_with_one}
 use Rattle.ws_record.proofs.Encodings.{parts_of, holds_data}
+use Rattle.ws_record.proofs.Reading.{parts_no_eor}
 
 module _ {Place U : Type 0} (rules : Rules Place U) where
   -- a record is right to each layer

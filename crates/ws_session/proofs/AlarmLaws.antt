@@ -1,8 +1,8 @@
 use Rattle.ws_session.proofs.Common as C
-use C.{◌≡◌, ℕ, ◌+◌, List, [], ◌∷◌, ◌++◌, Option, Some, None, Bool, true, false, if◌then◌else◌, refl, ap, ◌∙◌}
-use C.{arith, ◌&&◌, Element, Place, element_rules, element_begins, element_prefix_free, IsChain}
-use C.{spelling_of, History, Edit, Record, Opcode, CancelInvite, after_elements, after_end, after_record}
-use C.{events_by, opcode_events, open_write, Reason}
+use C.{◌&&◌, ◌≡◌, ◌+◌, List, [], ◌∷◌, ◌++◌, refl, ◌∙◌, ℕ, Option, Some, None, ap, arith, if◌then◌else◌, Bool, true}
+use C.{false, IsChain, spelling_of, Reason, Opcode, CancelInvite, Record, element_prefix_free, element_begins}
+use C.{element_rules, Element, Place, after_elements, after_end, History, Edit, open_write, events_by, opcode_events}
+use C.{after_record}
 use Rattle.std.specs.Prelude.{cond, count_by}
 use Rattle.std.proofs.lemmas.List.Sums.{sum_by-append, sum_by-cons}
 use Rattle.ws_code.specs.Run.{Reading}

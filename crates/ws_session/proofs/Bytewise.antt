@@ -1,14 +1,14 @@
 use Rattle.ws_session.proofs.Common as C
-use C.{bytes_to_station, byte_to_station, station_pressed, station_takes, bytes_to_host, if◌then◌else◌, element_rules}
-use C.{station_gets, answer_rules, TerminalType, SendReaction, byte_to_host, refusals_in, SendRefused, KeyReaction, suc}
-use C.{station_did, after_moves, StationSide, events_with, RefusesSend, KeyRefused, host_takes, after_move, down_bytes}
-use C.{AnswerPart, is_refusal, HostOutput, RefusesKey, HostEvent, host_gets, new_world, ending_at, ToStation, host_sent}
-use C.{HostSide, Reaction, up_bytes, host_did, Element, Refuses, ToHost, GoesOn, Option, length, nat_lt, Cancel, Sends}
-use C.{Event, World, false, Press, List, Host, Item, zero, ◌++◌, true, Some, Move, Bool, None, refl, ◌∷◌, inr, ◌+◌, ◌≡◌}
-use C.{inl, ap, [], ℕ}
+use C.{◌≡◌, ◌+◌, List, [], ◌∷◌, ◌++◌, refl, ℕ, zero, suc, Option, Some, None, ap, inl, inr, length, if◌then◌else◌, Bool}
+use C.{true, false, nat_lt, TerminalType, ending_at, Item, answer_rules, element_rules, AnswerPart, Element, Refuses}
+use C.{GoesOn, Reaction, HostEvent, Event, Host, KeyRefused, SendRefused, Move, ToStation, ToHost, Cancel, Press}
+use C.{HostSide, host_takes, HostOutput, SendReaction, RefusesSend, Sends, StationSide, station_takes, KeyReaction}
+use C.{RefusesKey, is_refusal, refusals_in, World, new_world, after_moves, after_move, down_bytes, station_did}
+use C.{station_gets, byte_to_station, up_bytes, host_did, host_gets, byte_to_host, events_with, bytes_to_station}
+use C.{bytes_to_host, station_pressed, host_sent}
+use Rattle.std.proofs.lemmas.Bool.{cases_Bool}
 use Rattle.ws_session.specs.declared.world.Move.TheVariants.{Send}
 use Rattle.ws_session.proofs.world.Worlds.{sound}
-use Rattle.std.proofs.lemmas.Bool.{cases_Bool}
 
 -- What stays true of a session at an item that arrives stays true at bytes.
 

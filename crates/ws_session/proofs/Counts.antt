@@ -1,4 +1,4 @@
-use Rattle.ws_session.proofs.Common.{◌≡◌, ℕ, ◌+◌, ◌-◌, ◌^◌, ◌<◌, ◌≤◌, arith, Refusal, At, Failed, Memory}
+use Rattle.ws_session.proofs.Common.{◌≡◌, ◌+◌, ◌≤◌, ℕ, ◌<◌, arith, ◌^◌, ◌-◌, Refusal, At, Failed, Memory}
 use Rattle.ws_session.specs.Ends.{StandsAt, CountsUpTo}
 
 -- What an end has taken behind the fronts of a piece.

@@ -1,21 +1,20 @@
 use Rattle.ws_session.proofs.Common as C
-use C.{HostParts, HostLeads, HostSide, AnswerPart, HostRefuses, EndsAt, HasGone, Goes, Manner, Rules, Item}
-use C.{all_came, append_assoc, length-take-le, answer_rules, element_rules, host_manner}
-use C.{◌≡◌, ◌+◌, ◌≤◌, ◌<◌, ◌^◌, ◌++◌, ◌∷◌, [], List, ℕ, None, Option, inl, inr, refl, sym, ap, ◌∙◌, take}
-use C.{length, arith, Refusal, Failed, take-append-le, IsHostPushed, Err, Ok, Result, IfOk, IfErr, is_some, true}
-use C.{false, ◌-◌, suc, subst}
-use Rattle.ws_session.specs.station.Displays.{DisplayOf, SideOn}
+use C.{IfOk, IfErr, ◌≡◌, ◌+◌, ◌≤◌, List, [], ◌∷◌, ◌++◌, refl, subst, ◌∙◌, ℕ, suc, ◌<◌, Option, None, take, ap, sym}
+use C.{arith, ◌^◌, inl, inr, length, append_assoc, true, false, is_some, ◌-◌, Err, Ok, Result, length-take-le}
+use C.{take-append-le, Rules, Item, answer_rules, element_rules, AnswerPart, all_came, HasGone, Manner, Goes}
+use C.{host_manner, HostRefuses, Refusal, Failed, EndsAt, HostLeads, HostParts, IsHostPushed, HostSide}
+use Rattle.std.proofs.Math.Seq.{take-append-add}
 use Rattle.ws_session.specs.Ends.{IsShut}
-use Rattle.ws_session.specs.host_end.HostFeeds.{HostStopsWithin, IsHostSilent, HostStaysSilent}
 use Rattle.ws_session.specs.Manners.{IsHostShut}
+use Rattle.ws_session.specs.host_end.HostFeeds.{HostStopsWithin, IsHostSilent, HostStaysSilent}
+use Rattle.ws_session.specs.station.Displays.{DisplayOf, SideOn}
 use Rattle.ws_session.specs.station.PartsOn.{PartsOn}
 use Rattle.ws_session.specs.station.StationActs.{IsShutOn, RefusesOn, IsSilentOn, StaysSilentOn}
 use Rattle.ws_session.specs.station.StationManners.{manner_on}
 use Rattle.ws_session.specs.station.StationNews.{StopsWithinOn}
 use Rattle.ws_session.specs.station.Stations.{LeadsOn}
-use Rattle.ws_session.proofs.station.StationSteps.{is_led}
 use Rattle.ws_session.proofs.Feedings.{come_weaker, value_at}
-use Rattle.std.proofs.Math.Seq.{take-append-add}
+use Rattle.ws_session.proofs.station.StationSteps.{is_led}
 
 -- A piece at an end, as acts: so many of its bytes came.
 

@@ -1,8 +1,8 @@
-use Rattle.ws_session.proofs.Common.{◌≡◌, ℕ, ◌+◌, ◌-◌, ◌<◌, ◌≤◌, ◌^◌, zero, suc, inl, inr, List, [], ◌∷◌, ◌++◌}
-use Rattle.ws_session.proofs.Common.{length, take, refl, ap, ◌∙◌, sym, arith, append_assoc, length-append, cases_lt}
-use Rattle.ws_session.proofs.Common.{append-nil, length-take-le, take-take, Rules, Item, left_of, length_rest}
-use Rattle.ws_session.proofs.Common.{left_joined, bytes_on, gone_on, came_append, bytes_came, Act, Arrives, Manner}
-use Rattle.ws_session.proofs.Common.{all_came, items_of, doing, Happen, HoldsItems, HasGone}
+use Rattle.ws_session.proofs.Common.{◌≡◌, ◌+◌, ◌≤◌, List, [], ◌∷◌, ◌++◌, refl, ◌∙◌, ℕ, zero, suc, ◌<◌, take, ap, sym}
+use Rattle.ws_session.proofs.Common.{arith, ◌^◌, inl, inr, length, append_assoc, length-append, ◌-◌, cases_lt}
+use Rattle.ws_session.proofs.Common.{length-take-le, append-nil, take-take, Rules, length_rest, left_of, left_joined}
+use Rattle.ws_session.proofs.Common.{bytes_on, Item, came_append, gone_on, bytes_came, Act, all_came, doing, items_of}
+use Rattle.ws_session.proofs.Common.{HasGone, Arrives, Manner, Happen, HoldsItems}
 use Rattle.ws_session.specs.Acts.{bytes_of}
 
 -- A piece of bytes at an end of a session, by its fronts.

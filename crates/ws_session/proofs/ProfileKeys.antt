@@ -1,13 +1,11 @@
 use Rattle.ws_session.proofs.Common as C
-use C.{key_by_refusal, answers_read, answer_bytes, key_refusal, StationSide, ScreenParts, one_screen, KeyRefusal}
-use C.{FollowsAll}
-use C.{events_by, IsPressed, after_key, screen_at, answer_to, ReadKind, edit_of, Request, Option, length, Result}
-use C.{Attend}
-use C.{subst, OnOk, refl, None, Send, Some, Read, ◌∙◌, sym, ◌≡◌, Key, Err, Ok, ap, ℕ}
+use C.{OnOk, ◌≡◌, refl, subst, ◌∙◌, ℕ, Option, Some, None, ap, sym, length, Err, Ok, Result, FollowsAll, ScreenParts}
+use C.{ReadKind, one_screen, answer_bytes, edit_of, events_by, key_refusal, answer_to, IsPressed, Read, Key, Send}
+use C.{Attend, Request, KeyRefusal, StationSide, after_key, screen_at, answers_read, key_by_refusal}
 use Rattle.std.specs.Option.{option_map}
 use Rattle.ws_keys.specs.declared.answer.Answer.{Answer}
-use Rattle.ws_session.specs.station.Displays.{IsPressedOnDisplay, ComesTo}
 use Rattle.ws_session.specs.station.Alarms.{alarm_count}
+use Rattle.ws_session.specs.station.Displays.{IsPressedOnDisplay, ComesTo}
 use Rattle.ws_session.specs.station.StationSide.{ProfileGives, ProfileParts, profile}
 use Rattle.ws_session.proofs.AlarmLaws.{alarms_behind_key}
 

@@ -1,6 +1,5 @@
 -- A body that is read from its bytes, one unit at a time, each into an empty slot.
-use Rattle.std.proofs.Common.{◌≡◌, ℕ, List, [], ◌∷◌, ◌++◌, Option, Some, None, refl, sym, ap, ◌∙◌, subst}
-use Rattle.std.proofs.Common.{append_assoc}
+use Rattle.std.proofs.Common.{◌≡◌, ℕ, List, [], ◌∷◌, ◌++◌, Option, Some, None, refl, sym, ap, ◌∙◌, subst, append_assoc}
 use Rattle.std.proofs.lemmas.List.{append-nil}
 use Rattle.ws_code.specs.Code.{Rules, Stands, IsChain, IsCut, IsPrefix, IsPrefixFree, IsSpelled, IsUnfinished}
 use Rattle.ws_code.specs.Code.{place_after, spelling_of}

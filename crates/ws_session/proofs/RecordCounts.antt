@@ -1,7 +1,7 @@
-use Rattle.ws_session.proofs.Common.{◌≡◌, ℕ, ◌+◌, ◌≤◌, List, [], ◌∷◌, ◌++◌, map, length, refl, ap, ◌∙◌, arith}
-use Rattle.ws_session.proofs.Common.{length-append, append_assoc, flat_map, flat_map-append, Rules, spelling_of}
-use Rattle.ws_session.proofs.Common.{token_rules, Telnet, Item, RecordItem, TelnetItem, Record, Holds, joined}
-use Rattle.ws_session.proofs.Common.{commands, command_of, records_in}
+use Rattle.ws_session.proofs.Common.{flat_map, ◌≡◌, ◌+◌, ◌≤◌, List, [], ◌∷◌, ◌++◌, refl, ◌∙◌, ℕ, ap, arith, length}
+use Rattle.ws_session.proofs.Common.{append_assoc, length-append, map, flat_map-append, Rules, spelling_of, joined}
+use Rattle.ws_session.proofs.Common.{command_of, token_rules, Telnet, Holds, commands, Item, RecordItem, TelnetItem}
+use Rattle.ws_session.proofs.Common.{Record, records_in}
 use Rattle.ws_telnet.specs.declared.token.Token.{Token}
 use Rattle.ws_telnet.specs.declared.token.Token.TheVariants.{Eor}
 

@@ -1,5 +1,5 @@
 use Rattle.ws_session.proofs.Common as C
-use C.{◌≡◌, ◌+◌, ◌^◌, ℕ, Option, Result, Ok, Err, IsSome, inl, inr, Refusal}
+use C.{◌≡◌, ◌+◌, ℕ, Option, ◌^◌, inl, inr, IsSome, Err, Ok, Result, Refusal}
 use Rattle.ws_session.specs.Ends.{IsShut}
 
 -- What a call of an end that is shut answers.

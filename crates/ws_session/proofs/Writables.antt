@@ -1,12 +1,12 @@
 use Rattle.ws_session.proofs.Common as C
-use C.{RecordBeforeNegotiation, station_allows_records, host_takes_record, host_ends_cancel, station_applies, None}
-use C.{host_negotiates, station_answer, AllByRecursion, station_takes, host_reads_by, opcode_answer, if◌then◌else◌}
-use C.{element_rules, answer_rules, RecordItem, CancelInvite, AreWritable, NoOperation, StationSide, arith, host_takes}
-use C.{AnswerPart, HostOutput, HostAnswer, host_reads, body_fault, TelnetItem, IsInRange, Telnet, HostState, ReadKind}
-use C.{IsTelnet, Reaction, HostSide, Element, Refuses, PutGet, Option, GoesOn, Opcode, Answer, Reason, false, true}
-use C.{List, Some, Bool, Item, refl, ◌∷◌, map, ◌∙◌, sym, ◌≡◌, inl, inr, ap, [], ℕ}
-use Rattle.ws_nego.proofs.Replies.{reply_in_range, Ranges, host_reply_in_range}
+use C.{AllByRecursion, ◌≡◌, List, [], ◌∷◌, refl, ◌∙◌, ℕ, Option, Some, None, ap, sym, arith, inl, inr, if◌then◌else◌}
+use C.{Bool, true, false, map, Reason, RecordBeforeNegotiation, IsTelnet, Telnet, HostState, Answer}
+use C.{station_allows_records, station_answer, IsInRange, Opcode, CancelInvite, NoOperation, PutGet, Item, RecordItem}
+use C.{TelnetItem, answer_rules, element_rules, AnswerPart, Element, body_fault, ReadKind, HostAnswer, Refuses, GoesOn}
+use C.{Reaction, HostSide, host_negotiates, host_reads, host_reads_by, host_ends_cancel, host_takes_record, host_takes}
+use C.{HostOutput, StationSide, opcode_answer, station_applies, station_takes, AreWritable}
 use Rattle.std.proofs.lemmas.Bool.{cases_Bool}
+use Rattle.ws_nego.proofs.Replies.{reply_in_range, Ranges, host_reply_in_range}
 
 -- What an end answers to an item that can be written can be written.
 

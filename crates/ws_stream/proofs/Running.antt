@@ -8,8 +8,8 @@ use Rattle.ws_code.specs.declared.keep.Kept.TheVariants as kept
 use Rattle.ws_code.specs.declared.run.End.{End}
 use Rattle.ws_code.specs.declared.run.End.TheVariants.{More, Enough, NoMemory, Bad}
 use Rattle.ws_code.proofs.RunLaws.{runs_more, runs_unit, stops, keeps_none, same_reading}
-use Rattle.ws_stream.specs.Elements.{element_rules}
 use Rattle.ws_stream.specs.ElementLaws.{element_begins}
+use Rattle.ws_stream.specs.Elements.{element_rules}
 use Rattle.ws_stream.specs.Machine.{unfinished_in}
 use Rattle.ws_stream.specs.Taking.{Takes, reading_of, standing_of, is_inside}
 use Rattle.ws_stream.specs.UnfinishedElement.{unfinished_of}

@@ -1,23 +1,22 @@
-use Rattle.std.specs.Prelude.{◌≡◌, ◌≢◌, ℕ, ◌+◌, ◌-◌, ◌*◌, ◌<◌, ◌≤◌, ◌/◌, ◌%◌, List, [], ◌∷◌, ◌++◌, length}
-use Rattle.std.specs.Prelude.{◌⊎◌, Bool, true, false, nat_le, nat_lt, Option, Some, None}
-use Rattle.std.specs.Prelude.{is_some, SomeIff, refl}
-use Rattle.std.proofs.Common.{inl, inr, sym, ap, ◌∙◌, subst, arith, append_assoc, length-append}
 use Rattle.std.specs.List.{flat_map, list_all}
+use Rattle.std.specs.Prelude.{◌≡◌, ◌≢◌, ℕ, ◌+◌, ◌-◌, ◌*◌, ◌<◌, ◌≤◌, ◌/◌, ◌%◌, List, [], ◌∷◌, ◌++◌, length, ◌⊎◌, Bool}
+use Rattle.std.specs.Prelude.{true, false, nat_le, nat_lt, Option, Some, None, is_some, SomeIff, refl}
+use Rattle.std.proofs.Common.{inl, inr, sym, ap, ◌∙◌, subst, arith, append_assoc, length-append}
 use Rattle.std.proofs.lemmas.Bool.{both_ways, and_parts, and_from, leb-true, ltb-true, le-leb, lt-ltb, lt-leb}
-use Rattle.std.proofs.lemmas.List.Folds.{list_all-append}
 use Rattle.std.proofs.lemmas.Grind.{flat_map-append}
+use Rattle.std.proofs.lemmas.List.Folds.{list_all-append}
 use Rattle.ws_code.specs.Code.{Stands, IsPrefix, IsUnfinished}
 use Rattle.ws_code.specs.FormatWord.{IsFfw}
-use Rattle.ws_stream.specs.FieldOrder.{FieldOrder, IsFieldOrder, HasFormat, is_control, is_attribute}
 use Rattle.ws_code.specs.TwoBytes.{two_bytes}
-use Rattle.ws_stream.specs.Elements.{element_rules, spelling, IsElement, allows_orders, format_bytes}
+use Rattle.ws_code.specs.declared.reason.Reason.TheVariants.{TooManyFcws, BadFormatByte}
 use Rattle.ws_stream.specs.ElementLaws.{first, no_code, format_front, controls_front, control_low}
+use Rattle.ws_stream.specs.Elements.{element_rules, spelling, IsElement, allows_orders, format_bytes}
+use Rattle.ws_stream.specs.FieldOrder.{FieldOrder, IsFieldOrder, HasFormat, is_control, is_attribute}
 use Rattle.ws_stream.specs.Machine.{front_bytes, is_front, are_words, words_bytes}
 use Rattle.ws_stream.specs.Reasons.{element_reason}
-use Rattle.ws_code.specs.declared.reason.Reason.TheVariants.{TooManyFcws, BadFormatByte}
-use Rattle.ws_stream.specs.declared.place.Place.{Place}
 use Rattle.ws_stream.specs.declared.element.Element.{Element}
 use Rattle.ws_stream.specs.declared.element.Element.TheVariants.{Sf, Put}
+use Rattle.ws_stream.specs.declared.place.Place.{Place}
 use Rattle.ws_stream.proofs.Unfinished.{order_allowed}
 
 -- What a machine within a Start of Field needs.

@@ -4,12 +4,12 @@ use Rattle.std.proofs.Common.{sym, ap, ◌∙◌, subst, arith, length-append}
 use Rattle.std.proofs.lemmas.List.{length-replicate}
 use Rattle.ws_code.specs.Code.{IsSpelled, IsUnfinished, AreBytes}
 use Rattle.ws_code.proofs.CodeLaws.{AreBytes-append, AreBytes-front, zeros_are}
-use Rattle.ws_stream.specs.Parts.{IsSoh}
-use Rattle.ws_stream.specs.Elements.{element_rules, spelling, IsElement, allows_orders}
 use Rattle.ws_stream.specs.ElementLaws.{first, no_code}
-use Rattle.ws_stream.specs.declared.place.Place.{Place}
+use Rattle.ws_stream.specs.Elements.{element_rules, spelling, IsElement, allows_orders}
+use Rattle.ws_stream.specs.Parts.{IsSoh}
 use Rattle.ws_stream.specs.declared.element.Element.{Element}
 use Rattle.ws_stream.specs.declared.element.Element.TheVariants.{Soh, Put}
+use Rattle.ws_stream.specs.declared.place.Place.{Place}
 use Rattle.ws_stream.proofs.Unfinished.{order_allowed}
 
 -- What a machine within a Start of Header needs.

@@ -1,6 +1,6 @@
+use Rattle.std.specs.List.{flat_map}
 use Rattle.std.specs.Prelude.{◌≡◌, ℕ, ◌*◌, List, [], ◌∷◌, length}
 use Rattle.std.proofs.Common.{arith}
-use Rattle.std.specs.List.{flat_map}
 use Rattle.ws_code.specs.TwoBytes.{two_bytes}
 
 -- words have two bytes each

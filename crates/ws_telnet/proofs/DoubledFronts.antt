@@ -1,6 +1,6 @@
+use Rattle.std.specs.List.{flat_map}
 use Rattle.std.proofs.Common.{◌≡◌, ℕ, List, [], ◌∷◌, ◌++◌, refl, sym, ap, ◌∙◌, append_assoc, inl, inr}
 use Rattle.std.proofs.lemmas.List.{append-nil}
-use Rattle.std.specs.List.{flat_map}
 use Rattle.ws_code.specs.Code.{IsUnfinished, AreBytes}
 use Rattle.ws_code.proofs.CodeLaws.{one_begins, no_end}
 use Rattle.ws_telnet.specs.Token.{token_rules, doubled}

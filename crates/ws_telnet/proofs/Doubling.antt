@@ -1,8 +1,8 @@
+use Rattle.std.specs.List.{flat_map}
 use Rattle.std.proofs.Common.{◌≡◌, ℕ, List, [], ◌∷◌, ◌++◌, take, drop, refl, sym, ap, ◌∙◌, append_assoc, ◌<◌, length}
 use Rattle.std.proofs.Common.{◌≤◌, arith, ◌+◌, get_or}
 use Rattle.std.proofs.lemmas.Grind.{flat_map-append}
 use Rattle.std.proofs.lemmas.List.{append-nil, take-append-drop, take_more, take_all}
-use Rattle.std.specs.List.{flat_map}
 use Rattle.ws_code.specs.Device.{Writer, WentOut, FailedWithin}
 use Rattle.ws_code.proofs.DeviceLaws.{went_out_both, failed_within_both}
 use Rattle.ws_code.proofs.Lists.{run, run_more, run_none}

@@ -1,22 +1,21 @@
-use Rattle.std.proofs.Common.{append_assoc, ap}
-use Rattle.std.proofs.Common.{arith, ◌≡◌, ℕ, List, [], ◌∷◌, ◌++◌, inl, inr, sym, ◌∙◌}
+use Rattle.std.specs.List.{AllByRecursion}
+use Rattle.std.proofs.Common.{append_assoc, ap, arith, ◌≡◌, ℕ, List, [], ◌∷◌, ◌++◌, inl, inr, sym, ◌∙◌}
 use Rattle.std.proofs.lemmas.Grind.{common_steps, flat_map-append}
 use Rattle.std.proofs.lemmas.List.{append-nil}
-use Rattle.std.specs.List.{AllByRecursion}
+use Rattle.ws_code.specs.Code.{IsChain, IsCut, AreBytes, spelling_of}
 use Rattle.ws_code.proofs.Bytes.{AreBytes-apart}
 use Rattle.ws_code.proofs.CodeLaws.{one_cut, no_end, AreBytes-append, one_list}
 use Rattle.ws_code.proofs.Cuts.{cut_at}
 use Rattle.ws_code.proofs.Lists.{AllByRecursion-append, AllByRecursion-last, AllByRecursion-both, all_but_last, last_of}
 use Rattle.ws_code.proofs.Lists.{same_last}
-use Rattle.ws_code.specs.Code.{IsChain, IsCut, AreBytes, spelling_of}
-use Rattle.ws_telnet.proofs.Streams.{ends_with, stream_of, stream_right, stream_asks, open_stream}
-use Rattle.ws_telnet.proofs.Streams.{left_by, ended_by, left-append, ended-append, of_parts, left_open, parted}
-use Rattle.ws_telnet.proofs.TokenLists.{chain_front}
 use Rattle.ws_telnet.specs.Streams.{IsStream, joined, EndsRecord, LastRecordMeets, EndsWithToken}
 use Rattle.ws_telnet.specs.Token.{token_rules, token_spelling, IsToken}
 use Rattle.ws_telnet.specs.TokenLaws.{token_prefix_free, token_begins, token_nonempty}
-use Rattle.ws_telnet.specs.declared.token.Token.TheVariants.{Data, Eor, Telnet as TelnetToken}
 use Rattle.ws_telnet.specs.declared.token.Token.{Token}
+use Rattle.ws_telnet.specs.declared.token.Token.TheVariants.{Data, Eor, Telnet as TelnetToken}
+use Rattle.ws_telnet.proofs.Streams.{ends_with, stream_of, stream_right, stream_asks, open_stream, left_by, ended_by}
+use Rattle.ws_telnet.proofs.Streams.{left-append, ended-append, of_parts, left_open, parted}
+use Rattle.ws_telnet.proofs.TokenLists.{chain_front}
 
 -- Where bytes stand in a stream: behind an Eor, or elsewhere.
 

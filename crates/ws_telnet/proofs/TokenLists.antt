@@ -1,7 +1,7 @@
-use Rattle.std.proofs.Common.{◌≡◌, ℕ, List, [], ◌∷◌, ◌++◌, refl, sym, ◌∙◌, map, append_assoc, arith}
 use Rattle.std.specs.List.{AllByRecursion}
-use Rattle.ws_code.proofs.CodeLaws.{no_end}
+use Rattle.std.proofs.Common.{◌≡◌, ℕ, List, [], ◌∷◌, ◌++◌, refl, sym, ◌∙◌, map, append_assoc, arith}
 use Rattle.ws_code.specs.Code.{IsChain, AreBytes}
+use Rattle.ws_code.proofs.CodeLaws.{no_end}
 use Rattle.ws_telnet.specs.Streams.{HasNoEor, joined}
 use Rattle.ws_telnet.specs.Token.{token_rules}
 use Rattle.ws_telnet.specs.declared.token.Token.{Token}

@@ -1,16 +1,16 @@
+use Rattle.std.specs.List.{flat_map}
 use Rattle.std.specs.Prelude.{◌≡◌, ◌≢◌, ℕ, ◌<◌, ◌≤◌, ◌==◌, List, [], ◌∷◌, ◌++◌, length, true, false, refl}
 use Rattle.std.proofs.Common.{inl, inr, sym, ap, ◌∙◌, subst, arith, append_assoc, length-append}
-use Rattle.std.specs.List.{flat_map}
-use Rattle.std.proofs.lemmas.List.{append-nil}
 use Rattle.std.proofs.lemmas.Grind.{flat_map-append}
+use Rattle.std.proofs.lemmas.List.{append-nil}
 use Rattle.ws_code.specs.Code.{IsSpelled, IsPrefix, IsUnfinished, AreBytes}
 use Rattle.ws_code.proofs.CodeLaws.{AreBytes-append, AreBytes-front}
 use Rattle.ws_telnet.specs.Machine.{sub_begun}
 use Rattle.ws_telnet.specs.Token.{token_rules, doubled, verb_byte, ends_in_iac}
 use Rattle.ws_telnet.specs.TokenLaws.{iac_or_not, doubled_plain, content_front, content_left, content_end, in_sub}
-use Rattle.ws_telnet.specs.declared.token.Verb.{Verb}
-use Rattle.ws_telnet.specs.declared.token.Token.TheVariants.{Eor, Telnet as TelnetToken}
 use Rattle.ws_telnet.specs.declared.token.Telnet.TheVariants.{Option as Negotiate, Sub as Subnegotiate}
+use Rattle.ws_telnet.specs.declared.token.Token.TheVariants.{Eor, Telnet as TelnetToken}
+use Rattle.ws_telnet.specs.declared.token.Verb.{Verb}
 
 -- What a machine between the bytes of a token needs.
 

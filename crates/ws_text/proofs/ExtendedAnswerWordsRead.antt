@@ -1,11 +1,11 @@
-use Rattle.ws_text.proofs.Common.{◌≡◌, ◌⊎◌, inl, inr, ℕ, List, Option, Some, None, MatchOption, AnswerPart, ArePlace}
-use Rattle.ws_text.proofs.Common.{codes}
+use Rattle.ws_text.proofs.Common.{◌≡◌, List, ℕ, codes, Some, inl, inr, Option, None, MatchOption, ◌⊎◌, AnswerPart}
+use Rattle.ws_text.proofs.Common.{ArePlace}
 use Rattle.ws_extended.specs.declared.extended_answer_part.ExtendedAnswerPart.{ExtendedAnswerPart}
 use Rattle.ws_extended.specs.declared.extended_answer_part.ExtendedAnswerPart.TheVariants as parts
 use Rattle.ws_extended.specs.declared.extended_element.ExtendedElement.{ExtendedElement}
 use Rattle.ws_text.specs.AnswerWords.{IsOnePart}
-use Rattle.ws_text.specs.ExtendedAnswerWords.{IsOneTold}
 use Rattle.ws_text.specs.ExtendedAnswerWordLaws.{NamesAtOnce, part_not_at_once, element_not_at_once, at_once_not_saved}
+use Rattle.ws_text.specs.ExtendedAnswerWords.{IsOneTold}
 use Rattle.ws_text.specs.ExtendedWords.{IsOneExtended}
 
 -- The words of what a live host's station sends, by what was found of them.

@@ -1,15 +1,15 @@
-use Rattle.ws_text.proofs.Common.{◌≡◌, ℕ, ◌+◌, ◌/◌, ◌%◌, ◌<◌, ◌≤◌, ◌^◌, List, [], ◌∷◌, ◌++◌, length, take, get_or, refl}
-use Rattle.ws_text.proofs.Common.{sym, ap, ◌∙◌, subst, arith, append_assoc, length-append, slice_index, codes, ◌==◌}
-use Rattle.ws_text.proofs.Common.{true, false, false≢true, decimal, append-nil, take_more, encode_upper, Output, Open}
-use Rattle.ws_text.proofs.Common.{Failed, hex_behind_blank, Prints}
-use Rattle.hex.specs.Hex.{encode_with}
+use Rattle.ws_text.proofs.Common.{◌∙◌, ap, ◌≡◌, arith, refl, sym, [], length, ◌∷◌, List, ℕ, ◌++◌, subst, take, ◌+◌, ◌<◌}
+use Rattle.ws_text.proofs.Common.{codes, false, true, get_or, ◌≤◌, append_assoc, decimal, append-nil, ◌==◌, ◌^◌, ◌/◌}
+use Rattle.ws_text.proofs.Common.{slice_index, ◌%◌, length-append, false≢true, take_more, encode_upper}
+use Rattle.ws_text.proofs.Common.{hex_behind_blank, Prints, Output, Failed, Open}
 use Rattle.std.proofs.lemmas.Fmt.{decimal_digit, decimal_step}
 use Rattle.std.proofs.lemmas.List.{take-append-le}
+use Rattle.hex.specs.Hex.{encode_with}
 use Rattle.ws_code.specs.Device.{Writer, WentOut, FailedAfter, FailedWithin}
 use Rattle.ws_code.proofs.DeviceLaws.{went_out_none, went_out_both}
 use Rattle.ws_code.proofs.Parts.{fails_last}
-use Rattle.ws_text.proofs.LineEnds.{filled}
 use Rattle.ws_text.specs.Printing.{IsOut}
+use Rattle.ws_text.proofs.LineEnds.{filled}
 
 -- A text that goes out in parts.
 

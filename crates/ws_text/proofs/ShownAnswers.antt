@@ -1,14 +1,14 @@
-use Rattle.ws_text.proofs.Common.{◌≡◌, ℕ, ◌+◌, ◌/◌, ◌%◌, List, [], ◌∷◌, ◌++◌, refl, sym, ap, ◌∙◌, arith, append_assoc}
-use Rattle.ws_text.proofs.Common.{codes, AllByRecursion, flat_map, join_with_byte, decimal, encode_upper, COLUMNS, Item}
-use Rattle.ws_text.proofs.Common.{AnswerPart, Head, Byte, At, AreItems, AreUnits, one, run, Run, Bytes, Other, part_run_line}
-use Rattle.ws_text.proofs.Common.{part_runs, part_runs_with, answer_wording}
+use Rattle.ws_text.proofs.Common.{AllByRecursion, join_with_byte, ◌∙◌, ap, ◌≡◌, arith, refl, sym, [], ◌∷◌, List, ℕ}
+use Rattle.ws_text.proofs.Common.{◌++◌, ◌+◌, codes, append_assoc, decimal, flat_map, ◌/◌, ◌%◌, encode_upper, COLUMNS}
+use Rattle.ws_text.proofs.Common.{Item, AnswerPart, Byte, At, Head, part_run_line, part_runs, part_runs_with}
+use Rattle.ws_text.proofs.Common.{answer_wording, AreItems, AreUnits, run, one, Run, Bytes, Other}
 use Rattle.ws_stream.specs.AnswerParts.{answer_rules, IsPart}
 use Rattle.ws_text.specs.AnswerLines.{answer_text, part_text}
 use Rattle.ws_text.specs.Shown.{ShowsAnswers}
+use Rattle.ws_text.specs.declared.run_name.RunName.TheVariants.{Fields}
 use Rattle.ws_text.proofs.ShownBytes.{AreFrom, AreWords, literal}
 use Rattle.ws_text.proofs.ShownNumbers.{cell_back, row_from, column_from, hex_back, byte_back, byte_from}
 use Rattle.ws_text.proofs.ShownRuns.{ByRuns, shown_by_runs, run_units, IsRunRight}
-use Rattle.ws_text.specs.declared.run_name.RunName.TheVariants.{Fields}
 
 -- Printed parts of answers are read back.
 

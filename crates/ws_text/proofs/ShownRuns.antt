@@ -1,15 +1,15 @@
-use Rattle.ws_text.proofs.Common.{◌≡◌, ℕ, ◌<◌, true, List, [], ◌∷◌, ◌++◌, length, map, refl, sym, ap, ◌∙◌, Option, None}
-use Rattle.ws_text.proofs.Common.{AllByRecursion, flat_map, encode_upper, Rules, IsChain, IsData, Item, Record, Telnet}
-use Rattle.ws_text.proofs.Common.{head_text, Wording, AreOneByOne, AreItems, Run, Bytes, Other, AreUnits, run}
-use Rattle.ws_text.proofs.Common.{behind_first}
+use Rattle.ws_text.proofs.Common.{AllByRecursion, ◌∙◌, ap, ◌≡◌, refl, sym, [], length, ◌∷◌, List, ℕ, ◌++◌, ◌<◌, true}
+use Rattle.ws_text.proofs.Common.{Option, map, None, flat_map, encode_upper, Rules, IsChain, IsData, Telnet, Item}
+use Rattle.ws_text.proofs.Common.{Record, head_text, AreItems, AreUnits, behind_first, run, Wording, AreOneByOne, Run}
+use Rattle.ws_text.proofs.Common.{Bytes, Other}
 use Rattle.ws_code.specs.Code.{IsWhole, place_after}
+use Rattle.ws_record.specs.declared.record.Item.TheVariants as an_item
 use Rattle.ws_text.specs.ItemLines.{telnet_text}
 use Rattle.ws_text.specs.Shown.{ShowsItems}
 use Rattle.ws_text.proofs.ShownBytes.{line_of, AreFrom, AreWords}
 use Rattle.ws_text.proofs.ShownItems.{all_shown_read}
 use Rattle.ws_text.proofs.ShownLines.{Printed}
 use Rattle.ws_text.proofs.ShownNumbers.{hex_from, hex_back, data_are_bytes}
-use Rattle.ws_record.specs.declared.record.Item.TheVariants as an_item
 
 -- Bodies that are printed in runs: of bytes, or of one other unit.
 

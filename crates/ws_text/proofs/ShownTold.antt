@@ -1,11 +1,10 @@
-use Rattle.ws_text.proofs.Common.{◌≡◌, ◌⊎◌, inl, inr, ℕ, zero, suc, ◌+◌, ◌<◌, List, [], ◌∷◌, ◌++◌, length, map, refl}
-use Rattle.ws_text.proofs.Common.{ap, subst, ◌∙◌, arith, Bool, true, false, codes, AllByRecursion, flat_map}
-use Rattle.ws_text.proofs.Common.{encode_upper, sym}
-use Rattle.ws_text.proofs.Common.{append_assoc, IsChain, IsData, CELLS, Byte, Item, AreItems, AreUnits, one, run}
-use Rattle.ws_text.proofs.Common.{eqb_tells, false≢true, ◌==◌, answer_wording, head_text}
+use Rattle.ws_text.proofs.Common.{AllByRecursion, ◌∙◌, ap, ◌≡◌, arith, refl, sym, [], length, ◌∷◌, List, ℕ, ◌++◌, subst}
+use Rattle.ws_text.proofs.Common.{◌+◌, ◌<◌, codes, false, true, inl, append_assoc, inr, map, Bool, flat_map, ◌==◌, suc}
+use Rattle.ws_text.proofs.Common.{zero, ◌⊎◌, false≢true, eqb_tells, encode_upper, IsChain, IsData, CELLS, Item, Byte}
+use Rattle.ws_text.proofs.Common.{answer_wording, head_text, AreItems, AreUnits, run, one}
+use Rattle.hex.specs.Hex.{encode_with}
 use Rattle.ws_code.specs.Code.{AreBytes, IsWhole, place_after}
 use Rattle.ws_code.proofs.CodeLaws.{place_after-append}
-use Rattle.hex.specs.Hex.{encode_with}
 use Rattle.ws_stream.specs.AnswerParts.{IsPart}
 use Rattle.ws_stream.specs.declared.answer_part.AnswerPart.{AnswerPart}
 use Rattle.ws_stream.specs.declared.element.Element.TheVariants.{Put}
@@ -20,8 +19,7 @@ use Rattle.ws_extended.specs.declared.extended_answer_place.ExtendedAnswerPlace.
 use Rattle.ws_extended.specs.declared.extended_element.ExtendedElement.{ExtendedElement}
 use Rattle.ws_extended.specs.declared.extended_element.ExtendedElement.TheVariants as elements
 use Rattle.ws_text.specs.ExtendedAnswerLines.{ToldRun, told_item_text, told_runs, told_runs_with, with_cell, with_field}
-use Rattle.ws_text.specs.ExtendedAnswerLines.{is_whole_screen}
-use Rattle.ws_text.specs.ExtendedAnswerLines.{ToldRun as runs}
+use Rattle.ws_text.specs.ExtendedAnswerLines.{is_whole_screen, ToldRun as runs}
 use Rattle.ws_text.specs.ExtendedAnswerWordLaws.{told_one_by_one}
 use Rattle.ws_text.specs.ExtendedAnswerWords.{told_byte, told_settled, told_all_settled, told_wording}
 use Rattle.ws_text.specs.ExtendedWords.{extended_wording}
@@ -36,8 +34,8 @@ use Rattle.ws_text.proofs.ShownItems.{all_shown_read}
 use Rattle.ws_text.proofs.ShownLines.{Printed}
 use Rattle.ws_text.proofs.ShownNumbers.{cell_back, row_from, column_from, hex_back, hex_from, data_are_bytes}
 use Rattle.ws_text.proofs.ToldLines.{Line, lines_of_runs, with_front, with_reply_byte, told_name, body_lines, line_text}
-use Rattle.ws_text.proofs.ToldLines.Line.{FieldBytes, CellBytes, ReplyBytes, ReplyEnd, Cursor, Single}
 use Rattle.ws_text.proofs.ToldLines.{cell_joined, body_text, line_units, body_units, told_all_back}
+use Rattle.ws_text.proofs.ToldLines.Line.{FieldBytes, CellBytes, ReplyBytes, ReplyEnd, Cursor, Single}
 
 -- Printed parts of what a live host's station sends are read back.
 

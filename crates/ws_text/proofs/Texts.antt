@@ -1,7 +1,7 @@
-use Rattle.ws_text.proofs.Common.{◌≡◌, ℕ, ◌+◌, ◌/◌, ◌%◌, ◌^◌, ◌<◌, Bool, List, [], ◌∷◌, ◌++◌, length, take, get_or}
-use Rattle.ws_text.proofs.Common.{arith, refl, sym, ap, ◌∙◌, append_assoc, true, false, codes, flat_map, encode_upper}
-use Rattle.ws_text.proofs.Common.{upper_digits, append-nil, take_more, flat_map-append, Element, Run, element_line}
-use Rattle.ws_text.proofs.Common.{element_lines, Bytes, Other, is_put}
+use Rattle.ws_text.proofs.Common.{◌∙◌, ap, ◌≡◌, arith, refl, sym, [], length, ◌∷◌, List, ℕ, ◌++◌, take, ◌+◌, ◌<◌, codes}
+use Rattle.ws_text.proofs.Common.{false, true, get_or, append_assoc, Bool, append-nil, flat_map, ◌^◌, ◌/◌, ◌%◌}
+use Rattle.ws_text.proofs.Common.{flat_map-append, take_more, encode_upper, upper_digits, Element, element_line, is_put}
+use Rattle.ws_text.proofs.Common.{element_lines, Run, Bytes, Other}
 use Rattle.ws_record.specs.Grammar.{two_bytes}
 use Rattle.ws_stream.specs.declared.element.Element.TheVariants.{Put}
 use Rattle.ws_text.specs.ItemLines.{runs_with, runs_of, run_line}

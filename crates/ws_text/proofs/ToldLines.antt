@@ -1,7 +1,6 @@
-use Rattle.ws_text.proofs.Common.{◌≡◌, ℕ, List, [], ◌∷◌, ◌++◌, map, refl, sym, ap, ◌∙◌, Bool, true, false, ◌==◌, arith}
-use Rattle.ws_text.proofs.Common.{append_assoc, append-nil, codes, flat_map, decimal, encode_upper, ◌/◌, ◌%◌, ◌+◌}
-use Rattle.ws_text.proofs.Common.{COLUMNS}
-use Rattle.ws_text.proofs.Common.{if◌then◌else◌, eqb_tells, false≢true, inl, inr, IsChain, Byte, RunName}
+use Rattle.ws_text.proofs.Common.{◌∙◌, ap, ◌≡◌, arith, refl, sym, [], ◌∷◌, List, ℕ, ◌++◌, ◌+◌, codes, false, true, inl}
+use Rattle.ws_text.proofs.Common.{append_assoc, decimal, inr, map, Bool, append-nil, flat_map, ◌==◌, ◌/◌, ◌%◌}
+use Rattle.ws_text.proofs.Common.{if◌then◌else◌, false≢true, eqb_tells, encode_upper, IsChain, COLUMNS, Byte, RunName}
 use Rattle.hex.specs.Hex.{encode_with}
 use Rattle.ws_stream.specs.declared.element.Element.TheVariants.{Put}
 use Rattle.ws_extended.specs.ExtendedAnswers.{answer_follows, place_behind_part, extended_answer_rules}
@@ -10,9 +9,8 @@ use Rattle.ws_extended.specs.declared.extended_answer_part.ExtendedAnswerPart.Th
 use Rattle.ws_extended.specs.declared.extended_answer_place.ExtendedAnswerPlace.{ExtendedAnswerPlace}
 use Rattle.ws_extended.specs.declared.extended_answer_place.ExtendedAnswerPlace.TheVariants.{InReply, InSaved}
 use Rattle.ws_extended.specs.declared.extended_element.ExtendedElement.TheVariants as elements
-use Rattle.ws_text.specs.ExtendedAnswerLines.{ToldRun, told_runs_with, told_runs, told_run_line, told_part_text, told_lines}
-use Rattle.ws_text.specs.ExtendedAnswerLines.{is_whole_screen}
-use Rattle.ws_text.specs.ExtendedAnswerLines.{ToldRun as runs}
+use Rattle.ws_text.specs.ExtendedAnswerLines.{ToldRun, told_runs_with, told_runs, told_run_line, told_part_text}
+use Rattle.ws_text.specs.ExtendedAnswerLines.{told_lines, is_whole_screen, ToldRun as runs}
 use Rattle.ws_text.specs.ExtendedAnswerWords.{told_byte, told_settled, told_all_settled}
 use Rattle.ws_text.specs.ItemLines.{cell_text}
 use Rattle.ws_text.specs.declared.run_name.RunName.TheVariants.{Cells, Fields, Reply}

@@ -1,10 +1,10 @@
 use Rattle.ws_session.proofs.Common as C
-use C.{AttachedParts, append_assoc, came_append, append-nil, all_came, as_list, Reader, Gave, Fault, Refusal, At, Act}
-use C.{subst, Some, None, Option, refl, List, ℕ, [], ◌++◌, sym, ◌∙◌, ◌≡◌, ◌≤◌, ◌<◌, ap, arith, length, take, fault_of}
-use C.{Result, Ok, Err, length-take-le, take-take}
-use Rattle.ws_session.specs.attached.Attachments.{IfTold, TellsAtLast, TakesFirst, HearsFirst}
+use C.{◌≡◌, ◌≤◌, List, [], ◌++◌, refl, subst, ◌∙◌, ℕ, ◌<◌, Option, Some, None, take, ap, sym, arith, length}
+use C.{append_assoc, Err, Ok, Result, length-take-le, append-nil, take-take, Reader, Gave, Fault, came_append, Act}
+use C.{all_came, as_list, AttachedParts, fault_of, Refusal, At}
 use Rattle.ws_code.specs.declared.fault.Fault.TheVariants as fault
 use Rattle.ws_session.specs.Conduct.{Conduct}
+use Rattle.ws_session.specs.attached.Attachments.{IfTold, TellsAtLast, TakesFirst, HearsFirst}
 
 -- Nothing was told before the last of the bytes that were taken.
 

@@ -1,13 +1,13 @@
 use Rattle.ws_session.proofs.Common as C
-use C.{IfOk, IfErr, ◌≡◌, ◌≢◌, ℕ, ◌+◌, ◌*◌, ◌<◌, ◌≤◌, ◌^◌, inl, inr, List, [], ◌++◌, Some, None, Result, Ok, Err}
-use C.{length, drop, refl, ap, ◌∙◌, arith, length-append, Fault, Refused, Truncated, Write, Writer, Reader, Gave}
-use C.{FailedWithin, one_more, most_reads, gave_more, gave_all, TerminalType, Item, IsInGrammar, IsTruncated}
-use C.{element_rules, Element, Place, Key, Player, outcome, due, later, HasDone, HaveBroughtPlayer, StationParts}
-use C.{StationLeads, IsRunFault, IsRun, refusal_count, behind, StationSide, new_station_side, AtStation}
+use C.{IfOk, IfErr, ◌≡◌, ◌+◌, ◌≤◌, List, [], ◌++◌, refl, ◌∙◌, ℕ, ◌<◌, Some, None, drop, ap, arith, ◌^◌, inl, inr}
+use C.{length, length-append, ◌≢◌, Err, Ok, Result, ◌*◌, Writer, Reader, FailedWithin, Gave, most_reads, one_more}
+use C.{Fault, Write, Refused, Truncated, gave_more, gave_all, TerminalType, IsInGrammar, IsTruncated, Item}
+use C.{element_rules, Element, Place, Key, HaveBroughtPlayer, HasDone, IsRunFault, IsRun, refusal_count, behind, Player}
+use C.{outcome, due, later, AtStation, StationParts, StationLeads, StationSide, new_station_side}
 use Rattle.ws_code.specs.declared.fault.Fault.TheVariants.{Read}
 use Rattle.ws_session.specs.declared.attached.run.Played.{Played}
-use Rattle.ws_session.proofs.attached.Plays.{text_of}
 use Rattle.ws_session.proofs.attached.PlaySteps.{keys_taken}
+use Rattle.ws_session.proofs.attached.Plays.{text_of}
 
 -- What the reads of a run make of its player.
 

@@ -1,19 +1,19 @@
 use Rattle.ws_session.proofs.Common as C
-use C.{failed_within_both, length-take-le, take-append-drop, take, new_station_side, outcome_of_both, keys_left_from, Outcome, StationStep, is_record}
-use C.{went_out_both, went_out_none, length-append, refusal_count, RunUnwritten, TerminalType, HoldsItems}
-use C.{StationLeads, records_from, append_assoc, moments_from, FailedWithin, idle_outcome, StationParts, element_rules, ℕ}
-use C.{StationSide, IsRunFault, records_in_item, TelnetItem, append-nil, RecordItem, AtStation, Fault, Bool, true, false}
-use C.{at_moment, fault_of, run_text, AreTaken, Writer, HasDone, HaveBroughtPlayer, Element, at_item, Moment, Ok, Err}
-use C.{WentOut, Refused, Presses, Refusal, outcome, moments, behind, nat_lt, length, Player}
-use C.{arith, subst, Write, later, drop, refl, Item, List, ◌++◌, ◌∙◌, min, ◌^◌, sym, ◌≡◌}
-use C.{◌<◌, ◌∷◌, Key, inl, ◌-◌, ◌+◌, inr, due, ◌≤◌, [], At, ap}
+use C.{◌≡◌, ◌+◌, ◌≤◌, List, [], ◌∷◌, ◌++◌, refl, subst, ◌∙◌, ℕ, ◌<◌, take, drop, ap, sym, arith, take-append-drop, ◌^◌}
+use C.{min, inl, inr, length, append_assoc, length-append, Bool, true, false, nat_lt, ◌-◌, Err, Ok, length-take-le}
+use C.{append-nil, Writer, WentOut, FailedWithin, Fault, Write, Refused, went_out_none, went_out_both}
+use C.{failed_within_both, TerminalType, Item, RecordItem, TelnetItem, element_rules, Element, Key, HoldsItems}
+use C.{fault_of, HaveBroughtPlayer, HasDone, records_from, keys_left_from, IsRunFault, refusal_count, behind, run_text}
+use C.{RunUnwritten, Player, Refusal, At, StationStep, Presses, outcome, due, later, Moment, Outcome, idle_outcome}
+use C.{outcome_of_both, at_item, at_moment, AreTaken, records_in_item, moments_from, moments, AtStation, StationParts}
+use C.{StationLeads, is_record, StationSide, new_station_side}
+use Rattle.std.proofs.lemmas.Bool.{cases_Bool}
 use Rattle.ws_session.specs.station.Moments.{Arrives}
+use Rattle.ws_session.specs.station.StationManners.{goes_on}
 use Rattle.ws_session.specs.station.StationNews.{IsFrontedOn}
 use Rattle.ws_session.specs.station.StationSide.{profile}
 use Rattle.ws_session.specs.station.Stations.{TakesItemOn}
 use Rattle.ws_session.proofs.attached.Plays.{outcome_append, text_append, later_by, none_due, text_of}
-use Rattle.std.proofs.lemmas.Bool.{cases_Bool}
-use Rattle.ws_session.specs.station.StationManners.{goes_on}
 
 -- What a front of a piece makes of a run's player.
 

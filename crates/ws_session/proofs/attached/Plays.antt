@@ -1,13 +1,13 @@
 use Rattle.ws_session.proofs.Common as C
-use C.{failed_within_both, HasWrittenFront, flat_map-append, outcome_of_both, station_at_key, plain_spelling, AtStation}
-use C.{went_out_both, went_out_none, item_spelling, if◌then◌else◌, refusal_count, StationLeads, IsKeyRefusal, nat_tests}
-use C.{answer_rules, append_assoc, FailedWithin, idle_outcome, StationParts, StationGoes, StationSide, station_key, ◌∙◌}
-use C.{KeyReaction, AnswerPart, append-nil, RefusesKey, HasWritten, IsKeyTaken, drop-cons, at_moment, KeyFault, add-one}
-use C.{Outcome, Applied, Writer, HasDone, Element, Presses, outcome, Moment, false}
-use C.{at_key, nat_lt, length, get_or, Player, arith, later, drop, refl, true, Item, List, Bool, ◌++◌, suc, min, ◌^◌, ℕ}
-use C.{sym, ◌≡◌, ◌<◌, ◌∷◌, Key, ◌-◌, ◌+◌, Did, ap₂, due, ◌≤◌, [], ap}
-use Rattle.ws_session.proofs.EndDeeds.{key_did}
+use C.{◌≡◌, ◌+◌, ◌≤◌, List, [], ◌∷◌, ◌++◌, refl, ◌∙◌, ℕ, suc, ◌<◌, drop, ap, sym, arith, ◌^◌, min, length, get_or}
+use C.{append_assoc, add-one, drop-cons, if◌then◌else◌, Bool, true, false, nat_lt, ◌-◌, ap₂, nat_tests, flat_map-append}
+use C.{append-nil, Writer, FailedWithin, went_out_none, went_out_both, failed_within_both, plain_spelling}
+use C.{item_spelling, Item, answer_rules, AnswerPart, Element, Key, Did, station_at_key, IsKeyRefusal, StationGoes}
+use C.{IsKeyTaken, HasDone, refusal_count, HasWritten, HasWrittenFront, Player, Applied, KeyFault, Presses, outcome}
+use C.{due, later, Moment, Outcome, idle_outcome, outcome_of_both, at_moment, at_key, AtStation, StationParts}
+use C.{StationLeads, StationSide, KeyReaction, RefusesKey, station_key}
 use Rattle.ws_session.specs.Conducts.{profile_conduct}
+use Rattle.ws_session.proofs.EndDeeds.{key_did}
 
 -- What the keys of a run make of its player.
 

@@ -1,22 +1,20 @@
 use Rattle.ws_session.proofs.Common as C
-use C.{length-append, CompletesUnit, IsHostFronted, host_at_item, arith}
-use C.{answer_rules, IsHostPushed, append_assoc, StationStep, AnswerPart, true}
-use C.{bytes_came, HasHostFed, HostLeads, nat_tests, HostEvent, HostParts, HostSide, At}
-use C.{HostStep, as_list, left_of, Refusal, told_by, goes_on, Failed, length, GoesOn, AtHost, Option}
-use C.{Result, Memory, EndsAt, Order, false, subst, Item, List, ◌++◌, None, ◌==◌, refl, Bool, take, ◌∙◌, ◌≡◌, ◌∷◌}
-use C.{◌^◌, ◌+◌, ◌≤◌, Err, inl, inr, sym, ◌<◌, [], Ok, ap, ℕ}
-use C.{Rules}
+use C.{◌≡◌, ◌+◌, ◌≤◌, List, [], ◌∷◌, ◌++◌, refl, subst, ◌∙◌, ℕ, ◌<◌, Option, None, take, ap, sym, arith, ◌^◌, inl, inr}
+use C.{length, append_assoc, length-append, Bool, true, false, Err, Ok, ◌==◌, Result, nat_tests, Rules, left_of}
+use C.{CompletesUnit, Item, answer_rules, AnswerPart, bytes_came, as_list, host_at_item, goes_on, told_by, GoesOn}
+use C.{Order, HostEvent, HostStep, Refusal, At, Failed, Memory, StationStep, HasHostFed, EndsAt, IsHostFronted, AtHost}
+use C.{HostLeads, HostParts, IsHostPushed, HostSide}
+use Rattle.ws_session.proofs.Common.{suc, ◌-◌}
+use Rattle.ws_record.specs.Taking.{EndIn}
+use Rattle.ws_session.specs.host_end.HostFeeds.{HasHostTakenAll}
 use Rattle.ws_session.specs.station.Displays.{DisplayOf, SideOn}
 use Rattle.ws_session.specs.station.PartsOn.{PartsOn}
-use Rattle.ws_session.specs.station.Stations.{AtStationOn, LeadsOn, IsPushedOn}
 use Rattle.ws_session.specs.station.StationActs.{HasFedOn, HasTakenAllOn}
-use Rattle.ws_session.specs.host_end.HostFeeds.{HasHostTakenAll}
-use Rattle.ws_session.proofs.Common.{suc, ◌-◌}
-use Rattle.ws_session.specs.station.StationNews.{IsFrontedOn}
 use Rattle.ws_session.specs.station.StationManners.{at_item_on}
+use Rattle.ws_session.specs.station.StationNews.{IsFrontedOn}
+use Rattle.ws_session.specs.station.Stations.{AtStationOn, LeadsOn, IsPushedOn}
 use Rattle.ws_session.proofs.EndSteps.{host_holds, none_went, one_went, told_of, on_holds}
 use Rattle.ws_session.proofs.Feedings.{front_silent, front_brings, front_on, fails_on, AreHeld}
-use Rattle.ws_record.specs.Taking.{EndIn}
 
 -- What a front of a piece gives a station.
 

@@ -1,30 +1,26 @@
 use Rattle.ws_session.proofs.Common as C
-use C.{RecordBeforeNegotiation, station_allows_records, telnet_spelling, station_answer, length-take-le, plain_spelling}
-use C.{length-append, if◌then◌else◌, false, not, length-drop, RecordSoFar, keeps_body, TelnetItem, KeyRefusal}
-use C.{RefusesKey}
-use C.{RecordItem, KeyFault, record_of, no_record, LeadsWith, Watching, NotReady, Option, length, IsHead, Result}
-use C.{Failed}
-use C.{telnet_bytes, HasRead, Keeping, fetched, Refusal, Refuses, ℕ, Telnet, arith, subst, Leads, Head, Record, Rules}
-use C.{◌&&◌, take, drop, Kept, News, refl, None, true, Item, List, Some, Bool, Read, ◌++◌, ◌∙◌, min, Attention}
-use C.{SystemRequest}
-use C.{◌^◌, sym, ◌≡◌, ◌<◌, ◌∷◌, inl, ◌-◌, map, ◌+◌, Err, inr, ◌≤◌, [], Ok, At, ap, StationStep, ◌⊎◌}
-use Rattle.ws_telnet.specs.declared.token.Sub.{Sub as ASub}
+use C.{◌&&◌, not, ◌≡◌, ◌+◌, ◌≤◌, List, [], ◌∷◌, ◌++◌, refl, subst, ◌∙◌, ℕ, ◌<◌, Option, Some, None, take, drop, ap, sym}
+use C.{arith, ◌^◌, min, inl, inr, length, length-append, length-drop, if◌then◌else◌, ◌⊎◌, Bool, true, false, map, ◌-◌}
+use C.{Err, Ok, Result, length-take-le, Rules, Kept, RecordBeforeNegotiation, telnet_spelling, Telnet, telnet_bytes}
+use C.{station_allows_records, station_answer, record_of, plain_spelling, Watching, Leads, LeadsWith, RecordSoFar}
+use C.{no_record, Keeping, HasRead, IsHead, News, Head, Item, RecordItem, TelnetItem, Record, fetched, Read, Attention}
+use C.{SystemRequest, KeyRefusal, Refuses, Refusal, At, Failed, StationStep, KeyFault, NotReady, keeps_body, RefusesKey}
 use Rattle.std.proofs.Math.ListN.{drop_of_length-le}
+use Rattle.ws_code.specs.declared.keep.Kept.TheVariants as answer
+use Rattle.ws_telnet.specs.declared.token.Sub.{Sub as ASub}
+use Rattle.ws_telnet.specs.declared.token.Telnet.TheVariants as telnet
 use Rattle.ws_nego.specs.Station.{StationState}
 use Rattle.ws_record.specs.Advance.{IsAdvance}
-use Rattle.ws_session.proofs.RecordCounts.{records_append, records_few}
+use Rattle.ws_record.specs.declared.news.News.TheVariants as told
 use Rattle.ws_keys.specs.declared.answer.Answer.{Answer}
+use Rattle.ws_session.specs.declared.station.key_fault.KeyFault.TheVariants.{Key as Refused}
 use Rattle.ws_session.specs.station.Displays.{DisplayOf, SideOn, IsApplied, IsPressedOnDisplay, ComesTo}
 use Rattle.ws_session.specs.station.PartsOn.{PartsOn}
-use Rattle.ws_session.specs.station.Stations.{LeadsOn, IsClosedOn, TakesItemOn}
 use Rattle.ws_session.specs.station.StationManners.{takes_on, key_on}
-use Rattle.ws_session.specs.station.StationNews.{IsFrontedOn, IsAnsweredOn, IsMid}
-use Rattle.ws_session.specs.station.StationNews.{IsNewsTakenOn}
-use Rattle.ws_session.specs.station.Stations.{IsSteppedOn, IsPushedOn, IsKeyedOn, HasStoppedOn}
-use Rattle.ws_session.specs.declared.station.key_fault.KeyFault.TheVariants.{Key as Refused}
-use Rattle.ws_code.specs.declared.keep.Kept.TheVariants as answer
-use Rattle.ws_telnet.specs.declared.token.Telnet.TheVariants as telnet
-use Rattle.ws_record.specs.declared.news.News.TheVariants as told
+use Rattle.ws_session.specs.station.StationNews.{IsFrontedOn, IsAnsweredOn, IsMid, IsNewsTakenOn}
+use Rattle.ws_session.specs.station.Stations.{LeadsOn, IsClosedOn, TakesItemOn, IsSteppedOn, IsPushedOn, IsKeyedOn}
+use Rattle.ws_session.specs.station.Stations.{HasStoppedOn}
+use Rattle.ws_session.proofs.RecordCounts.{records_append, records_few}
 
 -- What each step of the live decoder makes of a station.
 

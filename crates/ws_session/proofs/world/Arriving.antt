@@ -1,10 +1,10 @@
 use Rattle.ws_session.proofs.Common as C
-use C.{length-append, append_assoc, AreDelivered, length-take, length-drop, length-take-le, append-nil, HasMemory}
-use C.{WireParts, take_all, reported, flat_map, flat_map-append, cases_lt, add-zero, Refusal, Reason, length, arith}
-use C.{Comes, Through, Event, subst, None, List, ℕ, refl, Some, Option, drop, take, min, ◌++◌, ◌≡◌, ◌^◌, ◌≤◌, sym, ◌∷◌}
-use C.{◌<◌, ◌∙◌, Act, ◌-◌, inl, inr, ◌+◌, [], ap, all_came, came_append, take-add, take-take, drop-drop, At}
-use Rattle.ws_session.specs.world.Wires.{HasCome, Telling}
+use C.{flat_map, ◌≡◌, ◌+◌, ◌≤◌, List, [], ◌∷◌, ◌++◌, refl, subst, ◌∙◌, ℕ, ◌<◌, Option, Some, None, take, drop, ap, sym}
+use C.{arith, ◌^◌, min, inl, inr, length, append_assoc, add-zero, length-append, length-drop, length-take, ◌-◌}
+use C.{take-add, cases_lt, flat_map-append, length-take-le, append-nil, take_all, take-take, drop-drop, Reason}
+use C.{came_append, Act, all_came, Refusal, At, Event, Through, WireParts, reported, HasMemory, Comes, AreDelivered}
 use Rattle.ws_session.specs.Conduct.{Conduct}
+use Rattle.ws_session.specs.world.Wires.{HasCome, Telling}
 
 -- Bytes that arrive at an end, piece by piece.
 

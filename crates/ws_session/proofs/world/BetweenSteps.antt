@@ -1,23 +1,25 @@
 use Rattle.ws_session.proofs.Common as C
-use C.{station_allows_records, host_allows_records, pending-elements, body_fault_alike, open_write_alike, opcode_answer}
-use C.{after_elements, is_outstanding, elements_alike, station_answer, opcode_events, if◌then◌else◌, same_reading, Bool}
-use C.{layout_alike, after_record, CancelInvite, answer_parts, read_left_by, TerminalType, pending_read, is_answered, ℕ}
-use C.{pending-end, own_reading, read_answer, aids_answer, sent_record, host_answer, StationSide, append-nil, after_end}
-use C.{after_read, body_fault, HostAnswer, same_apart, AnswerPart, open_write, screen_at, end_alike, cancelled, by_host}
-use C.{answer_of, after_key, HostState, events_by, unwrap_or, HostSide, ReadKind, Exchange, layouts, is_some, History}
-use C.{is_body, edit_of, Element, Answer, fields, length, Telnet, Opcode, Option, Field, Alike, false, subst, ◌++◌, ◌∷◌}
-use C.{Some, None, Send, true, List, ◌||◌, Edit, refl, ◌+◌, ◌∙◌, ◌≡◌, sym, ◌⊎◌, inl, inr, ap, []}
+use C.{◌||◌, ◌≡◌, ◌+◌, List, [], ◌∷◌, ◌++◌, refl, subst, ◌∙◌, ℕ, Option, Some, None, ap, sym, inl, inr, length}
+use C.{if◌then◌else◌, unwrap_or, ◌⊎◌, Bool, true, false, is_some, append-nil, Telnet, Exchange, host_allows_records}
+use C.{HostState, host_answer, Answer, station_allows_records, station_answer, TerminalType, Opcode, CancelInvite}
+use C.{is_body, AnswerPart, Element, after_elements, after_end, body_fault, by_host, layouts, read_left_by, cancelled}
+use C.{History, Edit, fields, pending_read, open_write, Field, ReadKind, Alike, open_write_alike, layout_alike}
+use C.{elements_alike, end_alike, body_fault_alike, pending-elements, pending-end, answer_parts, edit_of, events_by}
+use C.{is_answered, read_answer, answer_of, HostAnswer, Send, aids_answer, own_reading, same_reading, same_apart}
+use C.{HostSide, sent_record, is_outstanding, after_read, StationSide, opcode_events, after_record, after_key}
+use C.{screen_at, opcode_answer}
+use Rattle.std.proofs.lemmas.List.FromFn.{length-map-range_with_len}
 use Rattle.ws_nego.specs.Exchange.{after_token_move, ToStation, ToHost}
 use Rattle.ws_nego.proofs.Exchanges.{x_down_count, x_up_count, x_station, x_both, x_down, x_host, x_up}
-use Rattle.ws_session.proofs.world.Turns.{down_read, send_read, down_text, send_text, send_stop, down_stop, DownMark, at_turn}
-use Rattle.ws_session.proofs.world.Turns.{no_reply, up_reply, up_done, answer, UpMark, TurnAt, Done}
-use Rattle.ws_session.proofs.world.Betweens.{after_posted_more, marks_down_more, within_record, marks_up_more, after_posted}
-use Rattle.ws_session.proofs.world.Betweens.{opcode_alike, posted_alike, marks_down, closed_end, end_events, record_of, Waits}
-use Rattle.ws_session.proofs.world.Betweens.{mark_left, fit_alike, screened, betweens, marks_up, fit_more, marks_of, Screens}
-use Rattle.ws_session.proofs.world.Betweens.{is_stop, Between, Replies, Signal, Posted, whole, sents, Body, Sent, Stop, Ends}
-use Rattle.ws_screen.specs.Given.{ends_of}
 use Rattle.ws_screen.specs.Cells.{cell}
-use Rattle.std.proofs.lemmas.List.FromFn.{length-map-range_with_len}
+use Rattle.ws_screen.specs.Given.{ends_of}
+use Rattle.ws_session.proofs.world.Betweens.{after_posted_more, marks_down_more, within_record, marks_up_more}
+use Rattle.ws_session.proofs.world.Betweens.{after_posted, opcode_alike, posted_alike, marks_down, closed_end}
+use Rattle.ws_session.proofs.world.Betweens.{end_events, record_of, Waits, mark_left, fit_alike, screened, betweens}
+use Rattle.ws_session.proofs.world.Betweens.{marks_up, fit_more, marks_of, Screens, is_stop, Between, Replies, Signal}
+use Rattle.ws_session.proofs.world.Betweens.{Posted, whole, sents, Body, Sent, Stop, Ends}
+use Rattle.ws_session.proofs.world.Turns.{down_read, send_read, down_text, send_text, send_stop, down_stop, DownMark}
+use Rattle.ws_session.proofs.world.Turns.{at_turn, no_reply, up_reply, up_done, answer, UpMark, TurnAt, Done}
 use Rattle.ws_session.proofs.world.Turns.{Stop as StopMark}
 
 -- What stands between both ends, where a token or a record comes to one of them.

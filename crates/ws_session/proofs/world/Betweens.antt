@@ -1,19 +1,20 @@
 use Rattle.ws_session.proofs.Common as C
-use C.{station_allows_records, after_all_to_station, host_allows_records, refl, ready_by_terminal, after_all_to_host}
-use C.{body_fault_alike, flat_map-append, elements_alike, telnets, after_elements, by_host-append, opcode_events}
-use C.{element_rules, if◌then◌else◌, AttentionCame, None, read_left_by, TerminalType, host_answers, answer_rules}
-use C.{after_record, CancelInvite, layout_alike, append_assoc, empty_record, pending_read, sent_record, StationSide}
-use C.{NoOperation, layout_same, RequestCame, read_answer, Opcode, ready_event, events_with, answers_in, open_write}
-use C.{HostAnswer, AnswerPart, TelnetItem, body_fault, map-append, [], same_apart, append-nil, RecordItem, after_end}
-use C.{HostState, HostEvent, answer_in, end_alike, Exchange, HostSide, ReadKind, AreApart, Element, layouts, by_host}
-use C.{History, is_body, Record, Telnet, Option, ◌∙◌, length, PutGet, fields, signal, false, arith, Alike, Field}
-use C.{ended, World, Event, true, Item, sym, List, Host, Some, Bool, ◌++◌, ◌≡◌, ◌∷◌, map, ◌+◌, ◌⊎◌, ap, ℕ}
+use C.{◌≡◌, ◌+◌, List, [], ◌∷◌, ◌++◌, refl, ◌∙◌, ℕ, Option, Some, None, ap, sym, arith, length, append_assoc}
+use C.{if◌then◌else◌, ◌⊎◌, Bool, true, false, map, flat_map-append, append-nil, map-append, Telnet, Exchange}
+use C.{after_all_to_station, after_all_to_host, host_allows_records, HostState, station_allows_records, TerminalType}
+use C.{Opcode, CancelInvite, NoOperation, PutGet, Item, RecordItem, TelnetItem, Record, answer_rules, is_body}
+use C.{element_rules, AnswerPart, Element, after_elements, after_end, body_fault, by_host, layouts, read_left_by}
+use C.{History, ended, fields, AreApart, pending_read, open_write, Field, ReadKind, Alike, layout_alike, elements_alike}
+use C.{end_alike, body_fault_alike, layout_same, by_host-append, read_answer, HostAnswer, same_apart, empty_record}
+use C.{telnets, HostEvent, AttentionCame, RequestCame, Event, Host, HostSide, sent_record, ready_event, signal}
+use C.{ready_by_terminal, answers_in, answer_in, host_answers, StationSide, opcode_events, after_record, World}
+use C.{events_with}
+use Rattle.ws_nego.proofs.Exchanges.{Exchanges}
+use Rattle.ws_record.proofs.Flights.{InFlight}
 use Rattle.ws_screen.specs.Given.{ends_of}
 use Rattle.ws_screen.specs.declared.open_write.OpenWrite.{OpenWrite}
 use Rattle.ws_screen.proofs.Within.{stays_within}
-use Rattle.ws_nego.proofs.Exchanges.{Exchanges}
 use Rattle.ws_session.proofs.world.Turns.{Stop as StopMark, DownMark, UpMark, TurnAt, Reply, Done, Text, Read}
-use Rattle.ws_record.proofs.Flights.{InFlight}
 
 -- What stands between both ends: the tokens and records in flight, and what they say of both.
 

@@ -1,28 +1,27 @@
 use Rattle.ws_session.proofs.Common as C
-use C.{element_prefix_free, bytes_to_station, byte_to_station, station_at_item, plain_spelling, StationRefused, as_list}
-use C.{element_begins, StationRefuses, length-take, station_manner, element_bytes, station_takes, element_rules}
-use C.{if◌then◌else◌, StationParts, station_gets, host_at_item, StationLeads, answer_rules, IsHostPushed, AreDelivered}
-use C.{byte_to_host, TerminalType, host_manner, HostRefused, HostRefuses, StationGoes, events_with, false, station_did}
-use C.{StationSide, AreWritable, WorldParts, host_takes, false≢true, append-nil, HostOutput, AnswerPart, ℕ, down_bytes}
-use C.{ending_at, HostParts, HostLeads, nat_tests, HasMemory, host_gets, ToStation, HostEvent, WireParts, up_bytes}
-use C.{flat_map, HostSide, Reaction, host_did, IsPushed, HostGoes, Refuses, Applied, goes_on, arrived, Element, length}
-use C.{ToHost, subst₂, Failed, GoesOn, Option, nat_lt, Memory, Bool, bytes_to_host, get_or, World, arith, subst, ◌++◌}
-use C.{Some, None, Runs, RunsWith, true, Item, Host, List, take, refl, ◌≤◌, ◌∷◌, Refusal, min, ◌+◌, Err, ◌<◌, ◌∙◌, ◌≡◌}
-use C.{sym, inl, inr, At, ap, [], Event, IsSome, HoldsItems, Arrives}
-use Rattle.ws_session.specs.Manners.{IsHostShut}
-use Rattle.ws_session.specs.station.StationActs.{IsShutOn}
-use Rattle.ws_session.proofs.world.OneByOne.{Later, gone_first, delivered, many_on, stop}
+use C.{flat_map, ◌≡◌, ◌+◌, ◌≤◌, List, [], ◌∷◌, ◌++◌, refl, subst, ◌∙◌, ℕ, ◌<◌, Option, Some, None, take, ap, sym, arith}
+use C.{min, inl, inr, length, get_or, length-take, if◌then◌else◌, Bool, true, false, nat_lt, IsSome, Err, subst₂}
+use C.{false≢true, nat_tests, append-nil, TerminalType, ending_at, arrived, plain_spelling, Item, answer_rules}
+use C.{element_bytes, element_prefix_free, element_begins, element_rules, AnswerPart, Element, Arrives, as_list}
+use C.{HoldsItems, station_at_item, StationRefuses, station_manner, host_at_item, StationGoes, host_manner, HostGoes}
+use C.{HostRefuses, goes_on, Refuses, GoesOn, Reaction, Applied, HostEvent, Refusal, At, Failed, Memory, Event, Host}
+use C.{StationRefused, HostRefused, ToStation, ToHost, HostLeads, HostParts, IsHostPushed, HostSide, host_takes}
+use C.{HostOutput, StationParts, StationLeads, IsPushed, StationSide, station_takes, AreWritable, WorldParts, RunsWith}
+use C.{Runs, WireParts, HasMemory, AreDelivered, World, down_bytes, station_did, station_gets, byte_to_station}
+use C.{up_bytes, host_did, host_gets, byte_to_host, events_with, bytes_to_station, bytes_to_host}
 use Rattle.ws_record.proofs.Flights.{byte_more, ByteMore}
+use Rattle.ws_stream.specs.AnswerLaws.{part_prefix_free, part_begins, part_bytes}
+use Rattle.ws_session.specs.Conducts.{host_conduct, profile_conduct}
+use Rattle.ws_session.specs.Manners.{IsHostShut}
+use Rattle.ws_session.specs.host_end.HostFeeds.{HostStaysSilent}
+use Rattle.ws_session.specs.station.StationActs.{IsShutOn, StaysSilentOn}
+use Rattle.ws_session.specs.station.StationSide.{profile}
+use Rattle.ws_session.specs.world.Wires.{host_telling, station_telling}
 use Rattle.ws_session.proofs.Writables.{host_writes_well, answers_writable, WritesWell}
 use Rattle.ws_session.proofs.world.Bytes.{byte_down, byte_up}
-use Rattle.ws_session.proofs.world.Reached.{station_writes, going_station, host_writes, going_host, is_sound, OfStation, OfHost}
-use Rattle.ws_stream.specs.AnswerLaws.{part_prefix_free, part_begins, part_bytes}
-use Rattle.ws_session.specs.Conducts.{host_conduct}
-use Rattle.ws_session.specs.Conducts.{profile_conduct}
-use Rattle.ws_session.specs.host_end.HostFeeds.{HostStaysSilent}
-use Rattle.ws_session.specs.station.StationActs.{StaysSilentOn}
-use Rattle.ws_session.specs.world.Wires.{host_telling, station_telling}
-use Rattle.ws_session.specs.station.StationSide.{profile}
+use Rattle.ws_session.proofs.world.OneByOne.{Later, gone_first, delivered, many_on, stop}
+use Rattle.ws_session.proofs.world.Reached.{station_writes, going_station, host_writes, going_host, is_sound, OfStation}
+use Rattle.ws_session.proofs.world.Reached.{OfHost}
 
 -- A byte comes to the station of a running session.
 

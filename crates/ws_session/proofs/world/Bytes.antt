@@ -1,21 +1,23 @@
 use Rattle.ws_session.proofs.Common as C
-use C.{RecordBeforeNegotiation, station_allows_records, host_allows_records, host_takes_record, host_ends_cancel}
-use C.{false, station_applies, host_negotiates, flat_map-append, byte_to_station, station_answer, after_exchange}
-use C.{byte_to_host, element_rules, host_reads_by, opcode_answer, station_takes, if◌then◌else◌, TerminalType}
-use C.{answer_rules, ending_at, after_record, CancelInvite, append_assoc, station_gets, StationSide, NoOperation}
-use C.{host_answer, station_did, refl, ready_event, answers_in, down_bytes, HostAnswer, after_read, AnswerPart}
-use C.{TelnetItem, body_fault, host_takes, ◌∙◌, host_reads, append-nil, RecordItem, Cancelled, HostState, host_gets}
-use C.{ltb-false, answer_in, Exchange, HostSide, ℕ, ltb-true, host_did, MoveDown, up_bytes, Answered, telnets, Element}
-use C.{Refuses, Opcode, nat_lt, Telnet, Option, sym, length, Answer, PutGet, GoesOn, MoveUp, signal, event_output, arith}
-use C.{subst, World, None, true, Item, List, Host, Some, Bool, ◌++◌, ◌≡◌, ◌<◌, ◌∷◌, inl, ◌+◌, inr, ◌⊎◌, ◌≤◌, [], ap}
+use C.{◌≡◌, ◌+◌, ◌≤◌, List, [], ◌∷◌, ◌++◌, refl, subst, ◌∙◌, ℕ, ◌<◌, Option, Some, None, ap, sym, arith, inl, inr}
+use C.{length, append_assoc, if◌then◌else◌, ◌⊎◌, Bool, true, false, nat_lt, ltb-true, ltb-false, flat_map-append}
+use C.{append-nil, RecordBeforeNegotiation, Telnet, Exchange, after_exchange, MoveDown, MoveUp, host_allows_records}
+use C.{HostState, host_answer, Answer, station_allows_records, station_answer, TerminalType, ending_at, Opcode}
+use C.{CancelInvite, NoOperation, PutGet, Item, RecordItem, TelnetItem, answer_rules, element_rules, AnswerPart}
+use C.{Element, body_fault, HostAnswer, Refuses, GoesOn, telnets, Answered, Cancelled, Host, HostSide, after_read}
+use C.{event_output, ready_event, host_negotiates, host_reads, host_reads_by, host_ends_cancel, signal}
+use C.{host_takes_record, host_takes, answers_in, answer_in, StationSide, after_record, opcode_answer, station_applies}
+use C.{station_takes, World, down_bytes, station_did, station_gets, byte_to_station, up_bytes, host_did, host_gets}
+use C.{byte_to_host}
+use Rattle.std.proofs.lemmas.Bool.{cases_Bool}
+use Rattle.ws_nego.proofs.Exchanges.{up_next, x_none, full_station, full_host}
 use Rattle.ws_record.proofs.Flights.{ByteComes, InFlight, written, Inside, comes, Whole}
-use Rattle.ws_session.proofs.world.Betweens.{signal_silent, ready_silent, with_tokens, records_up, quiet_told, with_sents}
-use Rattle.ws_session.proofs.world.Betweens.{with_none, record_of, item_of, Replies, Between, behind, Signal, Posted, posted}
-use Rattle.ws_session.proofs.world.Betweens.{sounds, tokens, Sound, downs, sents, Down, Ends, Sent, ups, Up}
 use Rattle.ws_session.proofs.world.BetweenSteps.{station_record, station_token, answer_items, host_signal, answers_to}
 use Rattle.ws_session.proofs.world.BetweenSteps.{host_reply, host_token, host_end}
-use Rattle.ws_nego.proofs.Exchanges.{up_next, x_none, full_station, full_host}
-use Rattle.std.proofs.lemmas.Bool.{cases_Bool}
+use Rattle.ws_session.proofs.world.Betweens.{signal_silent, ready_silent, with_tokens, records_up, quiet_told}
+use Rattle.ws_session.proofs.world.Betweens.{with_sents, with_none, record_of, item_of, Replies, Between, behind}
+use Rattle.ws_session.proofs.world.Betweens.{Signal, Posted, posted, sounds, tokens, Sound, downs, sents, Down, Ends}
+use Rattle.ws_session.proofs.world.Betweens.{Sent, ups, Up}
 
 -- A byte comes to the station of a session.
 

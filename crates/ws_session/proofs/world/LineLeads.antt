@@ -1,18 +1,19 @@
 use Rattle.ws_session.proofs.Common as C
-use C.{new_station_side, flat_map-append, StationRefuses, StationRefused, station_manner, element_rules, new_host_side}
-use C.{length-append, StationLeads, answer_rules, StationIsLed, StationParts, TerminalType, append_assoc, HostRefused}
-use C.{host_manner, HostRefuses, append-nil, HostLeads, HostEvent, HaveMoved, HostParts, ToStation, HostIsLed, HasMoved}
-use C.{order_of, items_of, Crossing, all_read, TwoEnds, Through, Applied, Refusal, HasRun, Reason, Cancel, ◌^◌}
-use C.{Option, ToHost, length, IsSome, Manner, Rules, subst, Press, doing, Comes, arith, Event, Host, Some, Move, refl}
-use C.{bytes_came, all_came, Goes, List, None, ◌++◌, Item, ◌∷◌, sym, ◌∙◌, ◌+◌, Did, ◌≡◌, inl, inr, ◌⊎◌, ◌<◌, [], ap, ℕ}
-use Rattle.ws_session.specs.declared.world.Move.TheVariants.{Send}
+use C.{◌≡◌, ◌+◌, List, [], ◌∷◌, ◌++◌, refl, subst, ◌∙◌, ℕ, ◌<◌, Option, Some, None, ap, sym, arith, ◌^◌, inl, inr}
+use C.{length, append_assoc, length-append, ◌⊎◌, IsSome, flat_map-append, append-nil, Rules, Reason, TerminalType, Item}
+use C.{answer_rules, element_rules, bytes_came, all_came, Did, doing, items_of, Manner, Goes, StationRefuses}
+use C.{station_manner, host_manner, HostRefuses, Applied, HostEvent, Refusal, Event, Host, StationRefused, HostRefused}
+use C.{Move, ToStation, ToHost, Cancel, Press, HostLeads, HostParts, new_host_side, StationParts, StationLeads}
+use C.{new_station_side, Crossing, Through, TwoEnds, order_of, all_read, HasMoved, HaveMoved, HasRun, StationIsLed}
+use C.{HostIsLed, Comes}
 use Rattle.ws_session.specs.Acts.{bytes_of}
-use Rattle.ws_session.specs.station.StationActs.{IsShutOn, StaysSilentOn}
+use Rattle.ws_session.specs.Conduct.{Conduct}
 use Rattle.ws_session.specs.Manners.{IsHostShut}
+use Rattle.ws_session.specs.declared.world.Move.TheVariants.{Send}
 use Rattle.ws_session.specs.host_end.HostFeeds.{HostStaysSilent}
+use Rattle.ws_session.specs.station.StationActs.{IsShutOn, StaysSilentOn}
 use Rattle.ws_session.specs.station.StationSide.{profile}
 use Rattle.ws_session.specs.world.Wires.{Telling, host_telling, station_telling}
-use Rattle.ws_session.specs.Conduct.{Conduct}
 
 -- What crossed a line leads to its end, or the end has refused a byte of it.
 

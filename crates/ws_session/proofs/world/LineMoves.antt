@@ -1,23 +1,23 @@
 use Rattle.ws_session.proofs.Common as C
-use C.{IfOk, OnOk, ◌≡◌, ℕ, ◌+◌, ◌-◌, ◌≤◌, List, [], ◌∷◌, ◌++◌, Result, Ok, Err, length, take, drop, refl, ap, ◌∙◌, sym}
-use C.{arith, append_assoc, length-append, length-drop, append-nil, length-take-le, take_all, drop_all, drop-drop}
-use C.{drop-append-le, flat_map-append, take-add, drop-append_seam, take-append-add, Reason, Refusal, Event, Move}
-use C.{Act, Crossing, with_piece_at, HostParts, StationParts, TerminalType, WorldParts, Runs, new_world, TwoEnds}
-use C.{two_ends_of, all_sent, all_read, HaveCome, ComesDown, ComesUp, IsDeliveredDown, IsDeliveredUp, HasMoved}
-use C.{HaveMoved, HasRun, WireParts, AreDelivered, inl, inr, subst, take-append-drop, Fault, Writer}
-use C.{StationGoes, HostGoes, element_rules, answer_rules, station_manner, host_manner, StationLeads, HostLeads, Key}
-use C.{Applied, HostEvent, Reader, AreFaithful, HaveCrossed, HasCrossed, IsStopped, IsEnded, AreEnded}
+use C.{OnOk, IfOk, ◌≡◌, ◌+◌, ◌≤◌, List, [], ◌∷◌, ◌++◌, refl, subst, ◌∙◌, ℕ, take, drop, ap, sym, arith}
+use C.{take-append-drop, inl, inr, length, append_assoc, length-append, length-drop, ◌-◌, Err, Ok, Result, take-add}
+use C.{drop-append_seam, take-append-add, flat_map-append, length-take-le, append-nil, take_all, drop-append-le}
+use C.{drop_all, drop-drop, Writer, Reader, Fault, Reason, TerminalType, answer_rules, element_rules, Key, Act}
+use C.{station_manner, StationGoes, host_manner, HostGoes, Applied, HostEvent, Refusal, Event, Move, HostLeads}
+use C.{HostParts, StationParts, StationLeads, Crossing, with_piece_at, AreFaithful, HaveCrossed, HasCrossed, IsStopped}
+use C.{IsEnded, AreEnded, WorldParts, Runs, two_ends_of, TwoEnds, all_read, HasMoved, HaveMoved, HasRun, all_sent}
+use C.{HaveCome, ComesDown, ComesUp, IsDeliveredDown, IsDeliveredUp, WireParts, AreDelivered, new_world}
 use Rattle.std.specs.List.{AllByRecursion}
-use Rattle.ws_session.specs.declared.world.line.Line.{Line}
-use Rattle.ws_session.specs.world.BrokenOff.{AreNext, IsDeliveryCut}
-use Rattle.ws_session.specs.ActLaws.{goes_none, goes_on}
-use Rattle.ws_session.specs.Manners.{IsHostShut}
-use Rattle.ws_session.specs.station.StationActs.{IsShutOn}
-use Rattle.ws_session.specs.declared.end_step.Order.{Order}
-use Rattle.ws_session.proofs.world.Arriving.{come_on, none_comes}
 use Rattle.ws_code.specs.Device.{Devices}
+use Rattle.ws_session.specs.ActLaws.{goes_none, goes_on}
 use Rattle.ws_session.specs.Conduct.{Conduct}
+use Rattle.ws_session.specs.Manners.{IsHostShut}
+use Rattle.ws_session.specs.declared.end_step.Order.{Order}
+use Rattle.ws_session.specs.declared.world.line.Line.{Line}
+use Rattle.ws_session.specs.station.StationActs.{IsShutOn}
+use Rattle.ws_session.specs.world.BrokenOff.{AreNext, IsDeliveryCut}
 use Rattle.ws_session.specs.world.Wires.{Telling}
+use Rattle.ws_session.proofs.world.Arriving.{come_on, none_comes}
 
 -- Moves of a session whose bytes go over two lines.
 

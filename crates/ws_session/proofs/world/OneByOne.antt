@@ -1,14 +1,14 @@
 use Rattle.ws_session.proofs.Common as C
-use C.{take-append-drop, length-append, append_assoc, AreDelivered, HasRefusedIn, length-take, length-drop, append-nil}
-use C.{drop-cons, HasMemory, WireParts, reported, flat_map, flat_map-append, cases_lt, add-zero, add-suc, Refusal}
-use C.{Reason, add-one, get_or, length, arith, Through, Event, World, subst, zero, None, List, ℕ, refl, Some, Option}
-use C.{drop, min, ◌++◌, ◌≡◌, ◌^◌, ◌≤◌, sym, suc, ◌∷◌, ◌<◌, ◌∙◌, inl, inr, ◌+◌, [], ap, all_came, drop-drop, HasGone}
-use C.{Item, Rules, Manner, Arrives, HoldsItems, Happening, Happen, AllTaken, plain_spelling, doing, items_of}
-use C.{bytes_came, item_spelling, Goes, subst₂, true, ◌⊎◌, drop-append_seam}
+use C.{flat_map, ◌≡◌, ◌+◌, ◌≤◌, List, [], ◌∷◌, ◌++◌, refl, subst, ◌∙◌, ℕ, zero, suc, ◌<◌, Option, Some, None, drop, ap}
+use C.{sym, arith, take-append-drop, ◌^◌, min, inl, inr, length, get_or, append_assoc, add-zero, add-one, length-append}
+use C.{length-drop, drop-cons, length-take, ◌⊎◌, true, add-suc, subst₂, drop-append_seam, cases_lt, flat_map-append}
+use C.{append-nil, drop-drop, Rules, Reason, plain_spelling, item_spelling, Item, bytes_came, all_came, Happening}
+use C.{doing, items_of, HasGone, Arrives, Manner, AllTaken, Happen, HoldsItems, Goes, Refusal, Event, HasRefusedIn}
+use C.{Through, WireParts, reported, HasMemory, AreDelivered, World}
 use Rattle.ws_session.specs.Acts.{bytes_of}
-use Rattle.ws_session.proofs.EndSteps.{gone_none}
 use Rattle.ws_session.specs.Conduct.{Conduct}
 use Rattle.ws_session.specs.world.Wires.{Telling}
+use Rattle.ws_session.proofs.EndSteps.{gone_none}
 
 -- Bytes that come to an end, one by one.
 

@@ -1,21 +1,22 @@
 use Rattle.ws_session.proofs.Common as C
-use C.{answer_spelling, station_pressed, flat_map-append, record_spelling, plain_spelling, key_by_refusal, StationLeads}
-use C.{SystemRequest, item_spelling, answer_record, header_length, if◌then◌else◌, element_rules, SendReaction, NoMemory}
-use C.{empty_record, CanBeEncoded, answer_rules, StationParts, answer_parts, CancelInvite, answers_read, TerminalType}
-use C.{NoOperation, IsSendFault, after_press, AreWritable, SendRefused, KeyReaction, key_refusal, after_moves, AreBytes}
-use C.{RefusesSend, ScreenParts, station_key, spelling_of, StationSide, length-take, HostAnswer, one_screen, after_move}
-use C.{down_bytes, host_sends, AnswerPart, RefusesKey, after_send, KeyRefusal, SendFailed, KeyRefused, append-nil, Move}
-use C.{WorldParts, screen_at, answer_of, host_send, Attention, new_world, IsInRange, KeyFailed, HostLeads, AtStation, ℕ}
-use C.{host_sent, HostParts, SendFault, NotReady, up_bytes, HostSide, KeyFault, ReadKind, Signals, presses, Element, []}
-use C.{IsLegal, IsKeyed, arrived, Answers, Result, header, Option, length, AtHost, PutGet, Opcode, Silent, IsSent, ◌++◌}
-use C.{RunsWith, false, Press, subst, World, Event, arith, IsKey, List, take, Item, Bool, Runs, IfOk, Read, refl, Some, None, ◌≤◌}
-use C.{Send, true, ◌+◌, ap₂, ◌^◌, ◌∙◌, ◌≡◌, sym, ◌<◌, ◌∷◌, Key, SRQ, ATN, Err, ap, Ok}
-use Rattle.ws_record.proofs.Flights.{writable_append, still_led, not_more}
-use Rattle.ws_session.proofs.world.Betweens.{Sound}
-use Rattle.ws_session.proofs.world.Worlds.{sound}
+use C.{IfOk, ◌≡◌, ◌+◌, ◌≤◌, List, [], ◌∷◌, ◌++◌, refl, subst, ◌∙◌, ℕ, ◌<◌, Option, Some, None, take, ap, sym, arith}
+use C.{◌^◌, length, length-take, if◌then◌else◌, Bool, true, false, Err, Ok, Result, ap₂, flat_map-append, append-nil}
+use C.{spelling_of, AreBytes, TerminalType, arrived, plain_spelling, item_spelling, IsInRange, record_spelling}
+use C.{CanBeEncoded, header, Opcode, CancelInvite, NoOperation, PutGet, Item, header_length, answer_rules}
+use C.{element_rules, AnswerPart, Element, ScreenParts, IsLegal, ReadKind, one_screen, answer_parts, key_refusal}
+use C.{answer_of, Read, Attention, SystemRequest, HostAnswer, Key, Send, KeyRefusal, empty_record, SendFault}
+use C.{SendFailed, NoMemory, ATN, SRQ, KeyFault, KeyFailed, NotReady, Event, KeyRefused, SendRefused, Move, Press}
+use C.{AtHost, HostLeads, HostParts, IsSent, IsSendFault, HostSide, SendReaction, RefusesSend, host_send}
+use C.{answer_spelling, AtStation, StationParts, StationLeads, IsKeyed, StationSide, screen_at, KeyReaction, RefusesKey}
+use C.{Silent, Answers, Signals, station_key, answers_read, key_by_refusal, presses, answer_record, AreWritable}
+use C.{WorldParts, RunsWith, Runs, IsKey, World, new_world, after_moves, after_move, down_bytes, up_bytes}
+use C.{station_pressed, host_sent, host_sends, after_press, after_send}
 use Rattle.ws_code.specs.Aid.{IsAid}
+use Rattle.ws_record.proofs.Flights.{writable_append, still_led, not_more}
 use Rattle.ws_keys.specs.declared.answer.Answer.{Answer}
 use Rattle.ws_keys.proofs.WholeLaws.{answer_whole, answer_short}
+use Rattle.ws_session.proofs.world.Betweens.{Sound}
+use Rattle.ws_session.proofs.world.Worlds.{sound}
 
 -- A running session is a world that its moves lead to.
 

@@ -1,20 +1,20 @@
 use Rattle.ws_session.proofs.Common as C
-use C.{station_allows_records, after_three_deliveries, after_all_to_station, host_allows_records, after_all_to_host, ap}
-use C.{bytes_to_station, three_deliveries, byte_to_station, NothingInFlight, settled_station, plain_spelling, replicate}
-use C.{exchange_after, answers_coming, bytes_to_host, settled_quiet, element_rules, if◌then◌else◌, StationParts, length}
-use C.{answer_rules, settled_host, items_coming, byte_to_host, TerminalType, after_moves, length-drop, refusals_in, ◌^◌}
-use C.{TablesAgree, station_did, StationSide, append-nil, HostAnswer, answers_in, AnswerPart, HostOutput, down_bytes, ℕ}
-use C.{HostParts, nat_tests, is_answer, new_world, drop_all, up_bytes, IsReport, HostSide, Reaction, host_did, ReadKind}
-use C.{MoveDown, IsOpened, delivery, Exchange, Refuses, IsQuiet, telnets, MoveUp, agrees, Telnet, GoesOn, Option, Rules}
-use C.{nat_lt, filter, Field, false, Event, World, arith, subst, zero, Bool, ◌++◌, Move, true, drop, Item, List, refl}
-use C.{◌≤◌, suc, ◌-◌, ◌∷◌, ◌+◌, ◌<◌, ◌∙◌, ◌≡◌, sym, inl, inr, []}
+use C.{filter, ◌≡◌, ◌+◌, ◌≤◌, List, [], ◌∷◌, ◌++◌, refl, subst, ◌∙◌, ℕ, zero, suc, ◌<◌, Option, drop, ap, sym, arith}
+use C.{◌^◌, inl, inr, length, length-drop, if◌then◌else◌, Bool, true, false, nat_lt, ◌-◌, replicate, nat_tests}
+use C.{append-nil, drop_all, Rules, Telnet, Exchange, TablesAgree, NothingInFlight, MoveDown, MoveUp, exchange_after}
+use C.{after_all_to_station, after_all_to_host, after_three_deliveries, host_allows_records, station_allows_records}
+use C.{TerminalType, agrees, settled_quiet, settled_station, settled_host, plain_spelling, Item, answer_rules}
+use C.{element_rules, AnswerPart, Field, ReadKind, HostAnswer, Refuses, GoesOn, Reaction, telnets, Event, Move}
+use C.{HostParts, HostSide, HostOutput, answers_in, items_coming, is_answer, answers_coming, StationParts, StationSide}
+use C.{delivery, three_deliveries, refusals_in, IsReport, IsOpened, World, new_world, after_moves, IsQuiet, down_bytes}
+use C.{station_did, byte_to_station, up_bytes, host_did, byte_to_host, bytes_to_station, bytes_to_host}
 use Rattle.ws_nego.proofs.Exchanges.{x_few}
 use Rattle.ws_record.proofs.Flights.{total_append, all_arrived, total_cons, InFlight, IsInside, not_more, total, quiet}
 use Rattle.ws_record.proofs.Flights.{size}
-use Rattle.ws_session.proofs.world.Betweens.{Replies, tokens, posted, Posted, Waits, sents, Sound, Sent}
-use Rattle.ws_session.proofs.world.Worlds.{sound}
 use Rattle.ws_session.proofs.Bytewise.{none_refused, bytes_down, bytes_up}
+use Rattle.ws_session.proofs.world.Betweens.{Replies, tokens, posted, Posted, Waits, sents, Sound, Sent}
 use Rattle.ws_session.proofs.world.Bytes.{next_down, next_up}
+use Rattle.ws_session.proofs.world.Worlds.{sound}
 
 -- With nothing in flight both option tables agree, and few tokens are ever written.
 

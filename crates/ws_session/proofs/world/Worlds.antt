@@ -1,26 +1,27 @@
 use Rattle.ws_session.proofs.Common as C
-use C.{station_allows_records, host_allows_records, bytes_to_station, ReadOutstanding, byte_to_station, station_pressed}
-use C.{host_sends_body, RefusedByScreen, key_by_refusal, after_elements, NoReadToCancel, is_outstanding, bytes_to_host}
-use C.{element_rules, if◌then◌else◌, append_assoc, new_exchange, SendReaction, answer_rules, CancelInvite, empty_record}
-use C.{byte_to_host, answers_read, answer_parts, TerminalType, pending_read, station_key, after_press, host_cancel, suc}
-use C.{after_moves, BadSequence, aids_answer, NoOperation, key_refusal, sent_record, RefusesSend, SendRefused, SendMove}
-use C.{TelnetItem, host_sends, after_send, SendFailed, after_move, is_too_big, HostAnswer, body_fault, answers_in, zero}
-use C.{RefusesKey, KeyRefusal, is_aid_key, NotAllowed, KeyRefused, RecordItem, after_end, screen_at, host_send, is_some}
-use C.{answer_in, new_world, host_sent, answer_of, ToStation, after_key, events_by, KeyFailed, NotReady, ReadKind, Bool}
-use C.{AreApart, is_body, presses, edit_of, Element, opening, TooBig, ToHost, Cancel, Opcode, Reason, Option, Sends, ap}
-use C.{false, Event, World, arith, subst, sends, Press, ◌++◌, Some, Move, None, Send, true, List, ◌&&◌, refl, SRQ, ◌∷◌}
-use C.{Key, ◌∙◌, not, ◌≡◌, ATN, sym, inl, inr, [], ℕ}
-use Rattle.ws_keys.specs.declared.key.Key.TheVariants.{SystemRequest, Attention}
-use Rattle.ws_record.proofs.Flights.{start_inside, InFlight, written}
-use Rattle.ws_session.proofs.world.Betweens.{records_down, with_posted, quiet_event, records_up, with_sents, screened, Signal}
-use Rattle.ws_session.proofs.world.Betweens.{betweens, is_stop, Replies, posted, sounds, tokens, Posted, Sound, sents, Body}
-use Rattle.ws_session.proofs.world.Betweens.{Sent, Stop}
-use Rattle.ws_session.proofs.world.BetweenSteps.{pending-keyed, sends_cancel, key_answer, sends_body, key_silent, key_signal}
+use C.{◌&&◌, not, ◌≡◌, List, [], ◌∷◌, ◌++◌, refl, subst, ◌∙◌, ℕ, zero, suc, Option, Some, None, ap, sym, arith, inl}
+use C.{inr, append_assoc, if◌then◌else◌, Bool, true, false, is_some, Reason, new_exchange, host_allows_records, opening}
+use C.{station_allows_records, TerminalType, Opcode, CancelInvite, NoOperation, RecordItem, TelnetItem, answer_rules}
+use C.{is_body, element_rules, Element, after_elements, after_end, body_fault, AreApart, pending_read, ReadKind}
+use C.{answer_parts, edit_of, events_by, key_refusal, is_aid_key, answer_of, HostAnswer, Key, Send, KeyRefusal}
+use C.{aids_answer, empty_record, SendFailed, NotAllowed, ReadOutstanding, NoReadToCancel, BadSequence, TooBig}
+use C.{RefusedByScreen, ATN, SRQ, KeyFailed, NotReady, Event, KeyRefused, SendRefused, Move, ToStation, ToHost, Cancel}
+use C.{Press, SendMove, sent_record, is_outstanding, SendReaction, RefusesSend, Sends, host_cancel, host_send}
+use C.{host_sends_body, is_too_big, answers_in, answer_in, after_key, screen_at, RefusesKey, station_key, sends}
+use C.{answers_read, key_by_refusal, presses, World, new_world, after_moves, after_move, byte_to_station, byte_to_host}
+use C.{bytes_to_station, bytes_to_host, station_pressed, host_sent, host_sends, after_press, after_send}
 use Rattle.std.proofs.lemmas.Bool.{cases_Bool}
-use Rattle.ws_screen.proofs.FormatLemmas.{fields-none}
-use Rattle.ws_session.proofs.world.Turns.{Free, at}
 use Rattle.ws_nego.proofs.Exchanges.{Exchanges}
+use Rattle.ws_record.proofs.Flights.{start_inside, InFlight, written}
+use Rattle.ws_screen.proofs.FormatLemmas.{fields-none}
+use Rattle.ws_keys.specs.declared.key.Key.TheVariants.{SystemRequest, Attention}
+use Rattle.ws_session.proofs.world.BetweenSteps.{pending-keyed, sends_cancel, key_answer, sends_body, key_silent}
+use Rattle.ws_session.proofs.world.BetweenSteps.{key_signal}
+use Rattle.ws_session.proofs.world.Betweens.{records_down, with_posted, quiet_event, records_up, with_sents, screened}
+use Rattle.ws_session.proofs.world.Betweens.{Signal, betweens, is_stop, Replies, posted, sounds, tokens, Posted, Sound}
+use Rattle.ws_session.proofs.world.Betweens.{sents, Body, Sent, Stop}
 use Rattle.ws_session.proofs.world.Bytes.{byte_down, byte_up}
+use Rattle.ws_session.proofs.world.Turns.{Free, at}
 
 -- A key, a send or a cancel in a session.
 

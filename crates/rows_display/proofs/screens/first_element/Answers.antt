@@ -1,8 +1,8 @@
 use Rattle.std.proofs.Common.{ℕ, List, refl, sym, subst}
 use Rattle.ws_code.specs.Code.{IsUnfinished}
 use Rattle.ws_code.proofs.RunLaws.{is_between}
-use Rattle.ws_stream.specs.Elements.{element_rules}
 use Rattle.ws_stream.specs.ElementLaws.{element_begins}
+use Rattle.ws_stream.specs.Elements.{element_rules}
 use Rattle.rows_display.proofs.screens.first_element.Goals as goal
 
 pub run-run-requires : goal.run-run-requires

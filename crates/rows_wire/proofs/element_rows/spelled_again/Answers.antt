@@ -1,7 +1,7 @@
 use Rattle.std.proofs.Common.{ℕ, List, sym, subst}
 use Rattle.ws_code.specs.Code.{IsUnfinished}
-use Rattle.ws_stream.specs.Elements.{element_rules}
 use Rattle.ws_stream.specs.ElementLaws.{element_begins}
+use Rattle.ws_stream.specs.Elements.{element_rules}
 use Rattle.rows_wire.proofs.element_rows.spelled_again.Goals as goal
 
 pub loop-byte-init : goal.loop-byte-init

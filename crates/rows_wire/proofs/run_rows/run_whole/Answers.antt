@@ -1,8 +1,8 @@
 use Rattle.std.proofs.Common.{ℕ, List, refl, sym, subst}
 use Rattle.ws_code.specs.Code.{IsUnfinished}
 use Rattle.ws_code.proofs.RunLaws.{is_between}
-use Rattle.ws_stream.specs.Elements.{element_rules}
 use Rattle.ws_stream.specs.ElementLaws.{element_begins}
+use Rattle.ws_stream.specs.Elements.{element_rules}
 use Rattle.rows_wire.proofs.run_rows.run_whole.Goals as goal
 
 pub run-requires : goal.run-requires

@@ -1,10 +1,10 @@
-use Rattle.std.proofs.Common.{◌≡◌, List, length, false}
 use Rattle.std.specs.List.{flat_map}
+use Rattle.std.proofs.Common.{◌≡◌, List, length, false}
+use Rattle.ws_code.specs.Device.{on_devices}
+use Rattle.ws_text.specs.Printing.{Prints}
 use Rattle.ws_any_host.specs.AnyText.{HaveToldBeforeKey, any_event_text}
 use Rattle.ws_any_host.specs.declared.any_event.AnyEvent.{AnyEvent}
-use Rattle.ws_text.specs.Printing.{Prints}
 use Rattle.ws_any_host.proofs.any_move.hear_key.Given as goal
-use Rattle.ws_code.specs.Device.{on_devices}
 
 -- what was told and printed so far, none of which is by the key
 abbrev pub invariant-loop : goal.invariant-loop

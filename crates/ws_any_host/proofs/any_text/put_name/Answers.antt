@@ -1,7 +1,7 @@
 use Rattle.std.proofs.Common.{ap, sym}
 use Rattle.std.proofs.lemmas.List.{take_all}
-use Rattle.ws_text.proofs.Texts.{flat_map_more}
 use Rattle.ws_text.proofs.Prints.{prints_none, prints_both, prints_same}
+use Rattle.ws_text.proofs.Texts.{flat_map_more}
 use Rattle.ws_any_host.specs.AnyText.{name_byte, terminal_name_text}
 use Rattle.ws_any_host.proofs.any_text.put_name.Goals as goal
 

@@ -1,5 +1,5 @@
-use Rattle.std.proofs.Common.{ap}
 use Rattle.std.specs.Fmt.{decimal}
+use Rattle.std.proofs.Common.{ap}
 use Rattle.ws_text.specs.ItemLines.{hex_behind_blank}
 use Rattle.ws_text.proofs.Prints.{prints_both, prints_same}
 use Rattle.ws_any_host.proofs.any_text.put_record.Goals as goal

@@ -1,9 +1,9 @@
 use Rattle.std.proofs.Common.{◌≡◌, [], true, false, refl, sym, ◌∙◌, arith}
 use Rattle.ws_code.specs.Device.{most_reads}
 use Rattle.ws_code.proofs.DeviceLaws.{went_out_none}
+use Rattle.ws_live.specs.declared.printing.paint.Paint.TheVariants.{Plain}
 use Rattle.ws_live.specs.live.ServeText.{is_told}
 use Rattle.ws_live.specs.live.Waits.{InTime}
-use Rattle.ws_live.specs.declared.printing.paint.Paint.TheVariants.{Plain}
 use Rattle.ws_any_host.proofs.CarryOns.{one_told, none_told, once_fails, too_much_told, told_goes}
 use Rattle.ws_any_host.proofs.repeated.carry_on.Goals as goal
 

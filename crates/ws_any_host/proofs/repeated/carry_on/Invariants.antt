@@ -1,9 +1,9 @@
-use Rattle.std.proofs.Common.{◌≡◌, ℕ, List, [], true, false}
 use Rattle.std.specs.Prelude.{replicate}
+use Rattle.std.proofs.Common.{◌≡◌, ℕ, List, [], true, false}
 use Rattle.ws_code.specs.Device.{WentOut}
+use Rattle.ws_live.specs.declared.printing.paint.Paint.TheVariants.{Plain}
 use Rattle.ws_live.specs.live.LiveText.{HaveRun}
 use Rattle.ws_live.specs.live.Waits.{InTime}
-use Rattle.ws_live.specs.declared.printing.paint.Paint.TheVariants.{Plain}
 use Rattle.ws_any_host.proofs.repeated.carry_on.Given as goal
 
 -- so many things were told and printed

@@ -1,5 +1,5 @@
-use Rattle.std.proofs.Common.{inl, inr, refl, subst}
 use Rattle.std.specs.Prelude.{Result}
+use Rattle.std.proofs.Common.{inl, inr, refl, subst}
 use Rattle.ws_code.specs.declared.fault.Fault.{Fault}
 use Rattle.ws_text.specs.Printing.{IsOut}
 use Rattle.ws_text.specs.declared.output.Output.{Output}

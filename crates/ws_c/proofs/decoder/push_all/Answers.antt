@@ -1,12 +1,12 @@
-use Rattle.std.proofs.Common.{◌≡◌, ℕ, List, [], length, take, get_or, refl, sym, subst, ap, ◌∙◌}
-use Rattle.std.proofs.Common.{arith, true}
+use Rattle.std.proofs.Common.{◌≡◌, ℕ, List, [], length, take, get_or, refl, sym, subst, ap, ◌∙◌, arith, true}
 use Rattle.std.proofs.lemmas.List.{take_more}
 use Rattle.ws_record.specs.declared.live.Step.{Step}
 use Rattle.ws_record.specs.declared.live.Step.TheVariants.{More, Open, Unit as Whole, Close, Telnet as Command}
 use Rattle.ws_record.specs.declared.live.Step.TheVariants.{Refused as StepRefused, Failed as StepFailed}
-use Rattle.ws_c.specs.declared.status.Status.TheVariants.{Done}
-use Rattle.ws_c.specs.Decoding.{DecoderPushedOn, DecoderTakesOn, IsDecoderEndOn, IsStepToldOn, plain_step, tells_something}
+use Rattle.ws_c.specs.Decoding.{DecoderPushedOn, DecoderTakesOn, IsDecoderEndOn, IsStepToldOn, plain_step}
+use Rattle.ws_c.specs.Decoding.{tells_something}
 use Rattle.ws_c.specs.Pushes.{TakesAll}
+use Rattle.ws_c.specs.declared.status.Status.TheVariants.{Done}
 use Rattle.ws_c.proofs.PushLaws.{takes_more, none_left, one_left}
 use Rattle.ws_c.proofs.decoder.push_all.Goals as goal
 

@@ -1,7 +1,7 @@
-use Rattle.std.proofs.Common.{◌≡◌, ◌+◌, ◌<◌, ◌≤◌, [], ◌∷◌, ◌++◌, length, map, take, arith, lit<, sym, ◌∙◌, ap}
-use Rattle.std.proofs.Common.{get_or, length-append}
 use Rattle.std.specs.Prelude.{encode_utf8}
 use Rattle.std.specs.Str.{encode_utf8_all}
+use Rattle.std.proofs.Common.{◌≡◌, ◌+◌, ◌<◌, ◌≤◌, [], ◌∷◌, ◌++◌, length, map, take, arith, lit<, sym, ◌∙◌, ap, get_or}
+use Rattle.std.proofs.Common.{length-append}
 use Rattle.std.proofs.lemmas.List.{map_more}
 use Rattle.ws_screen.specs.Lines.{shown_char}
 use Rattle.ws_screen.proofs.LineLemmas.{text-more, two_bytes}

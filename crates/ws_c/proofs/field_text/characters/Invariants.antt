@@ -1,5 +1,5 @@
-use Rattle.std.proofs.Common.{◌≡◌, ◌*◌, ◌≤◌, length, take, map}
 use Rattle.std.specs.Str.{encode_utf8_all}
+use Rattle.std.proofs.Common.{◌≡◌, ◌*◌, ◌≤◌, length, take, map}
 use Rattle.ws_screen.specs.Lines.{shown_char}
 use Rattle.ws_c.proofs.field_text.characters.Given as goal
 

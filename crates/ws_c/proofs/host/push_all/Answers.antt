@@ -1,17 +1,16 @@
 use Rattle.std.specs.Prelude.{min, is_some}
 use Rattle.std.proofs.Common.{◌≡◌, ◌+◌, ◌-◌, ◌<◌, ◌≤◌, ◌^◌, ◌++◌, inl, inr, ℕ, List, [], Option, Some, None, true}
-use Rattle.std.proofs.Common.{false}
-use Rattle.std.proofs.Common.{length, take, drop, refl, sym, subst, ap, ◌∙◌, arith, add-zero}
+use Rattle.std.proofs.Common.{false, length, take, drop, refl, sym, subst, ap, ◌∙◌, arith, add-zero}
 use Rattle.std.proofs.lemmas.List.{length-drop}
 use Rattle.ws_session.specs.Ends.{CountsUpTo}
-use Rattle.ws_session.specs.host_end.HostFeeds.{HasHostFed, HasHostRefused, IsHostSilent}
 use Rattle.ws_session.specs.declared.host_end.host_event.HostEvent.{HostEvent}
-use Rattle.ws_c.specs.declared.status.Status.TheVariants.{Done, NoRoom}
-use Rattle.ws_c.specs.declared.told.PushedTold.{PushedTold}
+use Rattle.ws_session.specs.host_end.HostFeeds.{HasHostFed, HasHostRefused, IsHostSilent}
 use Rattle.ws_c.specs.Hosts.{HostTells, HostRefusesWithin, IsHostEnd, answer_after, event_told}
 use Rattle.ws_c.specs.Pushes.{place_refused_at}
-use Rattle.ws_c.proofs.PushLaws.{feeding_more, none_left, one_left, put_no_more, rest_is, told_again}
+use Rattle.ws_c.specs.declared.status.Status.TheVariants.{Done, NoRoom}
+use Rattle.ws_c.specs.declared.told.PushedTold.{PushedTold}
 use Rattle.ws_c.proofs.FeedLaws.{HeldTakes, host_takes_none, host_takes_on, host_refuses}
+use Rattle.ws_c.proofs.PushLaws.{feeding_more, none_left, one_left, put_no_more, rest_is, told_again}
 use Rattle.ws_c.proofs.host.push_all.Goals as goal
 
 none_of : (o : Option HostEvent) → is_some o ≡ false → o ≡ None

@@ -2,15 +2,15 @@ use Rattle.std.specs.Prelude.{min}
 use Rattle.std.proofs.Common.{◌≡◌, ◌+◌, ◌-◌, ◌<◌, ◌≤◌, ◌^◌, ◌++◌, ℕ, List, [], length, take, drop, refl, sym, subst, ap}
 use Rattle.std.proofs.Common.{◌∙◌, arith}
 use Rattle.std.proofs.lemmas.List.{length-drop}
+use Rattle.ws_stream.specs.Elements.{element_rules}
 use Rattle.ws_session.specs.Ends.{CountsUpTo}
 use Rattle.ws_session.specs.station.StationFeeds.{HasFed, HasRefused}
 use Rattle.ws_session.specs.station.StationSide.{profile}
-use Rattle.ws_stream.specs.Elements.{element_rules}
+use Rattle.ws_c.specs.Pushes.{StationTakes, StationRefusesWithin, IsStationEnd, place_refused_at}
 use Rattle.ws_c.specs.declared.status.Status.TheVariants.{Done, NoRoom}
 use Rattle.ws_c.specs.declared.told.PushedTold.{PushedTold}
-use Rattle.ws_c.specs.Pushes.{StationTakes, StationRefusesWithin, IsStationEnd, place_refused_at}
-use Rattle.ws_c.proofs.PushLaws.{feeding_more, none_left, one_left, rest_is, told_again}
 use Rattle.ws_c.proofs.FeedLaws.{station_takes_none, station_takes_on, station_refuses}
+use Rattle.ws_c.proofs.PushLaws.{feeding_more, none_left, one_left, rest_is, told_again}
 use Rattle.ws_c.proofs.station.push_all.Goals as goal
 
 pub loop-told-init : goal.loop-told-init

@@ -1,6 +1,6 @@
+use Rattle.std.specs.List.{range_with_len}
 use Rattle.std.proofs.Common.{◌≡◌, ℕ, ◌+◌, ◌<◌, List, [], ◌∷◌, ◌++◌, if◌then◌else◌, length, slice_index, map, arith}
 use Rattle.std.proofs.Common.{sym, ◌∙◌, ap, refl, subst}
-use Rattle.std.specs.List.{range_with_len}
 use Rattle.std.proofs.lemmas.List.{take_more_set}
 use Rattle.std.proofs.lemmas.List.FromFn.{map-range_with_len_more}
 use Rattle.ws_stream.specs.FieldOrder.{is_attribute}

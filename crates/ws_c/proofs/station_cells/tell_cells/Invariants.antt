@@ -1,5 +1,5 @@
-use Rattle.std.proofs.Common.{◌≡◌, ◌+◌, take, map}
 use Rattle.std.specs.List.{range_with_len}
+use Rattle.std.proofs.Common.{◌≡◌, ◌+◌, take, map}
 use Rattle.ws_screen.specs.Lines.{attribute_at}
 use Rattle.ws_c.specs.Cells.{EndsBehind, IsPast, cell_told}
 use Rattle.ws_c.proofs.station_cells.tell_cells.Given as goal

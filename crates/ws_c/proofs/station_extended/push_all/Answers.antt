@@ -3,16 +3,16 @@ use Rattle.std.proofs.Common.{◌≡◌, ℕ, ◌+◌, ◌-◌, ◌^◌, ◌<◌
 use Rattle.std.proofs.Common.{arith}
 use Rattle.std.proofs.lemmas.List.{length-drop}
 use Rattle.ws_extended.specs.ExtendedElements.{extended_rules}
-use Rattle.ws_extended_station.specs.ExtendedDisplays.{DisplayParts, extended, extended_written}
 use Rattle.ws_session.specs.Ends.{CountsUpTo}
 use Rattle.ws_session.specs.station.StationActs.{HasFedOn, HasRefusedOn, IsSilentOn}
-use Rattle.ws_c.specs.declared.held_station.HeldStation.{HeldStation}
-use Rattle.ws_c.specs.declared.status.Status.TheVariants.{Done}
+use Rattle.ws_extended_station.specs.ExtendedDisplays.{DisplayParts, extended, extended_written}
 use Rattle.ws_c.specs.HeldStations.{waiting}
 use Rattle.ws_c.specs.Pushes.{IsEndOn, StationRefusesOn, place_refused_at}
-use Rattle.ws_c.proofs.PushLaws.{none_left, one_left, rest_is}
+use Rattle.ws_c.specs.declared.held_station.HeldStation.{HeldStation}
+use Rattle.ws_c.specs.declared.status.Status.TheVariants.{Done}
 use Rattle.ws_c.proofs.FeedLaws.{station_takes_on, station_refuses}
 use Rattle.ws_c.proofs.HeldLaws.{ends_plainly, feeding_on, feeding_start, nothing_waits}
+use Rattle.ws_c.proofs.PushLaws.{none_left, one_left, rest_is}
 use Rattle.ws_c.proofs.station_extended.push_all.Goals as goal
 
 pub loop-told-init : goal.loop-told-init

@@ -1,5 +1,5 @@
-use Rattle.std.proofs.Common.{take}
 use Rattle.std.specs.Prelude.{Ok}
+use Rattle.std.proofs.Common.{take}
 use Rattle.ws_keys.specs.Strokes.{keys_of}
 use Rattle.ws_c.specs.Strokes.{AreKeyed}
 use Rattle.ws_c.proofs.station_strokes.press_all.Given as goal

@@ -1,5 +1,5 @@
-use Rattle.std.proofs.Common.{refl}
 use Rattle.std.specs.Prelude.{Ok, Err}
+use Rattle.std.proofs.Common.{refl}
 use Rattle.ws_c.proofs.station_strokes.press_once.Goals as goal
 
 pub returns-in-Ok : goal.returns-in-Ok

@@ -1,5 +1,5 @@
-use Rattle.std.proofs.Common.{◌≡◌, replicate}
 use Rattle.std.specs.Prelude.{Ok}
+use Rattle.std.proofs.Common.{◌≡◌, replicate}
 use Rattle.ws_c.specs.Strokes.{AreKeyed}
 use Rattle.ws_c.proofs.station_strokes.press_run.Given as goal
 

@@ -1,5 +1,5 @@
-use Rattle.std.proofs.Common.{take}
 use Rattle.std.specs.List.{AllByRecursion}
+use Rattle.std.proofs.Common.{take}
 use Rattle.ws_code.specs.FormatWord.{IsFfw}
 use Rattle.ws_screen.specs.declared.field.Field.{Field}
 use Rattle.ws_extended.proofs.image.known_formats.Given as goal

@@ -1,6 +1,6 @@
 use Rattle.ws_extended_station.specs.Bytewise.{spelled_alike}
-use Rattle.ws_extended_station.proofs.BesideRuns.{runs_there}
 use Rattle.ws_extended_station.proofs.Beside.{items_there, keys_there}
+use Rattle.ws_extended_station.proofs.BesideRuns.{runs_there}
 use Rattle.ws_extended_station.proofs.laws.acts_as_profile.Goals as goal
 
 pub returns-clause-items : goal.returns-clause-items

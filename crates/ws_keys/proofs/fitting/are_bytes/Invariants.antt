@@ -1,5 +1,5 @@
-use Rattle.std.proofs.Common.{◌≡◌, drop}
 use Rattle.std.specs.Prelude.{is_some}
+use Rattle.std.proofs.Common.{◌≡◌, drop}
 use Rattle.ws_keys.specs.Readings.{bytes_in}
 use Rattle.ws_keys.proofs.fitting.are_bytes.Given as goal
 

@@ -1,5 +1,5 @@
-use Rattle.std.proofs.Common.{◌≡◌, ◌==◌, true, false, length, if◌then◌else◌, sym, ap, ◌∙◌}
 use Rattle.std.specs.Prelude.{sum_by}
+use Rattle.std.proofs.Common.{◌≡◌, ◌==◌, true, false, length, if◌then◌else◌, sym, ap, ◌∙◌}
 use Rattle.ws_keys.specs.Contents.{sent_length}
 use Rattle.ws_keys.proofs.FittingLaws as Laws
 use Rattle.ws_keys.proofs.fitting.fits_input.Goals as goal

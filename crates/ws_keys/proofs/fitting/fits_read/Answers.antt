@@ -1,5 +1,5 @@
-use Rattle.std.proofs.Common.{sym, ap, ◌∙◌}
 use Rattle.std.specs.Prelude.{is_some}
+use Rattle.std.proofs.Common.{sym, ap, ◌∙◌}
 use Rattle.ws_keys.proofs.FittingLaws as Laws
 use Rattle.ws_keys.proofs.fitting.fits_read.Goals as goal
 

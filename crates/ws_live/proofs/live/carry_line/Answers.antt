@@ -1,11 +1,11 @@
-use Rattle.std.proofs.Common.{◌++◌, List, ℕ, inl, inr, refl, subst}
 use Rattle.std.specs.Prelude.{Result}
+use Rattle.std.proofs.Common.{◌++◌, List, ℕ, inl, inr, refl, subst}
 use Rattle.ws_code.specs.declared.fault.Fault.{Fault}
-use Rattle.ws_live.specs.live.LiveText.{closing_text}
 use Rattle.ws_text.specs.Printing.{IsOut}
-use Rattle.ws_live.specs.declared.live.Closing.{Closing}
 use Rattle.ws_text.specs.declared.output.Output.{Output}
 use Rattle.ws_text.proofs.Prints.{prints_both, whole_out}
+use Rattle.ws_live.specs.declared.live.Closing.{Closing}
+use Rattle.ws_live.specs.live.LiveText.{closing_text}
 use Rattle.ws_live.proofs.live.carry_line.Goals as goal
 
 pub returns-in-Open-clause-done : goal.returns-in-Open-clause-done

@@ -1,12 +1,12 @@
-use Rattle.std.proofs.Common.{◌≡◌, ◌++◌, ◌&&◌, Bool, List, ℕ, sym, ap, ◌∙◌, subst, inl}
 use Rattle.std.specs.Option.{is_some}
+use Rattle.std.proofs.Common.{◌≡◌, ◌++◌, ◌&&◌, Bool, List, ℕ, sym, ap, ◌∙◌, subst, inl}
+use Rattle.ws_code.specs.Device.{on_devices}
 use Rattle.ws_code.proofs.DeviceLaws.{went_out_both}
 use Rattle.ws_any_host.specs.declared.any_line.AnyLine.TheVariants.{Await}
 use Rattle.ws_network.specs.AnySessions.{IsTextAndOn, RunsAny}
 use Rattle.ws_network.proofs.AnySessionLaws.{stopped_text, carried_text, uncarried}
 use Rattle.ws_network.proofs.any_input.carry_at_any_host.Goals as goal
 use Rattle.ws_network.proofs.any_input.carry_at_any_host.Goals.{then-ran-2, else-ran-2}
-use Rattle.ws_code.specs.Device.{on_devices}
 
 pub returns-in-Err-clause-fault : goal.returns-in-Err-clause-fault
 returns-in-Err-clause-fault g c = let e = c.in-Err.ensures.fault in (e.0, e.1, inl e.2)

@@ -1,12 +1,12 @@
-use Rattle.std.proofs.Common.{◌≡◌, ◌++◌, ◌&&◌, Bool, List, ℕ, sym, ap, ◌∙◌, subst, inl}
 use Rattle.std.specs.Option.{is_some}
+use Rattle.std.proofs.Common.{◌≡◌, ◌++◌, ◌&&◌, Bool, List, ℕ, sym, ap, ◌∙◌, subst, inl}
+use Rattle.ws_code.specs.Device.{on_devices}
 use Rattle.ws_code.proofs.DeviceLaws.{went_out_both}
 use Rattle.ws_live.specs.live.ServeText.{IsServeText}
 use Rattle.ws_live.proofs.ServeRuns.{stopped_text, answered_text}
 use Rattle.ws_network.proofs.LiveFaults.{unanswered}
 use Rattle.ws_network.proofs.live_input.carry_at_host.Goals as goal
 use Rattle.ws_network.proofs.live_input.carry_at_host.Goals.{then-ran-2, else-ran-2}
-use Rattle.ws_code.specs.Device.{on_devices}
 
 pub returns-in-Err-clause-fault : goal.returns-in-Err-clause-fault
 returns-in-Err-clause-fault g c = let e = c.in-Err.ensures.fault in (e.0, e.1, inl e.2)

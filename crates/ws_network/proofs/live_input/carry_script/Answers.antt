@@ -1,8 +1,8 @@
 use Rattle.std.proofs.Common.{◌≡◌, [], ◌+◌, Bool, List, take, drop, refl, sym, ap, ◌∙◌, subst}
 use Rattle.ws_code.proofs.DeviceLaws.{went_out_none}
-use Rattle.ws_live.specs.live.Waits.{InTime}
-use Rattle.ws_live.specs.live.LiveText.{HaveRun, HasRunLines, ran_and, ran_by}
 use Rattle.ws_live.specs.declared.live.Ran.{Ran}
+use Rattle.ws_live.specs.live.LiveText.{HaveRun, HasRunLines, ran_and, ran_by}
+use Rattle.ws_live.specs.live.Waits.{InTime}
 use Rattle.ws_live.proofs.LiveRuns.{goes_on, ends_here, breaks, split_here, taken_here}
 use Rattle.ws_network.proofs.live_input.carry_script.Goals as goal
 

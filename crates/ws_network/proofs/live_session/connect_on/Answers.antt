@@ -1,5 +1,5 @@
-use Rattle.ws_network.proofs.SessionLaws.{judged, from_script, connected}
 use Rattle.ws_network.specs.Sessions.{station_means}
+use Rattle.ws_network.proofs.SessionLaws.{judged, from_script, connected}
 use Rattle.ws_network.proofs.live_session.connect_on.Goals as goal
 
 pub returns-clause-ran : goal.returns-clause-ran

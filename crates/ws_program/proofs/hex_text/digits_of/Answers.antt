@@ -1,5 +1,5 @@
-use Rattle.std.proofs.Common.{rules, tests, ◌++◌, ◌∙◌, ap, sym}
 use Rattle.std.specs.List.{concat}
+use Rattle.std.proofs.Common.{rules, tests, ◌++◌, ◌∙◌, ap, sym}
 use Rattle.std.proofs.lemmas.Iterator.Consumers.{YieldsList-end}
 use Rattle.std.proofs.lemmas.Iterator.Splits.{YieldsList-from_slice_split}
 use Rattle.ws_program.specs.HexText.{is_blank_byte}

@@ -1,6 +1,6 @@
-use Rattle.std.proofs.Common.{◌≡◌}
-use Rattle.std.specs.Prelude.{map}
 use Rattle.std.specs.List.{concat}
+use Rattle.std.specs.Prelude.{map}
+use Rattle.std.proofs.Common.{◌≡◌}
 use Rattle.ws_program.proofs.hex_text.digits_of.Given as goal
 
 -- the parts so far

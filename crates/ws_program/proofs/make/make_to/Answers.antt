@@ -1,8 +1,8 @@
 use Rattle.std.proofs.Common.{refl, subst, ◌∙◌}
-use Rattle.ws_program.specs.Making.{made_text}
 use Rattle.ws_text.specs.Printing.{IsOut}
 use Rattle.ws_text.specs.declared.output.Output.{Output}
 use Rattle.ws_text.proofs.Prints.{prints_same, whole_out}
+use Rattle.ws_program.specs.Making.{made_text}
 use Rattle.ws_program.proofs.make.make_to.Goals as goal
 
 pub returns-in-Open-clause-ok : goal.returns-in-Open-clause-ok

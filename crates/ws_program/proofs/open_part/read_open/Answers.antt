@@ -1,5 +1,4 @@
-use Rattle.std.proofs.Common.{◌≡◌, ◌-◌, ℕ, List, length, take, drop, subst, arith}
-use Rattle.std.proofs.Common.{length-take, length-drop}
+use Rattle.std.proofs.Common.{◌≡◌, ◌-◌, ℕ, List, length, take, drop, subst, arith, length-take, length-drop}
 use Rattle.std.proofs.lemmas.List.{take_all}
 use Rattle.ws_program.specs.OpenParts.{head_after, units_after}
 use Rattle.ws_program.proofs.CheckLemmas.{front_on}

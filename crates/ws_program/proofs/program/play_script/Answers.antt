@@ -1,8 +1,8 @@
 use Rattle.std.proofs.Common.{inr, refl, sym, ◌∙◌, subst}
 use Rattle.std.proofs.lemmas.Result.{err_from_is_err_and}
 use Rattle.ws_code.specs.declared.fault.Fault.{Fault}
-use Rattle.ws_program.specs.Answering.{IsPlayFault}
 use Rattle.ws_live.specs.asked.RunFaults.{run_fault}
+use Rattle.ws_program.specs.Answering.{IsPlayFault}
 use Rattle.ws_program.proofs.Plays.{session_text, session_well, unread_script}
 use Rattle.ws_program.proofs.program.play_script.Goals as goal
 

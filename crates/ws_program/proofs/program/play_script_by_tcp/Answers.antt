@@ -1,9 +1,9 @@
 use Rattle.std.proofs.Common.{inr, refl, sym, subst}
 use Rattle.std.proofs.lemmas.Result.{err_from_is_err_and}
 use Rattle.ws_code.specs.declared.fault.Fault.{Fault}
-use Rattle.ws_program.specs.Answering.{IsTcpPlayFault}
-use Rattle.ws_live.specs.printing.PlayLines.{no_end_refuses}
 use Rattle.ws_live.specs.asked.RunFaults.{run_fault}
+use Rattle.ws_live.specs.printing.PlayLines.{no_end_refuses}
+use Rattle.ws_program.specs.Answering.{IsTcpPlayFault}
 use Rattle.ws_program.proofs.Plays.{carried_moves, unconnected, unread_tcp_script}
 use Rattle.ws_program.proofs.program.play_script_by_tcp.Goals as goal
 

@@ -1,5 +1,5 @@
-use Rattle.std.proofs.Common.{◌≡◌, ◌<◌, ℕ, get_or, true}
 use Rattle.std.specs.Char.{is_ascii_digit}
+use Rattle.std.proofs.Common.{◌≡◌, ◌<◌, ℕ, get_or, true}
 use Rattle.ws_program.proofs.recorded.digit_count.Given as goal
 
 -- each byte so far is a digit

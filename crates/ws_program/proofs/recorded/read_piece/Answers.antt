@@ -1,5 +1,5 @@
-use Rattle.std.proofs.Common.{◌≤◌, ◌∙◌, ℕ, not, length, take, drop, sym, ap, subst, arith, length-take}
 use Rattle.std.specs.List.{position_or_len}
+use Rattle.std.proofs.Common.{◌≤◌, ◌∙◌, ℕ, not, length, take, drop, sym, ap, subst, arith, length-take}
 use Rattle.std.proofs.lemmas.List.Sums.{prefix_len-le-length}
 use Rattle.ws_program.proofs.Recordings.{is_other, front_digits, timeless, wordless, hexless, pieced}
 use Rattle.ws_program.proofs.recorded.read_piece.Goals as goal

@@ -1,12 +1,12 @@
-use Rattle.std.proofs.Common.{◌++◌, Bool, false, inr, length, sym, ◌∙◌, subst}
 use Rattle.std.specs.Prelude.{Result}
+use Rattle.std.proofs.Common.{◌++◌, Bool, false, inr, length, sym, ◌∙◌, subst}
 use Rattle.std.proofs.lemmas.Result.{IfOk-weaker, IfErr-weaker, err_from_is_err_and}
-use Rattle.ws_code.proofs.DeviceLaws.{went_out_both}
 use Rattle.ws_code.specs.declared.fault.Fault.{Fault}
-use Rattle.ws_program.specs.declared.verdict.Verdict.{Verdict}
+use Rattle.ws_code.proofs.DeviceLaws.{went_out_both}
 use Rattle.ws_program.specs.CheckLine.{line_of}
 use Rattle.ws_program.specs.StreamText.{IsShown, IsStop}
 use Rattle.ws_program.specs.Views.{in_paint}
+use Rattle.ws_program.specs.declared.verdict.Verdict.{Verdict}
 use Rattle.ws_program.proofs.Parts.{part_begins}
 use Rattle.ws_program.proofs.Shows.{text_fails}
 use Rattle.ws_program.proofs.SoFarShows.{all_written, all_unwritten, unapplied_written, unapplied_unwritten}

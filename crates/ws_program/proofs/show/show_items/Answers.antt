@@ -1,12 +1,11 @@
 use Rattle.std.proofs.Common.{[], sym, arith}
 use Rattle.std.proofs.lemmas.Result.{err_from_is_err_and}
 use Rattle.ws_code.proofs.DeviceLaws.{went_out_none}
+use Rattle.ws_live.specs.declared.printing.paint.Paint.TheVariants.{Plain}
 use Rattle.ws_program.specs.StreamText.{items_without_places}
 use Rattle.ws_program.specs.Views.{in_paint}
-use Rattle.ws_live.specs.declared.printing.paint.Paint.TheVariants.{Plain}
-use Rattle.ws_program.proofs.Shows.{shows_none, next_is, none_next}
-use Rattle.ws_program.proofs.Shows.{fewer_left, goes_on}
-use Rattle.ws_program.proofs.Shows.{stops_next, stops_early, stops_at_item}
+use Rattle.ws_program.proofs.Shows.{shows_none, next_is, none_next, fewer_left, goes_on, stops_next, stops_early}
+use Rattle.ws_program.proofs.Shows.{stops_at_item}
 use Rattle.ws_program.proofs.SoFarShows.{through_all, through_unapplied, halts_next, halts_early, fails_at_item}
 use Rattle.ws_program.proofs.WholeItems.{whole_next}
 use Rattle.ws_program.proofs.show.show_items.Goals as goal

@@ -1,6 +1,6 @@
 use Rattle.std.proofs.Common.{refl, subst}
-use Rattle.ws_text.specs.declared.output.Output.{Output}
 use Rattle.ws_text.specs.Printing.{IsOut}
+use Rattle.ws_text.specs.declared.output.Output.{Output}
 use Rattle.ws_text.proofs.Prints.{whole_out}
 use Rattle.ws_program.proofs.show.write_end.Goals as goal
 

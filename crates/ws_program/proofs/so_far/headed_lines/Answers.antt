@@ -1,6 +1,6 @@
+use Rattle.std.specs.Prelude.{IfOk, codes, drop, min}
 use Rattle.std.proofs.Common.{◌≡◌, ◌++◌, ℕ, List, Some, length, subst, ◌∙◌, ap, arith}
 use Rattle.std.proofs.lemmas.Result.{IfOk-weaker}
-use Rattle.std.specs.Prelude.{IfOk, codes, drop, min}
 use Rattle.ws_program.specs.SoFar.{open_lines}
 use Rattle.ws_program.proofs.SoFarTexts.{cut_off}
 use Rattle.ws_program.proofs.so_far.headed_lines.Goals as goal

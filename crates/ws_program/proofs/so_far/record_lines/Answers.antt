@@ -1,8 +1,8 @@
 use Rattle.std.proofs.Common.{◌++◌, ap, ◌∙◌, subst}
-use Rattle.ws_code.proofs.DeviceLaws.{held_went_out}
 use Rattle.ws_code.specs.Device.{held_writer}
-use Rattle.ws_text.specs.declared.output.Output.{Output}
+use Rattle.ws_code.proofs.DeviceLaws.{held_went_out}
 use Rattle.ws_text.specs.Printing.{IsOut}
+use Rattle.ws_text.specs.declared.output.Output.{Output}
 use Rattle.ws_text.proofs.Prints.{whole_out}
 use Rattle.ws_program.proofs.so_far.record_lines.Goals as goal
 

@@ -1,7 +1,7 @@
 use Rattle.std.proofs.Common.{◌++◌, ◌≢◌, [], List, ℕ, sym, ◌∙◌, subst}
 use Rattle.ws_code.proofs.DeviceLaws.{went_out_none}
-use Rattle.ws_text.specs.declared.output.Output.{Output}
 use Rattle.ws_text.specs.Printing.{IsOut}
+use Rattle.ws_text.specs.declared.output.Output.{Output}
 use Rattle.ws_text.proofs.Prints.{prints_both, whole_out}
 use Rattle.ws_text.proofs.TextWords.{is_nil_by}
 use Rattle.ws_program.proofs.SoFarTexts.{so_far_text, no_so_far_text, some_by}

@@ -1,8 +1,8 @@
-use Rattle.ws_record.proofs.Common.{Bool, true, false, ◌≡◌, ℕ, List, [], ◌++◌, refl, sym, ap, ◌∙◌, append-nil}
-use Rattle.ws_record.proofs.Common.{append_assoc, take-append-drop, take, drop, take-length, is_between, Rules, Reading}
-use Rattle.ws_record.proofs.Common.{HasReadValues, IsCut, place_after, one_cut, cut_bad, cut_unit}
-use Rattle.ws_record.proofs.body_reader.read_body.Goals.{then-at-via-then-at, then-at-via-else-at+then-not-may_end}
+use Rattle.ws_record.proofs.Common.{true, ◌≡◌, ℕ, List, [], ◌++◌, take, drop, refl, sym, ap, ◌∙◌, append_assoc, false}
+use Rattle.ws_record.proofs.Common.{Bool, take-length, append-nil, take-append-drop, Rules, place_after, IsCut, Reading}
+use Rattle.ws_record.proofs.Common.{HasReadValues, one_cut, cut_bad, cut_unit, is_between}
 use Rattle.ws_record.proofs.body_reader.read_body.Goals as goal
+use Rattle.ws_record.proofs.body_reader.read_body.Goals.{then-at-via-then-at, then-at-via-else-at+then-not-may_end}
 
 -- what a run reads from where a body begins
 cut_of : {P U : Type 0} (rules : Rules P U) {from to : Reading P} {values : List ℕ} (run : HasReadValues rules from values to)

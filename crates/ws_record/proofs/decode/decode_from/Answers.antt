@@ -1,5 +1,5 @@
-use Rattle.ws_record.proofs.Common.{refl, ◌≡◌, ◌++◌, length, take, arith, length-append, inr, length-take-le, gave_more}
-use Rattle.ws_record.proofs.Common.{gave_all, handed_on, take_some}
+use Rattle.ws_record.proofs.Common.{◌≡◌, ◌++◌, take, refl, length, inr, arith, length-append, length-take-le, gave_more}
+use Rattle.ws_record.proofs.Common.{gave_all, take_some, handed_on}
 use Rattle.ws_record.proofs.Faults.{feed_source}
 use Rattle.ws_record.proofs.decode.decode_from.Goals as goal
 

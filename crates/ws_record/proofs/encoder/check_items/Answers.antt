@@ -1,5 +1,5 @@
-use Rattle.ws_record.proofs.Common.{◌≡◌, Bool, ◌<◌, length, true, false, refl, arith, is_some, Option, Some, None}
-use Rattle.ws_record.proofs.Common.{IfNone, spelling_of, IsBadSequence, IsTooBig}
+use Rattle.ws_record.proofs.Common.{is_some, IfNone, true, ◌≡◌, refl, ◌<◌, length, false, arith, Bool, Option, Some}
+use Rattle.ws_record.proofs.Common.{None, spelling_of, IsBadSequence, IsTooBig}
 use Rattle.ws_record.proofs.Encodings.{first_at}
 use Rattle.ws_record.proofs.encoder.check_items.Goals as goal
 

@@ -1,4 +1,4 @@
-use Rattle.ws_record.proofs.Common.{take, AllByRecursion, CanAllBeEncoded, IsInRange}
+use Rattle.ws_record.proofs.Common.{AllByRecursion, take, CanAllBeEncoded, IsInRange}
 use Rattle.ws_record.proofs.encoder.check_items.Given as goal
 
 -- the items before can be encoded

@@ -1,4 +1,4 @@
-use Rattle.ws_record.proofs.Common.{common_steps, arith}
+use Rattle.ws_record.proofs.Common.{arith, common_steps}
 use Rattle.ws_record.proofs.encoder.encode_to.Goals as goal
 
 pub returns-in-Err-clause-written : goal.returns-in-Err-clause-written

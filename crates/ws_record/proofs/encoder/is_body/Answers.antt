@@ -1,4 +1,4 @@
-use Rattle.ws_record.proofs.Common.{◌≡◌, Bool, true, false, sym, ◌∙◌, chain_next, chain_at}
+use Rattle.ws_record.proofs.Common.{true, ◌≡◌, sym, ◌∙◌, false, Bool, chain_next, chain_at}
 use Rattle.ws_record.proofs.encoder.is_body.Goals as goal
 
 pub returns-then-not-may_follow : goal.returns-then-not-may_follow

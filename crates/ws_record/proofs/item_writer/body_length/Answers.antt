@@ -1,4 +1,4 @@
-use Rattle.ws_record.proofs.Common.{length, ap, arith, length_through}
+use Rattle.ws_record.proofs.Common.{ap, length, arith, length_through}
 use Rattle.ws_record.proofs.item_writer.body_length.Goals as goal
 
 pub returns-then-length-gt65525-clause-none : goal.returns-then-length-gt65525-clause-none

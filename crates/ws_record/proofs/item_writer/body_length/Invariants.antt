@@ -1,4 +1,4 @@
-use Rattle.ws_record.proofs.Common.{◌≡◌, ◌≤◌, length, take, spelling_of}
+use Rattle.ws_record.proofs.Common.{◌≡◌, take, length, ◌≤◌, spelling_of}
 use Rattle.ws_record.proofs.item_writer.body_length.Given as goal
 
 -- the length so far is that of the units before

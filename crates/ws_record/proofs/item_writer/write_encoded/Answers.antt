@@ -1,11 +1,11 @@
-use Rattle.ws_record.proofs.Common.{◌≡◌, ◌∷◌, ◌++◌, ℕ, List, Option, Some, None, ◌+◌, ◌<◌, ◌≤◌, [], length, arith}
-use Rattle.ws_record.proofs.Common.{flat_map, unwrap_or, IfSome, IfNone, on_ok_weaker, IfErr-weaker, spelling_of}
-use Rattle.ws_record.proofs.Common.{doubled, record_bytes, handed_on, record_spelling, append_assoc, flat_map-append}
-use Rattle.ws_record.proofs.Common.{first_fails, second_fails, third_fails, three_out}
+use Rattle.ws_record.proofs.Common.{flat_map, unwrap_or, IfSome, IfNone, ◌≡◌, ℕ, List, [], ◌∷◌, ◌++◌, append_assoc, ◌<◌}
+use Rattle.ws_record.proofs.Common.{length, ◌≤◌, arith, ◌+◌, Option, Some, None, flat_map-append, on_ok_weaker}
+use Rattle.ws_record.proofs.Common.{IfErr-weaker, spelling_of, first_fails, second_fails, third_fails, three_out}
+use Rattle.ws_record.proofs.Common.{doubled, record_spelling, record_bytes, handed_on}
 use Rattle.ws_record.proofs.Headers.{header_length}
 use Rattle.ws_record.proofs.item_writer.write_encoded.Given.{Over}
-use Rattle.ws_record.proofs.item_writer.write_encoded.Goals.{After-header_bytes}
 use Rattle.ws_record.proofs.item_writer.write_encoded.Goals as goal
+use Rattle.ws_record.proofs.item_writer.write_encoded.Goals.{After-header_bytes}
 
 known_length : (o : Option ℕ) (n : ℕ) → IfSome o (λ k. (k ≡ n) × (k ≤ 65525)) → IfNone o (65525 < n) → n ≤ 65525
     → unwrap_or o 0 ≡ n

@@ -1,7 +1,7 @@
-use Rattle.ws_record.proofs.Common.{item_spelling, each_fails, each_more, handed_on}
+use Rattle.ws_record.proofs.Common.{each_fails, each_more, item_spelling, handed_on}
+use Rattle.ws_record.proofs.item_writer.write_items.Goals as goal
 use Rattle.ws_record.proofs.item_writer.write_items.Goals.{in-Record+in_ok-write_encoded-in-Record}
 use Rattle.ws_record.proofs.item_writer.write_items.Goals.{in-Telnet+in_ok-write_telnet-in-Telnet}
-use Rattle.ws_record.proofs.item_writer.write_items.Goals as goal
 
 pub returns-in_err-write_encoded-in-Record-clause-err : goal.returns-in_err-write_encoded-in-Record-clause-err
 returns-in_err-write_encoded-in-Record-clause-err g c =

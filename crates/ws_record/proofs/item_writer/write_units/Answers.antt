@@ -1,4 +1,4 @@
-use Rattle.ws_record.proofs.Common.{◌∙◌, flat_map, take_all, doubled, each_fails, each_more, handed_on, doubled_each}
+use Rattle.ws_record.proofs.Common.{flat_map, ◌∙◌, take_all, each_fails, each_more, doubled, doubled_each, handed_on}
 use Rattle.ws_record.proofs.item_writer.write_units.Goals as goal
 
 pub returns-in_err-write_doubled-clause-err : goal.returns-in_err-write_doubled-clause-err

@@ -1,4 +1,4 @@
-use Rattle.ws_record.proofs.Common.{take, flat_map, WentOut, doubled}
+use Rattle.ws_record.proofs.Common.{flat_map, take, WentOut, doubled}
 use Rattle.ws_record.proofs.item_writer.write_units.Given as goal
 
 -- so far, the units before went out

@@ -1,5 +1,5 @@
-use Rattle.ws_record.proofs.Common.{◌≡◌, [], ◌∷◌, ◌++◌, length, inl, inr, ap, ◌∙◌, arith, length-append, Rules}
-use Rattle.ws_record.proofs.Common.{IsPrefixFree, Begins, IsInGrammar, MayGrow, both_empty}
+use Rattle.ws_record.proofs.Common.{◌≡◌, [], ◌∷◌, ◌++◌, ap, ◌∙◌, length, inl, inr, arith, length-append, Rules}
+use Rattle.ws_record.proofs.Common.{IsPrefixFree, Begins, both_empty, IsInGrammar, MayGrow}
 use Rattle.ws_record.proofs.Fronts.{one_holding}
 use Rattle.ws_record.proofs.laws.encode_and_decode.Goals as goal
 

@@ -1,4 +1,4 @@
-use Rattle.ws_record.proofs.Common.{◌≤◌, take, ArePlain}
+use Rattle.ws_record.proofs.Common.{take, ◌≤◌, ArePlain}
 use Rattle.ws_record.proofs.open_record.plain_length.Given as goal
 
 abbrev pub invariant-loop-index : goal.invariant-loop-index

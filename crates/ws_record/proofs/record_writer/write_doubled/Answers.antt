@@ -1,8 +1,8 @@
-use Rattle.ws_record.proofs.Common.{inl, inr, get_or, ◌+◌, arith, on_ok_weaker, IfErr-weaker, iac_or_not, doubled_plain}
-use Rattle.ws_record.proofs.Common.{handed_on, doubling_ends, doubling_ends_failed, doubling_fails, doubling_iac}
-use Rattle.ws_record.proofs.Common.{doubling_plain, run_rest, run_slice}
-use Rattle.ws_record.proofs.record_writer.write_doubled.Goals.{then-byte+in_ok-write_whole, else-byte}
+use Rattle.ws_record.proofs.Common.{inl, inr, arith, ◌+◌, get_or, on_ok_weaker, IfErr-weaker, run_rest, run_slice}
+use Rattle.ws_record.proofs.Common.{iac_or_not, doubled_plain, doubling_ends, doubling_ends_failed, doubling_fails}
+use Rattle.ws_record.proofs.Common.{doubling_iac, doubling_plain, handed_on}
 use Rattle.ws_record.proofs.record_writer.write_doubled.Goals as goal
+use Rattle.ws_record.proofs.record_writer.write_doubled.Goals.{then-byte+in_ok-write_whole, else-byte}
 
 pub returns-in_err-write_whole-clause-err : goal.returns-in_err-write_whole-clause-err
 returns-in_err-write_whole-clause-err g c =

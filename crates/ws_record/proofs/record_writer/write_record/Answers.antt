@@ -1,6 +1,6 @@
-use Rattle.ws_record.proofs.Common.{◌≡◌, ◌∷◌, ◌++◌, ℕ, List, [], flat_map, on_ok_weaker, IfErr-weaker, doubled}
-use Rattle.ws_record.proofs.Common.{handed_on, append_assoc, flat_map-append, record_spelling, first_fails}
-use Rattle.ws_record.proofs.Common.{second_fails, third_fails, three_out}
+use Rattle.ws_record.proofs.Common.{flat_map, ◌≡◌, ℕ, List, [], ◌∷◌, ◌++◌, append_assoc, flat_map-append, on_ok_weaker}
+use Rattle.ws_record.proofs.Common.{IfErr-weaker, first_fails, second_fails, third_fails, three_out, doubled}
+use Rattle.ws_record.proofs.Common.{record_spelling, handed_on}
 use Rattle.ws_record.proofs.record_writer.write_record.Goals as goal
 
 text_of : {head is : List ℕ} (body : List ℕ) → head ≡ is

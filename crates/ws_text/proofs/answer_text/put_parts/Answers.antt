@@ -1,8 +1,8 @@
-use Rattle.ws_text.proofs.Common.{◌≡◌, ◌++◌, ◌∷◌, [], false, ◌+◌, take, sym, ap, ◌∙◌, refl, take_more, take_all}
-use Rattle.ws_text.proofs.Common.{AnswerPart, part_line, is_byte}
+use Rattle.ws_text.proofs.Common.{◌∙◌, ap, ◌≡◌, refl, sym, [], ◌∷◌, ◌++◌, take, ◌+◌, false, take_all, take_more}
+use Rattle.ws_text.proofs.Common.{AnswerPart, is_byte, part_line}
+use Rattle.ws_text.proofs.AnswerTexts.{all_part_lines}
 use Rattle.ws_text.proofs.Prints.{prints_none, prints_both, prints_same}
 use Rattle.ws_text.proofs.Texts.{lines_behind, lines_behind_more, is_byte_last_more}
-use Rattle.ws_text.proofs.AnswerTexts.{all_part_lines}
 use Rattle.ws_text.proofs.answer_text.put_parts.Goals as goal
 
 pub loop-part-init : goal.loop-part-init

@@ -1,4 +1,4 @@
-use Rattle.ws_text.proofs.Common.{◌≡◌, false, take, Prints, is_byte, part_line}
+use Rattle.ws_text.proofs.Common.{◌≡◌, take, false, is_byte, part_line, Prints}
 use Rattle.ws_text.proofs.Texts.{is_byte_last, lines_behind}
 use Rattle.ws_text.proofs.answer_text.put_parts.Given as goal
 

@@ -1,10 +1,10 @@
-use Rattle.ws_text.proofs.Common.{◌≡◌, ◌++◌, ◌∷◌, [], ◌+◌, take, sym, ap, ◌∙◌, refl, take_more, take_all}
+use Rattle.ws_text.proofs.Common.{◌∙◌, ap, ◌≡◌, refl, sym, [], ◌∷◌, ◌++◌, take, ◌+◌, take_all, take_more}
 use Rattle.ws_extended.specs.declared.extended_answer_part.ExtendedAnswerPart.{ExtendedAnswerPart}
 use Rattle.ws_text.specs.ExtendedAnswerLines.{kind_of, told_line}
 use Rattle.ws_text.specs.declared.extended_answer_text.ByteKind.TheVariants.{Neither}
+use Rattle.ws_text.proofs.ExtendedAnswerTexts.{all_told_lines}
 use Rattle.ws_text.proofs.Prints.{prints_none, prints_both, prints_same}
 use Rattle.ws_text.proofs.Texts.{lines_behind, lines_behind_more, is_byte_last_more}
-use Rattle.ws_text.proofs.ExtendedAnswerTexts.{all_told_lines}
 use Rattle.ws_text.proofs.extended_answer_text.put_parts.Goals as goal
 
 pub loop-part-init : goal.loop-part-init

@@ -1,5 +1,5 @@
-use Rattle.ws_text.proofs.Prints.{prints_same}
 use Rattle.ws_text.proofs.ExtendedAnswerTexts.{reply_line}
+use Rattle.ws_text.proofs.Prints.{prints_same}
 use Rattle.ws_text.proofs.extended_answer_text.put_told_line.Goals as goal
 
 pub returns-in-QueryReply : goal.returns-in-QueryReply

@@ -1,9 +1,9 @@
-use Rattle.ws_text.proofs.Common.{◌≡◌, ◌++◌, ◌∷◌, [], false, ◌+◌, take, sym, ap, ◌∙◌, refl, take_more, take_all}
+use Rattle.ws_text.proofs.Common.{◌∙◌, ap, ◌≡◌, refl, sym, [], ◌∷◌, ◌++◌, take, ◌+◌, false, take_all, take_more}
 use Rattle.ws_extended.specs.declared.extended_element.ExtendedElement.{ExtendedElement}
 use Rattle.ws_text.specs.ExtendedLines.{is_extended_byte, extended_line}
+use Rattle.ws_text.proofs.ExtendedTexts.{all_extended_lines}
 use Rattle.ws_text.proofs.Prints.{prints_none, prints_both, prints_same}
 use Rattle.ws_text.proofs.Texts.{lines_behind, lines_behind_more, is_byte_last_more}
-use Rattle.ws_text.proofs.ExtendedTexts.{all_extended_lines}
 use Rattle.ws_text.proofs.extended_text.put_elements.Goals as goal
 
 pub loop-element-init : goal.loop-element-init

@@ -1,4 +1,4 @@
-use Rattle.ws_text.proofs.Common.{◌≡◌, false, take, Prints}
+use Rattle.ws_text.proofs.Common.{◌≡◌, take, false, Prints}
 use Rattle.ws_text.specs.ExtendedLines.{is_extended_byte, extended_line}
 use Rattle.ws_text.proofs.Texts.{is_byte_last, lines_behind}
 use Rattle.ws_text.proofs.extended_text.put_elements.Given as goal

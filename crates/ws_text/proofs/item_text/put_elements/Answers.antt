@@ -1,4 +1,4 @@
-use Rattle.ws_text.proofs.Common.{◌≡◌, ◌++◌, ◌∷◌, [], false, ◌+◌, take, sym, ap, ◌∙◌, refl, take_more, take_all}
+use Rattle.ws_text.proofs.Common.{◌∙◌, ap, ◌≡◌, refl, sym, [], ◌∷◌, ◌++◌, take, ◌+◌, false, take_all, take_more}
 use Rattle.ws_text.proofs.Common.{Element, element_line, is_put}
 use Rattle.ws_text.proofs.Prints.{prints_none, prints_both, prints_same}
 use Rattle.ws_text.proofs.Texts.{lines_behind, all_lines, lines_behind_more, is_byte_last_more}

@@ -1,4 +1,4 @@
-use Rattle.ws_text.proofs.Common.{◌≡◌, false, take, Prints, is_put, element_line}
+use Rattle.ws_text.proofs.Common.{◌≡◌, take, false, element_line, is_put, Prints}
 use Rattle.ws_text.proofs.Texts.{is_byte_last, lines_behind}
 use Rattle.ws_text.proofs.item_text.put_elements.Given as goal
 

@@ -1,4 +1,4 @@
-use Rattle.ws_text.proofs.Common.{ap, ◌∙◌, encode_upper}
+use Rattle.ws_text.proofs.Common.{◌∙◌, ap, encode_upper}
 use Rattle.ws_text.proofs.Prints.{prints_same}
 use Rattle.ws_text.proofs.Texts.{two_bytes_of}
 use Rattle.ws_text.proofs.item_text.put_flags.Goals as goal

@@ -1,7 +1,7 @@
-use Rattle.ws_text.proofs.Common.{◌++◌, ℕ, List, get_or, sym, ap, ◌∙◌, codes, take_all, encode_upper, words_text}
+use Rattle.ws_text.proofs.Common.{◌∙◌, ap, sym, List, ℕ, ◌++◌, codes, get_or, take_all, encode_upper, words_text}
 use Rattle.ws_record.specs.Grammar.{two_bytes}
-use Rattle.ws_text.proofs.Texts.{flat_map_more, two_bytes_of}
 use Rattle.ws_text.proofs.Prints.{prints_none, prints_both, prints_same}
+use Rattle.ws_text.proofs.Texts.{flat_map_more, two_bytes_of}
 use Rattle.ws_text.proofs.output.put_words.Goals as goal
 
 pub loop-word-init : goal.loop-word-init

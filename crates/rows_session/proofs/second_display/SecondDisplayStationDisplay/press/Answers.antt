@@ -1,6 +1,6 @@
 use Rattle.std.proofs.Common.{refl, false}
-use Rattle.rows_session.specs.contracts.second_display.SecondDisplay.{the_view}
 use Rattle.rows_session.specs.SecondDisplay.{profile_side}
+use Rattle.rows_session.specs.contracts.second_display.SecondDisplay.{the_view}
 use Rattle.rows_session.proofs.SecondKeys.{second_pressed}
 use Rattle.rows_session.proofs.second_display.SecondDisplayStationDisplay.press.Goals as goal
 

@@ -1,5 +1,5 @@
-use Rattle.std.proofs.Common.{◌+◌, ◌-◌, ◌^◌, refl, sym, ap, ◌∙◌, inl, inr}
 use Rattle.std.specs.Prelude.{min}
+use Rattle.std.proofs.Common.{◌+◌, ◌-◌, ◌^◌, refl, sym, ap, ◌∙◌, inl, inr}
 use Rattle.ws_live.proofs.ServeWords.{some_text}
 use Rattle.ws_any_host.specs.AnyLines.{sent}
 use Rattle.ws_any_host.specs.declared.any_line.AnyLine.TheVariants.{Send}

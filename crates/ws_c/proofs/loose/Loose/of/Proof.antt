@@ -1,51 +1,51 @@
 -- `of` takes the box apart, and the parts own what it owned.
-use mathlib.Core.Path.{◌≡◌, refl, sym, subst, ap, ◌∙◌}
-use mathlib.Core.List.{List, [], ◌∷◌, ◌++◌}
-use seplogic.Ra.Ura.{Ura}
-use mir.Syntax.{Fn, Args, Dict, a_type, dcons, dnil}
-use mir.MapTy.{inst_fn}
-use mir.Raw.{raw as bare}
-use mir.Val.{Val, vstruct, of_list}
-use base.Logic.{SProp, ent, id⊢, never, fst∗}
-use base.Fml.{ftrue, fsep, flft}
+use Rattle.std.specs.Box.Ownership.{box_owns}
+use Rattle.std.specs.contracts.boxed.Box.into_raw_with_allocator as Ra
+use Rattle.std.proofs.BoxSteps.Form.{Bx, D, τ, R, P, B, word, box_typed}
+use Rattle.std.proofs.BoxSteps.Steps.{box_out, box_in}
+use Rattle.std.proofs.alloc.Calls.{token, handle_tells, Goes-blank}
+use Rattle.std.proofs.boxed.Box.into_raw_with_allocator.Met as raw_met
+use Rattle.std.proofs.boxed.Box.into_raw_with_allocator.Symbol as raw_sym
 use contract.BorrowLft.{◌⊑◌}
-use prog.Memory.{Memory}
-use prog.Routine.{Routine}
-use prog.Wp.{WpFn, Tables}
-use types.Logic.{Logic, sem}
-use contract.Monad.{Fun, fact}
-use contract.Running.{tables, tables_of}
-use sound.WpLaws.{fm_of, WpFn-mono}
+use types.ByLocal.{alloc_all, pass_all, free_all, look_at, get, get_in, sets, lands_as}
+use mathlib.Core.List.{List, [], ◌∷◌, ◌++◌}
+use mathlib.Core.Path.{◌≡◌, refl, sym, subst, ap, ◌∙◌}
+use denote.Exit.{no}
+use base.Fml.{ftrue, fsep, flft}
 use types.Kit.{Item, ‵, raw, ◌⊛◌, some, later, ◌$◌, ◌∵◌, !, qed, by, move, drop, use1, join, split, split3, pick}
 use types.Kit.{rewrite, fsplit, fjoin, fpick, feq_l, suffices, await, done}
-use types.Part.{whole, sub, agg}
-use types.Run.{stop, fld, no_more, and_then, of_opd, returns, enter}
-use types.ByLocal.{alloc_all, pass_all, free_all, look_at, get, get_in, sets, lands_as}
-use denote.RattleType.{RattleType}
-use denote.Exit.{no}
+use base.Logic.{SProp, ent, id⊢, never, fst∗}
+use types.Logic.{Logic, sem}
+use mir.MapTy.{inst_fn}
+use prog.Memory.{Memory}
+use contract.Monad.{Fun, fact}
 use denote.Param.{bounded}
+use types.Part.{whole, sub, agg}
+use seplogic.Ra.Ura.{Ura}
+use denote.RattleType.{RattleType}
+use mir.Raw.{raw as bare}
 use denote.RawPtr.{Ptr, RawPtr, block_ptr, null_ptr, ptr_val, in_a_block}
+use prog.Routine.{Routine}
+use types.Run.{stop, fld, no_more, and_then, of_opd, returns, enter}
+use contract.Running.{tables, tables_of}
 use denote.Signature.{plain}
 use denote.Steps.{heard, nothing, only}
 use denote.Struct.Tuple.{Tuple}
+use mir.Syntax.{Fn, Args, Dict, a_type, dcons, dnil}
 use denote.Triple.Call.{calls_at}
 use denote.Triple.Clauses.{Ended, Clauses}
 use denote.Triple.Spec.{triple_of}
 use denote.Triple.Statement.{Triple, Contract}
 use denote.Triple.Table.{entered}
 use denote.Triple.Walked.{says, Stays, stay_dropped, walk_of, ends_at, walk_Meets}
-use Rattle.std.proofs.alloc.Calls.{token, handle_tells, Goes-blank}
-use Rattle.std.specs.Box.Ownership.{box_owns}
-use Rattle.std.proofs.BoxSteps.Form.{Bx, D, τ, R, P, B, word, box_typed}
-use Rattle.std.proofs.BoxSteps.Steps.{box_out, box_in}
+use mir.Val.{Val, vstruct, of_list}
+use prog.Wp.{WpFn, Tables}
+use sound.WpLaws.{fm_of, WpFn-mono}
 use Rattle.ws_c.specs.contracts.loose.Loose as parts
-use Rattle.std.specs.contracts.boxed.Box.into_raw_with_allocator as Ra
-use Rattle.std.proofs.boxed.Box.into_raw_with_allocator.Symbol as raw_sym
-use Rattle.std.proofs.boxed.Box.into_raw_with_allocator.Met as raw_met
 use Rattle.ws_c.specs.contracts.loose.Loose.of as F
 use Rattle.ws_c.specs.contracts.loose.Loose.of.Key.{name as #self}
-use Rattle.ws_c.proofs.loose.Loose.of.Statement as stated
 use Rattle.ws_c.proofs.loose.Loose.of.Code as code
+use Rattle.ws_c.proofs.loose.Loose.of.Statement as stated
 
 module _ (E : Bx) (dx : Dict) where
   abbrev args : Args

@@ -1,32 +1,32 @@
 -- `empty` owns nothing. Assumes `Logic`.
+use Rattle.std.specs.Prelude.{Option, None}
 use Rattle.std.proofs.Common.{◌≡◌, List, [], ◌∷◌, ◌++◌, refl}
-use mir.Syntax.{Fn}
-use mir.Val.{Val}
-use base.Logic.{SProp, emp}
-use base.Fml.{ftrue}
-use prog.Wp.{Env, WpFn}
-use contract.Monad.{fact, fact_i}
-use contract.Running.{tables}
-use types.Kit.{‵, raw, ◌⊛◌, prop, ◌$◌, ◌∵◌, !, qed, by, move, drop, use0, split, regoal, fjoin}
-use types.Part.{agg}
-use types.Run.{of_opd, lit, no_more, and_then, returns, enter}
-use types.ByLocal.{alloc_all, pass_all, free_all, look_at, get, sets, env}
-use denote.RattleType.{owns}
-use denote.RawPtr.{null_ptr}
-use denote.Signature.{types_at}
-use denote.Steps.{nothing}
-use denote.Triple.Entry.{alive}
-use denote.Triple.Walked.{Stays, stay_dropped, walk_of}
 use Rattle.std.proofs.alloc.Calls.{Goes-blank}
 use Rattle.std.proofs.raw_atomic.Walks.{proved_at, leaves}
-use Rattle.std.specs.Prelude.{Option, None}
-use Rattle.ws_c.proofs.Values.{slot_at, ptr_typed, held_val, heap_val, held_own, held_made, heap_told}
-use Rattle.ws_c.specs.declared.machine.Machine.{Machine}
+use types.ByLocal.{alloc_all, pass_all, free_all, look_at, get, sets, env}
+use base.Fml.{ftrue}
+use types.Kit.{‵, raw, ◌⊛◌, prop, ◌$◌, ◌∵◌, !, qed, by, move, drop, use0, split, regoal, fjoin}
+use base.Logic.{SProp, emp}
+use contract.Monad.{fact, fact_i}
+use types.Part.{agg}
+use denote.RattleType.{owns}
+use denote.RawPtr.{null_ptr}
+use types.Run.{of_opd, lit, no_more, and_then, returns, enter}
+use contract.Running.{tables}
+use denote.Signature.{types_at}
+use denote.Steps.{nothing}
+use mir.Syntax.{Fn}
+use denote.Triple.Entry.{alive}
+use denote.Triple.Walked.{Stays, stay_dropped, walk_of}
+use mir.Val.{Val}
+use prog.Wp.{Env, WpFn}
 use Rattle.ws_c.specs.contracts.owned.Owned as owned_type
 use Rattle.ws_c.specs.contracts.owned.Owned.empty.{ended, clauses}
 use Rattle.ws_c.specs.contracts.owned.Owned.empty.Key.{name as #self}
-use Rattle.ws_c.proofs.owned.Owned.empty.Statement.{statement}
+use Rattle.ws_c.specs.declared.machine.Machine.{Machine}
+use Rattle.ws_c.proofs.Values.{slot_at, ptr_typed, held_val, heap_val, held_own, held_made, heap_told}
 use Rattle.ws_c.proofs.owned.Owned.empty.Code as compiled
+use Rattle.ws_c.proofs.owned.Owned.empty.Statement.{statement}
 
 pub empty_spec : {M : Type 1} → statement M
 empty_spec 𝓤 𝓛 𝓜 𝓡 wired =

@@ -1,36 +1,36 @@
 -- `into_loose` hands what the handle owns to the box. Assumes `Logic`.
-use Rattle.std.proofs.Common.{◌≡◌, List, [], ◌∷◌, ◌++◌, refl, sym}
-use mathlib.Core.Bool.{true≢false}
-use mir.Syntax.{Fn}
-use mir.Val.{Val}
-use base.Logic.{SProp, emp}
-use prog.Wp.{Env, WpFn}
-use contract.Monad.{fact, fact_i}
-use contract.Running.{tables}
-use types.Kit.{‵, raw, ◌⊛◌, prop, ◌$◌, ◌∵◌, !, qed, by, move, drop, use0, split, regoal, rewrite, fsplit, fjoin}
-use types.Part.{whole, sub, agg}
-use types.Run.{stop, fld, of_opd, no_more, and_then, returns, enter}
-use types.ByLocal.{alloc_all, pass_all, free_all, look_at, get, get_in, sets, env}
-use denote.RattleType.{owns}
-use denote.Signature.{types_at}
-use denote.Steps.{nothing, heard}
-use denote.Triple.Entry.{alive}
-use denote.Triple.Walked.{Stays, stay_dropped, walk_of}
-use Rattle.std.proofs.alloc.Calls.{Goes-blank}
-use Rattle.std.proofs.ResultValues.{and_tt}
-use Rattle.std.proofs.raw_atomic.Walks.{proved_at, leaves}
 use Rattle.std.specs.Prelude.{Option, Some, None, IsSome}
-use Rattle.ws_c.proofs.Values.{slot_at, ptr_typed, held_val, held_own, held_told, held_made}
-use Rattle.ws_c.specs.Owned.{owned}
 use Rattle.std.specs.contracts.alloc.Global as Heap
 use Rattle.std.specs.contracts.impls.GlobalAllocator.TheImpl.{ghosts}
-use Rattle.ws_c.specs.declared.machine.Machine.{Machine}
-use Rattle.ws_c.specs.contracts.machine.Machine as machine
+use Rattle.std.proofs.Common.{◌≡◌, List, [], ◌∷◌, ◌++◌, refl, sym}
+use Rattle.std.proofs.ResultValues.{and_tt}
+use Rattle.std.proofs.alloc.Calls.{Goes-blank}
+use Rattle.std.proofs.raw_atomic.Walks.{proved_at, leaves}
+use types.ByLocal.{alloc_all, pass_all, free_all, look_at, get, get_in, sets, env}
+use mathlib.Core.Bool.{true≢false}
+use types.Kit.{‵, raw, ◌⊛◌, prop, ◌$◌, ◌∵◌, !, qed, by, move, drop, use0, split, regoal, rewrite, fsplit, fjoin}
+use base.Logic.{SProp, emp}
+use contract.Monad.{fact, fact_i}
+use types.Part.{whole, sub, agg}
+use denote.RattleType.{owns}
+use types.Run.{stop, fld, of_opd, no_more, and_then, returns, enter}
+use contract.Running.{tables}
+use denote.Signature.{types_at}
+use denote.Steps.{nothing, heard}
+use mir.Syntax.{Fn}
+use denote.Triple.Entry.{alive}
+use denote.Triple.Walked.{Stays, stay_dropped, walk_of}
+use mir.Val.{Val}
+use prog.Wp.{Env, WpFn}
+use Rattle.ws_c.specs.Owned.{owned}
 use Rattle.ws_c.specs.contracts.loose.Loose as loose
+use Rattle.ws_c.specs.contracts.machine.Machine as machine
 use Rattle.ws_c.specs.contracts.owned.Owned.into_loose.{ended, clauses}
 use Rattle.ws_c.specs.contracts.owned.Owned.into_loose.Key.{name as #self}
-use Rattle.ws_c.proofs.owned.Owned.into_loose.Statement.{statement}
+use Rattle.ws_c.specs.declared.machine.Machine.{Machine}
+use Rattle.ws_c.proofs.Values.{slot_at, ptr_typed, held_val, held_own, held_told, held_made}
 use Rattle.ws_c.proofs.owned.Owned.into_loose.Code as compiled
+use Rattle.ws_c.proofs.owned.Owned.into_loose.Statement.{statement}
 
 some_of : {A : Type 0} (o : Option A) → IsSome o → (x : A) × (o ≡ Some x)
 some_of None h = absurd (true≢false (sym h))

@@ -1,31 +1,31 @@
 -- `of` hands what the box owns to the handle. Assumes `Logic`.
+use Rattle.std.specs.Prelude.{Some}
 use Rattle.std.proofs.Common.{◌≡◌, List, [], ◌∷◌, ◌++◌, refl}
-use mir.Syntax.{Fn}
-use mir.Val.{Val}
-use base.Logic.{SProp, emp}
-use base.Fml.{ftrue}
-use prog.Wp.{Env, WpFn}
-use contract.Monad.{fact, fact_i}
-use contract.Running.{tables}
-use types.Kit.{‵, raw, ◌⊛◌, prop, ◌$◌, ◌∵◌, !, qed, by, move, drop, use0, split, regoal, fsplit, fjoin}
-use types.Part.{whole, sub, agg}
-use types.Run.{stop, fld, of_opd, no_more, and_then, returns, enter}
+use Rattle.std.proofs.ResultValues.{and_tt}
+use Rattle.std.proofs.alloc.Calls.{Goes-blank}
+use Rattle.std.proofs.raw_atomic.Walks.{proved_at, leaves}
 use types.ByLocal.{alloc_all, pass_all, free_all, look_at, get, get_in, sets, env}
+use base.Fml.{ftrue}
+use types.Kit.{‵, raw, ◌⊛◌, prop, ◌$◌, ◌∵◌, !, qed, by, move, drop, use0, split, regoal, fsplit, fjoin}
+use base.Logic.{SProp, emp}
+use contract.Monad.{fact, fact_i}
+use types.Part.{whole, sub, agg}
 use denote.RattleType.{owns}
+use types.Run.{stop, fld, of_opd, no_more, and_then, returns, enter}
+use contract.Running.{tables}
 use denote.Signature.{types_at}
 use denote.Steps.{nothing}
+use mir.Syntax.{Fn}
 use denote.Triple.Entry.{alive}
 use denote.Triple.Walked.{Stays, stay_dropped, walk_of}
-use Rattle.std.proofs.alloc.Calls.{Goes-blank}
-use Rattle.std.proofs.ResultValues.{and_tt}
-use Rattle.std.proofs.raw_atomic.Walks.{proved_at, leaves}
-use Rattle.std.specs.Prelude.{Some}
-use Rattle.ws_c.proofs.Values.{slot_at, ptr_typed, held_val, held_own, held_told, held_made}
+use mir.Val.{Val}
+use prog.Wp.{Env, WpFn}
 use Rattle.ws_c.specs.contracts.owned.Owned as owned_type
 use Rattle.ws_c.specs.contracts.owned.Owned.of.{ended, clauses}
 use Rattle.ws_c.specs.contracts.owned.Owned.of.Key.{name as #self}
-use Rattle.ws_c.proofs.owned.Owned.of.Statement.{statement}
+use Rattle.ws_c.proofs.Values.{slot_at, ptr_typed, held_val, held_own, held_told, held_made}
 use Rattle.ws_c.proofs.owned.Owned.of.Code as compiled
+use Rattle.ws_c.proofs.owned.Owned.of.Statement.{statement}
 
 pub of_spec : {M : Type 1} → statement M
 of_spec 𝓤 𝓛 𝓜 𝓡 wired =

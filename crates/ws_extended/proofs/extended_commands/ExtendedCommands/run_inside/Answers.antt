@@ -13,8 +13,8 @@ use Rattle.ws_extended.specs.ExtendedReasons.{is_inner}
 use Rattle.ws_extended.specs.ExtendedRuns.{reading_by}
 use Rattle.ws_extended.specs.declared.extended_commands.phase.Phase.TheVariants.{Begin}
 use Rattle.ws_extended.specs.declared.extended_place.ExtendedPlace.TheVariants.{InProfile}
-use Rattle.ws_extended.proofs.InnerRuns.{both_read, inner_bad, inner_more, inner_whole, only_inner, run_at, stands_inside}
-use Rattle.ws_extended.proofs.InnerRuns.{still_inner, stands_up, took_some, up}
+use Rattle.ws_extended.proofs.InnerRuns.{both_read, inner_bad, inner_more, inner_whole, only_inner, run_at}
+use Rattle.ws_extended.proofs.InnerRuns.{stands_inside, still_inner, stands_up, took_some, up}
 use Rattle.ws_extended.proofs.SlotRuns.{is_whole}
 use Rattle.ws_extended.proofs.extended_commands.ExtendedCommands.run_inside.Goals as goal
 

@@ -1,11 +1,11 @@
-use Rattle.std.proofs.Common.{◌≡◌, Bool, true, false, Some, None, refl, ◌∙◌}
 use Rattle.std.specs.Prelude.{OnErr, Result, Ok, Err}
+use Rattle.std.proofs.Common.{◌≡◌, Bool, true, false, Some, None, refl, ◌∙◌}
 use Rattle.ws_code.specs.declared.reason.Reason.{Reason}
 use Rattle.ws_screen.specs.Faults.{fault, refusal}
 use Rattle.ws_screen.proofs.Applies.{same_fault}
 use Rattle.ws_extended.specs.ExtendedStates.{state_before, uncovers}
-use Rattle.ws_extended.proofs.Keeping.{on_ok}
 use Rattle.ws_extended.specs.ExtendedViews.{kept_of}
+use Rattle.ws_extended.proofs.Keeping.{on_ok}
 use Rattle.ws_extended.proofs.StateSteps.{own_shows, unrefused}
 use Rattle.ws_extended.proofs.extended_screen.ExtendedScreen.apply_profile.Goals as goal
 

@@ -1,6 +1,6 @@
-use Rattle.std.proofs.Common.{◌≡◌, ◌∷◌, ◌-◌, suc, drop, sym, ap, ◌∙◌, subst, arith, inl, inr}
 use Rattle.std.specs.Prelude.{IfSome}
 use Rattle.std.specs.Str.Lines.{lines}
+use Rattle.std.proofs.Common.{◌≡◌, ◌∷◌, ◌-◌, suc, drop, sym, ap, ◌∙◌, subst, arith, inl, inr}
 use Rattle.ws_live.specs.cause.Causes.{IsCause}
 use Rattle.ws_live.proofs.cause.cause_lines.cause_in_block.Goals as goal
 

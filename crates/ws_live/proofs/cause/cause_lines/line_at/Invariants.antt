@@ -1,5 +1,5 @@
-use Rattle.std.proofs.Common.{◌≡◌, drop}
 use Rattle.std.specs.Str.Lines.{lines}
+use Rattle.std.proofs.Common.{◌≡◌, drop}
 use Rattle.ws_live.proofs.cause.cause_lines.line_at.Given as goal
 
 -- the lines that are left

@@ -1,5 +1,5 @@
-use Rattle.std.proofs.Common.{◌∷◌, sym, ◌∙◌, subst}
 use Rattle.std.specs.Prelude.{IfSome}
+use Rattle.std.proofs.Common.{◌∷◌, sym, ◌∙◌, subst}
 use Rattle.ws_live.specs.cause.Causes.{EndsWith}
 use Rattle.ws_live.proofs.CauseTexts.{empty_split, first_in}
 use Rattle.ws_live.proofs.cause.cause_words.left_over.Goals as goal

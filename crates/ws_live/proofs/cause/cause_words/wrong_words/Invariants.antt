@@ -1,6 +1,6 @@
+use Rattle.std.proofs.Common.{ℕ, List}
 use denote.Shadow.{shadow}
 use denote.Text.{Utf8}
-use Rattle.std.proofs.Common.{ℕ, List}
 use Rattle.ws_live.specs.cause.Causes.{IsLeft}
 use Rattle.ws_live.proofs.cause.cause_words.wrong_words.Given as goal
 

@@ -1,5 +1,5 @@
-use Rattle.std.proofs.Common.{sym, ap, ◌∙◌}
 use Rattle.std.specs.Option.{is_some}
+use Rattle.std.proofs.Common.{sym, ap, ◌∙◌}
 use Rattle.ws_live.specs.cause.Causes.{front_of}
 use Rattle.ws_live.proofs.CauseTexts.{begins_with, empty_split, first_stands, left_at_first, of_line}
 use Rattle.ws_live.proofs.cause.causes.cause_in.Goals as goal

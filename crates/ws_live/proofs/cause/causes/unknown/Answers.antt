@@ -1,5 +1,5 @@
-use Rattle.ws_live.proofs.CauseTexts.{stands_both}
 use Rattle.std.proofs.Common.{◌∷◌, []}
+use Rattle.ws_live.proofs.CauseTexts.{stands_both}
 use Rattle.ws_live.proofs.cause.causes.unknown.Goals as goal
 
 pub returns-then-has_tab : goal.returns-then-has_tab

@@ -1,8 +1,8 @@
-use Rattle.std.proofs.Common.{◌∷◌, [], refl, sym, ap, ◌∙◌}
 use Rattle.std.specs.Prelude.{codes}
+use Rattle.std.proofs.Common.{◌∷◌, [], refl, sym, ap, ◌∙◌}
+use Rattle.ws_text.specs.Names.{look_up}
 use Rattle.ws_live.specs.cause.Vocabularies.{commands_before, elements_before, told_words, unit_words}
 use Rattle.ws_live.specs.declared.cause.vocabulary.Shape.TheVariants.{Coded}
-use Rattle.ws_text.specs.Names.{look_up}
 use Rattle.ws_live.proofs.cause.vocabulary.of_unit.Goals as goal
 
 pub returns-in-Host : goal.returns-in-Host

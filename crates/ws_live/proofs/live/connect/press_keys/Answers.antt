@@ -1,12 +1,12 @@
-use Rattle.std.proofs.Common.{◌≡◌, ◌++◌, false, ◌∙◌, subst}
 use Rattle.std.specs.Prelude.{Result, IfOk}
-use Rattle.ws_code.specs.declared.fault.Fault.{Fault}
-use Rattle.ws_live.specs.live.ConnectText.{KeyRuns}
-use Rattle.ws_live.specs.declared.live.Closing.{Closing}
-use Rattle.ws_live.proofs.ConnectRuns.{key_more, key_stops}
-use Rattle.ws_text.proofs.Prints.{prints_both}
-use Rattle.ws_live.proofs.live.connect.press_keys.Goals as goal
+use Rattle.std.proofs.Common.{◌≡◌, ◌++◌, false, ◌∙◌, subst}
 use Rattle.ws_code.specs.Device.{on_devices}
+use Rattle.ws_code.specs.declared.fault.Fault.{Fault}
+use Rattle.ws_text.proofs.Prints.{prints_both}
+use Rattle.ws_live.specs.declared.live.Closing.{Closing}
+use Rattle.ws_live.specs.live.ConnectText.{KeyRuns}
+use Rattle.ws_live.proofs.ConnectRuns.{key_more, key_stops}
+use Rattle.ws_live.proofs.live.connect.press_keys.Goals as goal
 
 pub returns-in-Err-clause-runs : goal.returns-in-Err-clause-runs
 returns-in-Err-clause-runs g c =

@@ -1,8 +1,8 @@
 use Rattle.std.proofs.Common.{◌≡◌, ℕ, List, Bool, take, false}
-use Rattle.ws_live.specs.live.ConnectText.{ArePressed, pressed}
-use Rattle.ws_text.specs.Printing.{Prints}
-use Rattle.ws_live.proofs.live.connect.press_keys.Given as goal
 use Rattle.ws_code.specs.Device.{on_devices}
+use Rattle.ws_text.specs.Printing.{Prints}
+use Rattle.ws_live.specs.live.ConnectText.{ArePressed, pressed}
+use Rattle.ws_live.proofs.live.connect.press_keys.Given as goal
 
 -- the keys so far
 abbrev pub invariant-loop-key : goal.invariant-loop-key

@@ -1,16 +1,16 @@
-use Rattle.std.proofs.Common.{◌++◌, true, refl, sym, ap, ◌∙◌, subst}
 use Rattle.std.specs.Prelude.{Ok, Option}
-use Rattle.ws_live.specs.live.ConnectText.{Reports, rested, waited_outcome, waited_text}
-use Rattle.ws_live.specs.printing.ReportLines.{IsReportText, note_line}
-use Rattle.ws_live.specs.live.Waits.{HasBegunIf}
+use Rattle.std.proofs.Common.{◌++◌, true, refl, sym, ap, ◌∙◌, subst}
+use Rattle.ws_code.specs.Device.{on_devices}
+use Rattle.ws_nego.specs.Station.{station_allows_records}
+use Rattle.ws_text.proofs.Prints.{prints_both, prints_same}
 use Rattle.ws_live.specs.declared.live.Closing.TheVariants.{Done}
 use Rattle.ws_live.specs.declared.live.report.Report.{Report}
 use Rattle.ws_live.specs.declared.live.watch.WaitSpan.{WaitSpan}
-use Rattle.ws_nego.specs.Station.{station_allows_records}
-use Rattle.ws_text.proofs.Prints.{prints_both, prints_same}
+use Rattle.ws_live.specs.live.ConnectText.{Reports, rested, waited_outcome, waited_text}
+use Rattle.ws_live.specs.live.Waits.{HasBegunIf}
+use Rattle.ws_live.specs.printing.ReportLines.{IsReportText, note_line}
 use Rattle.ws_live.proofs.ConnectRuns.{report_span, reports}
 use Rattle.ws_live.proofs.live.connect.put_what.Goals as goal
-use Rattle.ws_code.specs.Device.{on_devices}
 
 pub returns-in-Note-clause-runs : goal.returns-in-Note-clause-runs
 returns-in-Note-clause-runs g c =

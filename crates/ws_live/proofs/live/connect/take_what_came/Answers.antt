@@ -1,6 +1,6 @@
 use Rattle.std.proofs.Common.{true, sym, subst}
-use Rattle.ws_live.specs.live.ConnectText.{IsWorking}
 use Rattle.ws_live.specs.declared.live.connect.Waited.{Waited}
+use Rattle.ws_live.specs.live.ConnectText.{IsWorking}
 use Rattle.ws_live.proofs.ConnectRuns.{works_rested}
 use Rattle.ws_live.proofs.live.connect.take_what_came.Goals as goal
 

@@ -1,6 +1,6 @@
+use Rattle.ws_code.specs.Device.{on_devices}
 use Rattle.ws_live.proofs.ConnectRuns.{is_waited}
 use Rattle.ws_live.proofs.live.connect.wait.Goals as goal
-use Rattle.ws_code.specs.Device.{on_devices}
 
 pub returns-in_default-clause-waited : goal.returns-in_default-clause-waited
 returns-in_default-clause-waited g c = is_waited g.D.Commands.Code.rules g.D.StationDisplay.does (on_devices g.K.Sink.writer g.S.Source.reader)

@@ -1,8 +1,8 @@
 use Rattle.std.proofs.Common.{◌++◌, ◌∷◌, [], sym, ap, ◌∙◌, subst, inl, inr}
+use Rattle.ws_code.specs.Device.{on_devices}
 use Rattle.ws_live.specs.live.ConnectText.{IsMet}
 use Rattle.ws_live.proofs.ConnectRuns.{hears_none, waited_more, waits_on}
 use Rattle.ws_live.proofs.live.connect.wait_for.Goals as goal
-use Rattle.ws_code.specs.Device.{on_devices}
 
 pub returns-in_default-clause-waited : goal.returns-in_default-clause-waited
 returns-in_default-clause-waited g c =

@@ -1,8 +1,8 @@
 use Rattle.std.proofs.Common.{◌≡◌, List, length, false}
+use Rattle.ws_code.specs.Device.{on_devices}
 use Rattle.ws_session.specs.declared.end_step.Applied.{Applied}
 use Rattle.ws_live.specs.live.ConnectText.{HasWaited, IsMet}
 use Rattle.ws_live.proofs.live.connect.wait_for.Given as goal
-use Rattle.ws_code.specs.Device.{on_devices}
 
 -- the records so far, before each of which it wasn't met
 abbrev pub invariant-loop : goal.invariant-loop

@@ -1,7 +1,8 @@
-use Rattle.std.proofs.Common.{◌≡◌, ◌≢◌, ◌++◌, [], inl, inr, sym, ◌∙◌}
 use Rattle.std.specs.Prelude.{codes}
+use Rattle.std.proofs.Common.{◌≡◌, ◌≢◌, ◌++◌, [], inl, inr, sym, ◌∙◌}
 use Rattle.std.proofs.lemmas.Result.{IfOk-weaker, IfErr-weaker}
-use Rattle.ws_live.specs.live.ConnectLines.{IsAwaited, IsPlacedText, IsQuietAwaited, IsTextAnywhere, IsTextAwaited, IsTextPlaced}
+use Rattle.ws_live.specs.live.ConnectLines.{IsAwaited, IsPlacedText, IsQuietAwaited, IsTextAnywhere, IsTextAwaited}
+use Rattle.ws_live.specs.live.ConnectLines.{IsTextPlaced}
 use Rattle.ws_live.specs.script.ScriptFaults.{IsLineFault}
 use Rattle.ws_live.proofs.AwaitedWords.{behind_none, no_awaited, no_placed_behind, no_text_behind, quiet_awaited}
 use Rattle.ws_live.proofs.ScriptWords.{differ}

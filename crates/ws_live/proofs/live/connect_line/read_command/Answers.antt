@@ -1,12 +1,13 @@
-use Rattle.std.proofs.Common.{◌++◌, List, ℕ, ap}
 use Rattle.std.specs.Prelude.{codes}
+use Rattle.std.proofs.Common.{◌++◌, List, ℕ, ap}
 use Rattle.std.proofs.lemmas.Result.{err_from_is_err_and}
-use Rattle.ws_live.specs.live.ConnectLines.{AreNamed, IsAwaited, IsCellText, IsFilling, IsRowText, IsSpanText, MeansStationLine}
+use Rattle.ws_live.specs.live.ConnectLines.{AreNamed, IsAwaited, IsCellText, IsFilling, IsRowText, IsSpanText}
+use Rattle.ws_live.specs.live.ConnectLines.{MeansStationLine}
 use Rattle.ws_live.specs.live.ConnectLines.MeansKeys.{typed, inserted, named}
-use Rattle.ws_live.proofs.StationLines.{types_so_far, inserts_so_far, named_so_far, awaits_so_far, no_named_line}
-use Rattle.ws_live.proofs.StationLines.{no_awaited_line, no_station_command, no_cell_line, no_filling_line, fills_so_far}
-use Rattle.ws_live.proofs.StationLines.{no_row_line, no_span_line, notes_so_far}
 use Rattle.ws_live.proofs.Scripts.{fault_on, only_memory}
+use Rattle.ws_live.proofs.StationLines.{types_so_far, inserts_so_far, named_so_far, awaits_so_far, no_named_line}
+use Rattle.ws_live.proofs.StationLines.{no_awaited_line, no_station_command, no_cell_line, no_filling_line}
+use Rattle.ws_live.proofs.StationLines.{fills_so_far, no_row_line, no_span_line, notes_so_far}
 use Rattle.ws_live.proofs.live.connect_line.read_command.Goals as goal
 
 pub returns-in_err-typed_keys-in-type-clause-fault : goal.returns-in_err-typed_keys-in-type-clause-fault

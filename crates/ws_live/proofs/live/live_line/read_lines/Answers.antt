@@ -1,5 +1,5 @@
-use Rattle.std.proofs.Common.{◌++◌, ◌∷◌, [], Bool, not, ap, ◌∙◌}
 use Rattle.std.specs.Prelude.{if◌then◌else◌}
+use Rattle.std.proofs.Common.{◌++◌, ◌∷◌, [], Bool, not, ap, ◌∙◌}
 use Rattle.ws_live.proofs.LiveScripts.{reads_more}
 use Rattle.ws_live.proofs.live.live_line.read_lines.Goals as goal
 

@@ -1,11 +1,11 @@
-use Rattle.std.proofs.Common.{[], refl, sym, subst}
 use Rattle.std.specs.Prelude.{Ok}
-use Rattle.ws_live.specs.live.ConnectText.{KeysUntil}
-use Rattle.ws_live.specs.declared.live.Closing.TheVariants.{Done}
-use Rattle.ws_live.proofs.StrokeRuns.{no_keys_behind}
-use Rattle.ws_text.proofs.Prints.{prints_none}
-use Rattle.ws_live.proofs.live.pressing.press_behind.Goals as goal
+use Rattle.std.proofs.Common.{[], refl, sym, subst}
 use Rattle.ws_code.specs.Device.{on_devices}
+use Rattle.ws_text.proofs.Prints.{prints_none}
+use Rattle.ws_live.specs.declared.live.Closing.TheVariants.{Done}
+use Rattle.ws_live.specs.live.ConnectText.{KeysUntil}
+use Rattle.ws_live.proofs.StrokeRuns.{no_keys_behind}
+use Rattle.ws_live.proofs.live.pressing.press_behind.Goals as goal
 
 pub returns-in_default : goal.returns-in_default
 returns-in_default g c = record {

@@ -1,10 +1,10 @@
-use Rattle.std.proofs.Common.{[], refl, ap, inl, inr, subst}
 use Rattle.std.specs.Prelude.{Option, None, IfNone, Result, Err}
+use Rattle.std.proofs.Common.{[], refl, ap, inl, inr, subst}
 use Rattle.ws_code.specs.declared.fault.Fault.{Fault}
+use Rattle.ws_text.proofs.Prints.{prints_none}
 use Rattle.ws_session.specs.declared.station.key_fault.KeyFault.{KeyFault}
 use Rattle.ws_session.specs.station.StationActs.{IsKeyTakenOn}
 use Rattle.ws_live.specs.declared.live.Closing.{Closing}
-use Rattle.ws_text.proofs.Prints.{prints_none}
 use Rattle.ws_live.proofs.live.pressing.press_key.Goals as goal
 
 pub returns-in-Ok-None-clause-runs : goal.returns-in-Ok-None-clause-runs

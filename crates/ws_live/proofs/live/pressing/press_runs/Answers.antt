@@ -1,13 +1,13 @@
-use Rattle.std.proofs.Common.{◌≡◌, ℕ, List, false, subst}
 use Rattle.std.specs.Prelude.{Result, IfOk, replicate}
+use Rattle.std.proofs.Common.{◌≡◌, ℕ, List, false, subst}
+use Rattle.ws_code.specs.Device.{on_devices}
 use Rattle.ws_code.specs.declared.fault.Fault.{Fault}
-use Rattle.ws_live.specs.live.ConnectText.{KeysUntil}
-use Rattle.ws_live.specs.declared.live.Closing.{Closing}
-use Rattle.ws_live.proofs.StrokeRuns.{run_more, run_stops, until_quiet}
 use Rattle.ws_text.specs.Printing.{Prints}
 use Rattle.ws_text.proofs.Prints.{prints_both}
+use Rattle.ws_live.specs.declared.live.Closing.{Closing}
+use Rattle.ws_live.specs.live.ConnectText.{KeysUntil}
+use Rattle.ws_live.proofs.StrokeRuns.{run_more, run_stops, until_quiet}
 use Rattle.ws_live.proofs.live.pressing.press_runs.Goals as goal
-use Rattle.ws_code.specs.Device.{on_devices}
 
 pub returns-then-not-is_done-clause-runs : goal.returns-then-not-is_done-clause-runs
 returns-then-not-is_done-clause-runs g c =

@@ -1,11 +1,11 @@
-use Rattle.std.proofs.Common.{◌≡◌, [], take, false}
 use Rattle.std.specs.Prelude.{Ok}
-use Rattle.ws_live.specs.live.ConnectText.{KeysUntil}
-use Rattle.ws_live.specs.declared.live.Closing.TheVariants.{Done}
-use Rattle.ws_live.proofs.StrokeRuns.{display_keys}
-use Rattle.ws_text.specs.Printing.{Prints}
-use Rattle.ws_live.proofs.live.pressing.press_runs.Given as goal
+use Rattle.std.proofs.Common.{◌≡◌, [], take, false}
 use Rattle.ws_code.specs.Device.{on_devices}
+use Rattle.ws_text.specs.Printing.{Prints}
+use Rattle.ws_live.specs.declared.live.Closing.TheVariants.{Done}
+use Rattle.ws_live.specs.live.ConnectText.{KeysUntil}
+use Rattle.ws_live.proofs.StrokeRuns.{display_keys}
+use Rattle.ws_live.proofs.live.pressing.press_runs.Given as goal
 
 -- the keys of the runs so far were taken, and printed nothing
 abbrev pub invariant-loop-run : goal.invariant-loop-run

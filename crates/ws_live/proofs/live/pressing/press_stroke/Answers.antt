@@ -1,16 +1,16 @@
-use Rattle.std.proofs.Common.{List, ℕ, ap, ◌∙◌, subst}
 use Rattle.std.specs.Prelude.{Result, map}
+use Rattle.std.proofs.Common.{List, ℕ, ap, ◌∙◌, subst}
+use Rattle.ws_code.specs.Device.{on_devices}
 use Rattle.ws_code.specs.declared.fault.Fault.{Fault}
 use Rattle.ws_keys.specs.Strokes.{keys_of}
 use Rattle.ws_keys.specs.declared.key_run.KeyRun.{KeyRun}
-use Rattle.ws_live.specs.live.ConnectText.{KeysUntil}
-use Rattle.ws_live.specs.live.Stroking.{keys_behind, stroke_runs}
-use Rattle.ws_live.specs.declared.live.Closing.{Closing}
-use Rattle.ws_live.proofs.StrokeRuns.{stroke_some, until_on, until_quiet, until_stopped}
 use Rattle.ws_text.specs.Printing.{Prints}
 use Rattle.ws_text.proofs.Prints.{prints_both}
+use Rattle.ws_live.specs.declared.live.Closing.{Closing}
+use Rattle.ws_live.specs.live.ConnectText.{KeysUntil}
+use Rattle.ws_live.specs.live.Stroking.{keys_behind, stroke_runs}
+use Rattle.ws_live.proofs.StrokeRuns.{stroke_some, until_on, until_quiet, until_stopped}
 use Rattle.ws_live.proofs.live.pressing.press_stroke.Goals as goal
-use Rattle.ws_code.specs.Device.{on_devices}
 
 pub returns-then-not-is_done-clause-runs : goal.returns-then-not-is_done-clause-runs
 returns-then-not-is_done-clause-runs g c =

@@ -1,14 +1,14 @@
-use Rattle.std.proofs.Common.{◌≡◌, ◌+◌, ◌-◌, ℕ, List, false, subst}
 use Rattle.std.specs.Prelude.{Result, IfOk, replicate}
+use Rattle.std.proofs.Common.{◌≡◌, ◌+◌, ◌-◌, ℕ, List, false, subst}
 use Rattle.std.proofs.lemmas.List.{replicate_more}
+use Rattle.ws_code.specs.Device.{on_devices}
 use Rattle.ws_code.specs.declared.fault.Fault.{Fault}
-use Rattle.ws_live.specs.live.ConnectText.{KeyRuns}
-use Rattle.ws_live.specs.declared.live.Closing.{Closing}
-use Rattle.ws_live.proofs.StrokeRuns.{cut_times, prints_nothing, until_more, until_one}
 use Rattle.ws_text.specs.Printing.{Prints}
 use Rattle.ws_text.proofs.Prints.{prints_both}
+use Rattle.ws_live.specs.declared.live.Closing.{Closing}
+use Rattle.ws_live.specs.live.ConnectText.{KeyRuns}
+use Rattle.ws_live.proofs.StrokeRuns.{cut_times, prints_nothing, until_more, until_one}
 use Rattle.ws_live.proofs.live.pressing.press_times.Goals as goal
-use Rattle.ws_code.specs.Device.{on_devices}
 
 pub returns-then-not-is_done-clause-runs : goal.returns-then-not-is_done-clause-runs
 returns-then-not-is_done-clause-runs g c =

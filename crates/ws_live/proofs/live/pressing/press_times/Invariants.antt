@@ -1,10 +1,10 @@
-use Rattle.std.proofs.Common.{◌≡◌, [], false}
 use Rattle.std.specs.Prelude.{Ok, replicate}
-use Rattle.ws_live.specs.live.ConnectText.{KeysUntil}
-use Rattle.ws_live.specs.declared.live.Closing.TheVariants.{Done}
-use Rattle.ws_text.specs.Printing.{Prints}
-use Rattle.ws_live.proofs.live.pressing.press_times.Given as goal
+use Rattle.std.proofs.Common.{◌≡◌, [], false}
 use Rattle.ws_code.specs.Device.{on_devices}
+use Rattle.ws_text.specs.Printing.{Prints}
+use Rattle.ws_live.specs.declared.live.Closing.TheVariants.{Done}
+use Rattle.ws_live.specs.live.ConnectText.{KeysUntil}
+use Rattle.ws_live.proofs.live.pressing.press_times.Given as goal
 
 -- the key was taken so often, and printed nothing
 abbrev pub invariant-loop : goal.invariant-loop

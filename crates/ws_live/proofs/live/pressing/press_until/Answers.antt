@@ -1,13 +1,13 @@
-use Rattle.std.proofs.Common.{◌≡◌, ◌+◌, ℕ, List, false, sym, subst, take, drop}
 use Rattle.std.specs.Prelude.{Result, IfOk}
+use Rattle.std.proofs.Common.{◌≡◌, ◌+◌, ℕ, List, false, sym, subst, take, drop}
+use Rattle.ws_code.specs.Device.{on_devices}
 use Rattle.ws_code.specs.declared.fault.Fault.{Fault}
-use Rattle.ws_live.specs.live.ConnectText.{KeyRuns}
-use Rattle.ws_live.specs.declared.live.Closing.{Closing}
-use Rattle.ws_live.proofs.StrokeRuns.{cut_items, take_next, prints_nothing, until_more, until_one}
 use Rattle.ws_text.specs.Printing.{Prints}
 use Rattle.ws_text.proofs.Prints.{prints_both}
+use Rattle.ws_live.specs.declared.live.Closing.{Closing}
+use Rattle.ws_live.specs.live.ConnectText.{KeyRuns}
+use Rattle.ws_live.proofs.StrokeRuns.{cut_items, take_next, prints_nothing, until_more, until_one}
 use Rattle.ws_live.proofs.live.pressing.press_until.Goals as goal
-use Rattle.ws_code.specs.Device.{on_devices}
 
 pub returns-then-not-is_done-clause-runs : goal.returns-then-not-is_done-clause-runs
 returns-then-not-is_done-clause-runs g c =

@@ -1,10 +1,10 @@
-use Rattle.std.proofs.Common.{◌≡◌, [], take, false}
 use Rattle.std.specs.Prelude.{Ok}
-use Rattle.ws_live.specs.live.ConnectText.{KeysUntil}
-use Rattle.ws_live.specs.declared.live.Closing.TheVariants.{Done}
-use Rattle.ws_text.specs.Printing.{Prints}
-use Rattle.ws_live.proofs.live.pressing.press_until.Given as goal
+use Rattle.std.proofs.Common.{◌≡◌, [], take, false}
 use Rattle.ws_code.specs.Device.{on_devices}
+use Rattle.ws_text.specs.Printing.{Prints}
+use Rattle.ws_live.specs.declared.live.Closing.TheVariants.{Done}
+use Rattle.ws_live.specs.live.ConnectText.{KeysUntil}
+use Rattle.ws_live.proofs.live.pressing.press_until.Given as goal
 
 -- the keys so far were taken, and printed nothing
 abbrev pub invariant-loop-key : goal.invariant-loop-key

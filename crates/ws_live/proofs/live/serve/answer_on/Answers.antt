@@ -1,9 +1,9 @@
-use Rattle.std.proofs.Common.{◌≡◌, [], true, false, refl, sym, ap, ◌∙◌, arith}
 use Rattle.std.specs.Prelude.{not}
+use Rattle.std.proofs.Common.{◌≡◌, [], true, false, refl, sym, ap, ◌∙◌, arith}
 use Rattle.ws_code.specs.Device.{most_reads, on_devices}
 use Rattle.ws_code.proofs.DeviceLaws.{went_out_none}
-use Rattle.ws_live.specs.live.ServeText.{is_told}
 use Rattle.ws_live.specs.declared.live.Ran.{Ran}
+use Rattle.ws_live.specs.live.ServeText.{is_told}
 use Rattle.ws_live.proofs.ServeRuns.{one_told, none_told, answer_fails, too_much_told, told_goes}
 use Rattle.ws_live.proofs.live.serve.answer_on.Goals as goal
 

@@ -1,9 +1,9 @@
-use Rattle.std.proofs.Common.{◌≡◌, ℕ, List, [], true, false}
 use Rattle.std.specs.Prelude.{replicate}
+use Rattle.std.proofs.Common.{◌≡◌, ℕ, List, [], true, false}
 use Rattle.ws_code.specs.Device.{WentOut, on_devices}
+use Rattle.ws_live.specs.declared.live.serve_line.HostLine.TheVariants.{Await}
 use Rattle.ws_live.specs.live.LiveText.{HaveRun}
 use Rattle.ws_live.specs.live.ServeText.{HostRunsInTime}
-use Rattle.ws_live.specs.declared.live.serve_line.HostLine.TheVariants.{Await}
 use Rattle.ws_live.proofs.live.serve.answer_on.Given as goal
 
 -- so many things were told and printed

@@ -1,14 +1,14 @@
-use Rattle.std.proofs.Common.{inl, inr, refl, subst}
 use Rattle.std.specs.Prelude.{Result}
+use Rattle.std.proofs.Common.{inl, inr, refl, subst}
+use Rattle.ws_code.specs.Device.{on_devices}
 use Rattle.ws_code.specs.declared.fault.Fault.{Fault}
 use Rattle.ws_text.specs.Printing.{IsOut}
-use Rattle.ws_live.specs.live.ServeText.{HostRuns}
-use Rattle.ws_live.specs.declared.live.Closing.{Closing}
-use Rattle.ws_live.specs.declared.live.serve_line.HostLine.TheVariants.{Await}
 use Rattle.ws_text.specs.declared.output.Output.{Output}
 use Rattle.ws_text.proofs.Prints.{whole_out}
+use Rattle.ws_live.specs.declared.live.Closing.{Closing}
+use Rattle.ws_live.specs.declared.live.serve_line.HostLine.TheVariants.{Await}
+use Rattle.ws_live.specs.live.ServeText.{HostRuns}
 use Rattle.ws_live.proofs.live.serve.answer_once.Goals as goal
-use Rattle.ws_code.specs.Device.{on_devices}
 
 pub returns-in-Open-clause-answered : goal.returns-in-Open-clause-answered
 returns-in-Open-clause-answered g c =

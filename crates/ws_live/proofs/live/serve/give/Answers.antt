@@ -1,11 +1,11 @@
 use Rattle.std.proofs.Common.{List, sym, subst, ap}
+use Rattle.ws_code.specs.Device.{on_devices}
+use Rattle.ws_stream.specs.declared.element.Element.{Element}
 use Rattle.ws_session.specs.declared.end_step.Order.{Order}
 use Rattle.ws_session.specs.declared.end_step.Order.TheVariants.{Send, Cancel}
-use Rattle.ws_stream.specs.declared.element.Element.{Element}
 use Rattle.ws_live.specs.live.ServeText.{deed_of, IsGiven}
 use Rattle.ws_live.proofs.ServeRuns.{is_given, cancel_fails}
 use Rattle.ws_live.proofs.live.serve.give.Goals as goal
-use Rattle.ws_code.specs.Device.{on_devices}
 
 pub returns-in-Cancel-clause-given : goal.returns-in-Cancel-clause-given
 returns-in-Cancel-clause-given g c =

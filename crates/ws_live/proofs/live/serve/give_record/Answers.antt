@@ -1,10 +1,10 @@
 use Rattle.std.proofs.Common.{ap}
+use Rattle.ws_code.specs.Device.{on_devices}
 use Rattle.ws_record.specs.declared.opcode.Opcode.{Opcode}
 use Rattle.ws_session.specs.declared.end_step.Order.TheVariants.{Send, Cancel}
 use Rattle.ws_live.specs.live.ServeText.{deed_of}
 use Rattle.ws_live.proofs.ServeRuns.{is_given, cancel_fails, other_deed}
 use Rattle.ws_live.proofs.live.serve.give_record.Goals as goal
-use Rattle.ws_code.specs.Device.{on_devices}
 
 pub returns-in-CancelInvite-clause-given : goal.returns-in-CancelInvite-clause-given
 returns-in-CancelInvite-clause-given g c =

@@ -1,9 +1,9 @@
-use Rattle.std.proofs.Common.{◌++◌, List, ℕ, inl, inr, sym, ap, subst}
 use Rattle.std.specs.Prelude.{codes}
-use Rattle.ws_live.specs.script.Script.{IsMove}
-use Rattle.ws_live.specs.script.ScriptFaults.{IsSendLine}
+use Rattle.std.proofs.Common.{◌++◌, List, ℕ, inl, inr, sym, ap, subst}
 use Rattle.ws_live.specs.live.ServeLines.{IsAnswerAwaited, MeansHostLine}
 use Rattle.ws_live.specs.live.WireLines.{IsWireBegun, MeansWire}
+use Rattle.ws_live.specs.script.Script.{IsMove}
+use Rattle.ws_live.specs.script.ScriptFaults.{IsSendLine}
 use Rattle.ws_live.proofs.LiveLines.{no_awaited_answer, no_host_command, no_send_line}
 use Rattle.ws_live.proofs.Scripts.{fault_on}
 use Rattle.ws_live.proofs.live.serve_line.read_command.Goals as goal

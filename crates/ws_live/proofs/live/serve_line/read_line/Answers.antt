@@ -1,11 +1,11 @@
-use Rattle.std.proofs.Common.{◌++◌, List, ℕ, sym, ◌∙◌, subst, inl, inr}
 use Rattle.std.specs.Prelude.{codes}
+use Rattle.std.proofs.Common.{◌++◌, List, ℕ, sym, ◌∙◌, subst, inl, inr}
 use Rattle.std.proofs.lemmas.Result.{IfOk-weaker, IfErr-weaker}
 use Rattle.ws_live.specs.live.ServeLines.{IsHostBegun, MeansHostLine, IsOneLine, IsOneSoFar}
 use Rattle.ws_live.specs.script.ScriptFaults.{IsLineFault}
 use Rattle.ws_live.proofs.LiveLines.{host_so_far}
-use Rattle.ws_live.proofs.Scripts.{fault_on}
 use Rattle.ws_live.proofs.ScriptWords.{comment_text, is_no_comment}
+use Rattle.ws_live.proofs.Scripts.{fault_on}
 use Rattle.ws_live.proofs.live.serve_line.read_line.Goals as goal
 
 pub returns-then-is_some-clause-line : goal.returns-then-is_some-clause-line

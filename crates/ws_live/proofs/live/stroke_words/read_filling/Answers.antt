@@ -1,7 +1,7 @@
 use Rattle.std.proofs.lemmas.Result.{IfOk-weaker, IfErr-weaker}
+use Rattle.ws_live.specs.declared.live.stroke.Filling.{Filling}
 use Rattle.ws_live.specs.live.ConnectLines.{IsFieldText, IsFilling}
 use Rattle.ws_live.specs.script.ScriptFaults.{IsLineFault}
-use Rattle.ws_live.specs.declared.live.stroke.Filling.{Filling}
 use Rattle.ws_live.proofs.Scripts.{fault_on}
 use Rattle.ws_live.proofs.StrokeWords.{no_field_text}
 use Rattle.ws_live.proofs.live.stroke_words.read_filling.Goals as goal

@@ -1,8 +1,8 @@
 use Rattle.std.proofs.Common.{inl, inr}
 use Rattle.std.proofs.lemmas.Result.{IfOk-weaker, IfErr-weaker}
 use Rattle.ws_text.specs.Words.{IsHex}
-use Rattle.ws_live.specs.script.ScriptFaults.{IsLineFault}
 use Rattle.ws_live.specs.live.WireLines.{IsCommandSaid, IsRaw, IsWireBegun, SaysItems}
+use Rattle.ws_live.specs.script.ScriptFaults.{IsLineFault}
 use Rattle.ws_live.proofs.Scripts.{fault_on}
 use Rattle.ws_live.proofs.WireWords.{no_command, no_hex, no_raw}
 use Rattle.ws_live.proofs.live.wire_words.read_bytes.Goals as goal

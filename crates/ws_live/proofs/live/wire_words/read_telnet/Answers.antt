@@ -1,11 +1,11 @@
 use Rattle.std.proofs.Common.{◌≡◌, ◌∷◌, [], ℕ, List, sym, ◌∙◌, subst}
 use Rattle.std.proofs.lemmas.Result.{IfErr-weaker}
+use Rattle.ws_telnet.specs.declared.token.Telnet.{Telnet}
 use Rattle.ws_record.specs.declared.record.Item.{Item}
 use Rattle.ws_record.specs.declared.record.Item.TheVariants.{Telnet as TelnetItem}
 use Rattle.ws_stream.specs.declared.element.Element.{Element}
-use Rattle.ws_telnet.specs.declared.token.Telnet.{Telnet}
-use Rattle.ws_live.specs.script.ScriptFaults.{IsLineFault}
 use Rattle.ws_live.specs.live.WireLines.{AreSaid, IsCommandSaid, SaysItems}
+use Rattle.ws_live.specs.script.ScriptFaults.{IsLineFault}
 use Rattle.ws_live.proofs.Scripts.{fault_on}
 use Rattle.ws_live.proofs.WireWords.{line_no_memory}
 use Rattle.ws_live.proofs.live.wire_words.read_telnet.Goals as goal

@@ -1,5 +1,5 @@
-use Rattle.std.proofs.Common.{sym, ◌∙◌}
 use Rattle.std.specs.Prelude.{codes}
+use Rattle.std.proofs.Common.{sym, ◌∙◌}
 use Rattle.ws_live.specs.live.ConnectLines.{IsMilliseconds}
 use Rattle.ws_live.specs.live.WireLines.{IsRaw, MeansWire}
 use Rattle.ws_live.proofs.ScriptWords.{differ}

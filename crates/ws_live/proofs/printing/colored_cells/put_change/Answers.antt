@@ -1,8 +1,8 @@
-use Rattle.std.proofs.Common.{◌++◌, [], Bool, if◌then◌else◌, sym, ap, ◌∙◌}
 use Rattle.std.specs.Prelude.{codes}
+use Rattle.std.proofs.Common.{◌++◌, [], Bool, if◌then◌else◌, sym, ap, ◌∙◌}
 use Rattle.ws_screen.specs.declared.style.Style.{Style}
-use Rattle.ws_live.specs.printing.ColoredRows.{attribute_sequence, sequence, style_codes}
 use Rattle.ws_text.proofs.Prints.{prints_same}
+use Rattle.ws_live.specs.printing.ColoredRows.{attribute_sequence, sequence, style_codes}
 use Rattle.ws_live.proofs.printing.colored_cells.put_change.Goals as goal
 
 pub returns-then-is_same : goal.returns-then-is_same

@@ -1,9 +1,9 @@
-use Rattle.std.proofs.Common.{◌≡◌, ◌++◌, ◌∷◌, [], ◌+◌, Option, None, List, ℕ, take, refl, sym, ap, ◌∙◌}
 use Rattle.std.specs.Prelude.{encode_utf8}
+use Rattle.std.proofs.Common.{◌≡◌, ◌++◌, ◌∷◌, [], ◌+◌, Option, None, List, ℕ, take, refl, sym, ap, ◌∙◌}
 use Rattle.std.proofs.lemmas.List.{take_all, take_more}
+use Rattle.ws_text.proofs.Prints.{prints_none, prints_both, prints_same}
 use Rattle.ws_live.specs.printing.ColoredRows.{colored_behind, sequence_behind}
 use Rattle.ws_live.proofs.ColoredCells.{last_attribute, last_attribute_more, colored_more}
-use Rattle.ws_text.proofs.Prints.{prints_none, prints_both, prints_same}
 use Rattle.ws_live.proofs.printing.colored_cells.put_colored_cells.Goals as goal
 
 pub loop-cell-init : goal.loop-cell-init

@@ -1,7 +1,7 @@
-use Rattle.std.proofs.Common.{◌≡◌, take}
 use Rattle.std.specs.Prelude.{None}
-use Rattle.ws_live.specs.printing.ColoredRows.{colored_behind}
+use Rattle.std.proofs.Common.{◌≡◌, take}
 use Rattle.ws_text.specs.Printing.{Prints}
+use Rattle.ws_live.specs.printing.ColoredRows.{colored_behind}
 use Rattle.ws_live.proofs.ColoredCells.{last_attribute}
 use Rattle.ws_live.proofs.printing.colored_cells.put_colored_cells.Given as goal
 

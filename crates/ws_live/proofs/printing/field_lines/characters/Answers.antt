@@ -1,7 +1,7 @@
-use Rattle.std.proofs.Common.{◌≡◌, ◌+◌, ◌<◌, ◌≤◌, [], ◌∷◌, ◌++◌, ℕ, length, map, take, arith, lit<}
-use Rattle.std.proofs.Common.{sym, ◌∙◌, ap, length-append}
 use Rattle.std.specs.Prelude.{encode_utf8}
 use Rattle.std.specs.Str.{encode_utf8_all}
+use Rattle.std.proofs.Common.{◌≡◌, ◌+◌, ◌<◌, ◌≤◌, [], ◌∷◌, ◌++◌, ℕ, length, map, take, arith, lit<, sym, ◌∙◌, ap}
+use Rattle.std.proofs.Common.{length-append}
 use Rattle.std.proofs.lemmas.List.{map_more}
 use Rattle.ws_screen.specs.declared.shown.Shown.{Shown}
 use Rattle.ws_screen.proofs.LineLemmas.{text-more}

@@ -1,5 +1,5 @@
-use Rattle.std.proofs.Common.{◌≡◌, ◌*◌, ◌≤◌, length, take, map}
 use Rattle.std.specs.Str.{encode_utf8_all}
+use Rattle.std.proofs.Common.{◌≡◌, ◌*◌, ◌≤◌, length, take, map}
 use Rattle.ws_live.proofs.printing.field_lines.characters.Given as goal
 
 -- the cells so far

@@ -1,6 +1,6 @@
 use Rattle.std.proofs.Common.{sym, ◌∙◌}
-use Rattle.ws_live.proofs.FieldTexts.{blank_of_none, blank_of_some}
 use Rattle.ws_text.proofs.Prints.{prints_both, prints_same}
+use Rattle.ws_live.proofs.FieldTexts.{blank_of_none, blank_of_some}
 use Rattle.ws_live.proofs.printing.field_lines.put_behind_blank.Goals as goal
 
 pub returns-then-is_empty : goal.returns-then-is_empty

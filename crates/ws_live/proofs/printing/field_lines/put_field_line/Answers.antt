@@ -1,10 +1,10 @@
 use Rattle.std.proofs.Common.{List, ℕ, ap, ◌∙◌, subst, arith}
 use Rattle.hex.specs.Hex.{encode_upper}
 use Rattle.ws_record.specs.Grammar.{two_bytes}
-use Rattle.ws_live.specs.printing.ScreenLines.{IsWithoutLastBlanks}
 use Rattle.ws_text.proofs.Prints.{prints_both, prints_same}
-use Rattle.ws_live.proofs.Rows.{without_last_blanks}
 use Rattle.ws_text.proofs.Texts.{two_bytes_of}
+use Rattle.ws_live.specs.printing.ScreenLines.{IsWithoutLastBlanks}
+use Rattle.ws_live.proofs.Rows.{without_last_blanks}
 use Rattle.ws_live.proofs.printing.field_lines.put_field_line.Goals as goal
 
 pub returns : goal.returns

@@ -3,9 +3,9 @@ use Rattle.std.proofs.lemmas.List.{take_all, take_more}
 use Rattle.ws_code.specs.declared.address.TheConstants.{CELLS}
 use Rattle.ws_screen.specs.ScreenParts.{AreApart}
 use Rattle.ws_screen.specs.declared.field.Field.{Field}
+use Rattle.ws_text.proofs.Prints.{prints_none, prints_both}
 use Rattle.ws_live.specs.printing.FieldLines.{AreLinesOf, field_line}
 use Rattle.ws_live.proofs.FieldTexts.{ends_within, lines_more}
-use Rattle.ws_text.proofs.Prints.{prints_none, prints_both}
 use Rattle.ws_live.proofs.printing.field_lines.put_field_lines.Goals as goal
 
 pub put_field_line-output-requires : goal.put_field_line-output-requires

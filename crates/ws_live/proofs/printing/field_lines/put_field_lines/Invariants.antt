@@ -1,6 +1,6 @@
 use Rattle.std.proofs.Common.{List, ℕ, take}
-use Rattle.ws_live.specs.printing.FieldLines.{AreLinesOf}
 use Rattle.ws_text.specs.Printing.{Prints}
+use Rattle.ws_live.specs.printing.FieldLines.{AreLinesOf}
 use Rattle.ws_live.proofs.printing.field_lines.put_field_lines.Given as goal
 
 -- the fields so far

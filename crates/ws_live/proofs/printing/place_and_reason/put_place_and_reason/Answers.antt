@@ -1,5 +1,5 @@
-use Rattle.std.proofs.Common.{ap}
 use Rattle.std.specs.Fmt.{decimal}
+use Rattle.std.proofs.Common.{ap}
 use Rattle.ws_text.proofs.Prints.{prints_both, prints_same}
 use Rattle.ws_live.proofs.printing.place_and_reason.put_place_and_reason.Goals as goal
 

@@ -1,9 +1,9 @@
 use Rattle.std.proofs.Common.{◌++◌, refl, ap, ◌∙◌, subst}
-use Rattle.ws_text.specs.declared.output.Output.{Output}
-use Rattle.ws_live.specs.printing.PlayLines.{AreScreenLines, events_text, no_end_refuses}
 use Rattle.ws_screen.specs.ScreenParts.{ScreenParts}
 use Rattle.ws_text.specs.Printing.{IsOut}
+use Rattle.ws_text.specs.declared.output.Output.{Output}
 use Rattle.ws_text.proofs.Prints.{prints_both, prints_same, whole_out}
+use Rattle.ws_live.specs.printing.PlayLines.{AreScreenLines, events_text, no_end_refuses}
 use Rattle.ws_live.proofs.printing.play.play_painted_to.Goals as goal
 
 pub returns-in-Open-clause-printed : goal.returns-in-Open-clause-printed

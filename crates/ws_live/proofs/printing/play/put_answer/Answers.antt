@@ -1,7 +1,7 @@
-use Rattle.std.proofs.Common.{ap}
 use Rattle.std.specs.List.{flat_map}
-use Rattle.ws_live.specs.printing.PlayLines.{read_field_text}
+use Rattle.std.proofs.Common.{ap}
 use Rattle.ws_text.proofs.Prints.{prints_both, prints_same}
+use Rattle.ws_live.specs.printing.PlayLines.{read_field_text}
 use Rattle.ws_live.proofs.printing.play.put_answer.Goals as goal
 
 pub returns : goal.returns

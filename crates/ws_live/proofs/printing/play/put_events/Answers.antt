@@ -1,9 +1,9 @@
 use Rattle.std.proofs.Common.{ap, take, ◌++◌, sym, ◌∙◌}
 use Rattle.std.proofs.lemmas.List.{take_all}
 use Rattle.ws_text.specs.declared.output.Output.TheVariants.{Open}
-use Rattle.ws_live.specs.printing.PlayLines.{event_text, events_text}
-use Rattle.ws_text.proofs.Texts.{flat_map_more}
 use Rattle.ws_text.proofs.Prints.{prints_none, prints_both, prints_same}
+use Rattle.ws_text.proofs.Texts.{flat_map_more}
+use Rattle.ws_live.specs.printing.PlayLines.{event_text, events_text}
 use Rattle.ws_live.proofs.printing.play.put_events.Goals as goal
 
 pub loop-event-init : goal.loop-event-init

@@ -1,7 +1,7 @@
 use Rattle.std.proofs.Common.{take}
+use Rattle.ws_text.specs.Printing.{Prints}
 use Rattle.ws_text.specs.declared.output.Output.TheVariants.{Open}
 use Rattle.ws_live.specs.printing.PlayLines.{events_text}
-use Rattle.ws_text.specs.Printing.{Prints}
 use Rattle.ws_live.proofs.printing.play.put_events.Given as goal
 
 -- the events so far

@@ -1,9 +1,9 @@
+use Rattle.std.specs.List.{flat_map}
 use Rattle.std.proofs.Common.{ap, take, ◌++◌, sym, ◌∙◌}
 use Rattle.std.proofs.lemmas.List.{take_all}
-use Rattle.std.specs.List.{flat_map}
-use Rattle.ws_live.specs.printing.PlayLines.{read_field_text}
-use Rattle.ws_text.proofs.Texts.{flat_map_more}
 use Rattle.ws_text.proofs.Prints.{prints_none, prints_both, prints_same}
+use Rattle.ws_text.proofs.Texts.{flat_map_more}
+use Rattle.ws_live.specs.printing.PlayLines.{read_field_text}
 use Rattle.ws_live.proofs.printing.play.put_fields.Goals as goal
 
 pub loop-field-init : goal.loop-field-init

@@ -1,7 +1,7 @@
-use Rattle.std.proofs.Common.{take}
 use Rattle.std.specs.List.{flat_map}
-use Rattle.ws_live.specs.printing.PlayLines.{read_field_text}
+use Rattle.std.proofs.Common.{take}
 use Rattle.ws_text.specs.Printing.{Prints}
+use Rattle.ws_live.specs.printing.PlayLines.{read_field_text}
 use Rattle.ws_live.proofs.printing.play.put_fields.Given as goal
 
 -- the fields so far

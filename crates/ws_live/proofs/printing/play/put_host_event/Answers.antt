@@ -1,6 +1,6 @@
 use Rattle.std.proofs.Common.{sym, ap}
-use Rattle.ws_live.specs.printing.PlayLines.{host_event_text}
 use Rattle.ws_text.proofs.Prints.{prints_both, prints_same}
+use Rattle.ws_live.specs.printing.PlayLines.{host_event_text}
 use Rattle.ws_live.proofs.printing.play.put_host_event.Goals as goal
 
 pub returns-in-Ready : goal.returns-in-Ready

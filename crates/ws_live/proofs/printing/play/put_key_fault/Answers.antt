@@ -1,6 +1,6 @@
 use Rattle.std.proofs.Common.{sym, ap, ◌∙◌}
-use Rattle.ws_live.specs.printing.PlayLines.{key_fault_name}
 use Rattle.ws_text.proofs.Prints.{prints_same}
+use Rattle.ws_live.specs.printing.PlayLines.{key_fault_name}
 use Rattle.ws_live.proofs.printing.play.put_key_fault.Goals as goal
 
 pub returns-in-Key : goal.returns-in-Key

@@ -1,7 +1,7 @@
-use Rattle.std.proofs.Common.{sym, ap}
 use Rattle.std.specs.Fmt.{decimal}
-use Rattle.ws_live.specs.printing.PlayLines.{send_fault_name}
+use Rattle.std.proofs.Common.{sym, ap}
 use Rattle.ws_text.proofs.Prints.{prints_both, prints_same}
+use Rattle.ws_live.specs.printing.PlayLines.{send_fault_name}
 use Rattle.ws_live.proofs.printing.play.put_send_fault.Goals as goal
 
 pub returns-in-Screen : goal.returns-in-Screen

@@ -1,10 +1,10 @@
+use Rattle.std.specs.Prelude.{[], ◌∷◌}
 use Rattle.std.proofs.Common.{ap, ◌∙◌}
 use Rattle.std.proofs.lemmas.List.{take_all}
 use Rattle.hex.specs.Hex.{encode_upper, upper_digits}
-use Rattle.std.specs.Prelude.{[], ◌∷◌}
+use Rattle.ws_text.proofs.Prints.{prints_none, prints_both, prints_same, encode_none}
 use Rattle.ws_live.specs.printing.ReportLines.{attributes_text}
 use Rattle.ws_live.proofs.ReportTexts.{attributes_more}
-use Rattle.ws_text.proofs.Prints.{prints_none, prints_both, prints_same, encode_none}
 use Rattle.ws_live.proofs.printing.report_lines.put_attributes.Goals as goal
 
 pub loop-cell-init : goal.loop-cell-init

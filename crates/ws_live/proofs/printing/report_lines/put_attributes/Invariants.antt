@@ -1,6 +1,6 @@
 use Rattle.std.proofs.Common.{take}
-use Rattle.ws_live.specs.printing.ReportLines.{attributes_text}
 use Rattle.ws_text.specs.Printing.{Prints}
+use Rattle.ws_live.specs.printing.ReportLines.{attributes_text}
 use Rattle.ws_live.proofs.printing.report_lines.put_attributes.Given as goal
 
 -- the attributes so far

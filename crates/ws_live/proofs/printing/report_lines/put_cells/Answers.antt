@@ -1,9 +1,9 @@
-use Rattle.std.proofs.Common.{ap, ◌∙◌}
 use Rattle.std.specs.Fmt.{decimal}
+use Rattle.std.proofs.Common.{ap, ◌∙◌}
 use Rattle.hex.specs.Hex.{encode_upper}
 use Rattle.ws_screen.specs.Lines.{shown_row}
-use Rattle.ws_live.specs.printing.ReportLines.{attributes_text, row_bytes}
 use Rattle.ws_text.proofs.Prints.{prints_both, prints_same}
+use Rattle.ws_live.specs.printing.ReportLines.{attributes_text, row_bytes}
 use Rattle.ws_live.proofs.printing.report_lines.put_cells.Goals as goal
 
 pub returns : goal.returns

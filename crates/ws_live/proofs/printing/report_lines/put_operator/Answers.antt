@@ -1,8 +1,8 @@
 use Rattle.std.proofs.Common.{ap, ◌∙◌}
 use Rattle.ws_text.specs.ItemLines.{cell_text}
+use Rattle.ws_text.proofs.Prints.{prints_both, prints_same}
 use Rattle.ws_live.specs.printing.ReportLines.{field_name}
 use Rattle.ws_live.specs.printing.ScreenLines.{lock_name}
-use Rattle.ws_text.proofs.Prints.{prints_both, prints_same}
 use Rattle.ws_live.proofs.printing.report_lines.put_operator.Goals as goal
 
 pub returns : goal.returns

@@ -1,7 +1,7 @@
-use Rattle.std.proofs.Common.{ap, ◌∙◌}
 use Rattle.std.specs.Fmt.{decimal}
-use Rattle.ws_live.specs.printing.ReportLines.{operator_words}
+use Rattle.std.proofs.Common.{ap, ◌∙◌}
 use Rattle.ws_text.proofs.Prints.{prints_both, prints_same}
+use Rattle.ws_live.specs.printing.ReportLines.{operator_words}
 use Rattle.ws_live.proofs.printing.report_lines.put_status.Goals as goal
 
 pub returns : goal.returns

@@ -1,10 +1,10 @@
-use Rattle.std.proofs.Common.{◌-◌, List, ℕ, refl, ap, ◌∙◌, subst}
 use Rattle.std.specs.Prelude.{min}
+use Rattle.std.proofs.Common.{◌-◌, List, ℕ, refl, ap, ◌∙◌, subst}
 use Rattle.ws_code.specs.declared.address.TheConstants.{CELLS}
+use Rattle.ws_text.proofs.Prints.{prints_both}
 use Rattle.ws_live.specs.printing.FieldLines.{text_of_cells}
 use Rattle.ws_live.specs.printing.ScreenLines.{IsWithoutLastBlanks}
 use Rattle.ws_live.proofs.Rows.{without_last_blanks}
-use Rattle.ws_text.proofs.Prints.{prints_both}
 use Rattle.ws_live.proofs.printing.report_lines.put_text_at.Goals as goal
 
 pub returns : goal.returns

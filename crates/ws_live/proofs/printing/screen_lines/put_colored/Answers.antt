@@ -1,6 +1,6 @@
 use Rattle.std.proofs.Common.{sym, ◌∙◌}
-use Rattle.ws_live.proofs.ColoredCells.{colored_row_of_none, colored_row_of_some}
 use Rattle.ws_text.proofs.Prints.{prints_both, prints_same}
+use Rattle.ws_live.proofs.ColoredCells.{colored_row_of_none, colored_row_of_some}
 use Rattle.ws_live.proofs.printing.screen_lines.put_colored.Goals as goal
 
 pub returns-then-is_empty : goal.returns-then-is_empty

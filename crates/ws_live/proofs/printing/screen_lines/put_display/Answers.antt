@@ -1,6 +1,6 @@
 use Rattle.std.proofs.Common.{◌++◌, List, ℕ, subst}
-use Rattle.ws_text.proofs.Prints.{prints_both}
 use Rattle.ws_screen.specs.ScreenParts.{ScreenParts}
+use Rattle.ws_text.proofs.Prints.{prints_both}
 use Rattle.ws_live.specs.printing.ScreenLines.{IsScreenText}
 use Rattle.ws_live.proofs.LiveDisplays.{display_text}
 use Rattle.ws_live.proofs.printing.screen_lines.put_display.Goals as goal

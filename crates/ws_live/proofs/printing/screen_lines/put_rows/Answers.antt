@@ -1,8 +1,8 @@
-use Rattle.std.proofs.Common.{◌≡◌, ◌++◌, ◌∷◌, [], List, ℕ, suc, ◌+◌, ◌-◌, sym, ap, ◌∙◌, subst, arith}
 use Rattle.std.specs.List.{range_with_len}
+use Rattle.std.proofs.Common.{◌≡◌, ◌++◌, ◌∷◌, [], List, ℕ, suc, ◌+◌, ◌-◌, sym, ap, ◌∙◌, subst, arith}
+use Rattle.ws_text.proofs.Prints.{prints_none, prints_both}
 use Rattle.ws_live.specs.printing.ScreenLines.{AreRows, row_line}
 use Rattle.ws_live.proofs.Rows.{rows_none, rows_more, range_more}
-use Rattle.ws_text.proofs.Prints.{prints_none, prints_both}
 use Rattle.ws_live.proofs.printing.screen_lines.put_rows.Goals as goal
 
 pub loop-row-init : goal.loop-row-init

@@ -1,5 +1,5 @@
-use Rattle.std.proofs.Common.{List, ℕ, ◌-◌}
 use Rattle.std.specs.List.{range_with_len}
+use Rattle.std.proofs.Common.{List, ℕ, ◌-◌}
 use Rattle.ws_text.specs.Printing.{Prints}
 use Rattle.ws_live.specs.printing.ScreenLines.{AreRows}
 use Rattle.ws_live.proofs.printing.screen_lines.put_rows.Given as goal

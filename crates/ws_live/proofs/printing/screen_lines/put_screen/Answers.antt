@@ -1,7 +1,7 @@
-use Rattle.std.proofs.Common.{◌++◌, refl}
 use Rattle.std.specs.Prelude.{codes}
-use Rattle.ws_live.specs.printing.ScreenLines.{state_line}
+use Rattle.std.proofs.Common.{◌++◌, refl}
 use Rattle.ws_text.proofs.Prints.{prints_both}
+use Rattle.ws_live.specs.printing.ScreenLines.{state_line}
 use Rattle.ws_live.proofs.printing.screen_lines.put_screen.Goals as goal
 
 pub returns : goal.returns

@@ -1,9 +1,9 @@
-use Rattle.std.proofs.Common.{ℕ, List, sym, ◌∙◌, subst}
-use Rattle.std.specs.Str.Iter.{HasSubslice}
-use Rattle.std.proofs.lemmas.Bool.{false≢true}
-use Rattle.std.proofs.lemmas.Str.Pattern.{contains_text}
-use Rattle.std.proofs.lemmas.List.Elements.{All-contains}
 use Rattle.std.specs.List.{Contains}
+use Rattle.std.specs.Str.Iter.{HasSubslice}
+use Rattle.std.proofs.Common.{ℕ, List, sym, ◌∙◌, subst}
+use Rattle.std.proofs.lemmas.Bool.{false≢true}
+use Rattle.std.proofs.lemmas.List.Elements.{All-contains}
+use Rattle.std.proofs.lemmas.Str.Pattern.{contains_text}
 use Rattle.ws_live.specs.printing.ShownTexts.{IsNeededBy}
 use Rattle.ws_live.proofs.ShownTexts.{needed_there}
 use Rattle.ws_live.proofs.printing.shown_text.row_shows.Goals as goal

@@ -1,6 +1,6 @@
-use Rattle.std.proofs.Common.{◌≤◌, ◌<◌, ℕ}
 use Rattle.std.specs.Str.{encode_utf8_all}
 use Rattle.std.specs.Str.Iter.{HasSubslice}
+use Rattle.std.proofs.Common.{◌≤◌, ◌<◌, ℕ}
 use Rattle.ws_screen.specs.Lines.{row_chars}
 use Rattle.ws_live.proofs.printing.shown_text.shows.Given as goal
 

@@ -1,7 +1,8 @@
 use Rattle.std.proofs.Common.{refl, sym, ◌∙◌, arith}
 use Rattle.ws_live.proofs.ToldTexts.{cut_blank, cut_here, cut_none}
 use Rattle.ws_live.proofs.printing.told_event.before_blanks.Goals as goal
-use Rattle.ws_live.proofs.printing.told_event.before_blanks.Goals.{then-loop-end-test+else-shown_char-eq32, else-loop-end-test}
+use Rattle.ws_live.proofs.printing.told_event.before_blanks.Goals.{then-loop-end-test+else-shown_char-eq32}
+use Rattle.ws_live.proofs.printing.told_event.before_blanks.Goals.{else-loop-end-test}
 
 pub loop-end-preserved : goal.loop-end-preserved
 loop-end-preserved c = (

@@ -1,6 +1,6 @@
 use Rattle.std.proofs.Common.{sym, ◌∙◌}
-use Rattle.ws_live.proofs.ToldTexts.{none_shown, some_shown}
 use Rattle.ws_text.proofs.Prints.{prints_both, prints_same}
+use Rattle.ws_live.proofs.ToldTexts.{none_shown, some_shown}
 use Rattle.ws_live.proofs.printing.told_event.put_bytes_text.Goals as goal
 
 pub returns-then-is_empty : goal.returns-then-is_empty

@@ -1,6 +1,6 @@
-use Rattle.std.proofs.Common.{ap, ◌∙◌}
-use Rattle.std.specs.Prelude.{encode_utf8}
 use Rattle.std.specs.List.{flat_map}
+use Rattle.std.specs.Prelude.{encode_utf8}
+use Rattle.std.proofs.Common.{ap, ◌∙◌}
 use Rattle.ws_screen.specs.Lines.{shown_char}
 use Rattle.ws_text.specs.ItemLines.{hex_behind_blank}
 use Rattle.ws_text.proofs.Prints.{prints_both, prints_same}

@@ -1,10 +1,10 @@
-use Rattle.std.proofs.Common.{ℕ, List, ap, take, ◌++◌, sym, ◌∙◌}
-use Rattle.std.specs.Prelude.{encode_utf8}
-use Rattle.std.proofs.lemmas.List.{take_all}
 use Rattle.std.specs.List.{flat_map}
+use Rattle.std.specs.Prelude.{encode_utf8}
+use Rattle.std.proofs.Common.{ℕ, List, ap, take, ◌++◌, sym, ◌∙◌}
+use Rattle.std.proofs.lemmas.List.{take_all}
 use Rattle.ws_screen.specs.Lines.{shown_char}
-use Rattle.ws_text.proofs.Texts.{flat_map_more}
 use Rattle.ws_text.proofs.Prints.{prints_none, prints_both, prints_same}
+use Rattle.ws_text.proofs.Texts.{flat_map_more}
 use Rattle.ws_live.proofs.printing.told_event.put_shown.Goals as goal
 
 pub loop-byte-init : goal.loop-byte-init

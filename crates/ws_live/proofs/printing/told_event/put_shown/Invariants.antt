@@ -1,6 +1,6 @@
-use Rattle.std.proofs.Common.{take}
-use Rattle.std.specs.Prelude.{encode_utf8}
 use Rattle.std.specs.List.{flat_map}
+use Rattle.std.specs.Prelude.{encode_utf8}
+use Rattle.std.proofs.Common.{take}
 use Rattle.ws_screen.specs.Lines.{shown_char}
 use Rattle.ws_text.specs.Printing.{Prints}
 use Rattle.ws_live.proofs.printing.told_event.put_shown.Given as goal

@@ -1,7 +1,7 @@
-use Rattle.std.proofs.Common.{sym, ap}
 use Rattle.std.specs.List.{flat_map}
-use Rattle.ws_live.specs.printing.ToldLines.{told_field, told_text}
+use Rattle.std.proofs.Common.{sym, ap}
 use Rattle.ws_text.proofs.Prints.{prints_both, prints_same}
+use Rattle.ws_live.specs.printing.ToldLines.{told_field, told_text}
 use Rattle.ws_live.proofs.ToldTexts.{other_text}
 use Rattle.ws_live.proofs.printing.told_event.put_told.Goals as goal
 

@@ -1,5 +1,5 @@
-use Rattle.std.proofs.Common.{List, ℕ, [], ◌∷◌, ◌++◌, refl, ap, inl, inr}
 use Rattle.std.specs.Prelude.{codes, true, false}
+use Rattle.std.proofs.Common.{List, ℕ, [], ◌∷◌, ◌++◌, refl, ap, inl, inr}
 use Rattle.std.proofs.lemmas.Result.{on_ok_weaker, err_from_is_err_and, IfErr-weaker}
 use Rattle.ws_live.specs.script.Script.{IsMove, MeansMoves}
 use Rattle.ws_live.specs.script.Script.Means.{one, typed, inserted}

@@ -1,15 +1,15 @@
-use Rattle.std.proofs.Common.{◌++◌, List, ℕ, [], refl, sym, ◌∙◌, subst, inl, arith}
 use Rattle.std.specs.Prelude.{codes}
 use Rattle.std.specs.Str.{IsUtf8}
-use Rattle.ws_session.specs.declared.world.Move.{Move}
+use Rattle.std.proofs.Common.{◌++◌, List, ℕ, [], refl, sym, ◌∙◌, subst, inl, arith}
+use Rattle.std.proofs.lemmas.Grind.{common_steps}
 use Rattle.std.proofs.lemmas.List.{append-nil}
 use Rattle.std.proofs.lemmas.Result.{on_ok_weaker, IfErr-weaker}
-use Rattle.std.proofs.lemmas.Grind.{common_steps}
+use Rattle.ws_session.specs.declared.world.Move.{Move}
 use Rattle.ws_live.specs.script.Script.{MeansMoves, IsScriptLine}
 use Rattle.ws_live.specs.script.Script.Means.{comment}
 use Rattle.ws_live.specs.script.ScriptFaults.{IsLineFault, IsGoodSoFar}
-use Rattle.ws_live.proofs.Scripts.{fault_on}
 use Rattle.ws_live.proofs.ScriptWords.{comment_text, is_no_comment}
+use Rattle.ws_live.proofs.Scripts.{fault_on}
 use Rattle.ws_live.proofs.script.script_line.read_line.Goals as goal
 
 pub returns-then-is_some-clause-ok : goal.returns-then-is_some-clause-ok

@@ -1,6 +1,6 @@
 use Rattle.std.proofs.Common.{[], ◌∷◌, refl, arith}
-use Rattle.std.proofs.lemmas.Result.{on_ok_weaker, IfErr-weaker}
 use Rattle.std.proofs.lemmas.Grind.{common_steps}
+use Rattle.std.proofs.lemmas.Result.{on_ok_weaker, IfErr-weaker}
 use Rattle.ws_session.specs.declared.world.Move.TheVariants.{Cancel}
 use Rattle.ws_live.specs.script.Script.{MeansMoves, settling}
 use Rattle.ws_live.specs.script.Script.Means.{one, settle}

@@ -1,5 +1,5 @@
-use Rattle.std.proofs.Common.{map, refl, sym, ap, ◌∙◌, map-id}
 use Rattle.std.specs.Str.{all_scalars, encode_utf8_all}
+use Rattle.std.proofs.Common.{map, refl, sym, ap, ◌∙◌, map-id}
 use Rattle.std.proofs.lemmas.Iterator.{YieldsList-from_chars}
 use Rattle.std.proofs.lemmas.Iterator.Consumers.{YieldsList-end}
 use Rattle.std.proofs.lemmas.Str.{scalars-chars, encodes-chars}

@@ -1,5 +1,5 @@
-use Rattle.std.proofs.Common.{◌++◌, ℕ, List, ap, subst}
 use Rattle.std.specs.Prelude.{codes}
+use Rattle.std.proofs.Common.{◌++◌, ℕ, List, ap, subst}
 use Rattle.std.proofs.lemmas.Result.{err_from_is_err_and, IfErr-weaker}
 use Rattle.ws_live.specs.script.Script.{IsMove, IsCount}
 use Rattle.ws_live.specs.script.ScriptFaults.{IsLineFault, IsSendBegun, IsSendLine}

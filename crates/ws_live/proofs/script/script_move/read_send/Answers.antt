@@ -1,9 +1,9 @@
-use Rattle.std.proofs.Common.{◌++◌, sym, ◌∙◌}
 use Rattle.std.specs.Prelude.{codes}
+use Rattle.std.proofs.Common.{◌++◌, sym, ◌∙◌}
 use Rattle.std.proofs.lemmas.Result.{err_from_is_err_and}
+use Rattle.ws_text.proofs.LineEnds.{is_none}
 use Rattle.ws_live.specs.script.Script.{IsMove, IsSendOpcode, IsBodyText}
 use Rattle.ws_live.proofs.Scripts.{no_send, fault_on}
-use Rattle.ws_text.proofs.LineEnds.{is_none}
 use Rattle.ws_live.proofs.script.script_move.read_send.Goals as goal
 
 pub returns-in_err-opcode-2-clause-fault : goal.returns-in_err-opcode-2-clause-fault

@@ -1,10 +1,10 @@
-use Rattle.std.proofs.Common.{◌≡◌, ◌++◌, ◌+◌, ◌-◌, ℕ, List, length, take, drop, sym, ap, subst, arith}
-use Rattle.std.proofs.Common.{length-take, length-drop, length-append}
+use Rattle.std.proofs.Common.{◌≡◌, ◌++◌, ◌+◌, ◌-◌, ℕ, List, length, take, drop, sym, ap, subst, arith, length-take}
+use Rattle.std.proofs.Common.{length-drop, length-append}
 use Rattle.std.proofs.lemmas.List.{take_all, length-take-le}
 use Rattle.ws_record.specs.Refusal.{IsRefused}
 use Rattle.ws_record.specs.declared.news.News.{News}
-use Rattle.ws_program.specs.declared.check.Tally.{Tally}
 use Rattle.ws_program.specs.Checking.{Counts, tally_after}
+use Rattle.ws_program.specs.declared.check.Tally.{Tally}
 use Rattle.ws_program.proofs.CheckLemmas.{counts_front, front_behind, refused_behind, bare_works, IsBareAdvance}
 use Rattle.ws_program.proofs.check.Checker.take.Goals as goal
 

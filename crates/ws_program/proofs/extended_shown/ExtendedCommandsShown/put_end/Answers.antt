@@ -1,6 +1,6 @@
 use Rattle.std.proofs.Common.{◌++◌, List, ℕ, ap, subst}
-use Rattle.ws_text.proofs.Prints.{prints_both, prints_same}
 use Rattle.ws_screen.specs.ScreenParts.{ScreenParts}
+use Rattle.ws_text.proofs.Prints.{prints_both, prints_same}
 use Rattle.ws_extended_station.specs.ExtendedDisplays.{standing_row}
 use Rattle.ws_live.specs.printing.ErrorRow.{error_line}
 use Rattle.ws_live.specs.printing.ScreenLines.{IsScreenText}

@@ -1,6 +1,6 @@
-use Rattle.ws_program.proofs.ViewLaws.{both_ok, gives_more}
-use Rattle.ws_program.specs.Views.{after_items}
 use Rattle.std.proofs.Common.{[]}
+use Rattle.ws_program.specs.Views.{after_items}
+use Rattle.ws_program.proofs.ViewLaws.{both_ok, gives_more}
 use Rattle.ws_program.proofs.shown.CommandsShown.carry_out.Goals as goal
 
 pub returns-in-Record-clause-after : goal.returns-in-Record-clause-after

@@ -1,8 +1,8 @@
 use Rattle.std.proofs.Common.{refl, subst}
-use Rattle.ws_text.specs.declared.output.Output.{Output}
 use Rattle.ws_text.specs.Printing.{IsOut}
-use Rattle.ws_program.specs.CheckLine.{line_of}
+use Rattle.ws_text.specs.declared.output.Output.{Output}
 use Rattle.ws_text.proofs.Prints.{whole_out}
+use Rattle.ws_program.specs.CheckLine.{line_of}
 use Rattle.ws_program.proofs.verdict.Verdict.write_to.Goals as goal
 
 pub returns-in-Open-clause-printed : goal.returns-in-Open-clause-printed

@@ -1,4 +1,4 @@
-use Rattle.ws_record.proofs.Common.{◌≡◌, ◌++◌, length, take, ap, arith, length-append, length-take-le, Watching}
+use Rattle.ws_record.proofs.Common.{◌≡◌, ◌++◌, take, ap, length, arith, length-append, length-take-le, Watching}
 use Rattle.ws_record.proofs.Lives.{recount}
 use Rattle.ws_record.proofs.live.Live.advance.Goals as goal
 

@@ -1,4 +1,4 @@
-use Rattle.ws_record.proofs.Common.{ℕ, inl, inr, arith, append-nil, bytes_on, ◌+◌, ◌^◌, length, cases_lt}
+use Rattle.ws_record.proofs.Common.{ℕ, length, inl, inr, arith, ◌+◌, ◌^◌, cases_lt, append-nil, bytes_on}
 use Rattle.ws_record.proofs.Lives.{front_step, front_made, front_counted, led_on, part_first, part_on, part_held}
 use Rattle.ws_record.proofs.live.Live.feed.Goals as goal
 

@@ -1,4 +1,4 @@
-use Rattle.ws_record.proofs.Common.{◌-◌, length}
+use Rattle.ws_record.proofs.Common.{length, ◌-◌}
 use Rattle.ws_record.proofs.Lives.{IsLed}
 use Rattle.ws_record.proofs.live.Live.feed.Given as goal
 

@@ -1,8 +1,8 @@
-use Rattle.ws_record.proofs.Common.{common_steps, arith, ap, Truncated}
+use Rattle.ws_record.proofs.Common.{ap, arith, common_steps, Truncated}
 use Rattle.ws_record.proofs.Refusals.{truncated}
+use Rattle.ws_record.proofs.live.Live.finish.Goals as goal
 use Rattle.ws_record.proofs.live.Live.finish.Goals.{then-is_inside-via-then-is_inside}
 use Rattle.ws_record.proofs.live.Live.finish.Goals.{then-is_inside-via-else-is_inside+then-not-is_empty}
-use Rattle.ws_record.proofs.live.Live.finish.Goals as goal
 
 pub returns-then-is_inside-clause-truncated : goal.returns-then-is_inside-clause-truncated
 returns-then-is_inside-clause-truncated g c =

@@ -1,4 +1,4 @@
-use Rattle.ws_record.proofs.Common.{common_steps, arith}
+use Rattle.ws_record.proofs.Common.{arith, common_steps}
 use Rattle.ws_record.proofs.live.Live.step_of.Goals as goal
 
 pub returns-in-Command-clause-step : goal.returns-in-Command-clause-step

@@ -1,8 +1,8 @@
-use Rattle.ws_record.proofs.Common.{◌≡◌, take, ◌∷◌, [], get_or, refl, arith, append-nil, take_more, length-take-le}
-use Rattle.ws_record.proofs.Common.{IAC, front_bytes, word_begun}
+use Rattle.ws_record.proofs.Common.{◌≡◌, [], ◌∷◌, take, refl, arith, get_or, append-nil, take_more, length-take-le}
+use Rattle.ws_record.proofs.Common.{front_bytes, IAC, word_begun}
+use Rattle.ws_record.proofs.FrontParts.{part_at_none, part_at_one, part_in_values}
 use Rattle.ws_record.proofs.Lives.{advance_values, carries_values, holds_values, holds_iac, word_advance, more_advance}
 use Rattle.ws_record.proofs.Lives.{part_held, word_kept, values_kept}
-use Rattle.ws_record.proofs.FrontParts.{part_at_none, part_at_one, part_in_values}
 use Rattle.ws_record.proofs.OpenRecords.{plain_front}
 use Rattle.ws_record.proofs.live.Live.take_front.Goals as goal
 

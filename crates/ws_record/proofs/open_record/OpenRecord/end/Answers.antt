@@ -1,8 +1,8 @@
-use Rattle.ws_record.proofs.Common.{Bool, ◌≡◌, true, false, sym, ap, ◌∙◌, arith}
+use Rattle.ws_record.proofs.Common.{true, ◌≡◌, sym, ap, ◌∙◌, false, arith, Bool}
 use Rattle.ws_record.proofs.OpenRecords.{ten_there, end_inside, end_whole}
+use Rattle.ws_record.proofs.open_record.OpenRecord.end.Goals as goal
 use Rattle.ws_record.proofs.open_record.OpenRecord.end.Goals.{then-self-via-then-self}
 use Rattle.ws_record.proofs.open_record.OpenRecord.end.Goals.{then-self-via-else-self+then-not-may_end}
-use Rattle.ws_record.proofs.open_record.OpenRecord.end.Goals as goal
 
 pub returns-then-self : goal.returns-then-self
 returns-then-self g c = λ so_far r.

@@ -1,4 +1,4 @@
-use Rattle.ws_record.proofs.Common.{◌≡◌, Bool, true, false, take, ap, sym, ◌∙◌, eqb-true, nil_from_length}
+use Rattle.ws_record.proofs.Common.{true, ◌≡◌, take, sym, ap, ◌∙◌, false, eqb-true, Bool, nil_from_length}
 use Rattle.ws_record.proofs.OpenRecords.{reads_empty}
 use Rattle.ws_record.proofs.open_record.OpenRecord.is_empty.Goals as goal
 

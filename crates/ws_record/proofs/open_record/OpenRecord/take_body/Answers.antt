@@ -1,6 +1,6 @@
-use Rattle.ws_record.proofs.Common.{common_steps, arith}
-use Rattle.ws_record.proofs.OpenRecords.{reading_of, ready, taken}
+use Rattle.ws_record.proofs.Common.{arith, common_steps}
 use Rattle.ws_code.specs.declared.run.End.TheVariants as end
+use Rattle.ws_record.proofs.OpenRecords.{reading_of, ready, taken}
 use Rattle.ws_record.proofs.open_record.OpenRecord.take_body.Goals as goal
 
 pub returns-in-More-clause-taken : goal.returns-in-More-clause-taken

@@ -1,5 +1,5 @@
-use Rattle.ws_record.proofs.Common.{common_steps, ◌≡◌, ◌<◌, ◌+◌, ◌++◌, ℕ, List, [], length, take, drop, inl, refl, ap}
-use Rattle.ws_record.proofs.Common.{arith, append_assoc, take_more, append-nil, length-take}
+use Rattle.ws_record.proofs.Common.{◌≡◌, ℕ, List, [], ◌++◌, take, drop, refl, ap, append_assoc, ◌<◌, length, inl, arith}
+use Rattle.ws_record.proofs.Common.{◌+◌, length-take, common_steps, append-nil, take_more}
 use Rattle.ws_record.proofs.OpenRecords.{header_step}
 use Rattle.ws_record.proofs.open_record.OpenRecord.take_header.Goals as goal
 

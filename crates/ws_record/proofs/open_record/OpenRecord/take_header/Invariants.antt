@@ -1,4 +1,4 @@
-use Rattle.ws_record.proofs.Common.{◌≡◌, ◌<◌, ◌++◌, length, take, RecordSoFar, HasRead}
+use Rattle.ws_record.proofs.Common.{◌≡◌, ◌++◌, take, ◌<◌, length, RecordSoFar, HasRead}
 use Rattle.ws_record.proofs.open_record.OpenRecord.take_header.Given as goal
 
 abbrev pub invariant-loop-index : goal.invariant-loop-index

@@ -1,4 +1,4 @@
-use Rattle.ws_record.proofs.Common.{◌<◌, length, refl, ap, ◌∙◌, arith, Keeping}
+use Rattle.ws_record.proofs.Common.{refl, ap, ◌∙◌, ◌<◌, length, arith, Keeping}
 use Rattle.ws_record.proofs.OpenRecords.{header_refused, ten_there, body_refused, header_byte}
 use Rattle.ws_record.proofs.open_record.OpenRecord.take_header_byte.Goals as goal
 

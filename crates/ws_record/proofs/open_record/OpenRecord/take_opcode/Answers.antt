@@ -1,6 +1,6 @@
-use Rattle.ws_record.proofs.Common.{◌≡◌, length, refl, ap, ◌∙◌, arith, Opcode, opcode_byte, head_in, Keeping}
-use Rattle.ws_record.proofs.OpenRecords.{opcode_refused, opcode_byte_read}
+use Rattle.ws_record.proofs.Common.{◌≡◌, refl, ap, ◌∙◌, length, arith, opcode_byte, head_in, Keeping, Opcode}
 use Rattle.ws_record.proofs.Headers.{header_more}
+use Rattle.ws_record.proofs.OpenRecords.{opcode_refused, opcode_byte_read}
 use Rattle.ws_record.proofs.open_record.OpenRecord.take_opcode.Goals as goal
 
 pub returns-in-None-clause-step : goal.returns-in-None-clause-step

@@ -1,5 +1,5 @@
-use Rattle.ws_record.proofs.Common.{refl, sym, arith, ◌∙◌, append-nil, bytes_on, each_on, ◌++◌, ◌+◌}
-use Rattle.ws_record.proofs.Common.{take, length_rest, upto}
+use Rattle.ws_record.proofs.Common.{◌++◌, take, refl, sym, ◌∙◌, arith, ◌+◌, append-nil, length_rest, bytes_on, each_on}
+use Rattle.ws_record.proofs.Common.{upto}
 use Rattle.ws_record.proofs.Lives.{front_made, held_at_none, IsHeld}
 use Rattle.ws_record.proofs.Receivers.{receives, fed_given, fed_taken, fed_first, fed_fault, fed_none_before}
 use Rattle.ws_record.proofs.receiver.Receiver.feed.Goals as goal

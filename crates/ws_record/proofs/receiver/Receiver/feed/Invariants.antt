@@ -1,4 +1,4 @@
-use Rattle.ws_record.proofs.Common.{◌++◌, ◌+◌, ◌-◌, ◌<◌, ◌≤◌, ◌^◌, ℕ, List, length, take, Item, HasReceived}
+use Rattle.ws_record.proofs.Common.{ℕ, List, ◌++◌, take, ◌<◌, length, ◌≤◌, ◌+◌, ◌^◌, ◌-◌, HasReceived, Item}
 use Rattle.ws_record.proofs.Lives.{IsHeld}
 use Rattle.ws_record.proofs.receiver.Receiver.feed.Given as goal
 

@@ -1,4 +1,4 @@
-use Rattle.ws_record.proofs.Common.{common_steps, arith}
+use Rattle.ws_record.proofs.Common.{arith, common_steps}
 use Rattle.ws_record.proofs.receiver.Receiver.item_of.Goals as goal
 
 pub returns-in-Refused-clause-item : goal.returns-in-Refused-clause-item

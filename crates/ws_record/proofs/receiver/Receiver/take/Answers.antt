@@ -1,4 +1,4 @@
-use Rattle.ws_record.proofs.Common.{Ok, Err, refl, sym, ◌∙◌, append-nil, handed_on}
+use Rattle.ws_record.proofs.Common.{refl, sym, ◌∙◌, Ok, Err, append-nil, handed_on}
 use Rattle.ws_record.proofs.Lives.{made_one}
 use Rattle.ws_record.proofs.Receivers.{receives, item_given, front_takes}
 use Rattle.ws_record.proofs.receiver.Receiver.take.Goals as goal

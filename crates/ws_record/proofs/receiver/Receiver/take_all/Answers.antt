@@ -1,4 +1,4 @@
-use Rattle.ws_record.proofs.Common.{inl, inr, refl, arith, append-nil, bytes_on, length_rest, handed_on, room_next}
+use Rattle.ws_record.proofs.Common.{refl, inl, inr, arith, append-nil, length_rest, bytes_on, room_next, handed_on}
 use Rattle.ws_record.proofs.Faults.{item_completed}
 use Rattle.ws_record.proofs.Receivers.{left_feeds}
 use Rattle.ws_record.proofs.receiver.Receiver.take_all.Goals as goal

@@ -1,4 +1,4 @@
-use Rattle.ws_record.proofs.Common.{◌++◌, ℕ, ◌+◌, ◌-◌, ◌<◌, ◌≤◌, ◌^◌, List, length, take, HasReceived}
+use Rattle.ws_record.proofs.Common.{ℕ, List, ◌++◌, take, ◌<◌, length, ◌≤◌, ◌+◌, ◌^◌, ◌-◌, HasReceived}
 use Rattle.ws_record.proofs.receiver.Receiver.take_all.Given as goal
 
 -- the bytes so far lead to the receiver

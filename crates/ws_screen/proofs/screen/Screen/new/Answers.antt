@@ -1,6 +1,6 @@
 use Rattle.std.proofs.Common.{refl, rules}
-use Rattle.ws_screen.proofs.OrderLemmas.{new_gives}
 use Rattle.ws_screen.proofs.Legal.{zeros, legal-new}
+use Rattle.ws_screen.proofs.OrderLemmas.{new_gives}
 use Rattle.ws_screen.proofs.screen.Screen.new.Goals as goal
 
 pub invariant_of-result : goal.invariant_of-result

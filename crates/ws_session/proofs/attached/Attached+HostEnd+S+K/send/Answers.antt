@@ -1,14 +1,14 @@
-use Rattle.ws_session.proofs.Shuts.{not_shut, shut_fails}
-use Rattle.ws_session.proofs.Common.{[], ◌≡◌, Err, SendFailed, rules, refl, host_send, went_out_none, HostGoes}
-use Rattle.ws_session.proofs.Common.{HostRefuses}
-use Rattle.ws_session.proofs.world.Reached.{refrains}
+use Rattle.ws_session.proofs.Common.{◌≡◌, [], refl, Err, rules, went_out_none, HostGoes, HostRefuses, SendFailed}
+use Rattle.ws_session.proofs.Common.{host_send}
+use Rattle.ws_code.specs.Device.{on_devices}
+use Rattle.ws_session.specs.Conducts.{host_conduct}
 use Rattle.ws_session.specs.declared.end_step.Order.TheVariants.{Send}
 use Rattle.ws_session.specs.declared.host_end.send_fault.SendFault.TheVariants.{Memory}
 use Rattle.ws_session.proofs.EndDeeds.{deed_led, send_fails, order_goes, order_refused_goes, sends_as, send_taken}
 use Rattle.ws_session.proofs.EndDeeds.{refrains_as}
+use Rattle.ws_session.proofs.Shuts.{not_shut, shut_fails}
 use Rattle.ws_session.proofs.attached.Attached+HostEnd+S+K.send.Goals as goal
-use Rattle.ws_code.specs.Device.{on_devices}
-use Rattle.ws_session.specs.Conducts.{host_conduct}
+use Rattle.ws_session.proofs.world.Reached.{refrains}
 
 pub returns-in-Err-write_whole-clause-fault : goal.returns-in-Err-write_whole-clause-fault
 returns-in-Err-write_whole-clause-fault g c = λ works. send_fails host_conduct (on_devices g.K.Sink.writer g.S.Source.reader) c.args.self.now _ _ c.self.view_is (Send c.args.opcode c.args.body.now)

@@ -1,10 +1,10 @@
 use Rattle.ws_session.proofs.Common.{IfNone, [], ◌∷◌, subst, Did, AttachedParts}
-use Rattle.ws_session.specs.station.StationActs.{IsKeyTakenOn}
-use Rattle.ws_session.specs.station.PartsOn.{PartsOn}
 use Rattle.std.proofs.lemmas.Option.{IfSome_then}
-use Rattle.ws_session.proofs.attached.Attachings.{has_led, has_led_unwritten}
+use Rattle.ws_session.specs.station.PartsOn.{PartsOn}
+use Rattle.ws_session.specs.station.StationActs.{IsKeyTakenOn}
 use Rattle.ws_session.proofs.EndDeeds.{unmoved}
 use Rattle.ws_session.proofs.attached.Attached+StationOn+D+S+K.press.Goals as goal
+use Rattle.ws_session.proofs.attached.Attachings.{has_led, has_led_unwritten}
 
 pub returns-in-Ok-clause-pressed : goal.returns-in-Ok-clause-pressed
 returns-in-Ok-clause-pressed g c =

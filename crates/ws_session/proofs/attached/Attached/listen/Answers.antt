@@ -1,10 +1,10 @@
-use Rattle.ws_session.proofs.Common.{ap, ◌∙◌, [], ◌++◌, ◌+◌, arith, Err}
-use Rattle.ws_session.proofs.attached.Attachings.{gave_on, reads_on, reads_heard, reads_fail, at_once, heard_at_once, fails_at_once}
-use Rattle.ws_session.proofs.attached.Attachings.{hearing_endless}
-use Rattle.ws_session.proofs.attached.FirstTold.{if_told_on, hears_at_once, hears_behind}
+use Rattle.ws_session.proofs.Common.{◌+◌, [], ◌++◌, ◌∙◌, ap, arith, Err}
+use Rattle.ws_code.specs.Device.{on_devices}
 use Rattle.ws_session.specs.attached.Attachments.{TakesFirst, HearsFirst}
 use Rattle.ws_session.proofs.attached.Attached.listen.Goals as goal
-use Rattle.ws_code.specs.Device.{on_devices}
+use Rattle.ws_session.proofs.attached.Attachings.{gave_on, reads_on, reads_heard, reads_fail, at_once, heard_at_once}
+use Rattle.ws_session.proofs.attached.Attachings.{fails_at_once, hearing_endless}
+use Rattle.ws_session.proofs.attached.FirstTold.{if_told_on, hears_at_once, hears_behind}
 
 pub returns-in-Ok-Some-clause-heard : goal.returns-in-Ok-Some-clause-heard
 returns-in-Ok-Some-clause-heard g c =

@@ -1,7 +1,7 @@
-use Rattle.ws_session.proofs.Common.{◌≡◌, ◌≤◌, [], length, take, arith, length-take-le, err_from_is_err_and}
-use Rattle.ws_session.proofs.Common.{take_some, new_station_side}
-use Rattle.ws_session.proofs.attached.PlayRuns.{run_starts, start_fails, run_ends, run_unread, fits, reads_on, run_stops}
-use Rattle.ws_session.proofs.attached.PlayRuns.{run_endless}
+use Rattle.ws_session.proofs.Common.{◌≡◌, ◌≤◌, [], take, arith, length, length-take-le, err_from_is_err_and, take_some}
+use Rattle.ws_session.proofs.Common.{new_station_side}
+use Rattle.ws_session.proofs.attached.PlayRuns.{run_starts, start_fails, run_ends, run_unread, fits, reads_on}
+use Rattle.ws_session.proofs.attached.PlayRuns.{run_stops, run_endless}
 use Rattle.ws_session.proofs.attached.run.run_station.Goals as goal
 
 pub returns-in_err-press_due : goal.returns-in_err-press_due

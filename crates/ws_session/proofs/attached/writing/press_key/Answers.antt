@@ -1,5 +1,5 @@
-use Rattle.ws_session.proofs.Common.{[], Some, None, Err, ◌≡◌, err_from_is_err_and, went_out_none, answer_spelling}
-use Rattle.ws_session.proofs.Common.{KeyFailed}
+use Rattle.ws_session.proofs.Common.{◌≡◌, [], Some, None, Err, err_from_is_err_and, went_out_none, KeyFailed}
+use Rattle.ws_session.proofs.Common.{answer_spelling}
 use Rattle.ws_session.proofs.EndDeeds.{key_silent_goes, key_sent_goes, key_refused_goes, key_taken}
 use Rattle.ws_session.proofs.Shuts.{not_shut, shut_fails}
 use Rattle.ws_session.proofs.attached.writing.press_key.Goals as goal

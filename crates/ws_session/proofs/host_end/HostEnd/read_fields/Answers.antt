@@ -1,5 +1,5 @@
-use Rattle.ws_session.proofs.Common.{◌≡◌, List, Option, Some, sym, ◌∙◌, Result, AnswerPart, Field, ReadKind, IsRead}
-use Rattle.ws_session.proofs.Common.{read_answer, IsSplit, HostAnswer, is_read}
+use Rattle.ws_session.proofs.Common.{◌≡◌, List, ◌∙◌, Option, Some, sym, Result, AnswerPart, Field, ReadKind}
+use Rattle.ws_session.proofs.Common.{read_answer, IsRead, IsSplit, HostAnswer, is_read}
 use Rattle.ws_keys.specs.declared.host_answer.HostFault.{HostFault}
 use Rattle.ws_session.proofs.host_end.HostEnd.read_fields.Goals as goal
 

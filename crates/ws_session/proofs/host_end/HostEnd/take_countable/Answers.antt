@@ -1,8 +1,9 @@
-use Rattle.ws_session.proofs.Common.{inl, inr, refl, sym, ap, ◌∙◌, as_list, take, drop}
-use Rattle.ws_session.proofs.Common.{take-append-drop, is_some, arith, ℕ, length, ◌-◌, ◌<◌, ◌+◌, ◌^◌, ◌≡◌, ◌≤◌, length-take-le, min}
-use Rattle.ws_session.proofs.Common.{HostParts, HostLeads, answer_rules, element_rules, host_manner}
+use Rattle.ws_session.proofs.Common.{◌≡◌, ◌+◌, ◌≤◌, refl, ◌∙◌, ℕ, ◌<◌, take, drop, ap, sym, arith, take-append-drop}
+use Rattle.ws_session.proofs.Common.{◌^◌, min, inl, inr, length, is_some, ◌-◌, length-take-le, answer_rules}
+use Rattle.ws_session.proofs.Common.{element_rules, as_list, host_manner, HostLeads, HostParts}
 use Rattle.ws_session.specs.Manners.{IsHostShut}
-use Rattle.ws_session.proofs.EndFeeds.{if_ok_on, if_err_on, has_room, goes_by, host_count, host_shut, host_stops, host_silent}
+use Rattle.ws_session.proofs.EndFeeds.{if_ok_on, if_err_on, has_room, goes_by, host_count, host_shut, host_stops}
+use Rattle.ws_session.proofs.EndFeeds.{host_silent}
 use Rattle.ws_session.proofs.host_end.HostEnd.take_countable.Goals as goal
 
 pub returns-then-is_some-clause-refused : goal.returns-then-is_some-clause-refused

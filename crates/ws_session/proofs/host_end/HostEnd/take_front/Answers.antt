@@ -1,10 +1,10 @@
-use Rattle.ws_session.proofs.Common.{ℕ, ◌+◌, ◌<◌, ◌++◌, List, Result, Vec, Global, length, take, refl, Item}
-use Rattle.ws_session.proofs.Common.{answer_rules, AnswerPart, HostStep, Refusal, HoldsItems, IsHostFronted}
-use Rattle.ws_session.proofs.Common.{HostParts, HostLeads, HostSide}
+use Rattle.ws_session.proofs.Common.{◌+◌, List, ◌++◌, refl, ℕ, ◌<◌, take, length, Result, Vec, Global, Item}
+use Rattle.ws_session.proofs.Common.{answer_rules, AnswerPart, HoldsItems, HostStep, Refusal, IsHostFronted, HostLeads}
+use Rattle.ws_session.proofs.Common.{HostParts, HostSide}
 use Rattle.ws_session.specs.contracts.host_end.HostEnd.{the_view}
 use Rattle.ws_session.proofs.HostSteps.{host_so_far, host_fronted}
-use Rattle.ws_session.proofs.station.StationSteps.{front_count}
 use Rattle.ws_session.proofs.host_end.HostEnd.take_front.Goals as goal
+use Rattle.ws_session.proofs.station.StationSteps.{front_count}
 
 -- what the clauses say of a host end before
 abbrev Fronts : HostParts → HostParts → List ℕ → ℕ → Result HostStep Refusal → Type 0

@@ -1,10 +1,10 @@
-use Rattle.ws_session.proofs.Common.{element_rules, answer_rules, length_rest, host_manner, length}
-use Rattle.ws_session.proofs.Common.{HasHostFed, HostLeads, HostEvent, HostStep, left_of, Refusal, is_some, Option, ◌∙◌}
-use Rattle.ws_session.proofs.Common.{arith, false, None, Some, refl, take, ◌≡◌, ◌+◌, ◌-◌, sym, []}
+use Rattle.ws_session.proofs.Common.{◌≡◌, ◌+◌, [], refl, ◌∙◌, Option, Some, None, take, sym, arith, length, false}
+use Rattle.ws_session.proofs.Common.{is_some, ◌-◌, length_rest, left_of, answer_rules, element_rules, host_manner}
+use Rattle.ws_session.proofs.Common.{HostEvent, HostStep, Refusal, HasHostFed, HostLeads}
 use Rattle.ws_session.proofs.Counts.{counted_on, counted_up}
 use Rattle.ws_session.proofs.Feedings.{none_silent, quiet_upto, none_come, quiet_on, value_at, split_on}
-use Rattle.ws_session.proofs.station.StationFeedings.{host_refused_on, host_fed_on, no_reply}
 use Rattle.ws_session.proofs.host_end.HostEnd.take_piece.Goals as goal
+use Rattle.ws_session.proofs.station.StationFeedings.{host_refused_on, host_fed_on, no_reply}
 
 -- an event that is none
 no_event : (event : Option HostEvent) → is_some event ≡ false → event ≡ None

@@ -1,5 +1,5 @@
-use Rattle.ws_session.proofs.Common.{◌≡◌, ◌+◌, ◌-◌, ◌<◌, ◌≤◌, ◌^◌, ℕ, None, List, [], length, take, Item}
-use Rattle.ws_session.proofs.Common.{AnswerPart, HasHostFed, IsHostSilent, HostLeads, HostSide}
+use Rattle.ws_session.proofs.Common.{◌≡◌, ◌+◌, ◌≤◌, List, [], ℕ, ◌<◌, None, take, ◌^◌, length, ◌-◌, Item, AnswerPart}
+use Rattle.ws_session.proofs.Common.{HasHostFed, IsHostSilent, HostLeads, HostSide}
 use Rattle.ws_session.proofs.host_end.HostEnd.take_piece.Given as goal
 
 -- the bytes so far were taken in silence

@@ -1,7 +1,7 @@
-use Rattle.ws_session.proofs.Common.{min, ◌+◌, ◌-◌, ◌^◌, ◌≡◌, ℕ, List, [], sym, ap, ◌∙◌, Head}
+use Rattle.ws_session.proofs.Common.{◌≡◌, ◌+◌, List, [], ◌∙◌, ℕ, ap, sym, ◌^◌, min, ◌-◌, Head}
 use Rattle.ws_session.specs.contracts.station.StationOn.{the_view}
-use Rattle.ws_session.proofs.station.StationSteps.{closes}
 use Rattle.ws_session.proofs.station.StationOn.close.Goals as goal
+use Rattle.ws_session.proofs.station.StationSteps.{closes}
 
 pub returns-in-Ok-clause-closed : goal.returns-in-Ok-clause-closed
 returns-in-Ok-clause-closed g c =

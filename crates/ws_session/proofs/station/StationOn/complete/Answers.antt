@@ -1,7 +1,7 @@
-use Rattle.ws_session.proofs.Common.{refl, sym, ◌∙◌, ◌≡◌}
+use Rattle.ws_session.proofs.Common.{◌≡◌, refl, ◌∙◌, sym}
 use Rattle.ws_session.specs.contracts.station.StationOn.{the_view}
-use Rattle.ws_session.proofs.station.StationSteps.{none_complete, sub_answered}
 use Rattle.ws_session.proofs.station.StationOn.complete.Goals as goal
+use Rattle.ws_session.proofs.station.StationSteps.{none_complete, sub_answered}
 
 pub returns-in-More-clause-reacted : goal.returns-in-More-clause-reacted
 returns-in-More-clause-reacted g c =

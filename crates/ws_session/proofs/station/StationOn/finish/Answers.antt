@@ -1,7 +1,7 @@
 use Rattle.ws_session.proofs.Common.{ap, on_ok_weaker, IfErr-weaker}
 use Rattle.ws_session.specs.contracts.station.StationOn.{the_view}
-use Rattle.ws_session.proofs.station.StationSteps.{so_far, is_led}
 use Rattle.ws_session.proofs.station.StationOn.finish.Goals as goal
+use Rattle.ws_session.proofs.station.StationSteps.{so_far, is_led}
 
 pub returns-clause-ok : goal.returns-clause-ok
 returns-clause-ok g c =

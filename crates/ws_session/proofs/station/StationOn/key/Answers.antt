@@ -1,11 +1,10 @@
-use Rattle.ws_session.proofs.Common.{station_allows_records, false, Bool}
-use Rattle.ws_session.proofs.Common.{refl, ◌&&◌}
-use Rattle.ws_session.proofs.Common.{true, not, sym, ◌∙◌, Err, ◌≡◌, Ok, ap}
+use Rattle.ws_session.proofs.Common.{◌&&◌, not, ◌≡◌, refl, ◌∙◌, ap, sym, Bool, true, false, Err, Ok}
+use Rattle.ws_session.proofs.Common.{station_allows_records}
 use Rattle.ws_session.specs.contracts.station.StationOn.{the_view}
-use Rattle.ws_session.proofs.station.StationSteps.{pressed}
+use Rattle.ws_session.proofs.station.StationOn.key.Goals as goal
 use Rattle.ws_session.proofs.station.StationOn.key.Goals.{else-sends-via-then-sends+else-not-records_allowed, in-Err}
 use Rattle.ws_session.proofs.station.StationOn.key.Goals.{else-sends-via-else-sends, in-Ok}
-use Rattle.ws_session.proofs.station.StationOn.key.Goals as goal
+use Rattle.ws_session.proofs.station.StationSteps.{pressed}
 
 never : (b : Bool) → (b && false) ≡ false
 never true = refl

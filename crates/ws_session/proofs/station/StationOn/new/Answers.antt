@@ -1,4 +1,4 @@
-use Rattle.ws_session.proofs.Common.{rules, [], None, refl}
+use Rattle.ws_session.proofs.Common.{[], refl, None, rules}
 use Rattle.ws_session.proofs.station.StationOn.new.Goals as goal
 
 pub returns-clause-leads : goal.returns-clause-leads

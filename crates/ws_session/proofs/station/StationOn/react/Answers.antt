@@ -1,5 +1,5 @@
-use Rattle.ws_session.proofs.station.StationSteps.{none_complete}
 use Rattle.ws_session.proofs.station.StationOn.react.Goals as goal
+use Rattle.ws_session.proofs.station.StationSteps.{none_complete}
 
 pub returns-in-More-clause-reacted : goal.returns-in-More-clause-reacted
 returns-in-More-clause-reacted g c =

@@ -1,5 +1,5 @@
-use Rattle.ws_session.proofs.station.StationSteps.{one_fronted}
 use Rattle.ws_session.proofs.station.StationOn.step.Goals as goal
+use Rattle.ws_session.proofs.station.StationSteps.{one_fronted}
 
 pub returns-clause-stepped : goal.returns-clause-stepped
 returns-clause-stepped g c = λ bytes items side l few. one_fronted g.D.Commands.Code.rules g.D.StationDisplay.does _ _

@@ -1,11 +1,11 @@
-use Rattle.ws_session.proofs.Common.{inl, inr, refl, sym, ap, ◌∙◌, as_list, told_by, take, drop}
-use Rattle.ws_session.proofs.Common.{take-append-drop, is_some, arith, ℕ, length, ◌-◌, ◌<◌, ◌+◌, ◌^◌, ◌≡◌, ◌≤◌, length-take-le, min}
+use Rattle.ws_session.proofs.Common.{◌≡◌, ◌+◌, ◌≤◌, refl, ◌∙◌, ℕ, ◌<◌, take, drop, ap, sym, arith, take-append-drop}
+use Rattle.ws_session.proofs.Common.{◌^◌, min, inl, inr, length, is_some, ◌-◌, length-take-le, as_list, told_by}
 use Rattle.ws_session.specs.station.PartsOn.{PartsOn}
 use Rattle.ws_session.specs.station.StationActs.{IsShutOn}
 use Rattle.ws_session.specs.station.StationManners.{manner_on}
 use Rattle.ws_session.specs.station.Stations.{LeadsOn}
-use Rattle.ws_session.proofs.EndFeeds.{if_ok_on, if_err_on, has_room, goes_by, station_count, station_shut, station_stops}
-use Rattle.ws_session.proofs.EndFeeds.{station_silent}
+use Rattle.ws_session.proofs.EndFeeds.{if_ok_on, if_err_on, has_room, goes_by, station_count, station_shut}
+use Rattle.ws_session.proofs.EndFeeds.{station_stops, station_silent}
 use Rattle.ws_session.proofs.station.StationOn.take_countable.Goals as goal
 
 pub returns-then-is_some-clause-refused : goal.returns-then-is_some-clause-refused

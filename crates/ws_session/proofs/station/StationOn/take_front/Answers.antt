@@ -1,6 +1,6 @@
 use Rattle.ws_session.specs.contracts.station.StationOn.{the_view}
-use Rattle.ws_session.proofs.station.StationSteps.{front_count, fronted, so_far, is_led}
 use Rattle.ws_session.proofs.station.StationOn.take_front.Goals as goal
+use Rattle.ws_session.proofs.station.StationSteps.{front_count, fronted, so_far, is_led}
 
 pub returns-clause-fronted : goal.returns-clause-fronted
 returns-clause-fronted g c =

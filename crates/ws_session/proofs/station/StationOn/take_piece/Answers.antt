@@ -1,13 +1,12 @@
-use Rattle.ws_session.proofs.Common.{[]}
-use Rattle.ws_session.proofs.Common.{StationStep, length_rest, left_of, Refusal, length, arith, false, refl}
-use Rattle.ws_session.specs.station.Stations.{LeadsOn}
+use Rattle.ws_session.proofs.Common.{◌+◌, [], refl, ◌∙◌, take, ap, arith, length, false, ◌-◌, length_rest, left_of}
+use Rattle.ws_session.proofs.Common.{Refusal, StationStep}
+use Rattle.ws_session.specs.station.PartsOn.{PartsOn}
 use Rattle.ws_session.specs.station.StationActs.{HasFedOn}
 use Rattle.ws_session.specs.station.StationManners.{manner_on}
-use Rattle.ws_session.proofs.Common.{take, ◌+◌, ◌-◌, ◌∙◌, ap}
-use Rattle.ws_session.specs.station.PartsOn.{PartsOn}
+use Rattle.ws_session.specs.station.Stations.{LeadsOn}
 use Rattle.ws_session.proofs.Counts.{counted_on, counted_up}
-use Rattle.ws_session.proofs.station.StationFeedings.{refused_on, no_reply, fed_on}
 use Rattle.ws_session.proofs.Feedings.{none_silent, quiet_upto, none_come, quiet_on, value_at, split_on}
+use Rattle.ws_session.proofs.station.StationFeedings.{refused_on, no_reply, fed_on}
 use Rattle.ws_session.proofs.station.StationOn.take_piece.Goals as goal
 
 pub loop-used-init : goal.loop-used-init

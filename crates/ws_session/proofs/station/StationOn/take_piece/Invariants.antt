@@ -1,7 +1,7 @@
-use Rattle.ws_session.proofs.Common.{◌≡◌, ◌+◌, ◌-◌, ◌<◌, ◌≤◌, ◌^◌, ℕ, false, List, [], length, take, Item}
+use Rattle.ws_session.proofs.Common.{◌≡◌, ◌+◌, ◌≤◌, List, [], ℕ, ◌<◌, take, ◌^◌, length, false, ◌-◌, Item}
+use Rattle.ws_session.specs.station.Displays.{SideOn}
 use Rattle.ws_session.specs.station.StationActs.{HasFedOn, IsSilentOn}
 use Rattle.ws_session.specs.station.Stations.{LeadsOn}
-use Rattle.ws_session.specs.station.Displays.{SideOn}
 use Rattle.ws_session.proofs.station.StationOn.take_piece.Given as goal
 
 -- the bytes so far were taken in silence

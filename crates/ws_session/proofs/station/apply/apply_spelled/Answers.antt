@@ -1,12 +1,12 @@
-use Rattle.ws_session.proofs.Common.{◌≡◌, ◌+◌, ◌≤◌, ◌++◌, List, ℕ, [], Option, Some, None, take, drop, length, refl}
-use Rattle.ws_session.proofs.Common.{sym, ap, ◌∙◌, arith, err_from_is_err_and, take_all, take-append-drop, left_of}
-use Rattle.ws_session.proofs.Common.{length_rest, bytes_on, reading_of, Element, CommandsOnly, body_fault}
+use Rattle.ws_session.proofs.Common.{◌≡◌, ◌+◌, ◌≤◌, List, [], ◌++◌, refl, ◌∙◌, ℕ, Option, Some, None, take, drop, ap}
+use Rattle.ws_session.proofs.Common.{sym, arith, take-append-drop, length, take_all, err_from_is_err_and, length_rest}
+use Rattle.ws_session.proofs.Common.{left_of, bytes_on, reading_of, Element, CommandsOnly, body_fault}
+use Rattle.ws_code.proofs.RunLaws.{same_reading}
 use Rattle.ws_screen.proofs.Spelled.{Applied, applied_start, applied_all, applied_at, ready, ran_none, ran_some}
 use Rattle.ws_screen.proofs.Spelled.{ran_bad, whole_finds_write, whole_applied, whole_refused}
-use Rattle.ws_code.proofs.RunLaws.{same_reading}
 use Rattle.ws_session.proofs.AlarmLaws.{counted_all, counted_at, counted_more, counted_none, counted_still}
-use Rattle.ws_session.proofs.station.apply.apply_spelled.Goals.{in-Some+in_ok-apply, in_default}
 use Rattle.ws_session.proofs.station.apply.apply_spelled.Goals as goal
+use Rattle.ws_session.proofs.station.apply.apply_spelled.Goals.{in-Some+in_ok-apply, in_default}
 
 empty : (slot : Option Element) → ((element : Element) → slot ≡ Some element → ⊥) → slot ≡ None
 empty None none = refl

@@ -1,4 +1,4 @@
-use Rattle.ws_session.proofs.Common.{◌≤◌, ◌-◌, length, take, IsAt, element_rules, reading_of}
+use Rattle.ws_session.proofs.Common.{◌≤◌, take, length, ◌-◌, IsAt, element_rules, reading_of}
 use Rattle.ws_screen.proofs.Spelled.{Applied}
 use Rattle.ws_session.proofs.AlarmLaws.{HasCounted}
 use Rattle.ws_session.proofs.station.apply.apply_spelled.Given as goal

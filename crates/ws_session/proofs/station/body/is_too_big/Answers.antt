@@ -1,4 +1,4 @@
-use Rattle.ws_session.proofs.Common.{length, ap, arith, element_rules}
+use Rattle.ws_session.proofs.Common.{ap, arith, length, element_rules}
 use Rattle.ws_code.proofs.Lists.{length_through}
 use Rattle.ws_session.proofs.station.body.is_too_big.Goals as goal
 

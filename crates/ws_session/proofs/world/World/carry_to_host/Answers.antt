@@ -1,10 +1,10 @@
-use Rattle.ws_session.proofs.Common.{◌≡◌, ◌≤◌, ◌+◌, ◌-◌, [], ◌∷◌, ◌++◌, length, refl, arith, drop_all}
-use Rattle.ws_session.proofs.Common.{err_from_is_err_and, bytes_to_host, two_ends_of}
+use Rattle.ws_session.proofs.Common.{◌≡◌, ◌+◌, ◌≤◌, [], ◌∷◌, ◌++◌, refl, arith, length, ◌-◌, drop_all}
+use Rattle.ws_session.proofs.Common.{err_from_is_err_and, two_ends_of, bytes_to_host}
+use Rattle.ws_code.specs.Device.{on_devices}
+use Rattle.ws_session.proofs.world.ByteSteps.{host_stops, none_comes_up, host_bytes_on}
 use Rattle.ws_session.proofs.world.LineMoves.{up_none, up_more, up_all, crossed_on, stopped_behind, faithful_front}
 use Rattle.ws_session.proofs.world.LineMoves.{faithful_back, cut_of_more}
-use Rattle.ws_session.proofs.world.ByteSteps.{host_stops, none_comes_up, host_bytes_on}
 use Rattle.ws_session.proofs.world.World.carry_to_host.Goals as goal
-use Rattle.ws_code.specs.Device.{on_devices}
 
 pub loop-left-init : goal.loop-left-init
 loop-left-init g c = record {

@@ -1,7 +1,7 @@
-use Rattle.ws_session.proofs.Common.{◌≡◌, ◌+◌, ℕ, List, TerminalType, Crossing, AreFaithful, HaveCrossed, Runs}
+use Rattle.ws_session.proofs.Common.{◌≡◌, ◌+◌, List, ℕ, TerminalType, Crossing, AreFaithful, HaveCrossed, Runs}
 use Rattle.ws_session.proofs.Common.{two_ends_of, ComesUp, World, bytes_to_host}
-use Rattle.ws_session.proofs.world.World.carry_to_host.Given as goal
 use Rattle.ws_code.specs.Device.{on_devices}
+use Rattle.ws_session.proofs.world.World.carry_to_host.Given as goal
 
 abbrev pub decreases-loop-left : goal.decreases-loop-left
 decreases-loop-left g l = l.left

@@ -1,4 +1,4 @@
-use Rattle.ws_session.proofs.Common.{rules, ◌≡◌, on_ok_weaker, CancelInvite}
+use Rattle.ws_session.proofs.Common.{◌≡◌, rules, on_ok_weaker, CancelInvite}
 use Rattle.ws_session.proofs.EndDeeds.{other_order}
 use Rattle.ws_session.proofs.world.Reached.{other_send}
 use Rattle.ws_session.proofs.world.World.order.Goals as goal

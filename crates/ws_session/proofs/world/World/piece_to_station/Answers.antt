@@ -1,6 +1,6 @@
-use Rattle.ws_session.proofs.Common.{◌≡◌, length, List, ℕ, [], ◌∷◌, arith, take, drop, inl, inr, refl, ap, ◌∙◌}
-use Rattle.ws_session.proofs.Common.{length-take-le, length-drop, err_from_is_err_and, on_ok_weaker, IfErr-weaker}
-use Rattle.ws_session.proofs.Common.{with_piece_at, WireParts, append-nil, sym, ◌≤◌}
+use Rattle.ws_session.proofs.Common.{◌≡◌, ◌≤◌, List, [], ◌∷◌, refl, ◌∙◌, ℕ, take, drop, ap, sym, arith, inl, inr}
+use Rattle.ws_session.proofs.Common.{length, length-drop, length-take-le, append-nil, err_from_is_err_and, on_ok_weaker}
+use Rattle.ws_session.proofs.Common.{IfErr-weaker, with_piece_at, WireParts}
 use Rattle.ws_session.specs.contracts.world.World.{the_view}
 use Rattle.ws_session.proofs.world.LineMoves.{both_of_ok, down_piece, written_back}
 use Rattle.ws_session.proofs.world.World.piece_to_station.Goals as goal

@@ -1,8 +1,7 @@
-use Rattle.ws_session.proofs.Common.{length, ◌^◌, ◌<◌, ◌+◌, [], ◌∷◌, ◌++◌, take, drop, inl, inr, refl, sym, subst}
-use Rattle.ws_session.proofs.Common.{take_all}
-use Rattle.ws_session.proofs.Common.{◌∙◌, ap, append-nil, append_assoc, take-append-drop}
-use Rattle.ws_session.proofs.Common.{err_from_is_err_and, IfErr-weaker, TwoEnds, two_ends_of, all_read, StationIsLed}
-use Rattle.ws_session.proofs.Common.{HostIsLed, new_world, after_moves, longer_by}
+use Rattle.ws_session.proofs.Common.{◌+◌, [], ◌∷◌, ◌++◌, refl, subst, ◌∙◌, ◌<◌, take, drop, ap, sym, take-append-drop}
+use Rattle.ws_session.proofs.Common.{◌^◌, inl, inr, length, append_assoc, append-nil, take_all, err_from_is_err_and}
+use Rattle.ws_session.proofs.Common.{IfErr-weaker, longer_by, two_ends_of, TwoEnds, all_read, StationIsLed, HostIsLed}
+use Rattle.ws_session.proofs.Common.{new_world, after_moves}
 use Rattle.ws_session.proofs.world.LineLeads.{station_is_led, host_is_led}
 use Rattle.ws_session.proofs.world.LineMoves.{both_if_ok, begun, moved_on, crossed_on, either_behind, faithful_front}
 use Rattle.ws_session.proofs.world.LineMoves.{faithful_back}

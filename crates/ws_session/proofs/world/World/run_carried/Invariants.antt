@@ -1,7 +1,7 @@
 use Rattle.ws_session.proofs.Common.{List, take, Crossing, AreFaithful, HaveCrossed, Runs, two_ends_of, HasRun}
 use Rattle.ws_session.proofs.Common.{new_world, after_moves}
-use Rattle.ws_session.proofs.world.World.run_carried.Given as goal
 use Rattle.ws_code.specs.Device.{on_devices}
+use Rattle.ws_session.proofs.world.World.run_carried.Given as goal
 
 -- the moves so far have led here, and these pieces have crossed
 abbrev pub invariant-loop-step : goal.invariant-loop-step

@@ -1,4 +1,4 @@
-use Rattle.ws_session.proofs.Common.{[], inl, refl, on_ok_weaker, IfErr-weaker}
+use Rattle.ws_session.proofs.Common.{[], refl, inl, on_ok_weaker, IfErr-weaker}
 use Rattle.ws_session.proofs.world.LineMoves.{both_of_ok, first_stops, second_stops}
 use Rattle.ws_session.proofs.world.World.take_carried.Goals as goal
 

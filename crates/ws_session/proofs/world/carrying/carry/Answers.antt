@@ -1,9 +1,9 @@
+use Rattle.ws_session.proofs.Common.{◌≡◌, ◌+◌, ◌≤◌, List, ◌++◌, subst, ◌∙◌, ℕ, Some, take, drop, ap, sym, arith, length}
+use Rattle.ws_session.proofs.Common.{length-append, ◌≢◌, ◌-◌, take-append-add, length-take-le, take-append-le, one_more}
+use Rattle.ws_session.proofs.Common.{gave_more, take_some, length_rest}
 use Rattle.std.proofs.Common.{arith}
-use Rattle.ws_session.proofs.Common.{◌≡◌, ◌≢◌, ℕ, ◌+◌, ◌-◌, ◌≤◌, List, ◌++◌, Some, length, take, drop, sym, ap, ◌∙◌}
-use Rattle.ws_session.proofs.Common.{subst, arith, length-append, length-take-le, take-append-le, take-append-add}
-use Rattle.ws_session.proofs.Common.{one_more, gave_more, take_some, length_rest}
-use Rattle.std.proofs.lemmas.Slice.{take-put_mid_below}
 use Rattle.std.proofs.lemmas.Grind.{common_steps}
+use Rattle.std.proofs.lemmas.Slice.{take-put_mid_below}
 use Rattle.ws_session.proofs.world.carrying.carry.Goals as goal
 
 -- the front of a slice behind a read into the rest of it

@@ -1,4 +1,4 @@
-use Rattle.ws_session.proofs.Common.{◌≤◌, ◌-◌, ℕ, length, take, Gave}
+use Rattle.ws_session.proofs.Common.{◌≤◌, ℕ, take, length, ◌-◌, Gave}
 use Rattle.ws_session.proofs.world.carrying.carry.Given as goal
 
 -- the bytes went out, and what stands before the place was read

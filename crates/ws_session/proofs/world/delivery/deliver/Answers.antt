@@ -1,4 +1,4 @@
-use Rattle.ws_session.proofs.Common.{arith, ◌+◌, ◌≤◌, ap, length-take, take, ℕ}
+use Rattle.ws_session.proofs.Common.{◌+◌, ◌≤◌, ℕ, take, ap, arith, length-take}
 use Rattle.ws_session.proofs.world.Arriving.{none_delivered, some_delivered, all_come}
 use Rattle.ws_session.proofs.world.delivery.deliver.Goals as goal
 

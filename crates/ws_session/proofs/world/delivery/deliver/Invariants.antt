@@ -1,4 +1,4 @@
-use Rattle.ws_session.proofs.Common.{◌≡◌, ◌+◌, ◌-◌, ℕ, length, min, AreDelivered}
+use Rattle.ws_session.proofs.Common.{◌≡◌, ◌+◌, ℕ, min, length, ◌-◌, AreDelivered}
 use Rattle.ws_session.proofs.world.delivery.deliver.Given as goal
 
 abbrev pub decreases-loop-left : goal.decreases-loop-left

@@ -1,7 +1,7 @@
 use Rattle.std.proofs.Common.{[], refl, inl, inr, rules}
 use Rattle.ws_code.proofs.RunLaws.{same_reading}
-use Rattle.ws_stream.proofs.Unfinished.{waits, escape_begins}
 use Rattle.ws_stream.specs.declared.element.Element.TheVariants.{Put}
+use Rattle.ws_stream.proofs.Unfinished.{waits, escape_begins}
 use Rattle.ws_stream.proofs.commands.Commands.begin.Goals as goal
 
 pub returns-then-byte-eq-ESCAPE : goal.returns-then-byte-eq-ESCAPE

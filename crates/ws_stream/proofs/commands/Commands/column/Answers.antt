@@ -1,7 +1,7 @@
 use Rattle.std.proofs.Common.{[], ◌∷◌, refl, inl, inr, rules, arith}
 use Rattle.std.proofs.lemmas.Grind.{common_steps}
-use Rattle.ws_stream.specs.declared.element.Element.TheVariants.{Sba, Ic, Mc}
 use Rattle.ws_stream.specs.Machine.{order_byte}
+use Rattle.ws_stream.specs.declared.element.Element.TheVariants.{Sba, Ic, Mc}
 use Rattle.ws_stream.proofs.Unfinished.{waits}
 use Rattle.ws_stream.proofs.UnfinishedAddress.{column_repeat, column_erase}
 use Rattle.ws_stream.proofs.commands.Commands.column.Goals as goal

@@ -1,8 +1,8 @@
 use Rattle.std.proofs.Common.{◌≡◌, true, length, refl, sym, ap, ◌∙◌, inl, inr}
-use Rattle.ws_stream.specs.declared.element.Element.TheVariants.{Ea}
-use Rattle.ws_stream.specs.Parts.{is_kind}
 use Rattle.ws_stream.specs.Machine.{unfinished_in}
+use Rattle.ws_stream.specs.Parts.{is_kind}
 use Rattle.ws_stream.specs.declared.commands.phase.Phase.{Phase}
+use Rattle.ws_stream.specs.declared.element.Element.TheVariants.{Ea}
 use Rattle.ws_stream.proofs.UnfinishedAddress.{erase_more, erase_whole}
 use Rattle.ws_stream.proofs.commands.Commands.erase_kind.Goals as goal
 use Rattle.ws_stream.proofs.commands.Commands.erase_kind.Goals.{else-byte-ne0-via-then-byte-ne0+else-byte-ne255}

@@ -1,5 +1,5 @@
-use Rattle.std.proofs.Common.{ℕ, [], ◌∷◌, ◌*◌, not, refl, arith, ap, ◌∙◌, subst}
 use Rattle.std.specs.Prelude.{None}
+use Rattle.std.proofs.Common.{ℕ, [], ◌∷◌, ◌*◌, not, refl, arith, ap, ◌∙◌, subst}
 use Rattle.ws_code.specs.FormatWord.{IsFfw}
 use Rattle.ws_stream.proofs.Unfinished.{waits, order_allowed}
 use Rattle.ws_stream.proofs.UnfinishedField.{attribute_goes_on, format_begins, some_passed}

@@ -1,6 +1,6 @@
-use Rattle.std.proofs.Common.{◌≡◌, ◌<◌, ◌∷◌, length, refl, arith, sym, ◌∙◌}
-use Rattle.std.specs.Prelude.{Some, nat_le}
 use Rattle.std.specs.List.{list_all}
+use Rattle.std.specs.Prelude.{Some, nat_le}
+use Rattle.std.proofs.Common.{◌≡◌, ◌<◌, ◌∷◌, length, refl, arith, sym, ◌∙◌}
 use Rattle.std.proofs.lemmas.Bool.{and_parts, leb-true, eqb-true, eqb-false}
 use Rattle.ws_stream.specs.FieldOrder.{is_control}
 use Rattle.ws_stream.specs.Machine.{words_bytes}

@@ -1,9 +1,9 @@
 use Rattle.std.proofs.Common.{[], refl}
+use Rattle.ws_stream.specs.declared.commands.phase.Order.TheVariants.{Ra, Ea, Sba, Ic, Mc}
 use Rattle.ws_stream.proofs.Unfinished.{waits}
 use Rattle.ws_stream.proofs.UnfinishedAddress.{order_begins}
 use Rattle.ws_stream.proofs.UnfinishedField.{field_begins}
 use Rattle.ws_stream.proofs.UnfinishedHeader.{soh_begins}
-use Rattle.ws_stream.specs.declared.commands.phase.Order.TheVariants.{Ra, Ea, Sba, Ic, Mc}
 use Rattle.ws_stream.proofs.commands.Commands.order.Goals as goal
 
 pub returns-in-1 : goal.returns-in-1

@@ -1,8 +1,8 @@
 use Rattle.std.proofs.Common.{◌≡◌, length, refl, sym, ap, ◌∙◌, arith, inl, inr}
 use Rattle.std.proofs.lemmas.Grind.{common_steps}
 use Rattle.ws_stream.specs.Machine.{unfinished_in}
-use Rattle.ws_stream.specs.declared.element.Element.TheVariants.{Soh}
 use Rattle.ws_stream.specs.declared.commands.phase.Phase.{Phase}
+use Rattle.ws_stream.specs.declared.element.Element.TheVariants.{Soh}
 use Rattle.ws_stream.proofs.UnfinishedHeader.{soh_more, soh_whole}
 use Rattle.ws_stream.proofs.commands.Commands.soh_byte.Goals as goal
 use Rattle.ws_stream.proofs.commands.Commands.soh_byte.Goals.{else-len-eq2-via-then-len-eq2+else-byte-ne0}

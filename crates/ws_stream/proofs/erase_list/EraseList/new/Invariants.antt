@@ -1,5 +1,5 @@
-use Rattle.std.proofs.Common.{◌≡◌, take, true}
 use Rattle.std.specs.List.{list_all}
+use Rattle.std.proofs.Common.{◌≡◌, take, true}
 use Rattle.ws_stream.specs.Parts.{is_kind}
 use Rattle.ws_stream.proofs.erase_list.EraseList.new.Given as goal
 

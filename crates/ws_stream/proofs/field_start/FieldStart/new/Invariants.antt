@@ -1,5 +1,5 @@
-use Rattle.std.proofs.Common.{◌≡◌, take, true}
 use Rattle.std.specs.List.{list_all}
+use Rattle.std.proofs.Common.{◌≡◌, take, true}
 use Rattle.ws_stream.specs.FieldOrder.{is_control}
 use Rattle.ws_stream.proofs.field_start.FieldStart.new.Given as goal
 

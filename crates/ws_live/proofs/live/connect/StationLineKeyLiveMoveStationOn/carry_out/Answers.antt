@@ -1,11 +1,11 @@
 use Rattle.std.proofs.Common.{◌++◌, ℕ, List, true, refl, sym, ap, ◌∙◌, subst}
+use Rattle.ws_code.specs.Device.{on_devices}
+use Rattle.ws_text.proofs.Prints.{prints_both, prints_same}
+use Rattle.ws_live.specs.declared.live.connect_line.StationLine.{StationLine}
 use Rattle.ws_live.specs.live.ConnectText.{KeysRun, ShowsStation, StationRuns, rested, waited_outcome, waited_text}
 use Rattle.ws_live.specs.printing.FieldLines.{AreFieldLines}
 use Rattle.ws_live.specs.printing.ScreenLines.{IsDisplayText}
-use Rattle.ws_text.proofs.Prints.{prints_both, prints_same}
-use Rattle.ws_live.specs.declared.live.connect_line.StationLine.{StationLine}
 use Rattle.ws_live.proofs.live.connect.StationLineKeyLiveMoveStationOn.carry_out.Goals as goal
-use Rattle.ws_code.specs.Device.{on_devices}
 
 pub returns-in-Press-clause-runs : goal.returns-in-Press-clause-runs
 returns-in-Press-clause-runs g c =

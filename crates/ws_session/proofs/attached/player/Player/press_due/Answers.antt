@@ -1,4 +1,4 @@
-use Rattle.ws_session.proofs.Common.{◌+◌, sym, ap, ◌∙◌, drop_all, err_from_is_err_and, due, later}
+use Rattle.ws_session.proofs.Common.{◌+◌, ◌∙◌, ap, sym, drop_all, err_from_is_err_and, due, later}
 use Rattle.ws_session.proofs.attached.Plays.{pressing_starts, pressing_next, pressing_ends, pressing_fails, none_due}
 use Rattle.ws_session.proofs.attached.Plays.{next_key, not_reached, is_reached}
 use Rattle.ws_session.proofs.attached.player.Player.press_due.Goals as goal

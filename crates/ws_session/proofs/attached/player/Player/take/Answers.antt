@@ -1,4 +1,4 @@
-use Rattle.ws_session.proofs.Common.{◌≡◌, ◌<◌, ◌-◌, ◌++◌, ◌∷◌, [], take, suc, arith, sym, ap, ◌∙◌, err_from_is_err_and}
+use Rattle.ws_session.proofs.Common.{◌≡◌, [], ◌∷◌, ◌++◌, ◌∙◌, suc, ◌<◌, take, ap, sym, arith, ◌-◌, err_from_is_err_and}
 use Rattle.ws_session.proofs.Common.{behind}
 use Rattle.ws_session.proofs.Feedings.{value_at}
 use Rattle.ws_session.proofs.attached.PlaySteps.{no_record, record_comes, keys_fail, reply_fails, refused_as}

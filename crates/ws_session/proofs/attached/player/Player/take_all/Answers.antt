@@ -1,5 +1,5 @@
-use Rattle.ws_session.proofs.Common.{◌≡◌, ◌++◌, length, take, ap, ◌∙◌, arith, length-append, append_assoc, append-nil}
-use Rattle.ws_session.proofs.Common.{err_from_is_err_and, take_all, left_of, left_joined, bytes_on, length_rest}
+use Rattle.ws_session.proofs.Common.{◌≡◌, ◌++◌, ◌∙◌, take, ap, arith, length, append_assoc, length-append, append-nil}
+use Rattle.ws_session.proofs.Common.{take_all, err_from_is_err_and, length_rest, left_of, left_joined, bytes_on}
 use Rattle.ws_code.proofs.Pieces.{room_next}
 use Rattle.ws_session.proofs.attached.PlaySteps.{fault_within}
 use Rattle.ws_session.proofs.attached.player.Player.take_all.Goals as goal

@@ -1,4 +1,5 @@
-use Rattle.ws_session.proofs.Common.{TerminalType, Element, HaveBroughtPlayer, length, List, ◌++◌, Item, take, ◌<◌, ◌≤◌, ◌^◌, ◌+◌, ◌-◌, ℕ}
+use Rattle.ws_session.proofs.Common.{◌+◌, ◌≤◌, List, ◌++◌, ℕ, ◌<◌, take, ◌^◌, length, ◌-◌, TerminalType, Item, Element}
+use Rattle.ws_session.proofs.Common.{HaveBroughtPlayer}
 use Rattle.ws_session.proofs.attached.player.Player.take_all.Given as goal
 
 -- the bytes so far have brought the player here

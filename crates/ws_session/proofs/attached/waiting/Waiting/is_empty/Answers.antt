@@ -1,4 +1,4 @@
-use Rattle.ws_session.proofs.Common.{◌≡◌, ◌∙◌, ap, length, take, drop, arith, length-drop, length-take-le}
+use Rattle.ws_session.proofs.Common.{◌≡◌, ◌∙◌, take, drop, ap, arith, length, length-drop, length-take-le}
 use Rattle.ws_session.proofs.attached.waiting.Waiting.is_empty.Goals as goal
 
 pub returns-then-self-clause-some : goal.returns-then-self-clause-some

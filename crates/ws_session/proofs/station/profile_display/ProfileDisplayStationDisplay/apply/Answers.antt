@@ -1,6 +1,6 @@
+use Rattle.ws_session.proofs.Common.{refl, ◌∙◌, ap, sym, record_of, after_record, opcode_answer, station_applies}
 use Rattle.ws_session.specs.station.Alarms.{alarm_count, alarms_in, alarms_of}
 use Rattle.ws_session.proofs.AlarmLaws.{alarms_behind_record, counts_added}
-use Rattle.ws_session.proofs.Common.{sym, ap, refl, ◌∙◌, record_of, after_record, opcode_answer, station_applies}
 use Rattle.ws_session.proofs.station.profile_display.ProfileDisplayStationDisplay.apply.Goals as goal
 
 pub returns-in-Ok-clause-applied : goal.returns-in-Ok-clause-applied
