@@ -63,7 +63,7 @@ pub use Rattle.ws_stream.specs.ElementLaws.{element_bytes, element_prefix_free, 
 pub use Rattle.ws_stream.specs.declared.place.Place.{Place}
 pub use Rattle.ws_stream.specs.declared.place.Place.TheVariants.{CommandsOnly}
 pub use Rattle.ws_stream.specs.Taking.{reading_of}
-pub use Rattle.ws_screen.proofs.Applies.{longer_by}
+pub use Rattle.ws_screen.proofs.Applies.{longer_by, gives_end}
 pub use Rattle.ws_screen.specs.declared.read_kind.ReadKind.{ReadKind}
 pub use Rattle.ws_screen.specs.Bodies.{after_elements, after_end, body_fault}
 pub use Rattle.ws_screen.specs.Events.{cancelled, History, Edit, ended}
