@@ -70,6 +70,7 @@ impl Screen {
         let cursor = self.cursor;
         let message = self.message;
         let blink = self.blink;
+        // By the lock as it was: only an unlock sends the cursor home.
         self.cursor = cursor_after(locked, cc2, mc, home, cursor);
         self.locked = still_locked(cc2, locked);
         self.message = light_after(MESSAGE_ON, MESSAGE_OFF, cc2, message);
