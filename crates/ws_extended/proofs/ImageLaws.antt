@@ -9,21 +9,15 @@ use Rattle.ws_stream.specs.declared.element.Element.TheVariants.{ClearUnit, Writ
 use Rattle.ws_screen.specs.Bodies.{after_elements, after_end, body_fault, screen_of}
 use Rattle.ws_screen.specs.Cells.{cell}
 use Rattle.ws_screen.specs.Controls.{has_bit, is_nulled, light}
-use Rattle.ws_screen.specs.Events.{History, did}
+use Rattle.ws_screen.specs.Events.{History}
 use Rattle.ws_screen.specs.Faults.{fault}
-use Rattle.ws_screen.specs.Given.{Gives, FollowsAll, ends_of, events_of}
+use Rattle.ws_screen.specs.Given.{Gives, FollowsAll, ends_of, events_of, format_of, state_given, state_of}
 use Rattle.ws_screen.specs.Reads.{Read, read_in}
 use Rattle.ws_screen.specs.ScreenParts.{AreApart, IsLegal, ScreenParts, holds}
 use Rattle.ws_screen.specs.States.{switches_of}
 use Rattle.ws_screen.specs.Steps.{IsControlCarriedOut, after_cc1, after_cc2, without_format}
 use Rattle.ws_screen.specs.Writes.{open_write}
-use Rattle.ws_screen.specs.declared.control.TheConstants.{UNLOCK, MESSAGE_ON, MESSAGE_OFF, BLINK_ON, BLINK_OFF}
-use Rattle.ws_screen.specs.declared.field.Field.{Field}
-use Rattle.ws_screen.specs.declared.open_write.OpenWrite.{OpenWrite}
-use Rattle.ws_screen.specs.declared.read_kind.ReadKind.{ReadKind}
-use Rattle.ws_screen.specs.declared.read_kind.ReadKind.TheVariants.{Input, Mdt, MdtAlternate}
-use Rattle.ws_screen.proofs.CommandLemmas.{end_follows, read_follows, write_gives}
-use Rattle.ws_screen.proofs.FormatLemmas.{fields-clear_unit}
+use Rattle.ws_screen.proofs.CommandLemmas.{clear_unit_gives, end_follows, read_follows, write_gives}
 use Rattle.ws_screen.proofs.Legal.{zeros}
 use Rattle.ws_screen.proofs.OrderLemmas.{mc_gives, soh_gives}
 use Rattle.ws_screen.proofs.ScreenLaws.{one_screen}
@@ -44,21 +38,7 @@ clear_leads : (rest : List Element) (old new : ScreenParts) → old.writing ≡ 
 clear_leads rest old new closed leads =
     leads_by ClearUnit rest old (cleared old) new refl
     (subst (λ (w : Option OpenWrite). FollowsAll (events_of w ClearUnit) old (cleared old)) (sym closed)
-    (record { after = cleared_by })) leads
-  where
-    cleared_by : (h : History) → Gives h old → Gives (did ClearUnit ∷ h) (cleared old)
-    cleared_by h g = record {
-      cells = λ c small. zeros 1920 c;
-      fields_are = sym (fields-clear_unit h);
-      switches_are = refl;
-      home_is = refl;
-      cursor_is = refl;
-      locked_is = refl;
-      message_is = g.message_is;
-      blink_is = g.blink_is;
-      pending_is = refl;
-      writing_is = refl;
-    }
+    (record { after = λ h g. clear_unit_gives h old (replicate 1920 0) (λ c small. zeros 1920 c) g })) leads
 
 -- a write without a CC1's effect, on a cleared screen
 write_leads : (rest : List Element) (s new : ScreenParts) (cc2 : ℕ)
@@ -233,30 +213,21 @@ gives_again : (t s : ScreenParts) (h : History) → IsClosed s
     → Gives h (record (behind_end t s 1920) { pending = s.pending }) → Gives h s
 gives_again t s h ok g = record {
   cells = g.cells;
-  fields_are = g.fields_are;
-  switches_are = sym (switches_again 0 s.switches ok.legal.switched) ∙ g.switches_are;
-  home_is = g.home_is;
-  cursor_is = g.cursor_is;
-  locked_is = sym (says_lock s.locked s.message s.blink) ∙ g.locked_is;
-  message_is = sym (says_message s.locked s.message s.blink t.message) ∙ g.message_is;
-  blink_is = sym (says_blink s.locked s.message s.blink t.blink) ∙ g.blink_is;
-  pending_is = g.pending_is;
-  writing_is = ok.closed ∙ g.writing_is;
+  format = (λ i. record (format_of s) { switches = sym (switches_again 0 s.switches ok.legal.switched) i }) ∙ g.format;
+  state = (λ i. record (state_of s) {
+    locked = sym (says_lock s.locked s.message s.blink) i;
+    message = sym (says_message s.locked s.message s.blink t.message) i;
+    blink = sym (says_blink s.locked s.message s.blink t.blink) i;
+    writing = ok.closed i;
+  }) ∙ g.state;
 }
 
 -- every history between two bodies gives a screen
 some_screen : (h : History) → open_write h ≡ None → Gives h (record (screen_of h) { writing = None })
 some_screen h closed = record {
   cells = λ c small. get_or-map-range_with_len (λ n. cell n h) 0 1920 c c 0 small (omega arith);
-  fields_are = refl;
-  switches_are = refl;
-  home_is = refl;
-  cursor_is = refl;
-  locked_is = refl;
-  message_is = refl;
-  blink_is = refl;
-  pending_is = refl;
-  writing_is = sym closed;
+  format = refl;
+  state = λ i. record (state_given h) { writing = sym closed i };
 }
 
 makes : (row : ℕ) (s : ScreenParts) → IsClosed s → AreApart 1 s.fields → (h : History) → open_write h ≡ None

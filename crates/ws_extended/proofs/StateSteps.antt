@@ -10,8 +10,7 @@ use Rattle.ws_screen.specs.Faults.{fault}
 use Rattle.ws_screen.specs.Given.{FollowsAll, Gives, ends_of, events_of}
 use Rattle.ws_screen.specs.ScreenParts.{IsLegal, ScreenParts}
 use Rattle.ws_screen.specs.Writes.{open_write}
-use Rattle.ws_screen.specs.declared.open_write.OpenWrite.{OpenWrite}
-use Rattle.ws_screen.proofs.Applies.{gives_next}
+use Rattle.ws_screen.proofs.Applies.{gives_end, gives_next}
 use Rattle.ws_screen.proofs.ScreenLaws.{one_screen}
 use Rattle.ws_keys.specs.Keys.{events_by}
 use Rattle.ws_extended.specs.Carried.{Carries}
@@ -23,12 +22,6 @@ use Rattle.ws_extended.specs.ExtendedViews.{ExtendedParts, Shows}
 use Rattle.ws_extended.specs.declared.extended_element.ExtendedElement.TheVariants.{Profile}
 use Rattle.ws_extended.proofs.ErrorLaws.{back_unrefused, begins_unrefused}
 use Rattle.ws_extended.proofs.ImageSizes.{Quiet, both_quiet, puts_quiet, quiet_end, quiet_rows}
-
--- the end of a write
-pub gives_ended : (h : History) (old new : ScreenParts) → Gives h old → FollowsAll (ends_of old.writing) old new
-    → Gives (after_end h) new
-gives_ended h old new g end =
-    subst (λ (w : Option OpenWrite). Gives (ends_of w ++ h) new) g.writing_is (end.after h g)
 
 -- a Write to Display ends the open write by itself
 closes : (h : History) (cc1 cc2 : ℕ) → after_element (after_end h) (Write cc1 cc2) ≡ after_element h (Write cc1 cc2)
@@ -80,7 +73,7 @@ pub begun : (h : History) (old mid new : ScreenParts) (row : ℕ) → Gives h ol
     → FollowsAll (ends_of old.writing) old mid → IsLegal mid → mid.writing ≡ None
     → IsRow row → Carries (error_begins row) mid new → Gives (after_elements h (error_begins row)) new
 begun h old mid new row g end legal closed at carries =
-    let ended : Gives (after_end h) mid = gives_ended h old mid g end in
+    let ended : Gives (after_end h) mid = gives_end h old mid g end in
     let rest : List Element = Sba (row_start row) ∷ (map Put (replicate 80 0) ++ (Sba (row_start row) ∷ [])) in
     subst (λ (k : History). Gives k new) (closes_first h 0x20 0 rest)
     (carries.after (after_end h) ended (begins_unrefused mid row legal closed at (after_end h) ended))
@@ -90,7 +83,7 @@ pub comes_back : (h : History) (old mid new : ScreenParts) (cc2 row : ℕ) (cell
     → FollowsAll (ends_of old.writing) old mid → IsLegal mid → mid.writing ≡ None → IsRow row → length cells ≡ 80
     → Carries (given_back cc2 row cells) mid new → Gives (after_elements h (given_back cc2 row cells)) new
 comes_back h old mid new cc2 row cells g end legal closed at whole carries =
-    let ended : Gives (after_end h) mid = gives_ended h old mid g end in
+    let ended : Gives (after_end h) mid = gives_end h old mid g end in
     subst (λ (k : History). Gives k new) (closes_first h 0 cc2 (Sba (row_start row) ∷ map Put cells))
     (carries.after (after_end h) ended (back_unrefused mid cc2 row cells legal closed at whole (after_end h) ended))
 

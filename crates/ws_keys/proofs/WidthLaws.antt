@@ -106,7 +106,8 @@ all_late h = all_given (field_from h) (λ f. 1 ≤ f.start) (starts_late h) (ran
 
 narrow : (h : History) (s : ScreenParts) (f : Field) → Gives h s → IsLegal s → Contains s.fields f → f.length ≤ 1919
 narrow h s f gives legal member =
-    let late : All (λ g. 1 ≤ g.start) s.fields = subst (All (λ g. 1 ≤ g.start)) (sym gives.fields_are) (all_late h) in
+    let late : All (λ g. 1 ≤ g.start) s.fields =
+    subst (λ w. All (λ g. 1 ≤ g.start) w.fields) (sym gives.format) (all_late h) in
     let low : 1 ≤ f.start = All-contains (λ g. 1 ≤ g.start) s.fields f late member in
     let high : f.start + f.length ≤ 1920 = All-contains EndsOnScreen s.fields f (apart-ends 0 s.fields legal.apart) member in
     omega (arith, low, high)

@@ -1,4 +1,7 @@
 //! Whether the data of an answer fit the read, told without memory.
+//!
+//! Memory may run out before `split_answer` has seen that parts don't fit, and want of memory is to hide no bad answer.
+//! So these calls keep no content, only what may come next.
 ghost use Rattle.std.specs.Prelude.{◌≡◌, is_some};
 ghost use Rattle.ws_keys.specs.Fitting as Spec;
 ghost use Rattle.ws_keys.specs.Readings.{bytes_in, if_cut, read_data};
@@ -26,6 +29,7 @@ fn fits_input(screen: &Screen, parts: &[AnswerPart]) -> bool
         return false;
     }
     let fields = screen.fields();
+    // A station sends no byte where no field is modified.
     parts.is_empty() || parts.len() == sent_by(fields.as_slice())
 }
 
@@ -43,6 +47,7 @@ fn are_bytes(parts: &[AnswerPart]) -> bool
 fn fits_modified(screen: &Screen, parts: &[AnswerPart]) -> bool
     ensures { result ≡ Spec.fits_from screen.now.fields Spec.at_first parts.now }
 {
+    // No room: a content stands behind an address.
     let mut expected = Expected { next: 0, room: 0 };
     for part in parts {
         let Some(behind) = expected.after(screen, *part) else {

@@ -98,6 +98,7 @@ fn push_erasing(runs: &mut KeyRuns, field: &Field, cells: u16)
         runs.push(KeyRun::new(Key::Delete, cells));
         return;
     }
+    // Delete closes up the digits without the sign, which takes one of its own.
     let digits = cells.saturating_sub(1);
     runs.push(KeyRun::new(Key::Delete, digits));
     runs.push(KeyRun::new(Key::Right, digits));

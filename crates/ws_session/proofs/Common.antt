@@ -74,7 +74,7 @@ pub use Rattle.ws_screen.specs.States.{pending_read}
 pub use Rattle.ws_screen.specs.Writes.{open_write}
 pub use Rattle.ws_screen.specs.declared.field.Field.{Field}
 pub use Rattle.ws_screen.specs.declared.read_kind.ReadKind.{ReadKind}
-pub use Rattle.ws_screen.proofs.Applies.{longer_by}
+pub use Rattle.ws_screen.proofs.Applies.{longer_by, gives_end}
 pub use Rattle.ws_screen.proofs.ScreenLaws.{Alike, open_write_alike, layout_alike, elements_alike, end_alike}
 pub use Rattle.ws_screen.proofs.ScreenLaws.{body_fault_alike, pending-elements, pending-end, layout_same}
 pub use Rattle.ws_screen.proofs.ScreenLaws.{by_host-append, one_screen}
