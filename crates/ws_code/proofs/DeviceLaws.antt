@@ -4,9 +4,9 @@ use Rattle.std.proofs.Common.{lit≤, inl, inr}
 use Rattle.std.proofs.Math.Seq.{take-append-add, take-length, drop-nil}
 use Rattle.std.proofs.lemmas.Grind.{flat_map-append}
 use Rattle.std.proofs.lemmas.List.{append-nil, nil_from_length, length-take, length-take-le, take-append-le}
-use Rattle.ws_code.specs.Device.{Writer, Reader, Taken, Given, bytes_taken, Writes, WentOut, FailedAfter, FailedWithin}
-use Rattle.ws_code.specs.Device.{IsWriteFailure, Reads, bytes_given, most_reads, Gave, GaveAll, ReadFault, list_gives}
-use Rattle.ws_code.specs.Device.{list_reader, Held, held_takes, held_writer}
+use Rattle.ws_code.specs.Device.{MayTake, MayGive, Writer, Reader, Taken, Given, bytes_taken, Writes, WentOut}
+use Rattle.ws_code.specs.Device.{FailedAfter, FailedWithin, IsWriteFailure, Reads, bytes_given, most_reads, Gave}
+use Rattle.ws_code.specs.Device.{GaveAll, ReadFault, list_gives, list_reader, Held, held_takes, held_writer}
 
 -- `&xs[i..]`
 pub rest_from : (xs : List ℕ) (i : ℕ) → take (length xs - i) (drop i xs) ≡ drop i xs

@@ -1,7 +1,7 @@
 -- A sink behind a buffer: what the buffer holds hasn't gone out yet.
 
 use Rattle.std.specs.Prelude.{◌≡◌, ℕ, List, [], ◌++◌, take, None, Some}
-use Rattle.ws_code.specs.Device.{Writer, WentOut, FailedWithin}
+use Rattle.ws_code.specs.Device.{MayTake, Writer, WentOut, FailedWithin}
 
 -- the sink, the bytes that are held back before it, and how often they couldn't be handed on
 pub record Buffering (S : Type 0) : Type 0 where
