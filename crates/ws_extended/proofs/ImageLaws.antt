@@ -17,6 +17,11 @@ use Rattle.ws_screen.specs.ScreenParts.{AreApart, IsLegal, ScreenParts, holds}
 use Rattle.ws_screen.specs.States.{switches_of}
 use Rattle.ws_screen.specs.Steps.{IsControlCarriedOut, after_cc1, after_cc2, without_format}
 use Rattle.ws_screen.specs.Writes.{open_write}
+use Rattle.ws_screen.specs.declared.control.TheConstants.{UNLOCK, MESSAGE_ON, MESSAGE_OFF, BLINK_ON, BLINK_OFF}
+use Rattle.ws_screen.specs.declared.field.Field.{Field}
+use Rattle.ws_screen.specs.declared.open_write.OpenWrite.{OpenWrite}
+use Rattle.ws_screen.specs.declared.read_kind.ReadKind.{ReadKind}
+use Rattle.ws_screen.specs.declared.read_kind.ReadKind.TheVariants.{Input, Mdt, MdtAlternate}
 use Rattle.ws_screen.proofs.CommandLemmas.{clear_unit_gives, end_follows, read_follows, write_gives}
 use Rattle.ws_screen.proofs.Legal.{zeros}
 use Rattle.ws_screen.proofs.OrderLemmas.{mc_gives, soh_gives}

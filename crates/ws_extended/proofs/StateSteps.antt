@@ -10,6 +10,7 @@ use Rattle.ws_screen.specs.Faults.{fault}
 use Rattle.ws_screen.specs.Given.{FollowsAll, Gives, ends_of, events_of}
 use Rattle.ws_screen.specs.ScreenParts.{IsLegal, ScreenParts}
 use Rattle.ws_screen.specs.Writes.{open_write}
+use Rattle.ws_screen.specs.declared.open_write.OpenWrite.{OpenWrite}
 use Rattle.ws_screen.proofs.Applies.{gives_end, gives_next}
 use Rattle.ws_screen.proofs.ScreenLaws.{one_screen}
 use Rattle.ws_keys.specs.Keys.{events_by}
