@@ -1,19 +1,25 @@
 -- The profile on the display that live hosts use: what its records, keys and acts are there, and what they do.
 use Rattle.std.specs.Prelude.{◌≡◌, ℕ, List, None, map}
+use Rattle.ws_record.specs.RawBody.{raw_rules}
 use Rattle.ws_record.specs.declared.record.Record.{Record}
 use Rattle.ws_record.specs.declared.record.Item.{Item}
 use Rattle.ws_record.specs.declared.record.Item.TheVariants.{Record as RecordItem, Telnet as TelnetItem}
+use Rattle.ws_stream.specs.AnswerParts.{answer_rules}
+use Rattle.ws_stream.specs.Elements.{element_rules}
 use Rattle.ws_stream.specs.declared.answer_part.AnswerPart.{AnswerPart}
 use Rattle.ws_stream.specs.declared.element.Element.{Element}
 use Rattle.ws_keys.specs.declared.key.Key.{Key}
+use Rattle.ws_extended.specs.ExtendedElements.{extended_rules}
 use Rattle.ws_extended.specs.declared.extended_element.ExtendedElement.{ExtendedElement}
 use Rattle.ws_extended.specs.declared.extended_element.ExtendedElement.TheVariants.{Profile}
-use Rattle.ws_session.specs.Acts.{Act, Came, Did}
+use Rattle.ws_session.specs.Acts.{Act, Came, Did, HasGone}
 use Rattle.ws_session.specs.station.Displays.{SideOn}
 use Rattle.ws_session.specs.Reaction.{Reaction, Refuses, GoesOn}
-use Rattle.ws_session.specs.station.StationSide.{StationSide}
+use Rattle.ws_session.specs.declared.end_step.Applied.{Applied}
+use Rattle.ws_session.specs.station.StationManners.{manner_on}
+use Rattle.ws_session.specs.station.StationSide.{StationSide, profile}
 use Rattle.ws_extended_station.specs.Bytewise.{by_bytes}
-use Rattle.ws_extended_station.specs.ExtendedDisplays.{ExtendedSide, with_profile}
+use Rattle.ws_extended_station.specs.ExtendedDisplays.{ExtendedSide, extended, with_profile}
 use Rattle.ws_extended_station.specs.declared.extended_key.ExtendedKey.{ExtendedKey}
 use Rattle.ws_extended_station.specs.declared.extended_key.ExtendedKey.TheVariants.{Profile as ProfileKey}
 
@@ -45,3 +51,15 @@ as_reacted s (GoesOn next items) = GoesOn (with_profile s next) (map by_bytes it
 -- just these items have arrived, and the end stands on this side
 abbrev pub HaveJustArrived : {U H : Type 0} → List (Item U) → SideOn H → List ℕ → List (Item U) → SideOn H → Type 0
 HaveJustArrived arrived next bytes items side = (items ≡ arrived) × (side ≡ next)
+
+-- at a station of the profile, behind these bytes, the acts lead on, write and tell this, and just these items arrive
+abbrev pub ProfileGoes : StationSide → StationSide → List (Item Element) → List ℕ → List (Item Element)
+    → List (Act Key) → List ℕ → List Applied → Type 0
+ProfileGoes side next arrived bytes items acts written told =
+    HasGone element_rules answer_rules (manner_on profile) (HaveJustArrived arrived next) bytes items side acts written told
+
+-- the same at a station that live hosts use
+abbrev pub ExtendedGoes : ExtendedSide → ExtendedSide → List (Item ExtendedElement) → List ℕ
+    → List (Item ExtendedElement) → List (Act ExtendedKey) → List ℕ → List Applied → Type 0
+ExtendedGoes side next arrived bytes items acts written told =
+    HasGone extended_rules raw_rules (manner_on extended) (HaveJustArrived arrived next) bytes items side acts written told

@@ -1,12 +1,13 @@
 -- A screen that is saved, and comes back (SC30-3533, Save Screen and Restore Screen commands).
-use Rattle.std.specs.Prelude.{◌≡◌, [], None}
+use Rattle.std.specs.Prelude.{◌≡◌, [], List, None, false, unwrap_or}
 use Rattle.ws_code.specs.Code.{IsChain, spelling_of}
 use Rattle.ws_nego.specs.declared.terminal.TerminalType.{TerminalType}
 use Rattle.ws_record.specs.declared.record.Record.{Record}
 use Rattle.ws_screen.specs.Bodies.{screen_of}
 use Rattle.ws_screen.specs.Given.{Gives}
 use Rattle.ws_screen.specs.ScreenParts.{IsLegal, ScreenParts}
-use Rattle.ws_extended.specs.ErrorLine.{error_row}
+use Rattle.ws_stream.specs.declared.element.Element.{Element}
+use Rattle.ws_extended.specs.ErrorLine.{error_row, text_cursor}
 use Rattle.ws_extended.specs.ExtendedElements.{extended_rules}
 use Rattle.ws_extended.specs.ExtendedStates.{ExtendedState, state_after_reset}
 use Rattle.ws_extended.specs.Image.{IsTyped}
@@ -14,7 +15,10 @@ use Rattle.ws_extended.specs.Telling.{told_bytes}
 use Rattle.ws_extended.specs.declared.ask.Ask.TheVariants.{SaveScreen}
 use Rattle.ws_extended.specs.declared.extended_element.ExtendedElement.{ExtendedElement}
 use Rattle.ws_session.specs.station.Alarms.{alarms_of}
+use Rattle.ws_session.specs.station.Displays.{Silent}
 use Rattle.ws_session.specs.station.StationSide.{opcode_events}
+use Rattle.ws_extended_station.specs.ExtendedDisplays.{ExtendedSide, extended, with_state}
+use Rattle.ws_extended_station.specs.declared.extended_key.ExtendedKey.TheVariants.{Reset}
 use Rattle.ws_extended_station.specs.ExtendedRecords.{record_fault, state_after_record}
 
 -- a screen in hand is what a display tells of when it is saved: the one that Reset would leave
@@ -39,3 +43,11 @@ pub record ComesBack (saved : ExtendedState) (screen : ScreenParts) (state : Ext
   pub row : error_row (state_after_record state r).history ≡ error_row saved.history
   pub none_stands : (state_after_record state r).kept ≡ None
   pub silent : alarms_of (state_after_record state r).history ≡ alarms_of state.history
+
+-- Reset behind this record, whose text leads the cursor, sends nothing and leaves the screen as it was, but for the lock
+-- and the cursor
+abbrev pub TakesErrorBack : ExtendedSide → ScreenParts → Record ExtendedElement → List Element → Type 0
+TakesErrorBack side screen r text = let stood : ExtendedState = state_after_record side.happened.state r in
+    (extended.presses (with_state side stood) Reset ≡ Silent (with_state side (state_after_reset stood)))
+    × Gives (state_after_reset stood).history
+    (record screen { locked = false; cursor = unwrap_or (text_cursor text None) screen.cursor })

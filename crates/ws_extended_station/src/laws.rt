@@ -1,6 +1,6 @@
 // What holds of the display that live hosts use by its definition. These functions do nothing: a caller gets the law
 // by the call.
-ghost use Rattle.std.specs.Prelude.{◌≡◌, ◌+◌, ◌∷◌, [], ℕ, List, None, false, map, unwrap_or};
+ghost use Rattle.std.specs.Prelude.{◌≡◌, ◌+◌, ◌∷◌, [], ℕ, List, None, false, map};
 ghost use Rattle.std.specs.List.{AllByRecursion};
 ghost use Rattle.ws_code.specs.Code.{IsWhole, spelling_of};
 ghost use Rattle.ws_nego.specs.declared.terminal.TerminalType.{TerminalType};
@@ -15,26 +15,26 @@ ghost use Rattle.ws_stream.specs.declared.element.Element.{Element};
 ghost use Rattle.ws_screen.specs.Given.{Gives};
 ghost use Rattle.ws_screen.specs.ScreenParts.{IsLegal, ScreenParts};
 ghost use Rattle.ws_keys.specs.declared.key.Key.{Key as AKey};
-ghost use Rattle.ws_extended.specs.ErrorLine.{IsErrorText, text_cursor};
+ghost use Rattle.ws_extended.specs.ErrorLine.{IsErrorText};
 ghost use Rattle.ws_extended.specs.ExtendedElements.{extended_rules};
 ghost use Rattle.ws_extended.specs.ExtendedStates.{ExtendedState, state_after_reset};
 ghost use Rattle.ws_extended.specs.Telling.{told_bytes};
 ghost use Rattle.ws_extended.specs.declared.ask.Ask.TheVariants.{SaveScreen};
 ghost use Rattle.ws_extended.specs.declared.extended_element.ExtendedElement.{ExtendedElement as AnElement};
 ghost use Rattle.ws_extended.specs.declared.extended_element.ExtendedElement.TheVariants.{Text, WriteError};
-ghost use Rattle.ws_session.specs.Acts.{Act, Happening, HasGone, doing};
+ghost use Rattle.ws_session.specs.Acts.{Act, Happening, doing};
 ghost use Rattle.ws_session.specs.station.Alarms.{alarms_of};
 ghost use Rattle.ws_session.specs.station.Displays.{Silent};
 ghost use Rattle.ws_session.specs.Reaction.{GoesOn};
 ghost use Rattle.ws_session.specs.station.StationManners.{key_on, manner_on, takes_on};
 ghost use Rattle.ws_session.specs.station.StationSide.{StationSide, opcode_events, profile};
 ghost use Rattle.ws_session.specs.declared.end_step.Applied.{Applied};
-ghost use Rattle.ws_extended_station.specs.BesideProfile.{HaveJustArrived, NoErrorStands, act_there, as_reacted, item_there};
+ghost use Rattle.ws_extended_station.specs.BesideProfile.{ExtendedGoes, NoErrorStands, ProfileGoes, act_there, as_reacted, item_there};
 ghost use Rattle.ws_extended_station.specs.Bytewise.{by_bytes};
 ghost use Rattle.ws_extended_station.specs.ExtendedAlarms.{extended_alarms_in};
-ghost use Rattle.ws_extended_station.specs.ExtendedDisplays.{ExtendedSide, as_profile, extended, profile_side, with_profile, with_state};
+ghost use Rattle.ws_extended_station.specs.ExtendedDisplays.{ExtendedSide, as_profile, extended, profile_side, with_profile};
 ghost use Rattle.ws_extended_station.specs.ExtendedRecords.{record_writes, state_after_record};
-ghost use Rattle.ws_extended_station.specs.SavedScreens.{BringsBack, ComesBack, IsSaved};
+ghost use Rattle.ws_extended_station.specs.SavedScreens.{BringsBack, ComesBack, IsSaved, TakesErrorBack};
 ghost use Rattle.ws_extended_station.specs.Written.{MayBeWritten};
 ghost use Rattle.ws_extended_station.specs.declared.extended_key.ExtendedKey.{ExtendedKey as AnExtendedKey};
 ghost use Rattle.ws_extended_station.specs.declared.extended_key.ExtendedKey.TheVariants.{Profile as ProfileKey, Reset};
@@ -53,11 +53,9 @@ pub fn acts_as_profile()
     ensures runs { (bytes : List ℕ) (items arrived : List (Item Element)) (s : ExtendedSide)
         (next : StationSide) (acts : List (Act AKey)) (written : List ℕ) (told : List Applied)
         → NoErrorStands s
-        → HasGone element_rules answer_rules (manner_on profile) (HaveJustArrived arrived next) bytes
-        items (profile_side s) acts written told
-        → HasGone extended_rules raw_rules (manner_on extended)
-        (HaveJustArrived (map item_there arrived) (with_profile s next)) bytes
-        (map item_there items) s (map act_there acts) written told }
+        → ProfileGoes (profile_side s) next arrived bytes items acts written told
+        → ExtendedGoes s (with_profile s next) (map item_there arrived) bytes
+        (map item_there items) (map act_there acts) written told }
 {}
 
 /// What a display tells when it is saved is a body of a live host. As a record it is refused by no display, whatever
@@ -89,10 +87,7 @@ pub fn reset_takes_errors_back()
         → Gives s.happened.state.history screen → IsLegal screen → screen.writing ≡ None
         → (r : Record AnElement) (text : List Element) → IsErrorText text
         → r.body ≡ WriteError ∷ map Text text → opcode_events r.opcode ≡ []
-        → (extended.presses (with_state s (state_after_record s.happened.state r)) Reset
-        ≡ Silent (with_state s (state_after_reset (state_after_record s.happened.state r))))
-        × Gives (state_after_reset (state_after_record s.happened.state r)).history
-        (record screen { locked = false; cursor = unwrap_or (text_cursor text None) screen.cursor }) }
+        → TakesErrorBack s screen r text }
     ensures none { (s : ExtendedSide) → NoErrorStands s → extended.presses s Reset ≡ Silent s }
     ensures silent { extended.sends Reset ≡ false }
 {}

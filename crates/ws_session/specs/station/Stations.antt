@@ -2,7 +2,7 @@
 
 use Rattle.std.specs.Prelude.{◌≡◌, ℕ, ◌+◌, ◌-◌, ◌^◌, min, true, false, List}
 use Rattle.std.specs.Prelude.{[], ◌∷◌, ◌++◌, ◌⊎◌, Option, Some, None, length, drop, Result, Ok, Err}
-use Rattle.ws_code.specs.Code.{Rules}
+use Rattle.ws_code.specs.Code.{Rules, IsChain, spelling_of}
 use Rattle.ws_code.specs.declared.reason.Reason.{Reason}
 use Rattle.ws_nego.specs.declared.terminal.TerminalType.{TerminalType}
 use Rattle.ws_record.specs.declared.record.Head.{Head}
@@ -46,6 +46,12 @@ module _ {D P U H PlaceV V K R : Type 0} (rules : Rules P U) (d : DisplayOf D U 
   abbrev pub AtStationOn : PartsOn D P → (List ℕ → List (Item U) → SideOn H → Type 0) → Type 0
   AtStationOn station Holds = (bytes : List ℕ) (items : List (Item U)) (side : SideOn H)
       → LeadsOn station bytes items side → Holds bytes items side
+
+  -- this holds of whatever the open record of the station has so far: the side on which it came, and its units
+  abbrev pub AtOpenRecord : PartsOn D P → (SideOn H → List U → Type 0) → Type 0
+  AtOpenRecord station Holds = (side : SideOn H) (units : List U) → IsChain rules rules.first units
+      → station.body_bytes ≡ spelling_of rules units → station.options ≡ side.options
+      → d.gives side.happened station.screen → Holds side units
 
   -- the station has taken no byte and no key
   pub record FreshOn (station : PartsOn D P) : Type 0 where
