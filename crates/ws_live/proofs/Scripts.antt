@@ -15,7 +15,7 @@ use Rattle.ws_live.specs.declared.script.script_line.LineFault.TheVariants.{Bad,
 use Rattle.ws_live.specs.script.KeyNames.{key_named}
 use Rattle.ws_live.specs.script.Script.{AreTypedMoves, typed_key, IsCount, IsSendOpcode, IsBodyText, IsRecordText}
 use Rattle.ws_live.specs.script.Script.{IsMove, MeansMoves, IsScriptLine, IsBad, AreLines, IsScript, IsFirstBad}
-use Rattle.ws_live.specs.script.Script.Means.{empty, comment, one, settle, typed, inserted}
+use Rattle.ws_live.specs.script.Script.MeansMoves.{empty, comment, one, settle, typed, inserted}
 use Rattle.ws_live.specs.script.ScriptFaults.{IsNoComment, IsLineFault, IsGoodSoFar, IsReadSoFar, has_no_blank}
 use Rattle.ws_live.proofs.ScriptWords.{differ, blank_inside, split_unique, digits_have_no_blank}
 

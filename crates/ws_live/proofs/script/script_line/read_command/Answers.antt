@@ -2,7 +2,7 @@ use Rattle.std.specs.Prelude.{codes, true, false}
 use Rattle.std.proofs.Common.{List, ℕ, [], ◌∷◌, ◌++◌, refl, ap, inl, inr}
 use Rattle.std.proofs.lemmas.Result.{on_ok_weaker, err_from_is_err_and, IfErr-weaker}
 use Rattle.ws_live.specs.script.Script.{IsMove, MeansMoves}
-use Rattle.ws_live.specs.script.Script.Means.{one, typed, inserted}
+use Rattle.ws_live.specs.script.Script.MeansMoves.{one, typed, inserted}
 use Rattle.ws_live.specs.script.ScriptFaults.{IsLineFault, IsGoodSoFar}
 use Rattle.ws_live.proofs.Scripts.{no_command, fault_on, only_memory, typed_any}
 use Rattle.ws_live.proofs.script.script_line.read_command.Goals as goal

@@ -6,7 +6,7 @@ use Rattle.std.proofs.lemmas.List.{append-nil}
 use Rattle.std.proofs.lemmas.Result.{on_ok_weaker, IfErr-weaker}
 use Rattle.ws_session.specs.declared.world.Move.{Move}
 use Rattle.ws_live.specs.script.Script.{MeansMoves, IsScriptLine}
-use Rattle.ws_live.specs.script.Script.Means.{comment}
+use Rattle.ws_live.specs.script.Script.MeansMoves.{comment}
 use Rattle.ws_live.specs.script.ScriptFaults.{IsLineFault, IsGoodSoFar}
 use Rattle.ws_live.proofs.ScriptWords.{comment_text, is_no_comment}
 use Rattle.ws_live.proofs.Scripts.{fault_on}

@@ -3,7 +3,7 @@ use Rattle.std.proofs.lemmas.Grind.{common_steps}
 use Rattle.std.proofs.lemmas.Result.{on_ok_weaker, IfErr-weaker}
 use Rattle.ws_session.specs.declared.world.Move.TheVariants.{Cancel}
 use Rattle.ws_live.specs.script.Script.{MeansMoves, settling}
-use Rattle.ws_live.specs.script.Script.Means.{one, settle}
+use Rattle.ws_live.specs.script.Script.MeansMoves.{one, settle}
 use Rattle.ws_live.proofs.Scripts.{only_memory}
 use Rattle.ws_live.proofs.script.script_line.read_word.Goals as goal
 
