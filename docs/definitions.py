@@ -2,7 +2,8 @@
 """Prints docs/DEFINITIONS.md from the comments of the specs, and checks that it stands so.
 
 With `--write` it writes the page. Without, it prints what is wrong: the page isn't what would be printed, a definition
-that a public contract cites isn't listed, one is listed where it isn't declared or has no comment, a name is nowhere.
+that a public contract cites isn't listed, one is listed where it isn't declared or has no comment, a name is nowhere,
+or two definitions of the crates have one name.
 Its last line counts what it looked at, and its status is 1 where something is wrong.
 
 What stands by hand is docs/definitions.head.md. There `<!-- reading: FILE FUNCTION; NAMES -->` is where a reading goes:
@@ -194,6 +195,17 @@ def misplaced(text):
     return count, wrong
 
 
+def told_twice(index):
+    """The names of public definitions that stand in two specs: one name says one thing."""
+    homes = {}
+    for source in index.sources.values():
+        if source.path.suffix == ".antt":
+            for name, definition in source.definitions.items():
+                if definition.is_public:
+                    homes.setdefault(name, []).append(definition.place)
+    return [f"{name} is defined in {' and in '.join(places)}" for name, places in sorted(homes.items()) if len(places) > 1]
+
+
 def main():
     index = Index()
     printed = Page(index).text()
@@ -206,6 +218,7 @@ def main():
     of_rows, wrong = misplaced(text)
     wrong += [f"not in DEFINITIONS.md: {name} ({place})" for name, place in sorted(places.items()) if name not in named]
     wrong += [f"DEFINITIONS.md names what is nowhere: {name}" for name in sorted(named - defined)]
+    wrong += told_twice(index)
     if text != printed:
         wrong.append("DEFINITIONS.md isn't what docs/definitions.py prints: run it with --write")
     for line in wrong:

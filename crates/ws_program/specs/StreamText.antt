@@ -10,11 +10,12 @@ use Rattle.ws_code.specs.declared.fault.Fault.{Fault}
 use Rattle.ws_code.specs.declared.fault.Fault.TheVariants.{Memory, Write}
 use Rattle.ws_code.specs.declared.fault.Fault.TheVariants as faults
 use Rattle.ws_code.specs.declared.reason.Reason.{Reason}
-use Rattle.ws_record.specs.Grammar.{Holds, IsInGrammar}
+use Rattle.ws_record.specs.Grammar.{IsInGrammar}
 use Rattle.ws_record.specs.Refusal.{Layer, IsOpen, IsRefused, IsTruncated}
 use Rattle.ws_record.specs.Receiver.{Receiving, HasReceived, HasUnit}
 use Rattle.ws_record.specs.declared.record.Item.{Item}
 use Rattle.ws_record.specs.declared.record.Item.TheVariants.{Record as RecordItem, Telnet as TelnetItem}
+pub use Rattle.ws_session.specs.Acts.{HoldsItems}
 use Rattle.ws_program.specs.CheckLine.{line_of, is_accepted}
 use Rattle.ws_program.specs.declared.verdict.Verdict.{Verdict}
 use Rattle.ws_program.specs.declared.verdict.Verdict.TheVariants.{Refused, Truncated}
@@ -45,10 +46,6 @@ module _ {U : Type 0} where
   lines_with view placed (Some x) = lines_of view placed ++ view.lines x.0 x.1
 
 module _ {Place U : Type 0} where
-  -- the bytes hold the items, and perhaps a part of one more
-  abbrev pub HoldsItems : Rules Place U → List ℕ → List (Item U) → Type 0
-  HoldsItems rules bytes items = (so_far : List ℕ) × (begun : List ℕ) × Holds rules bytes items so_far begun
-
   -- behind the items before, the item is complete with the byte at its place, and not before, and no layer refuses
   -- a byte up to that one
   pub record IsComplete (rules : Rules Place U) (bytes : List ℕ) (before : List (Item U)) (x : Placed U)
