@@ -7,6 +7,7 @@ ghost use Rattle.ws_live.specs.Causes as Spec;
 use crate::cause::Cause;
 use crate::cause_words::first_word;
 use crate::causes::cause_of;
+use crate::live_line::is_indented;
 use crate::sender::Sender;
 use crate::vocabulary::Vocabulary;
 use std::str;
@@ -179,10 +180,6 @@ fn is_command(name: &str) -> bool {
 
 fn is_items(vocabulary: Vocabulary) -> bool {
     matches!(vocabulary, Vocabulary::Items(_))
-}
-
-fn is_indented(line: &[u8]) -> bool {
-    matches!(line, [b' ', b' ', ..])
 }
 
 // The units of a record in lines of this kind.

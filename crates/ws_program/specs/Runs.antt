@@ -39,8 +39,8 @@ module _ {S : Type 0} (takes : MayTake S) (failures : S → ℕ) (from to : S) (
   HasRunInput asked accepted = (input : List ℕ)
       × HasAnsweredOpenly takes failures from to streams.output asked input accepted
 
-  -- Why it wasn't done. The input can't be read, and nothing was written; or this was met with the bytes that were
-  -- read of it, and is told with its cause.
+  -- Why what is asked of an input wasn't done. It can't be read, and nothing was written; or this was met with the
+  -- bytes that were read of it, and is told with its cause.
   abbrev pub IsFaultOfInput : Asked → ToldFault → Type 0
   IsFaultOfInput asked fault = ((why : RunFault) × (to ≡ from) × IsUnread why × (fault ≡ told.Run why))
       ⊎ ((why : RunFault) × ((input : List ℕ) × IsOpenFault takes failures from to streams.output asked input why
@@ -52,12 +52,12 @@ module _ {S : Type 0} (takes : MayTake S) (failures : S → ℕ) (from to : S) (
   HasRunTask (Live asked) accepted = (missing_live streams asked ≡ None)
       × HasRunLive takes failures from to asked accepted
 
-  -- why it wasn't done; where a live session lacks a stream, nothing was written
+  -- why a task wasn't done; where a live session lacks a stream, nothing was written
   abbrev pub IsFaultOfTask : Task → ToldFault → Type 0
   IsFaultOfTask (Input asked) fault = IsFaultOfInput asked fault
   IsFaultOfTask (Live asked) fault = (why : RunFault) → missing_live streams asked ≡ Some why → to ≡ from
 
-  -- why the program didn't do what its words ask for: where the fault is in the words, nothing was written
+  -- why the program didn't do what its words ask for: where the fault is in these, nothing was written
   abbrev pub IsFaultOfRun : CommandFault → Type 0
   IsFaultOfRun (Words why) = to ≡ from
   IsFaultOfRun (Run fault) = (to ≡ from) × (fault ≡ Memory)
