@@ -22,6 +22,8 @@ mod play_rows;
 #[cfg(test)]
 mod program_rows;
 #[cfg(test)]
+mod run_rows;
+#[cfg(test)]
 mod show_rows;
 #[cfg(test)]
 mod size_rows;

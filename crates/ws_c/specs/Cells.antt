@@ -18,8 +18,8 @@ cell_told s c = record {
 }
 
 -- rows of the screen, in order: from the first to the last, each of 1 to 24
-abbrev pub AreRows : ℕ → ℕ → Type 0
-AreRows first last = (1 ≤ first) × (first ≤ last) × (last ≤ 24)
+abbrev pub AreRowNumbers : ℕ → ℕ → Type 0
+AreRowNumbers first last = (1 ≤ first) × (first ≤ last) × (last ≤ 24)
 
 -- how many cells these rows have
 abbrev pub cells_in : ℕ → ℕ → ℕ

@@ -2,7 +2,7 @@
 ghost use Rattle.std.specs.Prelude.{◌≡◌, ◌≤◌, ◌<◌, ◌++◌, drop, length, slice_get};
 ghost use Rattle.ws_c.specs.declared.status.Status.{Status as AStatus};
 ghost use Rattle.ws_c.specs.Calls.{IsFieldTold, no_field, no_state, status_number};
-ghost use Rattle.ws_c.specs.Cells.{AreRows, cells_in, rows_told};
+ghost use Rattle.ws_c.specs.Cells.{AreRowNumbers, cells_in, rows_told};
 ghost use Rattle.ws_c.specs.Held.{OnHost};
 ghost use Rattle.ws_c.specs.HostScreens.{host_state_told};
 
@@ -59,7 +59,7 @@ fn look_at_cells(
     last_row: u8,
     cells: &mut [CellTold],
 ) -> Status
-    requires rows { AreRows first_row last_row }
+    requires rows { AreRowNumbers first_row last_row }
     requires room { cells_in first_row last_row ≤ length cells.old }
     ensures { OnHost handle.old.owned.value handle.new.owned.value result
         (λ old new. (new ≡ old) × (result ≡ Status.Done)
@@ -86,16 +86,16 @@ pub extern "C" fn ws_c_host_cells(
     last_row: u8,
     cells: &mut [CellTold],
 ) -> u32
-    ensures cells { AreRows first_row last_row → cells_in first_row last_row ≤ length cells.old
+    ensures cells { AreRowNumbers first_row last_row → cells_in first_row last_row ≤ length cells.old
         → (status : AStatus) × (result ≡ status_number status)
         × OnHost handle.old.owned.value handle.new.owned.value status
         (λ old new. (new ≡ old) × (status ≡ Status.Done)
         × (cells.new ≡ rows_told old.end.screen first_row last_row
         ++ drop (cells_in first_row last_row) cells.old))
         (cells.new ≡ cells.old) }
-    ensures off { ¬ AreRows first_row last_row → (result ≡ status_number Status.BadArgument)
+    ensures off { ¬ AreRowNumbers first_row last_row → (result ≡ status_number Status.BadArgument)
         × (handle.new ≡ handle.old) × (cells.new ≡ cells.old) }
-    ensures room { AreRows first_row last_row
+    ensures room { AreRowNumbers first_row last_row
         → length cells.old < cells_in first_row last_row → (result ≡ status_number Status.NoRoom)
         × (handle.new ≡ handle.old) × (cells.new ≡ cells.old) }
 {

@@ -4,7 +4,7 @@ ghost use Rattle.std.specs.List.{range_with_len};
 ghost use Rattle.ws_code.specs.declared.address.TheConstants.{CELLS as ALL_CELLS};
 ghost use Rattle.ws_c.specs.declared.status.Status.{Status as AStatus};
 ghost use Rattle.ws_c.specs.Calls.{status_number};
-ghost use Rattle.ws_c.specs.Cells.{AreRows, cell_told as told_of, cells_in, rows_told};
+ghost use Rattle.ws_c.specs.Cells.{AreRowNumbers, cell_told as told_of, cells_in, rows_told};
 ghost use Rattle.ws_c.specs.Held.{OnScreen};
 
 use crate::cell_fields::{fields_behind, index_at, passed};
@@ -86,7 +86,7 @@ pub(crate) fn tell_rows(
     last_row: u8,
     cells: &mut [CellTold],
 ) -> Status
-    requires rows { AreRows first_row last_row }
+    requires rows { AreRowNumbers first_row last_row }
     requires room { cells_in first_row last_row ≤ length cells.old }
     ensures status { result ≡ Status.Done }
     ensures cells { cells.new ≡ rows_told screen.now first_row last_row
@@ -105,7 +105,7 @@ fn look_at_cells(
     last_row: u8,
     cells: &mut [CellTold],
 ) -> Status
-    requires rows { AreRows first_row last_row }
+    requires rows { AreRowNumbers first_row last_row }
     requires room { cells_in first_row last_row ≤ length cells.old }
     ensures { OnScreen handle.old.owned.value handle.new.owned.value result
         (λ screen. (result ≡ Status.Done)
@@ -133,16 +133,16 @@ pub extern "C" fn ws_c_station_cells(
     last_row: u8,
     cells: &mut [CellTold],
 ) -> u32
-    ensures cells { AreRows first_row last_row → cells_in first_row last_row ≤ length cells.old
+    ensures cells { AreRowNumbers first_row last_row → cells_in first_row last_row ≤ length cells.old
         → (status : AStatus) × (result ≡ status_number status)
         × OnScreen handle.old.owned.value handle.new.owned.value status
         (λ screen. (status ≡ Status.Done)
         × (cells.new ≡ rows_told screen first_row last_row
         ++ drop (cells_in first_row last_row) cells.old))
         (cells.new ≡ cells.old) }
-    ensures off { ¬ AreRows first_row last_row → (result ≡ status_number Status.BadArgument)
+    ensures off { ¬ AreRowNumbers first_row last_row → (result ≡ status_number Status.BadArgument)
         × (handle.new ≡ handle.old) × (cells.new ≡ cells.old) }
-    ensures room { AreRows first_row last_row
+    ensures room { AreRowNumbers first_row last_row
         → length cells.old < cells_in first_row last_row → (result ≡ status_number Status.NoRoom)
         × (handle.new ≡ handle.old) × (cells.new ≡ cells.old) }
 {

@@ -1,5 +1,5 @@
-//! Sessions by lines: scripts and their moves, the lines of a live session at either end over any devices, and what
-//! is printed of events, screens and fields.
+//! Sessions by lines: scripts and their moves, what is asked of a live session and its lines at either end over any
+//! devices, what is printed of events, screens and fields, and why a line is bad or a run is at fault.
 #![tactic(auto)]
 
 mod asked;

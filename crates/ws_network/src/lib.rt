@@ -1,5 +1,5 @@
-//! Live sessions over a connection: a station at a host, and a host for one station, by the lines of a script or of
-//! standard input.
+//! All that names a socket or a clock. Live sessions over a connection: a station at a host, and a host for one station,
+//! by the lines of a script or of standard input; and sessions of both ends over one.
 #![tactic(auto)]
 
 mod any_input;

@@ -10,7 +10,7 @@ use Rattle.ws_live.specs.declared.asked.fault.ToldFault.TheVariants as told
 use Rattle.ws_live.specs.declared.asked.open_streams.OpenStreams.{OpenStreams}
 use Rattle.ws_live.specs.declared.asked.sender.Sender.{Sender}
 use Rattle.ws_program.specs.Answering.{HasCheckedBy, IsCheckFaultBy}
-use Rattle.ws_program.specs.Runs.{HasRunInput, IsFaultOfInput, IsUnread}
+use Rattle.ws_program.specs.Runs.{HasRunInput, IsFaultOfInput, IsInputUnread}
 use Rattle.ws_program.specs.Streams.{IsOpenFault}
 use Rattle.ws_program.specs.ToldFaults.{IsToldOf}
 use Rattle.ws_program.specs.declared.words.command_line.Asked.{Asked}
@@ -30,7 +30,7 @@ module _ {S : Type 0} (writer : Writer S) (from to : S) (file : Option (Bor (Lis
 
   -- the input can't be read, or this was met with its bytes
   abbrev pub IsRawFault : RunFault → Type 0
-  IsRawFault fault = ((to ≡ from) × IsUnread fault) ⊎ ((input : List ℕ)
+  IsRawFault fault = ((to ≡ from) × IsInputUnread fault) ⊎ ((input : List ℕ)
       × IsOpenFault writer from to streams.output (Check file Raw cut sender) input fault)
 
   pub raw_done : (Gave : List ℕ → Type 0) (result : Result Bool RunFault)

@@ -26,8 +26,8 @@ IsWordsFault (Run fault) = fault ≡ Memory
 IsWordsFault (Told fault) = ⊥
 
 -- an input can't be read, or a growth was refused in reading it
-abbrev pub IsUnread : RunFault → Type 0
-IsUnread fault = (fault ≡ Read) ⊎ (fault ≡ Memory)
+abbrev pub IsInputUnread : RunFault → Type 0
+IsInputUnread fault = (fault ≡ Read) ⊎ (fault ≡ Memory)
 
 -- what a live session lacks: without a script it reads standard input
 abbrev pub missing_live : OpenStreams → ALive → Option RunFault
@@ -39,10 +39,10 @@ module _ {S : Type 0} (writer : Writer S) (from to : S) (streams : OpenStreams) 
   HasRunInput asked accepted = (input : List ℕ)
       × HasAnsweredOpenly writer from to streams.output asked input accepted
 
-  -- Why it wasn't done. The input can't be read, and nothing was written; or this was met with the bytes that were
-  -- read of it, and is told with its cause.
+  -- Why what is asked of an input wasn't done. It can't be read, and nothing was written; or this was met with the
+  -- bytes that were read of it, and is told with its cause.
   abbrev pub IsFaultOfInput : Asked → ToldFault → Type 0
-  IsFaultOfInput asked fault = ((why : RunFault) × (to ≡ from) × IsUnread why × (fault ≡ told.Run why))
+  IsFaultOfInput asked fault = ((why : RunFault) × (to ≡ from) × IsInputUnread why × (fault ≡ told.Run why))
       ⊎ ((why : RunFault) × ((input : List ℕ) × IsOpenFault writer from to streams.output asked input why
       × IsToldOf asked input fault why))
 
@@ -52,12 +52,12 @@ module _ {S : Type 0} (writer : Writer S) (from to : S) (streams : OpenStreams) 
   HasRunTask (Live asked) accepted = (missing_live streams asked ≡ None)
       × HasRunLive writer from to asked accepted
 
-  -- why it wasn't done; where a live session lacks a stream, nothing was written
+  -- why a task wasn't done; where a live session lacks a stream, nothing was written
   abbrev pub IsFaultOfTask : Task → ToldFault → Type 0
   IsFaultOfTask (Input asked) fault = IsFaultOfInput asked fault
   IsFaultOfTask (Live asked) fault = (why : RunFault) → missing_live streams asked ≡ Some why → to ≡ from
 
-  -- why the program didn't do what its words ask for: where the fault is in the words, nothing was written
+  -- why the program didn't do what its words ask for: where the fault is in these, nothing was written
   abbrev pub IsFaultOfRun : CommandFault → Type 0
   IsFaultOfRun (Words why) = to ≡ from
   IsFaultOfRun (Run fault) = (to ≡ from) × (fault ≡ Memory)

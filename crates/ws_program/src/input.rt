@@ -1,5 +1,5 @@
 ghost use Rattle.std.specs.Prelude.{◌≡◌, ◌⊎◌, [], List as Seq, ℕ, IfOk, IfErr};
-ghost use Rattle.ws_program.specs.Runs.{HasRunInput, IsUnread, IsWordsFault};
+ghost use Rattle.ws_program.specs.Runs.{HasRunInput, IsInputUnread, IsWordsFault};
 ghost use Rattle.ws_program.specs.Streams.{IsOpenFault};
 
 use crate::command_fault::CommandFault;
@@ -32,7 +32,7 @@ pub fn read_input<R: Files + Input + AllocGlobal>(
     rt: &R,
     file: Option<&str>,
 ) -> Result<Vec<u8>, RunFault>
-    ensures { IfErr result IsUnread }
+    ensures { IfErr result IsInputUnread }
 {
     match file {
         Some(path) => Ok(fs::read(rt, path)?),
@@ -57,7 +57,7 @@ pub fn check_file<R: Files<File = File> + Input, S: Sink>(
     // The bytes that were read are those of a raw input.
     ensures done { IfOk result (HasRunInput S.writer sink.old.sink sink.new.sink
         streams (Asked.Check file.entry StreamForm.Raw cut from)) }
-    ensures fault { IfErr result (λ fault. ((sink.new.sink ≡ sink.old.sink) × IsUnread fault)
+    ensures fault { IfErr result (λ fault. ((sink.new.sink ≡ sink.old.sink) × IsInputUnread fault)
         ⊎ ((input : Seq ℕ) × IsOpenFault S.writer sink.old.sink sink.new.sink
         streams.output (Asked.Check file.entry StreamForm.Raw cut from) input fault)) }
 {

@@ -46,9 +46,9 @@ unconnected_by kind.ConnectionAborted = why.Reset
 unconnected_by any = why.Failed
 
 -- why an input can't be read, by the kind of the error
-abbrev pub unread_by : ErrorKind → RunFault
-unread_by kind.OutOfMemory = Memory
-unread_by any = Read
+abbrev pub fault_of_reading : ErrorKind → RunFault
+fault_of_reading kind.OutOfMemory = Memory
+fault_of_reading any = Read
 
 -- a fault of a script as the program's own
 abbrev pub script_run_fault : ScriptFault → RunFault

@@ -1,7 +1,7 @@
 ghost use Rattle.std.specs.Prelude.{◌≡◌};
 ghost use Rattle.ws_live.specs.asked.RunFaults.{run_fault, script_run_fault, items_run_fault};
 ghost use Rattle.std_io.specs.IoError.{error_kind};
-ghost use Rattle.ws_live.specs.asked.RunFaults.{told_fault, unconnected_by, unread_by};
+ghost use Rattle.ws_live.specs.asked.RunFaults.{told_fault, unconnected_by, fault_of_reading};
 ghost use Rattle.ws_live.specs.declared.asked.fault.ToldFault.TheVariants as told_variant;
 
 use crate::script::ScriptFault;
@@ -147,7 +147,7 @@ impl From<ItemsFault> for RunFault {
 }
 
 impl From<io::Error> for RunFault {
-    ghost from_gives = { λ error fault. fault ≡ unread_by (error_kind error) };
+    ghost from_gives = { λ error fault. fault ≡ fault_of_reading (error_kind error) };
 
     // Of an input.
     fn from(error: io::Error) -> Self {

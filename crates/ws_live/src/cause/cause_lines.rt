@@ -5,10 +5,11 @@ ghost use Rattle.ws_live.specs.cause.Causes.{IsCauseAt};
 ghost use Rattle.ws_live.specs.cause.Causes as Spec;
 
 use crate::cause::Cause;
+use crate::asked::sender::Sender;
 use crate::cause::cause_words::first_word;
 use crate::cause::causes::cause_of;
-use crate::asked::sender::Sender;
 use crate::cause::vocabulary::Vocabulary;
+use crate::live::live_line::is_indented;
 use std::str;
 use ws_text::first_line;
 
@@ -179,10 +180,6 @@ fn is_command(name: &str) -> bool {
 
 fn is_items(vocabulary: Vocabulary) -> bool {
     matches!(vocabulary, Vocabulary::Items(_))
-}
-
-fn is_indented(line: &[u8]) -> bool {
-    matches!(line, [b' ', b' ', ..])
 }
 
 // The units of a record in lines of this kind.
