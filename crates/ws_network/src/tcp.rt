@@ -1,9 +1,9 @@
 ghost use Rattle.std.specs.Prelude.{◌≡◌, List as Seq, IfOk, IfErr};
 ghost use Rattle.ws_code.specs.declared.fault.Fault.{Fault as AFault};
-ghost use Rattle.ws_session.specs.world.Crossings.{Crossing, AreFaithful, HaveCrossed, AreEnded};
-ghost use Rattle.ws_session.specs.world.Reports.{IsReport};
+ghost use Rattle.ws_code.specs.Device.{on_devices};
+ghost use Rattle.ws_session.specs.world.Carried.{HasRunOver};
+ghost use Rattle.ws_session.specs.world.Crossings.{Crossing, HaveCrossed, AreEnded};
 ghost use Rattle.ws_session.specs.world.TwoLines.{HasRun};
-ghost use Rattle.ws_session.specs.world.World.{new_world, after_moves};
 ghost use Rattle.ws_network.specs.TcpFaults.{tcp_fault, tcp_run_fault};
 
 use std::alloc::Global;
@@ -115,18 +115,9 @@ pub fn play_over<S: Sink, R: Source, T: Sink, Q: Source>(
 ) -> Result<Report, TcpFault>
     // These pieces crossed the lines, and what came out of them arrived. Where it is what went in, the session is
     // that of `World::run`.
-    ensures done { IfOk result (λ r. (downs ups : Seq Crossing)
-        × HaveCrossed (on_devices S.writer R.reader) down.old downs down.new
-        × HaveCrossed (on_devices T.writer Q.reader) up.old ups up.new
-        × HasRun terminal moves.now downs ups (record {
-          station = r.station;
-          host = r.host;
-          to_station = r.to_station;
-          to_host = r.to_host;
-          events = r.events;
-        })
-        × (AreFaithful downs → AreFaithful ups → IsReport r.events r.station r.host
-        r.to_station r.to_host (after_moves (new_world terminal) moves.now))) }
+    ensures done { IfOk result (HasRunOver terminal moves.now
+        (λ downs. HaveCrossed (on_devices S.writer R.reader) down.old downs down.new)
+        (λ ups. HaveCrossed (on_devices T.writer Q.reader) up.old ups up.new)) }
     ensures fault { IfErr result (λ told. (fault : AFault) × (told ≡ tcp_fault fault)
         × AreEnded (on_devices S.writer R.reader) (on_devices T.writer Q.reader)
         down.old down.new up.old up.new fault) }

@@ -288,10 +288,15 @@ module _ {D P U H PlaceV V Q R : Type 0} (rules : Rules P U) (d : DisplayOf D U 
             StationRuns paint (Bad cause) from outcome text to = (to ≡ from) × (outcome ≡ bad_outcome)
                 × (text ≡ bad_text (string_bytes cause))
 
-            -- what the lines of a script at a station print, and whether all went well
             module _ {W : Type 0} (begins : W → S → WaitSpan → W → Type 0) (begun : W → ℕ) where
+              -- the same with the time for which it waits
+              abbrev pub StationRunsInTime : Paint → StationLine Q → ((AttachedStation × ℕ) × W) → Result Closing Fault
+                  → List ℕ → ((AttachedStation × ℕ) × W) → Type 0
+              StationRunsInTime paint = InTime (StationRuns paint) station_waits begins begun
+
+              -- what the lines of a script at a station print, and whether all went well
               abbrev pub IsConnectText : Paint → Bool → ((AttachedStation × ℕ) × W) → List (StationLine Q) → Bool → List ℕ
                   → ((AttachedStation × ℕ) × W) → Type 0
               IsConnectText paint ready from lines all_well text to = (ran : Ran)
-                  × IsLiveText (InTime (StationRuns paint) station_waits begins begun) ready from lines ran text to
+                  × IsLiveText (StationRunsInTime paint) ready from lines ran text to
                   × (all_well ≡ ran.all_well)
