@@ -3,7 +3,7 @@
 use Rattle.std.specs.Prelude.{ℕ, List, [], ◌∷◌, Option, Some, None, codes, if◌then◌else◌}
 use Rattle.std.specs.Str.{bytes_eq}
 use Rattle.ws_code.specs.Aid.{function_aid}
-use Rattle.ws_text.specs.Names.{look_up}
+pub use Rattle.ws_text.specs.Names.{look_up}
 use Rattle.ws_keys.specs.declared.key.Key.{Key}
 use Rattle.ws_keys.specs.declared.key.Key.TheVariants.{Left, Right, Up, Down, Home, Tab, BackTab, FieldExit, FieldMinus}
 use Rattle.ws_keys.specs.declared.key.Key.TheVariants.{Dup, Delete, EraseInput, Aid, Attention, SystemRequest}
