@@ -25,10 +25,10 @@ pub(crate) mod watch;
 pub(crate) mod wire_line;
 pub(crate) mod wire_words;
 
-use crate::printing::buffered_sink::BufferedSink;
 use crate::live::live_line::LiveLine;
-use crate::printing::paint::Paint;
 use crate::live::watch::Watch;
+use crate::printing::buffered_sink::BufferedSink;
+use crate::printing::paint::Paint;
 use ws_code::{Fault, Sink};
 use ws_session::Attached;
 use ws_text::{Output, put_text};

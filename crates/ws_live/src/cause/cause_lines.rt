@@ -4,8 +4,8 @@ ghost use Rattle.std.specs.Str.Lines.{lines};
 ghost use Rattle.ws_live.specs.cause.Causes.{IsCauseAt};
 ghost use Rattle.ws_live.specs.cause.Causes as Spec;
 
-use crate::cause::Cause;
 use crate::asked::sender::Sender;
+use crate::cause::Cause;
 use crate::cause::cause_words::first_word;
 use crate::cause::causes::cause_of;
 use crate::cause::vocabulary::Vocabulary;

@@ -10,9 +10,9 @@ ghost use Rattle.ws_live.specs.declared.cause.vocabulary.Vocabulary.{Vocabulary 
 
 use crate::cause::Cause;
 use crate::cause::cause_kinds::Kind;
+use crate::cause::vocabulary::Vocabulary;
 use crate::script::key_name::aid_named;
 use crate::script::named_key::NamedKey;
-use crate::cause::vocabulary::Vocabulary;
 use ws_code::ebcdic;
 use ws_extended_station::ExtendedKey;
 use ws_keys::Key;

@@ -2,9 +2,9 @@
 ghost use Rattle.std.specs.Str.Lines.{lines};
 ghost use Rattle.ws_live.specs.cause.ToldCauses.{IsLineTold};
 
-use crate::cause::cause_text;
-use crate::cause::cause_lines::cause_at;
 use crate::asked::fault::{RunFault, ToldFault};
+use crate::cause::cause_lines::cause_at;
+use crate::cause::cause_text;
 use crate::cause::vocabulary::Vocabulary;
 use std::alloc::Global;
 

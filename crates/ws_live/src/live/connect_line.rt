@@ -5,17 +5,17 @@ ghost use Rattle.ws_live.specs.live.ConnectLines.{BeginsStationLine, IsStationLi
 ghost use Rattle.ws_live.specs.script.ScriptFaults.{IsLineFault, IsNoComment, has_no_blank};
 ghost use Rattle.ws_live.specs.declared.live.connect_line.StationLine.TheVariants.{Bad};
 
-use crate::script::key_line::{named_key, typed_keys};
 use crate::live::live_line::LiveLine;
-use crate::script::named_key::NamedKey;
 use crate::live::report::Report;
 use crate::live::report_words::{read_note, read_placed, read_row, read_span};
-use crate::script::ScriptFault;
-use crate::script::script_line::LineFault;
-use crate::script::script_move::split_word;
 use crate::live::stroke::Stroke;
 use crate::live::stroke_words::{read_cell, read_filling};
 use crate::live::wire_words::read_milliseconds;
+use crate::script::ScriptFault;
+use crate::script::key_line::{named_key, typed_keys};
+use crate::script::named_key::NamedKey;
+use crate::script::script_line::LineFault;
+use crate::script::script_move::split_word;
 use std::alloc::Global;
 use std::str;
 use ws_code::{Address, List};

@@ -4,9 +4,9 @@ ghost use Rattle.std.specs.Prelude.{◌≡◌, Bool};
 ghost use Rattle.ws_live.specs.live.ServeText as Spec;
 ghost use Rattle.ws_text.specs.Printing.{Prints};
 
+use crate::live::watch::Watch;
 use crate::live::{Carried, Closing};
 use crate::printing::play::put_event;
-use crate::live::watch::Watch;
 use ws_code::{Fault, Sink};
 use ws_session::{Event, SendFault};
 use ws_text::Output;

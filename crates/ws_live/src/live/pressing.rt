@@ -6,11 +6,11 @@ ghost use Rattle.ws_live.specs.live.Stroking.{keys_behind, stroke_keys};
 ghost use Rattle.ws_text.specs.Printing.{Prints};
 ghost use Rattle.ws_code.specs.Device.{on_devices};
 
-use crate::printing::colored_cells::put_char;
-use crate::live::{Carried, Closing};
-use crate::script::named_key::NamedKey;
-use crate::printing::play::put_key_fault;
 use crate::live::stroke::Stroke;
+use crate::live::{Carried, Closing};
+use crate::printing::colored_cells::put_char;
+use crate::printing::play::put_key_fault;
+use crate::script::named_key::NamedKey;
 use ws_code::{Sink, Source};
 use ws_keys::KeyRun;
 use ws_session::{Attached, KeyFault, StationDisplay, StationOn};

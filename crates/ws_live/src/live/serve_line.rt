@@ -7,13 +7,13 @@ ghost use Rattle.ws_live.specs.live.ServeLines.{IsAnswerAwaited};
 ghost use Rattle.ws_live.specs.script.ScriptFaults.{IsLineFault, IsNoComment, has_no_blank};
 ghost use Rattle.ws_live.specs.declared.live.serve_line.HostLine.TheVariants.{Bad};
 
-use crate::script::key_name::aid_named;
 use crate::live::live_line::LiveLine;
-use crate::script::ScriptFault;
-use crate::script::script_line::LineFault;
-use crate::script::script_move::{read_move, read_opcode, split_word};
 use crate::live::wire_line::WireLine;
 use crate::live::wire_words::read_wire;
+use crate::script::ScriptFault;
+use crate::script::key_name::aid_named;
+use crate::script::script_line::LineFault;
+use crate::script::script_move::{read_move, read_opcode, split_word};
 use std::alloc::Global;
 use std::str;
 use ws_code::Aid;

@@ -5,11 +5,11 @@ ghost use Rattle.ws_live.specs.script.ScriptFaults.{IsLineFault};
 ghost use Rattle.ws_live.specs.declared.live.stroke.Filling.{Filling as AFilling};
 ghost use Rattle.ws_text.specs.Words.{IsCell, IsSmall};
 
+use crate::live::stroke::Filling;
 use crate::script::key_line::typed_keys;
 use crate::script::named_key::NamedKey;
 use crate::script::script_line::LineFault;
 use crate::script::script_move::split_word;
-use crate::live::stroke::Filling;
 use std::alloc::Global;
 use ws_code::Address;
 use ws_screen::MAX_FIELDS;

@@ -8,8 +8,8 @@ ghost use Rattle.ws_live.specs.script.ScriptFaults.{IsLineFault};
 ghost use Rattle.ws_live.specs.live.WireLines as Spec;
 ghost use Rattle.ws_text.specs.Words.{IsHex};
 
-use crate::script::script_line::LineFault;
 use crate::live::wire_line::WireLine;
+use crate::script::script_line::LineFault;
 use hex::FromHexError;
 use std::alloc::Global;
 use std::slice;

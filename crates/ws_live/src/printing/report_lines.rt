@@ -5,8 +5,8 @@ ghost use Rattle.ws_nego.specs.Station.{station_allows_records};
 ghost use Rattle.ws_screen.specs.ScreenParts.{holds};
 ghost use Rattle.ws_text.specs.Printing.{Prints};
 
-use crate::printing::field_lines::cells_text;
 use crate::live::report::{Report, Span};
+use crate::printing::field_lines::cells_text;
 use crate::printing::screen_lines::lock_name;
 use ws_code::{Address, CELLS, COLUMNS, ROWS, Sink};
 use ws_screen::{Field, MAX_FIELDS, Screen, Shown};

@@ -8,8 +8,8 @@ ghost use Rattle.ws_text.specs.Printing.{Prints};
 ghost use Rattle.ws_live.specs.printing.ScreenLines as Spec;
 ghost use Rattle.ws_live.specs.printing.PlayLines.{AreScreenLines};
 
-use crate::printing::colored_cells::{put_colored_cells, without_last_blanks};
 use crate::live::operated_display::OperatedDisplay;
+use crate::printing::colored_cells::{put_colored_cells, without_last_blanks};
 use crate::printing::paint::Paint;
 use ws_code::{ROWS, Sink};
 use ws_screen::{Screen, Shown};

@@ -10,8 +10,8 @@ ghost use Rattle.ws_session.specs.attached.Playing.{AtPlayer, HasDone, IsBrought
 ghost use Rattle.ws_session.specs.station.StationLeads.{AtStation};
 ghost use Rattle.ws_session.specs.attached.StationRun.{IsRunFault};
 
-use crate::station::station_fed::StationFront;
 use crate::attached::writing::{fault_of, press_key};
+use crate::station::station_fed::StationFront;
 use crate::{Played, Station, StationDisplay};
 use ws_code::{Fault, Sink, write_whole};
 use ws_keys::Key;
