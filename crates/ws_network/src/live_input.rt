@@ -2,7 +2,7 @@
 ghost use Rattle.std.specs.Prelude.{◌≡◌, [], List, ℕ, false, IfOk, IfErr, MatchOption};
 ghost use Rattle.std.specs.Option.{is_some};
 ghost use Rattle.ws_code.specs.Device.{WentOut, on_devices};
-ghost use Rattle.ws_live.specs.live.ConnectText.{IsConnectText, StationRunsInTime};
+ghost use Rattle.ws_live.specs.live.ConnectText.{IsConnectText, StationRunsInTime as RunsInTime};
 ghost use Rattle.ws_live.specs.live.Waits.{InTime};
 ghost use Rattle.ws_live.specs.live.LiveText as Spec;
 ghost use Rattle.ws_network.specs.LiveFaults.{IsServeFault, IsSessionFault};
@@ -57,7 +57,7 @@ where
     ensures fault { IfErr result (λ fault. (lines : List (AStationLine D.Key))
         × MatchOption script.entry (Unit {0}) (λ asked. lines ≡ asked.now)
         × IsSessionFault
-        (StationRunsInTime D.Commands.rules D.does (on_devices K.writer S.reader)
+        (RunsInTime D.Commands.rules D.does (on_devices K.writer S.reader)
         W.tells W.rests D.operated D.Key.words W.begins W.begun paint) ready O.writer
         ((attached.old, ahead.old), watch.old) ((attached.new, ahead.new), watch.new) out.old.sink out.new.sink
         (is_some script.entry) lines fault) }
