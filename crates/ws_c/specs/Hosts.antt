@@ -12,7 +12,7 @@ use Rattle.ws_record.specs.declared.record.Item.TheVariants.{Telnet as TelnetIte
 use Rattle.ws_stream.specs.Elements.{element_rules}
 use Rattle.ws_stream.specs.declared.answer_part.AnswerPart.{AnswerPart}
 use Rattle.ws_keys.specs.declared.host_answer.HostAnswer.{HostAnswer}
-use Rattle.ws_session.specs.host_end.HostFeeds.{HasHostTakenAll, HasHostFed, HasHostRefused, HasHostToldNothing as AreSilent}
+use Rattle.ws_session.specs.host_end.HostFeeds.{HasHostTakenAll, HasHostFed, HasHostRefused, IsHostSilent as AreSilent}
 use Rattle.ws_session.specs.host_end.HostLeads.{HostParts, HostLeads}
 use Rattle.ws_session.specs.host_end.HostSide.{HostSide, new_host_side}
 use Rattle.ws_session.specs.declared.host_end.host_event.HostEvent.{HostEvent}

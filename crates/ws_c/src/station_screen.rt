@@ -3,7 +3,8 @@ ghost use Rattle.std.specs.Prelude.{◌≡◌, ◌≤◌, ◌<◌, length, slice
 ghost use Rattle.ws_code.specs.Address.{IsRowAndColumn, place_of};
 ghost use Rattle.ws_screen.specs.ScreenParts.{holds as holds_cell};
 ghost use Rattle.ws_c.specs.declared.status.Status.{Status as AStatus};
-ghost use Rattle.ws_c.specs.Calls.{IsFieldTold, IsRow, field_index as index_of, holds_front, no_field, no_state, status_number, place_refused, read_number as pending_number, reason_refused, row_number as number_of_row, row_text, state_of_screen, state_told, told_length};
+ghost use Rattle.ws_c.specs.Calls.{IsFieldTold, field_index as index_of, holds_front, no_field, no_state, status_number, place_refused, read_number as pending_number, reason_refused, row_number as number_of_row, row_text, state_of_screen, state_told, told_length};
+ghost use Rattle.ws_extended.specs.ErrorLine.{IsRow};
 ghost use Rattle.ws_c.specs.HeldStations.{extended_state_told};
 ghost use Rattle.ws_c.specs.Held.{OnScreen, OnStations};
 

@@ -4,7 +4,7 @@ use Rattle.ws_code.specs.Device.{Writer, FailedWithin}
 use Rattle.ws_code.specs.declared.fault.Fault.{Fault}
 use Rattle.ws_code.specs.declared.fault.Fault.TheVariants as device
 use Rattle.ws_record.specs.declared.record.Item.{Item}
-use Rattle.ws_text.specs.Items.{IsPrintingFault as IsItemsFault}
+use Rattle.ws_text.specs.Items.{IsTextFault as IsItemsFault}
 use Rattle.ws_text.specs.Printing.{IsPrintingFault}
 use Rattle.ws_text.specs.Wording.{Wording}
 use Rattle.ws_text.specs.declared.items.TextFault.{TextFault as ItemsFault}
