@@ -125,7 +125,8 @@ fn read_alone(alloc: Global, line: &[u8]) -> Result<AnyLine, ScriptFault>
 // A line as a text.
 fn read_text(alloc: Global, text: &str) -> Result<AnyLine, ScriptFault>
     ensures line { IfOk result (Spec.MeansAnyLine text.now) }
-    ensures fault { IfErr result (Spec.IsAnyLineFault (Spec.MeansAnyLine text.now) (Spec.IsLineBegun text.now)) }
+    ensures fault { IfErr result (Spec.IsAnyLineFault (Spec.MeansAnyLine text.now)
+        (Spec.IsLineBegun text.now)) }
 {
     if text.is_empty() {
         return Ok(AnyLine::Nothing);
@@ -158,7 +159,8 @@ fn read_word(alloc: Global, line: &str) -> Result<AnyLine, ScriptFault>
     requires no_send { (words : Seq ℕ) → line.now ≡ codes "send " ++ words → ⊥ }
     // What it means, or that it means nothing.
     ensures line { IfOk result (Spec.MeansAnyLine line.now) }
-    ensures fault { IfErr result (Spec.IsAnyLineFault (Spec.MeansAnyLine line.now) (Spec.IsLineBegun line.now)) }
+    ensures fault { IfErr result (Spec.IsAnyLineFault (Spec.MeansAnyLine line.now)
+        (Spec.IsLineBegun line.now)) }
 {
     if line == "await" {
         return Ok(AnyLine::Await);

@@ -24,7 +24,8 @@ pub fn exchanges_agree()
 /// ends.
 pub fn three_deliveries_suffice()
     ensures quiet { (terminal : TerminalType) (moves : List Move)
-        → IsExchangeQuiet (after_three_deliveries (after_token_moves moves (new_exchange terminal))) }
+        → IsExchangeQuiet (after_three_deliveries (after_token_moves moves
+        (new_exchange terminal))) }
     ensures station { (terminal : TerminalType) (moves : List Move)
         → let last = after_three_deliveries (after_token_moves moves (new_exchange terminal)) in
         station_allows_records last.station ≡ true }

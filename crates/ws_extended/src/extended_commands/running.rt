@@ -103,7 +103,8 @@ impl ExtendedCommands {
         // How many are used, and the run that they make.
         ensures some { 0 < result.used }
         ensures used { result.used ≤ length values.now }
-        ensures run { IsRunOfValues extended_rules K.holds K.may_answer (reading_by self.old) keep.old
+        ensures run { IsRunOfValues extended_rules K.holds K.may_answer
+            (reading_by self.old) keep.old
             (take result.used values.now) (reading_by self.new) at.new keep.new result.end }
     {
         let mut standing = Standing {
@@ -152,7 +153,8 @@ impl ExtendedCommands {
         // How many are used, and the run that they make.
         ensures some { 0 < result.used }
         ensures used { result.used ≤ length values.now }
-        ensures run { IsRunOfValues extended_rules K.holds K.may_answer (reading_by self.old) keep.old
+        ensures run { IsRunOfValues extended_rules K.holds K.may_answer
+            (reading_by self.old) keep.old
             (take result.used values.now) (reading_by self.new) at.new keep.new result.end }
     {
         if self.is_of_profile(values) {
@@ -174,7 +176,8 @@ impl ExtendedCommands {
         requires at { IsAt extended_rules (reading_by self.old) at.old }
         ensures some { 0 < result.used }
         ensures used { result.used ≤ length values.now }
-        ensures run { IsRunOfValues extended_rules K.holds K.may_answer (reading_by self.old) keep.old
+        ensures run { IsRunOfValues extended_rules K.holds K.may_answer
+            (reading_by self.old) keep.old
             (take result.used values.now) (reading_by self.new) at.new keep.new result.end }
     {
         if let Some(element) = self.data_here(values[0]) {

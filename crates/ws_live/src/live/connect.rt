@@ -95,7 +95,8 @@ fn put_what<D: OperatedDisplay, S: Source, K: Sink, W: Watch<S>, O: Sink>(
     output: Output,
 ) -> Carried
     requires works { attached.old.broken ≡ false }
-    ensures runs { (text : List ℕ) × Spec.Reports D.Commands.rules D.does (on_devices K.writer S.reader) W.tells report.now
+    ensures runs { (text : List ℕ)
+        × Spec.Reports D.Commands.rules D.does (on_devices K.writer S.reader) W.tells report.now
         (attached.old, ahead.old) result.outcome text (attached.new, ahead.new)
         × Prints O.writer out.old out.new output result.output text }
     ensures begun { HasBegunIf W.begins W.begun (Spec.report_waits report.now)
@@ -126,7 +127,10 @@ fn press_keys<D: OperatedDisplay, S: Source, K: Sink, O: Sink>(
 where
     D::Key: NamedKey,
     requires works { attached.old.broken ≡ false }
-    ensures runs { (text : List ℕ) × Spec.KeysRun D.Commands.rules D.does (on_devices K.writer S.reader) D.Key.words keys.now attached.old result.outcome text attached.new
+    ensures runs { (text : List ℕ)
+        × Spec.KeysRun D.Commands.rules D.does
+        (on_devices K.writer S.reader) D.Key.words keys.now attached.old result.outcome text
+        attached.new
         × Prints O.writer out.old out.new output result.output text }
     ensures works { IfOk result.outcome (λ closing. attached.new.broken ≡ false) }
 {

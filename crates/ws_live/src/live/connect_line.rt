@@ -137,7 +137,8 @@ fn read_command<Q: NamedKey>(
 ) -> Result<StationLine<Q>, LineFault>
     requires no_blank { has_no_blank command.now ≡ true }
     requires no_comment { IsNoComment (command.now ++ codes " " ++ words.now) }
-    ensures line { IfOk result (Spec.MeansStationLine Q.words (command.now ++ codes " " ++ words.now)) }
+    ensures line { IfOk result (Spec.MeansStationLine Q.words
+        (command.now ++ codes " " ++ words.now)) }
     ensures fault { IfErr result
         (IsLineFault (Spec.MeansStationLine Q.words (command.now ++ codes " " ++ words.now))
         (Spec.IsCommandSoFar Q.words (command.now ++ codes " " ++ words.now))) }

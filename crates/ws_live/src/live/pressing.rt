@@ -26,7 +26,8 @@ pub fn press_key<D: StationDisplay, S: Source, K: Sink, O: Sink>(
 where
     D::Key: NamedKey,
     requires works { attached.old.broken ≡ false }
-    ensures runs { (text : List ℕ) × Spec.KeyRuns D.Commands.rules D.does (on_devices K.writer S.reader) D.Key.words key
+    ensures runs { (text : List ℕ)
+        × Spec.KeyRuns D.Commands.rules D.does (on_devices K.writer S.reader) D.Key.words key
         attached.old result.outcome text attached.new
         × Prints O.writer out.old out.new output result.output text }
     ensures works { IfOk result.outcome (λ closing. attached.new.broken ≡ false) }
@@ -87,7 +88,8 @@ pub fn press_stroke<D: StationDisplay, S: Source, K: Sink, O: Sink>(
 where
     D::Key: NamedKey,
     requires works { attached.old.broken ≡ false }
-    ensures runs { (text : List ℕ) × Spec.StrokeRuns D.Commands.rules D.does (on_devices K.writer S.reader) D.Key.words
+    ensures runs { (text : List ℕ)
+        × Spec.StrokeRuns D.Commands.rules D.does (on_devices K.writer S.reader) D.Key.words
         (stroke_keys D.Key.words (D.does.shown attached.old.end.screen) stroke.now)
         attached.old result.outcome text attached.new
         × Prints O.writer out.old out.new output result.output text }
@@ -116,7 +118,8 @@ fn press_behind<D: StationDisplay, S: Source, K: Sink, O: Sink>(
 where
     D::Key: NamedKey,
     requires works { attached.old.broken ≡ false }
-    ensures runs { (text : List ℕ) × Spec.KeysUntil D.Commands.rules D.does (on_devices K.writer S.reader) D.Key.words
+    ensures runs { (text : List ℕ)
+        × Spec.KeysUntil D.Commands.rules D.does (on_devices K.writer S.reader) D.Key.words
         (keys_behind stroke.now) attached.old result.outcome text attached.new
         × Prints O.writer out.old out.new output result.output text }
     ensures works { IfOk result.outcome (λ closing. attached.new.broken ≡ false) }
@@ -140,7 +143,8 @@ fn press_until<D: StationDisplay, S: Source, K: Sink, O: Sink>(
 where
     D::Key: NamedKey,
     requires works { attached.old.broken ≡ false }
-    ensures runs { (text : List ℕ) × Spec.KeysUntil D.Commands.rules D.does (on_devices K.writer S.reader) D.Key.words
+    ensures runs { (text : List ℕ)
+        × Spec.KeysUntil D.Commands.rules D.does (on_devices K.writer S.reader) D.Key.words
         keys.now attached.old result.outcome text attached.new
         × Prints O.writer out.old out.new output result.output text }
     ensures works { IfOk result.outcome (λ closing. attached.new.broken ≡ false) }
@@ -169,7 +173,8 @@ fn press_runs<D: StationDisplay, S: Source, K: Sink, O: Sink>(
 where
     D::Key: NamedKey,
     requires works { attached.old.broken ≡ false }
-    ensures runs { (text : List ℕ) × Spec.KeysUntil D.Commands.rules D.does (on_devices K.writer S.reader) D.Key.words
+    ensures runs { (text : List ℕ)
+        × Spec.KeysUntil D.Commands.rules D.does (on_devices K.writer S.reader) D.Key.words
         (map D.Key.words.profile (keys_of runs.now)) attached.old result.outcome text attached.new
         × Prints O.writer out.old out.new output result.output text }
     ensures works { IfOk result.outcome (λ closing. attached.new.broken ≡ false) }
@@ -200,7 +205,8 @@ fn press_times<D: StationDisplay, S: Source, K: Sink, O: Sink>(
 where
     D::Key: NamedKey,
     requires works { attached.old.broken ≡ false }
-    ensures runs { (text : List ℕ) × Spec.KeysUntil D.Commands.rules D.does (on_devices K.writer S.reader) D.Key.words
+    ensures runs { (text : List ℕ)
+        × Spec.KeysUntil D.Commands.rules D.does (on_devices K.writer S.reader) D.Key.words
         (replicate times key) attached.old result.outcome text attached.new
         × Prints O.writer out.old out.new output result.output text }
     ensures works { IfOk result.outcome (λ closing. attached.new.broken ≡ false) }

@@ -21,7 +21,8 @@ use ws_text::{TextFault, read_items, read_number};
 /// A line that works on the connection itself.
 pub fn read_wire(alloc: Global, line: &str) -> Result<WireLine, LineFault>
     ensures line { IfOk result (Spec.MeansWire line.now) }
-    ensures fault { IfErr result (IsLineFault (Spec.MeansWire line.now) (Spec.IsWireBegun line.now)) }
+    ensures fault { IfErr result (IsLineFault (Spec.MeansWire line.now)
+        (Spec.IsWireBegun line.now)) }
 {
     if line == "close" {
         return Ok(WireLine::Close);

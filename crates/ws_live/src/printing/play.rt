@@ -36,11 +36,13 @@ pub fn play_painted_to<S: Sink>(
     sink: &mut S,
 ) -> Result<bool, Fault>
     ensures printed { IfOk result (λ all_well. (text : List ℕ)
-        × Spec.IsPaintedPlayText paint report.now.events report.now.station.screen.screen screen text
+        × Spec.IsPaintedPlayText paint report.now.events report.now.station.screen.screen screen
+        text
         × WentOut S.writer sink.old sink.new text
         × (all_well ≡ Spec.no_end_refuses report.now.events)) }
     ensures fault { IfErr result (λ fault. (fault ≡ Fault.Write) × ((text : List ℕ)
-        × Spec.IsPaintedPlayText paint report.now.events report.now.station.screen.screen screen text
+        × Spec.IsPaintedPlayText paint report.now.events report.now.station.screen.screen screen
+        text
         × FailedWithin S.writer sink.old sink.new text)) }
 {
     let events = report.events.as_slice();

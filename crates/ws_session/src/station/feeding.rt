@@ -84,7 +84,8 @@ impl<D: StationDisplay> StationOn<D> {
         // At which byte it is refused; an end that is over takes none.
         ensures refused { IfErr result.step (λ why. (byte : ℕ) × (rest : List ℕ)
             × (piece.now ≡ take result.used piece.now ++ byte ∷ rest)
-            × RefusesOn D.Commands.rules D.does self.old (take result.used piece.now) byte why self.new) }
+            × RefusesOn D.Commands.rules D.does self.old
+            (take result.used piece.now) byte why self.new) }
         ensures over { IsSome self.old.ended → (result.step ≡ Err Refusal.Failed)
             × (result.used ≡ 0) × (self.new ≡ self.old) }
         ensures after { OnErr result.step (IsSome self.new.ended) }

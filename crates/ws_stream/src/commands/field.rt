@@ -33,7 +33,8 @@ impl Commands {
     pub(super) fn format_low(&mut self, high: u8, byte: u8) -> End
         requires format { nat_le 0x40 high ≡ true }
         requires begun { IsUnfinished element_rules self.old.place (START_OF_FIELD ∷ high ∷ []) }
-        ensures { GoesOnWithElement self.old.place (START_OF_FIELD ∷ high ∷ []) byte self.new result }
+        ensures { GoesOnWithElement self.old.place
+            (START_OF_FIELD ∷ high ∷ []) byte self.new result }
     {
         match Ffw::new(word(high, byte)) {
             Some(format) => {

@@ -109,7 +109,8 @@ impl Commands {
         requires { IsUnfinished element_rules self.old.place (unfinished_of self.old) }
         ensures used { result.used ≤ length values.now }
         ensures whole { result.end ≡ AnEnd.More → result.used ≡ length values.now }
-        ensures run { IsRunOfValues element_rules K.holds K.may_answer (reading_of self.old) keep.old
+        ensures run { IsRunOfValues element_rules K.holds K.may_answer
+            (reading_of self.old) keep.old
             (take result.used values.now) (reading_of self.new)
             (standing_of self.new) keep.new result.end }
     {
