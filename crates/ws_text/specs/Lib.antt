@@ -20,5 +20,6 @@ pub mod Words
 pub mod TextLines
 pub mod Shown
 pub mod Printing
+pub mod Printed
 pub mod Parts
 pub mod Found
