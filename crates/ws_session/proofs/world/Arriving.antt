@@ -1,7 +1,7 @@
 use Rattle.ws_session.proofs.Common as C
 use C.{flat_map, ◌≡◌, ◌+◌, ◌≤◌, List, [], ◌∷◌, ◌++◌, refl, subst, ◌∙◌, ℕ, ◌<◌, Option, Some, None, take, drop, ap, sym}
 use C.{arith, ◌^◌, min, inl, inr, length, append_assoc, add-zero, length-append, length-drop, length-take, ◌-◌}
-use C.{take-add, cases_lt, flat_map-append, length-take-le, append-nil, take_all, take-take, drop-drop, Reason}
+use C.{take-add, cases_lt, flat_map-append, length-take-le, append-nil, take_all, take-take, drop-drop}
 use C.{came_append, Act, all_came, Refusal, At, Event, Through, WireParts, reported, HasMemory, Comes, AreDelivered}
 use Rattle.ws_session.specs.Conduct.{Conduct}
 use Rattle.ws_session.specs.world.Wires.{HasCome, Telling}

@@ -3,7 +3,7 @@ use C.{flat_map, ◌≡◌, ◌+◌, ◌≤◌, List, [], ◌∷◌, ◌++◌, r
 use C.{min, inl, inr, length, get_or, length-take, if◌then◌else◌, Bool, true, false, nat_lt, IsSome, Err, subst₂}
 use C.{false≢true, nat_tests, append-nil, TerminalType, ending_at, arrived, plain_spelling, Item, answer_rules}
 use C.{element_bytes, element_prefix_free, element_begins, element_rules, AnswerPart, Element, Arrives, as_list}
-use C.{HoldsItems, station_at_item, StationRefuses, station_manner, host_at_item, StationGoes, host_manner, HostGoes}
+use C.{HoldsItems, station_at_item, StationRefuses, station_manner, host_at_item, host_manner}
 use C.{HostRefuses, goes_on, Refuses, GoesOn, Reaction, Applied, HostEvent, Refusal, At, Failed, Memory, Event, Host}
 use C.{StationRefused, HostRefused, ToStation, ToHost, HostLeads, HostParts, IsHostPushed, HostSide, host_takes}
 use C.{HostOutput, StationParts, StationLeads, IsPushed, StationSide, station_takes, AreWritable, WorldParts, RunsWith}

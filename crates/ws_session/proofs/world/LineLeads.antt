@@ -1,8 +1,8 @@
 use Rattle.ws_session.proofs.Common as C
 use C.{◌≡◌, ◌+◌, List, [], ◌∷◌, ◌++◌, refl, subst, ◌∙◌, ℕ, ◌<◌, Option, Some, None, ap, sym, arith, ◌^◌, inl, inr}
-use C.{length, append_assoc, length-append, ◌⊎◌, IsSome, flat_map-append, append-nil, Rules, Reason, TerminalType, Item}
+use C.{length, append_assoc, length-append, ◌⊎◌, IsSome, flat_map-append, append-nil, Rules, TerminalType, Item}
 use C.{answer_rules, element_rules, bytes_came, all_came, Did, doing, items_of, Manner, Goes, StationRefuses}
-use C.{station_manner, host_manner, HostRefuses, Applied, HostEvent, Refusal, Event, Host, StationRefused, HostRefused}
+use C.{station_manner, host_manner, HostRefuses, Refusal, Event}
 use C.{Move, ToStation, ToHost, Cancel, Press, HostLeads, HostParts, new_host_side, StationParts, StationLeads}
 use C.{new_station_side, Crossing, Through, TwoEnds, order_of, all_read, HasMoved, HaveMoved, HasRun, StationIsLed}
 use C.{HostIsLed, Comes}

@@ -2,8 +2,8 @@ use Rattle.ws_session.proofs.Common as C
 use C.{OnOk, IfOk, ◌≡◌, ◌+◌, ◌≤◌, List, [], ◌∷◌, ◌++◌, refl, subst, ◌∙◌, ℕ, take, drop, ap, sym, arith}
 use C.{take-append-drop, inl, inr, length, append_assoc, length-append, length-drop, ◌-◌, Err, Ok, Result, take-add}
 use C.{drop-append_seam, take-append-add, flat_map-append, length-take-le, append-nil, take_all, drop-append-le}
-use C.{drop_all, drop-drop, Writer, Reader, Fault, Reason, TerminalType, answer_rules, element_rules, Key, Act}
-use C.{station_manner, StationGoes, host_manner, HostGoes, Applied, HostEvent, Refusal, Event, Move, HostLeads}
+use C.{drop_all, drop-drop, Fault, TerminalType, answer_rules, element_rules, Key, Act}
+use C.{station_manner, StationGoes, host_manner, HostGoes, Applied, HostEvent, Event, Move, HostLeads}
 use C.{HostParts, StationParts, StationLeads, Crossing, with_piece_at, AreFaithful, HaveCrossed, HasCrossed, IsStopped}
 use C.{IsEnded, AreEnded, WorldParts, Runs, two_ends_of, TwoEnds, all_read, HasMoved, HaveMoved, HasRun, all_sent}
 use C.{HaveCome, ComesDown, ComesUp, IsDeliveredDown, IsDeliveredUp, WireParts, AreDelivered, new_world}

@@ -3,7 +3,7 @@
 use Rattle.std.specs.Prelude.{◌≡◌, ℕ, ◌-◌, ◌≤◌, ◌⊎◌, List, [], ◌∷◌, ◌++◌, length, take}
 use Rattle.ws_code.specs.declared.fault.Fault.{Fault}
 use Rattle.ws_code.specs.declared.fault.Fault.TheVariants.{Memory}
-use Rattle.ws_code.specs.Device.{Writer, Reader, Devices}
+use Rattle.ws_code.specs.Device.{Devices}
 use Rattle.ws_nego.specs.declared.terminal.TerminalType.{TerminalType}
 use Rattle.ws_session.specs.declared.world.line.Line.{Line}
 use Rattle.ws_session.specs.declared.world.Move.{Move}
