@@ -1,6 +1,8 @@
 use Rattle.ws_session.proofs.Common as C
-use C.{IfOk, IfErr, ◌≡◌, ◌+◌, ◌≤◌, List, [], ◌∷◌, ◌++◌, refl, subst, ◌∙◌, ℕ, ◌<◌, Option, Some, None, take, ap, arith, ◌^◌, inl, inr, length}
-use C.{Bool, true, false, Err, Ok, Result, Rules, plain_spelling, Item, AnswerPart, element_rules, as_list, told_by, HostEvent}
+use C.{IfOk, IfErr, ◌≡◌, ◌+◌, ◌≤◌, List, [], ◌∷◌, ◌++◌, refl, subst, ◌∙◌, ℕ, ◌<◌, Option, Some, None}
+use C.{take, ap, arith, ◌^◌, inl, inr, length}
+use C.{Bool, true, false, Err, Ok, Result, Rules, plain_spelling, Item, AnswerPart, element_rules, as_list}
+use C.{told_by, HostEvent}
 use C.{HostStep, Refusal, StationStep, HasHostFed, EndsAt, AtHost, HostLeads, HostParts, IsHostPushed, HostSide}
 use C.{host_at_item, host_takes}
 use Rattle.ws_session.specs.host_end.HostFeeds.{HasHostTakenAll, HostStopsWithin}
@@ -33,7 +35,8 @@ module _ {D P U H PlaceV V K R : Type 0} (rules : Rules P U) (d : DisplayOf D U 
           writes = r.1;
           goes_on = r.2;
           spelled = q.2 ∙ ap (λ z. plain_spelling d.out (at_item_on d side q.0 z).written) r.2;
-          leads = subst (λ z. LeadsOn rules d new (bytes ++ byte ∷ []) (items ++ q.0 ∷ []) (at_item_on d side q.0 z).side)
+          leads = subst (λ z. LeadsOn rules d new (bytes ++ byte ∷ []) (items ++ q.0 ∷ [])
+              (at_item_on d side q.0 z).side)
               r.2 q.4;
         }))
   ]
