@@ -1,6 +1,6 @@
 -- How an end of a session conducts itself, as whoever attaches it to devices or to a wire sees it.
 
-use Rattle.std.specs.Prelude.{ℕ, List, IsSome}
+use Rattle.std.specs.Prelude.{IsSome}
 use Rattle.ws_code.specs.Code.{Rules}
 use Rattle.ws_keys.specs.declared.key.Key.{Key}
 use Rattle.ws_stream.specs.Elements.{element_rules}

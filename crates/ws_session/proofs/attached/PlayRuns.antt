@@ -139,18 +139,20 @@ module _ {R S : Type 0} (reader : Reader R) (writer : Writer S) (t : TerminalTyp
       -- and one that isn't
       pub run_stops : (to : S) (fault : Fault) → IsRunFault t keys writer sink to (length r.bytes)
           (r.bytes ++ given) fault → IsRun t keys reader source now' writer sink to (Err fault)
-      run_stops to (Refused place reason) f = record {
-        first = r.bytes;
-        last = given;
-        reads = reads;
-        before = now;
-        room = room;
-        gave = r.gave;
-        one_left = one_left;
-        gave_last = made;
-        uncounted = same ∙ r.gave.uncounted;
-        refuses = f;
-      }
+      run_stops to (Refused place reason) f = (
+        record {
+          first = r.bytes;
+          last = given;
+          reads = reads;
+          before = now;
+          room = room;
+          gave = r.gave;
+          one_left = one_left;
+          gave_last = made;
+          uncounted = same ∙ r.gave.uncounted;
+        },
+        f,
+      )
       run_stops to Write f = record { bytes = r.bytes ++ given; reads = reads + 1; gave = gave_next; unwritten = f }
       run_stops to fault f = absurd f
 

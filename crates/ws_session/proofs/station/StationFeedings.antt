@@ -1,9 +1,9 @@
 use Rattle.ws_session.proofs.Common as C
 use C.{◌≡◌, ◌+◌, ◌≤◌, List, [], ◌∷◌, ◌++◌, refl, subst, ◌∙◌, ℕ, ◌<◌, Option, None, take, ap, sym, arith, ◌^◌, inl, inr}
-use C.{length, append_assoc, length-append, Bool, true, false, Err, Ok, ◌==◌, Result, nat_tests, Rules, left_of}
+use C.{length, append_assoc, length-append, Bool, true, false, Err, Ok, ◌==◌, nat_tests, Rules, left_of}
 use C.{CompletesUnit, Item, answer_rules, AnswerPart, bytes_came, as_list, host_at_item, goes_on, told_by, GoesOn}
 use C.{Order, HostEvent, HostStep, Refusal, At, Failed, Memory, StationStep, HasHostFed, EndsAt, IsHostFronted, AtHost}
-use C.{HostLeads, HostParts, IsHostPushed, HostSide}
+use C.{HostLeads, HostParts, HostSide}
 use Rattle.ws_session.proofs.Common.{suc, ◌-◌}
 use Rattle.ws_record.specs.Taking.{EndIn}
 use Rattle.ws_session.specs.host_end.HostFeeds.{HasHostTakenAll}
@@ -113,22 +113,6 @@ module _ (old mid new : HostParts) (bytes : List ℕ) (items : List (Item Answer
       let taken : new.receiver.live.taken ≡ length bytes + 1 = omega (arith, f.1, length-append bytes (byte ∷ [])) in
       ((f.0 ∙ same, elim f.2 [ inl e ↦ inl (last_wanting e) | inr w ↦ inr w ], f.3, taken), taken)
   host_at_last Failed same f = absurd f
-
--- what a byte gives
-host_stepped : (old new : HostParts) (bytes : List ℕ) (items : List (Item AnswerPart)) (side : HostSide) (byte : ℕ)
-    (result : Result HostStep Refusal) → IsHostFronted old new (bytes ++ byte ∷ []) items side result
-    → IsHostPushed old new bytes items side byte result
-host_stepped old new bytes items side byte (Ok step) f = f
-host_stepped old new bytes items side byte (Err refusal) f = (host_at_last old old new bytes items side byte _ refl f).0
-
--- of one byte
-pub host_one_fronted : (old new : HostParts) (bytes : List ℕ) (items : List (Item AnswerPart)) (side : HostSide)
-    (byte used : ℕ) (result : Result HostStep Refusal) → used ≤ 1 → ((result ≡ Err Failed → ⊥) → 0 < used)
-    → IsHostFronted old new (bytes ++ take used (byte ∷ [])) items side result
-    → IsHostPushed old new bytes items side byte result
-host_one_fronted old new bytes items side byte used result few some f =
-    let one : used ≡ 1 = omega (arith, few, some (λ e. rw e at f)) in
-    host_stepped old new bytes items side byte _ (rw one at f)
 
 module _ (old new : HostParts) (bytes : List ℕ) (items : List (Item AnswerPart)) (side : HostSide) (left : List ℕ)
     (used : ℕ) (within : used ≤ length left) (some : 0 < used)

@@ -4,7 +4,7 @@ use C.{arith, ◌^◌, min, inl, inr, length, length-append, length-drop, if◌t
 use C.{Err, Ok, Result, length-take-le, Rules, Kept, RecordBeforeNegotiation, telnet_spelling, Telnet, telnet_bytes}
 use C.{station_allows_records, station_answer, record_of, plain_spelling, Watching, Leads, LeadsWith, RecordSoFar}
 use C.{no_record, Keeping, HasRead, IsHead, News, Head, Item, RecordItem, TelnetItem, Record, fetched, Read, Attention}
-use C.{SystemRequest, KeyRefusal, Refuses, Refusal, At, Failed, StationStep, KeyFault, NotReady, keeps_body, RefusesKey}
+use C.{SystemRequest, KeyRefusal, Refuses, Refusal, At, StationStep, KeyFault, NotReady, keeps_body, RefusesKey}
 use Rattle.std.proofs.Math.ListN.{drop_of_length-le}
 use Rattle.ws_code.specs.declared.keep.Kept.TheVariants as answer
 use Rattle.ws_telnet.specs.declared.token.Sub.{Sub as ASub}
@@ -18,7 +18,7 @@ use Rattle.ws_session.specs.station.Displays.{DisplayOf, SideOn, IsApplied, IsPr
 use Rattle.ws_session.specs.station.PartsOn.{PartsOn}
 use Rattle.ws_session.specs.station.StationManners.{takes_on, key_on}
 use Rattle.ws_session.specs.station.StationNews.{IsFrontedOn, IsAnsweredOn, IsMid, IsNewsTakenOn}
-use Rattle.ws_session.specs.station.Stations.{LeadsOn, IsClosedOn, TakesItemOn, IsSteppedOn, IsPushedOn, IsKeyedOn}
+use Rattle.ws_session.specs.station.Stations.{LeadsOn, IsClosedOn, TakesItemOn, IsKeyedOn}
 use Rattle.ws_session.specs.station.Stations.{HasStoppedOn}
 use Rattle.ws_session.proofs.RecordCounts.{records_append, records_few}
 
@@ -258,30 +258,6 @@ module _ {D P U H PlaceV V K R : Type 0} (rules : Rules P U) (d : DisplayOf D U 
   none_complete old news step (inl e) reply ends = rw e ((step, refl, reply, ends), refl)
   none_complete old news step (inr (inl e)) reply ends = rw e ((step, refl, reply, ends), refl)
   none_complete old news step (inr (inr q)) reply ends = rw q.1 ((step, refl, reply, ends), refl)
-
-  stepped : (old new : PartsOn D P) (bytes : List ℕ) (items : List (Item U)) (side : SideOn H) (byte : ℕ)
-      (result : Result (StationStep R) Refusal) → IsFrontedOn rules d old new (bytes ++ byte ∷ []) items side result
-      → IsSteppedOn rules d old new bytes items side byte result
-  stepped old new bytes items side byte (Ok step) f = f
-  stepped old new bytes items side byte (Err (At place reason)) f =
-      (omega (arith, f.0, length-append bytes (byte ∷ [])), f.1, f.2, f.3)
-  stepped old new bytes items side byte result f = f
-
-  -- of one byte
-  pub one_fronted : (old new : PartsOn D P) (bytes : List ℕ) (items : List (Item U)) (side : SideOn H)
-      (byte used : ℕ) (result : Result (StationStep R) Refusal) → used ≤ 1 → ((result ≡ Err Failed → ⊥) → 0 < used)
-      → IsFrontedOn rules d old new (bytes ++ take used (byte ∷ [])) items side result
-      → IsSteppedOn rules d old new bytes items side byte result
-  one_fronted old new bytes items side byte used result few some f =
-      let one : used ≡ 1 = omega (arith, few, some (λ e. rw e at f)) in
-      stepped old new bytes items side byte _ (rw one at f)
-
-  -- what is written at a byte
-  pub pushed_of : (old new : PartsOn D P) (bytes : List ℕ) (items : List (Item U)) (side : SideOn H) (byte : ℕ)
-      (step : StationStep R) → IsSteppedOn rules d old new bytes items side byte (Ok step)
-      → IsPushedOn rules d old new bytes items side byte (Ok step.reply)
-  pushed_of old new bytes items side byte step (inl h) = inl h.0
-  pushed_of old new bytes items side byte step (inr h) = inr h.0
 
 -- the bytes that a front makes are counted
 pub front_count : (bytes piece : List ℕ) (used old new : ℕ) → old ≡ length bytes → used ≤ length piece → length

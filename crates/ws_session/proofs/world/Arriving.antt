@@ -1,10 +1,11 @@
 use Rattle.ws_session.proofs.Common as C
-use C.{flat_map, ◌≡◌, ◌+◌, ◌≤◌, List, [], ◌∷◌, ◌++◌, refl, subst, ◌∙◌, ℕ, ◌<◌, Option, Some, None, take, drop, ap, sym}
+use C.{flat_map, ◌≡◌, ◌+◌, ◌≤◌, List, [], ◌∷◌, ◌++◌, refl, subst, ◌∙◌, ℕ, zero, suc, ◌<◌, Option, Some, None, take}
+use C.{drop, ap, sym}
 use C.{arith, ◌^◌, min, inl, inr, length, append_assoc, add-zero, length-append, length-drop, length-take, ◌-◌}
-use C.{take-add, cases_lt, flat_map-append, length-take-le, append-nil, take_all, take-take, drop-drop, Reason}
+use C.{take-add, cases_lt, flat_map-append, length-take-le, append-nil, take_all, take-take, drop-drop}
 use C.{came_append, Act, all_came, Refusal, At, Event, Through, WireParts, reported, HasMemory, Comes, AreDelivered}
 use Rattle.ws_session.specs.Conduct.{Conduct}
-use Rattle.ws_session.specs.world.Wires.{HasCome, Telling}
+use Rattle.ws_session.specs.world.Wires.{AtEnd, HasCome, Telling}
 
 -- Bytes that arrive at an end, piece by piece.
 
@@ -151,40 +152,46 @@ module _ {E Deed Told : Type 0} (conduct : Conduct E Deed Told) (telling : Telli
             stays = both;
           }
 
-  pub none_delivered : ((e : E) → conduct.goes e [] [] [] e) → (e : E) (from to : WireParts) (told : List Event)
-      → length from.bytes + 1 < 2 ^ 64 → AreDelivered conduct telling e e from from to to told told 0
-  none_delivered stays e from to told few = record {
+  pub none_delivered : ((e : E) → conduct.goes e [] [] [] e) → (now : AtEnd E)
+      → length now.from.bytes + 1 < 2 ^ 64 → AreDelivered conduct telling now 0 now
+  none_delivered stays now few = record {
     bytes = [];
     written = [];
     events = [];
     first = refl;
     few = few;
-    come = none_comes stays e;
-    from_is = rw (add-zero from.at);
-    to_is = rw (append-nil to.bytes);
-    told_is = sym (append-nil told);
+    come = none_comes stays now.end;
+    from_is = rw (add-zero now.from.at);
+    to_is = rw (append-nil now.to.bytes);
+    told_is = sym (append-nil now.events);
   }
 
-  module _ (a b : E) (from f to t : WireParts) (told e : List Event) (n : ℕ)
-      (d : AreDelivered conduct telling a b from f to t told e n) where
+  past : (n : ℕ) (xs : List ℕ) → drop (length (take n xs)) xs ≡ drop n xs
+  past zero xs = refl
+  past (suc n) [] = refl
+  past (suc n) (x ∷ xs) = past n xs
+
+  module _ (old mid : AtEnd E) (n : ℕ) (d : AreDelivered conduct telling old n mid) where
     -- so many came, and no byte more was written
-    came : (f.at ≡ from.at + min n (length from.bytes - from.at)) × (length f.bytes ≡ length from.bytes)
-        × (length d.bytes ≡ min n (length from.bytes - from.at))
+    came : (mid.from.at ≡ old.from.at + min n (length old.from.bytes - old.from.at))
+        × (length mid.from.bytes ≡ length old.from.bytes)
+        × (length d.bytes ≡ min n (length old.from.bytes - old.from.at))
     came =
-        let size : length d.bytes ≡ min n (length from.bytes - from.at) = ap (λ z. length z) d.first
-        ∙ length-take n (drop from.at from.bytes) ∙ ap (min n) (length-drop from.at from.bytes) in
+        let size : length d.bytes ≡ min n (length old.from.bytes - old.from.at) = ap (λ z. length z) d.first
+        ∙ length-take n (drop old.from.at old.from.bytes)
+        ∙ ap (min n) (length-drop old.from.at old.from.bytes) in
         (rw (d.from_is, size), ap (λ (z : WireParts). length z.bytes) d.from_is, size)
 
     -- others wait
-    pub more_wait : (k left : ℕ) → from.at + k ≡ length from.bytes → n + left ≤ k → f.at + left ≤ length f.bytes
+    pub more_wait : (k left : ℕ) → old.from.at + k ≡ length old.from.bytes → n + left ≤ k
+        → mid.from.at + left ≤ length mid.from.bytes
     more_wait k left all more = omega (arith, all, more, came)
 
     -- all have come
-    pub all_delivered : (m : ℕ) → n ≤ m → length f.bytes ≤ f.at
-        → AreDelivered conduct telling a b from f to t told e m
+    pub all_delivered : (m : ℕ) → n ≤ m → length mid.from.bytes ≤ mid.from.at → AreDelivered conduct telling old m mid
     all_delivered m le all =
-        let rest : List ℕ = drop from.at from.bytes in
-        let whole : length rest ≤ n = omega (arith, all, came, length-drop from.at from.bytes) in
+        let rest : List ℕ = drop old.from.at old.from.bytes in
+        let whole : length rest ≤ n = omega (arith, all, came, length-drop old.from.at old.from.bytes) in
         record {
           bytes = d.bytes;
           written = d.written;
@@ -198,48 +205,64 @@ module _ {E Deed Told : Type 0} (conduct : Conduct E Deed Told) (telling : Telli
         }
 
     -- so many, or all that were in flight
-    pub all_come : (k m : ℕ) → from.at + k ≡ length from.bytes → n ≡ min m k
-        → AreDelivered conduct telling a b from f to t told e m
+    pub all_come : (k m : ℕ) → old.from.at + k ≡ length old.from.bytes → n ≡ min m k
+        → AreDelivered conduct telling old m mid
     all_come k m all is = elim (cases_lt m k) [
       | inl h ↦ rw (← (let q : n ≡ m = omega (arith, is, h) in q)) d
       | inr h ↦ all_delivered m (omega (arith, is, h)) (omega (arith, h, is, all, came))
     ]
 
-    -- a piece more
-    pub some_delivered : ((a b c : E) (xs ys : List (Act Deed)) (v w : List ℕ) (s t : List Told) → conduct.goes a xs v s b
-        → conduct.goes b ys w t c → conduct.goes a (xs ++ ys) (v ++ w) (s ++ t) c) → (k left used : ℕ)
-        → from.at + k ≡ length from.bytes → n + left ≤ k → used ≤ left → (xs : List ℕ)
-        → xs ≡ take used (take left (drop f.at f.bytes)) → (f' : WireParts) → f' ≡ record f { at = f.at + used }
-        → (c : E) (t' : WireParts) (e' : List Event) → HasCome conduct telling b xs c t t' e e'
-        → AreDelivered conduct telling a c from f' to t' told e' (n + used)
-    some_delivered follows k left used all more within xs is f' on c t' e' h =
-        let rest : List ℕ = drop from.at from.bytes in
-        let count : length d.bytes ≡ n = omega (arith, all, more, came) in
-        let same : f.bytes ≡ from.bytes = ap (λ (z : WireParts). z.bytes) d.from_is in
-        let at : f.at ≡ from.at + n = ap (λ (z : WireParts). z.at) d.from_is ∙ ap (λ k. from.at + k) count in
-        let next : drop f.at f.bytes ≡ drop n rest = ap (drop f.at) same ∙ ap (λ k. drop k from.bytes) at
-        ∙ sym (drop-drop n from.at from.bytes) in
-        let piece : xs ≡ take used (drop n rest) = is ∙ take-take used left (drop f.at f.bytes) within
-        ∙ ap (take used) next in
-        let size : length xs ≡ used = ap (λ z. length z) piece
-        ∙ length-take-le used (drop n rest) (omega (
-          arith,
-          length-drop n rest,
-          length-drop from.at from.bytes,
-          all,
-          more,
-          within,
-        )) in
-        let joined : (from.at + length d.bytes) + used ≡ from.at + length
-        (d.bytes ++ xs) = omega (arith, length-append d.bytes xs, size) in
-        record {
-          bytes = d.bytes ++ xs;
-          written = d.written ++ h.written;
-          events = d.events ++ h.events;
-          first = ap (λ z. z ++ xs) d.first ∙ ap (λ z. take n rest ++ z) piece ∙ sym (take-add n used rest);
-          few = d.few;
-          come = come_on follows a b c d.bytes xs d.written h.written d.events h.events d.come h.comes;
-          from_is = rw (on, d.from_is, joined);
-          to_is = rw (h.to_is, d.to_is, append_assoc to.bytes d.written h.written);
-          told_is = rw (h.told_is, d.told_is, append_assoc told d.events h.events);
-        }
+    module _ (follows : (a b c : E) (xs ys : List (Act Deed)) (v w : List ℕ) (s t : List Told)
+        → conduct.goes a xs v s b → conduct.goes b ys w t c → conduct.goes a (xs ++ ys) (v ++ w) (s ++ t) c)
+        (new : AtEnd E) where
+      -- so many more
+      pub more_delivered : (m : ℕ) → AreDelivered conduct telling mid m new
+          → AreDelivered conduct telling old (n + m) new
+      more_delivered m e =
+          let rest : List ℕ = drop old.from.at old.from.bytes in
+          let next : drop mid.from.at mid.from.bytes ≡ drop n rest =
+          ap (λ (z : WireParts). drop z.at z.bytes) d.from_is
+          ∙ sym (drop-drop (length d.bytes) old.from.at old.from.bytes)
+          ∙ ap (λ (z : List ℕ). drop (length z) rest) d.first ∙ past n rest in
+          let joined : (old.from.at + length d.bytes) + length e.bytes ≡ old.from.at + length (d.bytes ++ e.bytes) =
+          omega (arith, length-append d.bytes e.bytes) in
+          record {
+            bytes = d.bytes ++ e.bytes;
+            written = d.written ++ e.written;
+            events = d.events ++ e.events;
+            first = ap (λ z. z ++ e.bytes) d.first
+                ∙ ap (λ z. take n rest ++ z) (e.first ∙ ap (take m) next) ∙ sym (take-add n m rest);
+            few = d.few;
+            come = come_on follows old.end mid.end new.end d.bytes e.bytes d.written e.written d.events e.events d.come
+                e.come;
+            from_is = rw (e.from_is, d.from_is, joined);
+            to_is = rw (e.to_is, d.to_is, append_assoc old.to.bytes d.written e.written);
+            told_is = rw (e.told_is, d.told_is, append_assoc old.events d.events e.events);
+          }
+
+      -- a piece more
+      pub some_delivered : (k left used : ℕ) → old.from.at + k ≡ length old.from.bytes → n + left ≤ k → used ≤ left
+          → (xs : List ℕ) → xs ≡ take used (take left (drop mid.from.at mid.from.bytes))
+          → new.from ≡ record mid.from { at = mid.from.at + used }
+          → HasCome conduct telling mid.end xs new.end mid.to new.to mid.events new.events
+          → AreDelivered conduct telling old (n + used) new
+      some_delivered k left used all more within xs is on h =
+          let flight : List ℕ = drop mid.from.at mid.from.bytes in
+          let piece : xs ≡ take used flight = is ∙ take-take used left flight within in
+          let size : length xs ≡ used = ap (λ z. length z) piece ∙ length-take-le used flight (omega (
+            arith,
+            length-drop mid.from.at mid.from.bytes,
+            more_wait k left all more,
+            within,
+          )) in
+          more_delivered used (record {
+            bytes = xs;
+            written = h.written;
+            events = h.events;
+            first = piece;
+            few = rw (came.1) d.few;
+            come = h.comes;
+            from_is = rw size on;
+            to_is = h.to_is;
+            told_is = h.told_is;
+          })

@@ -3,11 +3,12 @@ use C.{flat_map, ◌≡◌, ◌+◌, ◌≤◌, List, [], ◌∷◌, ◌++◌, r
 use C.{min, inl, inr, length, get_or, length-take, if◌then◌else◌, Bool, true, false, nat_lt, IsSome, Err, subst₂}
 use C.{false≢true, nat_tests, append-nil, TerminalType, ending_at, arrived, plain_spelling, Item, answer_rules}
 use C.{element_bytes, element_prefix_free, element_begins, element_rules, AnswerPart, Element, Arrives, as_list}
-use C.{HoldsItems, station_at_item, StationRefuses, station_manner, host_at_item, StationGoes, host_manner, HostGoes}
+use C.{HoldsItems, station_at_item, StationRefuses, station_manner, host_at_item, host_manner}
 use C.{HostRefuses, goes_on, Refuses, GoesOn, Reaction, Applied, HostEvent, Refusal, At, Failed, Memory, Event, Host}
 use C.{StationRefused, HostRefused, ToStation, ToHost, HostLeads, HostParts, IsHostPushed, HostSide, host_takes}
 use C.{HostOutput, StationParts, StationLeads, IsPushed, StationSide, station_takes, AreWritable, WorldParts, RunsWith}
-use C.{Runs, WireParts, HasMemory, AreDelivered, World, down_bytes, station_did, station_gets, byte_to_station}
+use C.{Runs, WireParts, HasMemory, AreDelivered, at_end, at_station_end, at_host_end, World, down_bytes, station_did}
+use C.{station_gets, byte_to_station}
 use C.{up_bytes, host_did, host_gets, byte_to_host, events_with, bytes_to_station, bytes_to_host}
 use Rattle.ws_record.proofs.Flights.{byte_more, ByteMore}
 use Rattle.ws_stream.specs.AnswerLaws.{part_prefix_free, part_begins, part_bytes}
@@ -178,9 +179,8 @@ bytes_on = many_on byte_to_station bytes_to_station (λ w. refl) (λ n w. refl)
 
 -- so many of the bytes in flight, or all that are
 pub station_delivered : {t : TerminalType} {w : World} {old : WorldParts}
-    → Runs t old w → {station : StationParts} {from to : WireParts} {events : List Event} {count : ℕ} → AreDelivered
-    profile_conduct station_telling old.station station (record { bytes = old.down; at = old.at_station })
-    from (record { bytes = old.up; at = old.at_host }) to old.events events count → Runs t (record old {
+    → Runs t old w → {station : StationParts} {from to : WireParts} {events : List Event} {count : ℕ}
+    → AreDelivered profile_conduct station_telling (at_station_end old) count (at_end station from to events) → Runs t (record old {
       station = station;
       down = from.bytes;
       at_station = from.at;
@@ -365,8 +365,7 @@ host_bytes_on = many_on byte_to_host bytes_to_host (λ w. refl) (λ n w. refl)
 -- so many of the bytes in flight, or all that are
 pub host_delivered : {t : TerminalType} {w : World} {old : WorldParts}
     → Runs t old w → {host : HostParts} {from to : WireParts} {events : List Event} {count : ℕ}
-    → AreDelivered host_conduct host_telling old.host host (record { bytes = old.up; at = old.at_host }) from
-    (record { bytes = old.down; at = old.at_station }) to old.events events count → Runs t (record old {
+    → AreDelivered host_conduct host_telling (at_host_end old) count (at_end host from to events) → Runs t (record old {
       host = host;
       up = from.bytes;
       at_host = from.at;

@@ -1,8 +1,8 @@
 use Rattle.ws_session.proofs.Common as C
 use C.{◌≡◌, ◌+◌, List, [], ◌∷◌, ◌++◌, refl, subst, ◌∙◌, ℕ, ◌<◌, Option, Some, None, ap, sym, arith, ◌^◌, inl, inr}
-use C.{length, append_assoc, length-append, ◌⊎◌, IsSome, flat_map-append, append-nil, Rules, Reason, TerminalType, Item}
+use C.{length, append_assoc, length-append, ◌⊎◌, IsSome, flat_map-append, append-nil, Rules, TerminalType, Item}
 use C.{answer_rules, element_rules, bytes_came, all_came, Did, doing, items_of, Manner, Goes, StationRefuses}
-use C.{station_manner, host_manner, HostRefuses, Applied, HostEvent, Refusal, Event, Host, StationRefused, HostRefused}
+use C.{station_manner, host_manner, HostRefuses, Refusal, Event}
 use C.{Move, ToStation, ToHost, Cancel, Press, HostLeads, HostParts, new_host_side, StationParts, StationLeads}
 use C.{new_station_side, Crossing, Through, TwoEnds, order_of, all_read, HasMoved, HaveMoved, HasRun, StationIsLed}
 use C.{HostIsLed, Comes}
@@ -70,12 +70,11 @@ station_moved a b (Send opcode body) ds us front p few l = stays StationIsLed a.
     (ap (λ (z : TwoEnds). z.station) p.2.3) l
 station_moved a b Cancel ds us front p few l = stays StationIsLed a.station b.station ds front p.0
     (ap (λ (z : TwoEnds). z.station) p.2.3) l
-station_moved a b (ToHost n) ds us front p few l = stays StationIsLed a.station b.station ds front p.0
-    (ap (λ (z : TwoEnds). z.station) p.1.3) l
+station_moved a b (ToHost n) ds us front p few l = stays StationIsLed a.station b.station ds front p.0 p.1.1 l
 station_moved a b (ToStation n) ds us front p few l = bytes_led element_rules answer_rules station_manner StationLeads
     StationRefuses
-    (StaysSilentOn element_rules profile) (λ (s : StationParts). IsSome s.ended) station_telling IsShutOn a.station b.station (all_read ds) p.1.0 p.1.1 front
-    p.1.2.come few l
+    (StaysSilentOn element_rules profile) (λ (s : StationParts). IsSome s.ended) station_telling IsShutOn a.station b.station (all_read ds) p.1.0.written p.1.0.told front
+    p.1.0.come few l
 station_moved a b (Press key) ds us front p few l = stays StationIsLed b.station b.station ds front p.0 refl
     (act_led element_rules answer_rules station_manner StationLeads StationRefuses
     (StaysSilentOn element_rules profile) (λ (s : StationParts). IsSome s.ended) station_telling
@@ -85,10 +84,10 @@ host_moved : (a b : TwoEnds) (move : Move) (ds us : List Crossing) (front : List
     front + length (all_read us) + 1 < 2 ^ 64 → HostIsLed a.host front → HostIsLed b.host (front ++ all_read us)
 host_moved a b (Press key) ds us front p few l = stays HostIsLed a.host b.host us front p.1
     (ap (λ (z : TwoEnds). z.host) p.2.3) l
-host_moved a b (ToStation n) ds us front p few l = stays HostIsLed a.host b.host us front p.0
-    (ap (λ (z : TwoEnds). z.host) p.1.3) l
+host_moved a b (ToStation n) ds us front p few l = stays HostIsLed a.host b.host us front p.0 p.1.1 l
 host_moved a b (ToHost n) ds us front p few l = bytes_led answer_rules element_rules host_manner HostLeads HostRefuses HostStaysSilent
-    (λ (h : HostParts). IsSome h.ended) host_telling IsHostShut a.host b.host (all_read us) p.1.0 p.1.1 front p.1.2.come few l
+    (λ (h : HostParts). IsSome h.ended) host_telling IsHostShut a.host b.host (all_read us) p.1.0.written p.1.0.told
+    front p.1.0.come few l
 host_moved a b (Send opcode body) ds us front p few l = stays HostIsLed b.host b.host us front p.1 refl
     (act_led answer_rules element_rules host_manner HostLeads HostRefuses HostStaysSilent
     (λ (h : HostParts). IsSome h.ended) host_telling IsHostShut a.host

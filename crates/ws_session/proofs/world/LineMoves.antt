@@ -2,19 +2,15 @@ use Rattle.ws_session.proofs.Common as C
 use C.{OnOk, IfOk, ◌≡◌, ◌+◌, ◌≤◌, List, [], ◌∷◌, ◌++◌, refl, subst, ◌∙◌, ℕ, take, drop, ap, sym, arith}
 use C.{take-append-drop, inl, inr, length, append_assoc, length-append, length-drop, ◌-◌, Err, Ok, Result, take-add}
 use C.{drop-append_seam, take-append-add, flat_map-append, length-take-le, append-nil, take_all, drop-append-le}
-use C.{drop_all, drop-drop, Writer, Reader, Fault, Reason, TerminalType, answer_rules, element_rules, Key, Act}
-use C.{station_manner, StationGoes, host_manner, HostGoes, Applied, HostEvent, Refusal, Event, Move, HostLeads}
-use C.{HostParts, StationParts, StationLeads, Crossing, with_piece_at, AreFaithful, HaveCrossed, HasCrossed, IsStopped}
+use C.{drop_all, drop-drop, Fault, TerminalType, Act}
+use C.{Move}
+use C.{Crossing, with_piece_at, AreFaithful, HaveCrossed, HasCrossed, IsStopped}
 use C.{IsEnded, AreEnded, WorldParts, Runs, two_ends_of, TwoEnds, all_read, HasMoved, HaveMoved, HasRun, all_sent}
-use C.{HaveCome, ComesDown, ComesUp, IsDeliveredDown, IsDeliveredUp, WireParts, AreDelivered, new_world}
+use C.{HaveCome, Hearing, hearing_of, WireParts, AtEnd, AreDelivered, new_world}
 use Rattle.std.specs.List.{AllByRecursion}
 use Rattle.ws_code.specs.Device.{Devices}
-use Rattle.ws_session.specs.ActLaws.{goes_none, goes_on}
 use Rattle.ws_session.specs.Conduct.{Conduct}
-use Rattle.ws_session.specs.Manners.{IsHostShut}
-use Rattle.ws_session.specs.declared.end_step.Order.{Order}
 use Rattle.ws_session.specs.declared.world.line.Line.{Line}
-use Rattle.ws_session.specs.station.StationActs.{IsShutOn}
 use Rattle.ws_session.specs.world.BrokenOff.{AreNext, IsDeliveryCut}
 use Rattle.ws_session.specs.world.Wires.{Telling}
 use Rattle.ws_session.proofs.world.Arriving.{come_on, none_comes}
@@ -57,49 +53,64 @@ pieces_append [] ds p q = q
 pieces_append (c ∷ cs) ds p q = (p.0, pieces_append cs ds p.1 q)
 
 module _ {E Deed Told : Type 0} (conduct : Conduct E Deed Told) (telling : Telling Told) where
-  pub none_come : ((e : E) → conduct.goes e [] [] [] e) → (e : E) (flight : List ℕ)
-      → HaveCome conduct telling 0 [] flight flight e e [] []
-  none_come stays e flight = record {
+  pub none_come : ((e : E) → conduct.goes e [] [] [] e) → (now : Hearing E) → HaveCome conduct telling now 0 [] now
+  none_come stays now = record {
     sent = refl;
     pieces = tt;
     as_many = refl;
     left = refl;
-    come = none_comes conduct telling stays e;
+    written = [];
+    told = [];
+    come = none_comes conduct telling stays now.end;
+    going = sym (append-nil now.going);
+    events = sym (append-nil now.events);
   }
 
-  -- a piece that crossed
-  pub piece_comes : (old new : E) (bytes : List ℕ) (at n : ℕ) (read : List ℕ) (from' to to' : WireParts)
-      (told told' : List Event) → length read ≡ n → at + n ≤ length bytes → n ≤ 4096 → (d : AreDelivered conduct telling old new (record { bytes = with_piece_at bytes at read; at = at }) from' to to' told told' n)
-      → HaveCome conduct telling n (record { sent = take n (drop at bytes); read = read } ∷ [])
-      (drop at bytes) (drop from'.at from'.bytes) old new d.written d.events
-  piece_comes old new bytes at n read from' to to' told told' is fits small d =
-      let room : at + length read ≤ length bytes = omega (arith, is, fits) in
+  -- a piece that crossed, written in the place of the bytes in flight
+  pub piece_comes : (old new : AtEnd E) (n : ℕ) (read : List ℕ) → length read ≡ n
+      → old.from.at + n ≤ length old.from.bytes → n ≤ 4096 → old.to.at ≤ length old.to.bytes
+      → AreDelivered conduct telling (record old {
+        from = record old.from {
+          bytes = with_piece_at old.from.bytes old.from.at read;
+        };
+      }) n new
+      → HaveCome conduct telling (hearing_of old) n
+      (record { sent = take n (drop old.from.at old.from.bytes); read = read } ∷ []) (hearing_of new)
+  piece_comes old new n read is fits small room d =
+      let bytes = old.from.bytes in
+      let at = old.from.at in
+      let flight : List ℕ = drop at bytes in
+      let room' : at + length read ≤ length bytes = omega (arith, is, fits) in
       let same : d.bytes ≡ read = d.first
-      ∙ ap (λ k. take k (drop at (with_piece_at bytes at read))) (sym is) ∙ piece_first bytes at read room in
+      ∙ ap (λ k. take k (drop at (with_piece_at bytes at read))) (sym is) ∙ piece_first bytes at read room' in
+      let whole : length (take n flight) ≡ n =
+      length-take-le n flight (omega (arith, fits, length-drop at bytes)) in
       record {
-        sent = append-nil (take n (drop at bytes));
-        pieces = (
-          omega (arith, small, length-take-le n (drop at bytes) (omega (arith, fits, length-drop at bytes))),
-          tt,
-        );
-        as_many = ap (λ (z : List ℕ). length z) (append-nil read)
-            ∙ is ∙ sym (length-take-le n (drop at bytes) (omega (arith, fits, length-drop at bytes)))
-            ∙ ap (λ (z : List ℕ). length z) (sym (append-nil (take n (drop at bytes))));
+        sent = append-nil (take n flight);
+        pieces = (omega (arith, small, whole), tt);
+        as_many = ap (λ (z : List ℕ). length z) (append-nil read) ∙ is ∙ sym whole
+            ∙ ap (λ (z : List ℕ). length z) (sym (append-nil (take n flight)));
         left = ap (λ (z : WireParts). drop z.at z.bytes) d.from_is ∙ ap (λ (z : List ℕ). drop (at + length z)
-            (with_piece_at bytes at read)) same ∙ piece_left bytes at read room ∙ ap (λ k. drop k (drop at bytes)) is;
+            (with_piece_at bytes at read)) same ∙ piece_left bytes at read room' ∙ ap (λ k. drop k flight) is;
+        written = d.written;
+        told = d.events;
         come = rw (← (same ∙ sym (append-nil read))) d.come;
+        going = ap (λ (z : WireParts). drop z.at z.bytes) d.to_is
+            ∙ drop-append-le old.to.at old.to.bytes d.written room;
+        events = d.told_is;
       }
 
-  module _ (a b : ℕ) (cs ds : List Crossing) (f g h : List ℕ) (old mid new : E) (v w : List ℕ) (s t : List Event) where
+  module _ (old mid new : Hearing E) (a b : ℕ) (cs ds : List Crossing) where
     pub more_come : ((a b c : E) (xs ys : List (Act Deed)) (v w : List ℕ) (s t : List Told) → conduct.goes a xs v s b
-        → conduct.goes b ys w t c → conduct.goes a (xs ++ ys) (v ++ w) (s ++ t) c) → HaveCome conduct telling a cs f g old mid v s
-        → HaveCome conduct telling b ds g h mid new w t
-        → HaveCome conduct telling (a + b) (cs ++ ds) f h old new (v ++ w) (s ++ t)
+        → conduct.goes b ys w t c → conduct.goes a (xs ++ ys) (v ++ w) (s ++ t) c)
+        → HaveCome conduct telling old a cs mid → HaveCome conduct telling mid b ds new
+        → HaveCome conduct telling old (a + b) (cs ++ ds) new
     more_come follows p q =
         let sents : all_sent
         (cs ++ ds) ≡ all_sent cs ++ all_sent ds = flat_map-append (λ (c : Crossing). c.sent) cs ds in
         let reads : all_read
         (cs ++ ds) ≡ all_read cs ++ all_read ds = flat_map-append (λ (c : Crossing). c.read) cs ds in
+        let f = old.coming in
         record {
           sent = sents ∙ ap (λ z. z ++ all_sent ds) p.sent
               ∙ ap (λ z. take a f ++ z) q.sent ∙ ap (λ z. take a f ++ take b z) p.left ∙ sym (take-add a b f);
@@ -114,104 +125,31 @@ module _ {E Deed Told : Type 0} (conduct : Conduct E Deed Told) (telling : Telli
             length-append (all_read cs) (all_read ds),
           );
           left = q.left ∙ ap (drop b) p.left ∙ drop-drop b a f;
-          come = rw reads
-              (come_on conduct telling follows old mid new (all_read cs) (all_read ds) v w s t p.come q.come);
+          written = p.written ++ q.written;
+          told = p.told ++ q.told;
+          come = rw reads (come_on conduct telling follows old.end mid.end new.end (all_read cs) (all_read ds) p.written
+              q.written p.told q.told p.come q.come);
+          going = q.going ∙ ap (λ z. z ++ q.written) p.going ∙ append_assoc old.going p.written q.written;
+          events = q.events ∙ ap (λ z. z ++ q.told) p.events ∙ append_assoc old.events p.told q.told;
         }
 
   -- all that were in flight have come
-  pub all_have_come : (a b : ℕ) (cs : List Crossing) (f g : List ℕ) (old new : E) (v : List ℕ) (s : List Event)
-      → a ≤ b → g ≡ [] → HaveCome conduct telling a cs f g old new v s
-      → HaveCome conduct telling b cs f g old new v s
-  all_have_come a b cs f g old new v s le none p =
+  pub all_have_come : (old new : Hearing E) (a b : ℕ) (cs : List Crossing) → a ≤ b → new.coming ≡ []
+      → HaveCome conduct telling old a cs new → HaveCome conduct telling old b cs new
+  all_have_come old new a b cs le none p =
+      let f = old.coming in
       let few : length f ≤ a = omega (arith, ap (λ (z : List ℕ). length z) (sym p.left ∙ none), length-drop a f) in
       record {
         sent = p.sent ∙ take_all a f few ∙ sym (take_all b f (omega (arith, few, le)));
         pieces = p.pieces;
         as_many = p.as_many;
         left = none ∙ sym (drop_all b f (omega (arith, few, le)));
+        written = p.written;
+        told = p.told;
         come = p.come;
+        going = p.going;
+        events = p.events;
       }
-
--- both ends, part by part
-pub same_ends : {s s' : StationParts} {h h' : HostParts} {a a' b b' : List ℕ} {e e' : List Event} → s ≡ s' → h ≡ h'
-    → a ≡ a' → b ≡ b' → e ≡ e' → ◌≡◌ {A = TwoEnds}
-    (record { station = s; host = h; to_station = a; to_host = b; events = e })
-    (record { station = s'; host = h'; to_station = a'; to_host = b'; events = e' })
-same_ends p q r s t = cc
-
--- without an act both ends stay as they are, and acts go on where others have led
-station_stays : (s : StationParts) → StationGoes s [] [] [] s
-station_stays = goes_none element_rules answer_rules station_manner StationLeads IsShutOn
-
-station_follows : (a b c : StationParts) (xs ys : List (Act Key)) (v w : List ℕ) (s t : List Applied)
-    → StationGoes a xs v s b → StationGoes b ys w t c → StationGoes a (xs ++ ys) (v ++ w) (s ++ t) c
-station_follows = goes_on element_rules answer_rules station_manner StationLeads IsShutOn
-
-host_stays : (h : HostParts) → HostGoes h [] [] [] h
-host_stays = goes_none answer_rules element_rules host_manner HostLeads IsHostShut
-
-host_follows : (a b c : HostParts) (xs ys : List (Act Order)) (v w : List ℕ) (s t : List HostEvent)
-    → HostGoes a xs v s b → HostGoes b ys w t c → HostGoes a (xs ++ ys) (v ++ w) (s ++ t) c
-host_follows = goes_on answer_rules element_rules host_manner HostLeads IsHostShut
-
--- bytes down
-
-pub down_none : (now : WorldParts) → ComesDown (two_ends_of now) 0 [] (two_ends_of now)
-down_none now = ([], [], none_come _ _ station_stays _ _, rw (append-nil (drop now.at_host now.up), append-nil now.events))
-
-pub up_none : (now : WorldParts) → ComesUp (two_ends_of now) 0 [] (two_ends_of now)
-up_none now = ([], [], none_come _ _ host_stays _ _, rw (append-nil (drop now.at_station now.down), append-nil now.events))
-
--- what went over a line, written in the place of the bytes in flight
-module _ (old new : WorldParts) (n : ℕ) (read : List ℕ) (is : length read ≡ n) where
-  pub down_piece : old.at_station + n ≤ length old.down → n ≤ 4096 → old.at_host ≤ length old.up
-      → IsDeliveredDown (record old { down = with_piece_at old.down old.at_station read }) n new → ComesDown
-      (two_ends_of old) n (record { sent = take n (drop old.at_station old.down); read = read } ∷ []) (two_ends_of new)
-  down_piece fits small room d =
-      let upward : drop new.at_host new.up ≡ drop old.at_host old.up ++ d.0.written =
-      ap (λ (z : WireParts). drop z.at z.bytes) d.0.to_is ∙ drop-append-le old.at_host old.up d.0.written room in (
-        d.0.written,
-        d.0.events,
-        piece_comes _ _ _ _ _ _ n read _ _ _ _ _ is
-            fits small d.0,
-        same_ends refl d.1 refl upward d.0.told_is,
-      )
-
-  pub up_piece : old.at_host + n ≤ length old.up → n ≤ 4096 → old.at_station ≤ length old.down
-      → IsDeliveredUp (record old { up = with_piece_at old.up old.at_host read }) n new
-      → ComesUp (two_ends_of old) n (record { sent = take n (drop old.at_host old.up); read = read } ∷ []) (two_ends_of new)
-  up_piece fits small room d =
-      let downward : drop new.at_station new.down ≡ drop old.at_station old.down ++ d.0.written =
-      ap (λ (z : WireParts). drop z.at z.bytes) d.0.to_is ∙ drop-append-le old.at_station old.down d.0.written room in (
-        d.0.written,
-        d.0.events,
-        piece_comes _ _ _ _ _ _ n read _ _ _ _ _ is fits small d.0,
-        same_ends d.1 refl downward refl d.0.told_is,
-      )
-
-module _ (x y z : TwoEnds) (a b : ℕ) (cs ds : List Crossing) where
-  pub down_more : ComesDown x a cs y → ComesDown y b ds z → ComesDown x (a + b) (cs ++ ds) z
-  down_more p q = (
-    p.0 ++ q.0,
-    p.1 ++ q.1,
-    more_come _ _ a b cs ds _ _ _ _ _ _ p.0 q.0 p.1 q.1 station_follows p.2 q.2,
-    cc (q.3, p.3, append_assoc x.to_host p.0 q.0, append_assoc x.events p.1 q.1),
-  )
-
-  pub up_more : ComesUp x a cs y → ComesUp y b ds z → ComesUp x (a + b) (cs ++ ds) z
-  up_more p q = (
-    p.0 ++ q.0,
-    p.1 ++ q.1,
-    more_come _ _ a b cs ds _ _ _ _ _ _ p.0 q.0 p.1 q.1 host_follows p.2 q.2,
-    cc (q.3, p.3, append_assoc x.to_station p.0 q.0, append_assoc x.events p.1 q.1),
-  )
-
-module _ (x y : TwoEnds) (a b : ℕ) (cs : List Crossing) (le : a ≤ b) where
-  pub down_all : y.to_station ≡ [] → ComesDown x a cs y → ComesDown x b cs y
-  down_all none p = (p.0, p.1, all_have_come _ _ a b cs _ _ _ _ p.0 p.1 le none p.2, p.3)
-
-  pub up_all : y.to_host ≡ [] → ComesUp x a cs y → ComesUp x b cs y
-  up_all none p = (p.0, p.1, all_have_come _ _ a b cs _ _ _ _ p.0 p.1 le none p.2, p.3)
 
 -- the next of some bytes are the next of more
 next_of_more : (bytes flight : List ℕ) (n m : ℕ) → n ≤ m → AreNext bytes (take n flight) → AreNext bytes (take m flight)

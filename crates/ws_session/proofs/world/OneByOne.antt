@@ -4,7 +4,7 @@ use C.{sym, arith, take-append-drop, ◌^◌, min, inl, inr, length, get_or, app
 use C.{length-drop, drop-cons, length-take, ◌⊎◌, true, add-suc, subst₂, drop-append_seam, cases_lt, flat_map-append}
 use C.{append-nil, drop-drop, Rules, Reason, plain_spelling, item_spelling, Item, bytes_came, all_came, Happening}
 use C.{doing, items_of, HasGone, Arrives, Manner, AllTaken, Happen, HoldsItems, Goes, Refusal, Event, HasRefusedIn}
-use C.{Through, WireParts, reported, HasMemory, AreDelivered, World}
+use C.{Through, WireParts, reported, HasMemory, AreDelivered, at_end, World}
 use Rattle.ws_session.specs.Acts.{bytes_of}
 use Rattle.ws_session.specs.Conduct.{Conduct}
 use Rattle.ws_session.specs.world.Wires.{Telling}
@@ -217,8 +217,9 @@ module _ (one : World → World) (many : ℕ → World → World) (none : (w : W
       -- so many of the bytes in flight, or all that are
       pub delivered : (e : E) (at : ℕ) (wrote : List ℕ) (said : List Event) (w : World) → Stands (leads e) at wrote said w
           → (e' : E) (from to : WireParts) (k : ℕ) (said' : List Event) (count : ℕ)
-          → (d : AreDelivered conduct telling e e'
-          (record { bytes = bytes; at = at }) from (record { bytes = wrote; at = k }) to said said' count)
+          → (d : AreDelivered conduct telling
+          (at_end e (record { bytes = bytes; at = at }) (record { bytes = wrote; at = k }) said) count
+          (at_end e' from to said'))
           → Stands (leads e') (at + length d.bytes) (wrote ++ d.written) (said ++ d.events) (many count w)
       delivered e at wrote said w h e' from to k said' count d =
           let waiting : List ℕ = drop at bytes in

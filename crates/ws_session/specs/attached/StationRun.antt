@@ -24,6 +24,18 @@ use Rattle.ws_session.specs.station.StationSide.{new_station_side}
 abbrev pub refusal_count : ℕ → ℕ
 refusal_count n = min n (2 ^ 32 - 1)
 
+-- the reads of a source: what it gave first, and what it gave in the last of them
+pub record LastRead {R : Type 0} (reader : Reader R) (source source' : R) : Type 0 where
+  pub first : List ℕ
+  pub last : List ℕ
+  pub reads : ℕ
+  pub before : R
+  pub room : ℕ
+  pub gave : Gave reader source before reads first
+  pub one_left : reads < most_reads
+  pub gave_last : reader.gives before room (Some last) source'
+  pub uncounted : reader.failures source' ≡ reader.failures source
+
 module _ (terminal : TerminalType) (keys : List (ℕ × Key)) where
   -- what a new station has done behind these items and the keys that were due
   abbrev pub behind : List (Item Element) → Outcome
@@ -106,19 +118,6 @@ module _ (terminal : TerminalType) (keys : List (ℕ × Key)) where
       pub is_behind : IsBehind bytes items station
       pub wrote : WentOut writer sink sink' (run_text items)
 
-    -- a byte of the last read is refused, and all that was to be written before it went out
-    pub record IsRunRefused (place : ℕ) (reason : Reason) : Type 0 where
-      pub first : List ℕ
-      pub last : List ℕ
-      pub reads : ℕ
-      pub before : R
-      pub room : ℕ
-      pub gave : Gave reader source before reads first
-      pub one_left : reads < most_reads
-      pub gave_last : reader.gives before room (Some last) source'
-      pub uncounted : reader.failures source' ≡ reader.failures source
-      pub refuses : RunRefuses writer sink sink' (length first) (first ++ last) place reason
-
     -- a write failed
     pub record IsRunUnwritten : Type 0 where
       pub bytes : List ℕ
@@ -126,11 +125,12 @@ module _ (terminal : TerminalType) (keys : List (ℕ × Key)) where
       pub gave : Gave reader source source' reads bytes
       pub unwritten : RunUnwritten writer sink sink' bytes
 
-    -- what a run comes to: played, refused, truncated, a failed read or a failed write, each with what was read and
-    -- what went out
+    -- what a run comes to: played, refused at a byte of the last read, truncated, a failed read or a failed write, each
+    -- with what was read and what went out
     abbrev pub IsRun : Result Played Fault → Type 0
     IsRun (Ok played) = IsPlayed played
-    IsRun (Err (Refused place reason)) = IsRunRefused place reason
+    IsRun (Err (Refused place reason)) = (read : LastRead reader source source')
+        × RunRefuses writer sink sink' (length read.first) (read.first ++ read.last) place reason
     IsRun (Err (Truncated n)) = IsRunTruncated n
     IsRun (Err Read) = IsRunUnread
     IsRun (Err Write) = IsRunUnwritten

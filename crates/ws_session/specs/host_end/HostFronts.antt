@@ -16,6 +16,7 @@ use Rattle.ws_stream.specs.declared.answer_part.AnswerPart.{AnswerPart}
 use Rattle.ws_session.specs.declared.host_end.host_event.HostStep.{HostStep}
 use Rattle.ws_session.specs.declared.refusal.Refusal.{Refusal}
 use Rattle.ws_session.specs.declared.refusal.Refusal.TheVariants.{At, Failed, Memory}
+use Rattle.ws_session.specs.Ends.{HasSettled}
 use Rattle.ws_session.specs.host_end.HostLeads.{HostParts, HostStands, IsReacted, HostStaysInside, HostTakesItem}
 use Rattle.ws_session.specs.host_end.HostLeads.{HostRefusesItem, HostWantsItem}
 use Rattle.ws_session.specs.host_end.HostSide.{HostSide, host_takes}
@@ -66,3 +67,8 @@ IsHostFronted old new bytes items side (Err Memory) = (new.screen ≡ old.screen
     × (EndIn bytes (λ before last. CompletesUnit answer_rules before items last) ⊎ HostWantsItem bytes items side)
     × HostStands new side
 IsHostFronted old new bytes items side (Err Failed) = ⊥
+
+-- how the host end stands with the last byte taken: its screen changes with an event alone
+abbrev pub HasHostSettled : HostParts → HostParts → ℕ → Result HostStep Refusal → Type 0
+HasHostSettled old new place result =
+    HasSettled (λ (step : HostStep). step.event ≡ None) place new.ended (new.screen ≡ old.screen) result

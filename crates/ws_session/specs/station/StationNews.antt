@@ -16,12 +16,18 @@ use Rattle.ws_record.specs.Refusal.{IsRefused}
 use Rattle.ws_session.specs.declared.refusal.Refusal.{Refusal}
 use Rattle.ws_session.specs.declared.refusal.Refusal.TheVariants.{At, Failed, Memory}
 use Rattle.ws_session.specs.declared.station.StationStep.{StationStep}
+use Rattle.ws_session.specs.Ends.{HasSettled}
 use Rattle.ws_session.specs.station.Displays.{DisplayOf, SideOn}
 use Rattle.ws_session.specs.station.StationCounts.{is_record}
 use Rattle.ws_session.specs.station.PartsOn.{PartsOn}
 use Rattle.ws_session.specs.station.Stations.{StaysInsideOn, TakesItemOn, RefusesItemOn, IsClosedOn, HasStoppedOn, AtStationOn}
 use Rattle.ws_session.specs.station.Stations.{IsPushedOn}
 use Rattle.ws_session.specs.station.StationActs.{HasTakenAllOn}
+
+-- how a station stands with the last byte taken: its display changes with a record's end alone
+abbrev pub HasSettledOn : {D P R : Type 0} → PartsOn D P → PartsOn D P → ℕ → Result (StationStep R) Refusal → Type 0
+HasSettledOn {R = R} old new place result =
+    HasSettled (λ (step : StationStep R). step.ends_record ≡ false) place new.ended (new.screen ≡ old.screen) result
 
 module _ {D P U H PlaceV V K R : Type 0} (rules : Rules P U) (d : DisplayOf D U H PlaceV V K R) where
   -- what a station answers where these bytes are written, and no record ends

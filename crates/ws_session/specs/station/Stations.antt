@@ -1,6 +1,6 @@
 -- A station on any display, by the bytes that lead to it, and what a byte or a key makes of it (RFC 1205, 4777)
 
-use Rattle.std.specs.Prelude.{◌≡◌, ℕ, ◌+◌, ◌-◌, ◌^◌, min, true, false, List}
+use Rattle.std.specs.Prelude.{◌≡◌, ℕ, ◌+◌, ◌-◌, ◌^◌, min, true, List}
 use Rattle.std.specs.Prelude.{[], ◌∷◌, ◌++◌, ◌⊎◌, Option, Some, None, length, drop, Result, Ok, Err}
 use Rattle.ws_code.specs.Code.{Rules, IsChain, spelling_of}
 use Rattle.ws_code.specs.declared.reason.Reason.{Reason}
@@ -25,7 +25,7 @@ use Rattle.ws_session.specs.declared.station.key_fault.KeyFault.{KeyFault}
 use Rattle.ws_session.specs.declared.station.answer.TheConstants.{ATN, SRQ}
 use Rattle.ws_session.specs.Reaction.{Refuses, GoesOn}
 use Rattle.ws_session.specs.station.Displays.{DisplayOf, SideOn, RefusesKey, Silent, Answers, Signals}
-use Rattle.ws_session.specs.station.StationCounts.{is_record, records_in}
+use Rattle.ws_session.specs.station.StationCounts.{records_in}
 use Rattle.ws_session.specs.station.PartsOn.{PartsOn}
 use Rattle.ws_session.specs.station.StationManners.{new_side_on, takes_on, key_on}
 
@@ -127,14 +127,6 @@ module _ {D P U H PlaceV V K R : Type 0} (rules : Rules P U) (d : DisplayOf D U 
       × HasStoppedOn new (length (bytes ++ byte ∷ [])) items side
   IsPushedOn old new bytes items side byte (Err Failed) = ⊥
   IsPushedOn old new bytes items side byte (Err Memory) = ⊥
-
-  -- what a byte gives, and whether it ends a record
-  abbrev pub IsSteppedOn : PartsOn D P → PartsOn D P → List ℕ → List (Item U) → SideOn H → ℕ
-      → Result (StationStep R) Refusal → Type 0
-  IsSteppedOn old new bytes items side byte (Ok step) =
-      (IsInsideOn old new bytes items side byte step.reply × (step.ends_record ≡ false))
-      ⊎ ((taken : IsTakenOn new bytes items side byte step.reply) × (step.ends_record ≡ is_record taken.item))
-  IsSteppedOn old new bytes items side byte (Err refusal) = IsPushedOn old new bytes items side byte (Err refusal)
 
   -- what a key gives: its refusal, with the station as it was; or what it sends: nothing, a read's answer, Attention or
   -- System Request

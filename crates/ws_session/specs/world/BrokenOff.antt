@@ -3,14 +3,17 @@
 use Rattle.std.specs.Prelude.{◌≡◌, ℕ, ◌-◌, ◌≤◌, ◌⊎◌, List, [], ◌∷◌, ◌++◌, length, take}
 use Rattle.ws_code.specs.declared.fault.Fault.{Fault}
 use Rattle.ws_code.specs.declared.fault.Fault.TheVariants.{Memory}
-use Rattle.ws_code.specs.Device.{Writer, Reader, Devices}
+use Rattle.ws_code.specs.Device.{Devices}
 use Rattle.ws_nego.specs.declared.terminal.TerminalType.{TerminalType}
 use Rattle.ws_session.specs.declared.world.line.Line.{Line}
 use Rattle.ws_session.specs.declared.world.Move.{Move}
 use Rattle.ws_session.specs.declared.world.Move.TheVariants.{ToStation, ToHost}
+use Rattle.ws_session.specs.Conduct.{Conduct}
+use Rattle.ws_session.specs.Conducts.{host_conduct, profile_conduct}
 use Rattle.ws_session.specs.world.Carrying.{IsCarryFault}
 use Rattle.ws_session.specs.world.Crossings.{Crossing, HaveCrossed}
-use Rattle.ws_session.specs.world.TwoLines.{TwoEnds, ComesDown, ComesUp, HasRun}
+use Rattle.ws_session.specs.world.TwoLines.{TwoEnds, Hearing, station_hearing, host_hearing, HaveCome, HasRun}
+use Rattle.ws_session.specs.world.Wires.{Telling, station_telling, host_telling}
 
 -- these bytes are the next of those that are due, at most 4,096
 abbrev pub AreNext : List ℕ → List ℕ → Type 0
@@ -26,27 +29,17 @@ module _ {S R : Type 0} (devices : Devices R S) where
       ⊎ ((bytes : List ℕ) × (slice : List ℕ) × AreNext bytes due
       × IsCarryFault devices.writer from.sink to.sink devices.reader from.source to.source bytes slice fault)
 
-  -- a delivery to the station: fewer of its bytes came, and the next of the others were cut
-  pub record CutsDown (old : TwoEnds) (count : ℕ) (from to : Line S R) (fault : Fault) : Type 0 where
+  -- a delivery to an end: fewer of its bytes came, and the next of the others were cut
+  pub record CutsDelivery {E Deed Told : Type 0} (conduct : Conduct E Deed Told) (telling : Telling Told)
+      (old : Hearing E) (count : ℕ) (from to : Line S R) (fault : Fault) : Type 0 where
     pub fewer : ℕ
     pub crossings : List Crossing
-    pub ends : TwoEnds
+    pub end : Hearing E
     pub last : Line S R
     pub within : fewer ≤ count
     pub crossed : HaveCrossed devices from crossings last
-    pub came : ComesDown old fewer crossings ends
-    pub cut : IsDeliveryCut (take (count - fewer) ends.to_station) last to fault
-
-  -- a delivery to the host end: fewer of its bytes came, and the next of the others were cut
-  pub record CutsUp (old : TwoEnds) (count : ℕ) (from to : Line S R) (fault : Fault) : Type 0 where
-    pub fewer : ℕ
-    pub crossings : List Crossing
-    pub ends : TwoEnds
-    pub last : Line S R
-    pub within : fewer ≤ count
-    pub crossed : HaveCrossed devices from crossings last
-    pub came : ComesUp old fewer crossings ends
-    pub cut : IsDeliveryCut (take (count - fewer) ends.to_host) last to fault
+    pub came : HaveCome conduct telling old fewer crossings end
+    pub cut : IsDeliveryCut (take (count - fewer) end.coming) last to fault
 
 module _ {S R T Q : Type 0} (devices : Devices R S)
     (devices' : Devices Q T) where
@@ -57,9 +50,9 @@ module _ {S R T Q : Type 0} (devices : Devices R S)
   -- why a move was not done to its end: a delivery was cut, or memory was wanting
   abbrev pub BreaksOff : TwoEnds → Move → Line S R → Line S R → Line T Q → Line T Q → Fault → Type 0
   BreaksOff old (ToStation count) down down' up up' fault =
-      CutsDown devices old count down down' fault × (up' ≡ up)
+      CutsDelivery devices profile_conduct station_telling (station_hearing old) count down down' fault × (up' ≡ up)
   BreaksOff old (ToHost count) down down' up up' fault =
-      CutsUp devices' old count up up' fault × (down' ≡ down)
+      CutsDelivery devices' host_conduct host_telling (host_hearing old) count up up' fault × (down' ≡ down)
   BreaksOff old move down down' up up' fault = WantsMemory down down' up up' fault
 
   -- the first of the moves left was not done to its end; or none is left, and memory was wanting for the report

@@ -4,7 +4,7 @@ use Rattle.std.specs.Prelude.{◌≡◌, ℕ, ◌+◌, ◌⊎◌, List, [], ◌�
 use Rattle.std.specs.List.{AllByRecursion}
 use Rattle.ws_code.specs.declared.fault.Fault.{Fault}
 use Rattle.ws_code.specs.declared.fault.Fault.TheVariants.{Memory}
-use Rattle.ws_code.specs.Device.{Writer, Reader, Devices}
+use Rattle.ws_code.specs.Device.{Devices}
 use Rattle.ws_session.specs.declared.world.line.Line.{Line}
 use Rattle.ws_session.specs.world.Carrying.{IsCarried, IsCarryFault}
 

@@ -14,10 +14,8 @@ use Rattle.ws_stream.specs.Elements.{element_rules}
 use Rattle.ws_stream.specs.declared.answer_part.AnswerPart.{AnswerPart}
 use Rattle.ws_stream.specs.declared.element.Element.{Element}
 use Rattle.ws_keys.specs.declared.key.Key.{Key}
-use Rattle.ws_session.specs.declared.end_step.Applied.{Applied}
 use Rattle.ws_session.specs.declared.end_step.Order.{Order}
 use Rattle.ws_session.specs.declared.end_step.Order.TheVariants.{Send as Sending, Cancel as Cancelling}
-use Rattle.ws_session.specs.declared.host_end.host_event.HostEvent.{HostEvent}
 use Rattle.ws_session.specs.declared.station.key_fault.KeyFault.TheVariants.{Failed as KeyFailed}
 use Rattle.ws_session.specs.declared.host_end.send_fault.SendFault.TheVariants.{Failed as SendFailed}
 use Rattle.ws_session.specs.declared.world.Event.{Event}
@@ -27,7 +25,7 @@ use Rattle.ws_session.specs.declared.world.Move.TheVariants.{Send, Cancel, ToSta
 use Rattle.ws_session.specs.Acts.{Did}
 use Rattle.ws_session.specs.Conduct.{Conduct}
 use Rattle.ws_session.specs.Conducts.{host_conduct, profile_conduct}
-use Rattle.ws_session.specs.world.Crossings.{Crossing}
+use Rattle.ws_session.specs.world.Crossings.{Crossing, AreFaithful}
 use Rattle.ws_session.specs.host_end.HostLeads.{AtHost, HostParts, HostLeads}
 use Rattle.ws_session.specs.host_end.HostSide.{HostSide, new_host_side, host_cancel, SendReaction, RefusesSend}
 use Rattle.ws_session.specs.station.StationActs.{IsShutOn}
@@ -35,7 +33,7 @@ use Rattle.ws_session.specs.Manners.{StationGoes, HostGoes, IsHostShut}
 use Rattle.ws_session.specs.world.Runs.{WorldParts}
 use Rattle.ws_session.specs.station.StationLeads.{AtStation, StationParts, StationLeads}
 use Rattle.ws_session.specs.station.StationSide.{StationSide, new_station_side, station_key, KeyReaction, RefusesKey}
-use Rattle.ws_session.specs.world.Wires.{WireParts, Telling, station_telling, host_telling, Comes, AreDelivered}
+use Rattle.ws_session.specs.world.Wires.{Telling, station_telling, host_telling, Comes, AtEnd, at_end, AreDelivered}
 use Rattle.ws_session.specs.world.World.{host_sends}
 
 -- where a session stands: both ends, the bytes in flight to each, and what was told
@@ -72,26 +70,59 @@ all_sent crossings = flat_map (λ (c : Crossing). c.sent) crossings
 abbrev pub all_read : List Crossing → List ℕ
 all_read crossings = flat_map (λ (c : Crossing). c.read) crossings
 
+-- An end of a session to which bytes come: those in flight to it, those in flight from it, and what was told.
+pub record Hearing (E : Type 0) : Type 0 where
+  pub end : E
+  pub coming : List ℕ
+  pub going : List ℕ
+  pub events : List Event
+
+-- the station's end of a session
+abbrev pub station_hearing : TwoEnds → Hearing StationParts
+station_hearing ends = record {
+  end = ends.station;
+  coming = ends.to_station;
+  going = ends.to_host;
+  events = ends.events;
+}
+
+-- the host's end of it
+abbrev pub host_hearing : TwoEnds → Hearing HostParts
+host_hearing ends = record {
+  end = ends.host;
+  coming = ends.to_host;
+  going = ends.to_station;
+  events = ends.events;
+}
+
+-- an end by what was written for it and by it, as far as that is in flight
+abbrev pub hearing_of : {E : Type 0} → AtEnd E → Hearing E
+hearing_of e = record {
+  end = e.end;
+  coming = drop e.from.at e.from.bytes;
+  going = drop e.to.at e.to.bytes;
+  events = e.events;
+}
+
 module _ {E Deed Told : Type 0} (conduct : Conduct E Deed Told) (telling : Telling Told) where
   -- So many of the bytes in flight go into the line, or all where there are fewer. As many that came out of it come
-  -- to the end, whatever they are; what it writes and tells at them is this.
-  pub record HaveCome (count : ℕ) (crossings : List Crossing) (flight flight' : List ℕ) (old new : E)
-      (written : List ℕ) (told : List Event) : Type 0 where
-    pub sent : all_sent crossings ≡ take count flight
+  -- to the end, whatever they are; what it writes at them is on its way behind what was, and what it tells is told.
+  pub record HaveCome (old : Hearing E) (count : ℕ) (crossings : List Crossing) (new : Hearing E) : Type 0 where
+    pub sent : all_sent crossings ≡ take count old.coming
     -- in pieces of at most 4,096 bytes
     pub pieces : AllByRecursion (λ (c : Crossing). length c.sent ≤ 4096) crossings
     pub as_many : length (all_read crossings) ≡ length (all_sent crossings)
-    pub left : flight' ≡ drop count flight
-    pub come : Comes conduct telling old (all_read crossings) new written told
+    pub left : new.coming ≡ drop count old.coming
+    pub written : List ℕ
+    pub told : List Event
+    pub come : Comes conduct telling old.end (all_read crossings) new.end written told
+    pub going : new.going ≡ old.going ++ written
+    pub events : new.events ≡ old.events ++ told
 
--- bytes come to the station: it tells a refusal alone
-abbrev pub StationHears : ℕ → List Crossing → List ℕ → List ℕ → StationParts → StationParts → List ℕ → List Event
-    → Type 0
-StationHears = HaveCome profile_conduct station_telling
-
--- bytes come to the host end: its events are told, and a refusal
-abbrev pub HostHears : ℕ → List Crossing → List ℕ → List ℕ → HostParts → HostParts → List ℕ → List Event → Type 0
-HostHears = HaveCome host_conduct host_telling
+  -- they have come so over a line; where what came out of it is what went in, as without a line
+  abbrev pub AreDeliveredOver : AtEnd E → ℕ → List Crossing → AtEnd E → Type 0
+  AreDeliveredOver old count crossings new = HaveCome (hearing_of old) count crossings (hearing_of new)
+      × (AreFaithful crossings → AreDelivered conduct telling old count new)
 
 -- what is told of a key: that it was refused, and why; or nothing
 abbrev pub key_told : KeyReaction → List Event
@@ -151,25 +182,15 @@ Orders old order new = (written : List ℕ) × (told : List Event)
 
 -- so many bytes come down to the station, in these pieces; the host end stays
 abbrev pub ComesDown : TwoEnds → ℕ → List Crossing → TwoEnds → Type 0
-ComesDown old count crossings new = (written : List ℕ) × (told : List Event)
-    × StationHears count crossings old.to_station new.to_station old.station new.station written told
-    × (new ≡ record old {
-      station = new.station;
-      to_station = new.to_station;
-      to_host = old.to_host ++ written;
-      events = old.events ++ told;
-    })
+ComesDown old count crossings new =
+    HaveCome profile_conduct station_telling (station_hearing old) count crossings (station_hearing new)
+    × (new.host ≡ old.host)
 
 -- so many bytes come up to the host end, in these pieces; the station stays
 abbrev pub ComesUp : TwoEnds → ℕ → List Crossing → TwoEnds → Type 0
-ComesUp old count crossings new = (written : List ℕ) × (told : List Event)
-    × HostHears count crossings old.to_host new.to_host old.host new.host written told
-    × (new ≡ record old {
-      host = new.host;
-      to_station = old.to_station ++ written;
-      to_host = new.to_host;
-      events = old.events ++ told;
-    })
+ComesUp old count crossings new =
+    HaveCome host_conduct host_telling (host_hearing old) count crossings (host_hearing new)
+    × (new.station ≡ old.station)
 
 -- a move of a session over two lines, and the pieces that cross the line down and the line up in it
 abbrev pub HasMoved : TwoEnds → Move → List Crossing → List Crossing → TwoEnds → Type 0
@@ -203,24 +224,24 @@ abbrev pub HostIsLed : HostParts → List ℕ → Type 0
 HostIsLed host bytes = ((items : List (Item AnswerPart)) × (side : HostSide) × HostLeads host bytes items side)
     ⊎ IsSome host.ended
 
--- the wires of a running session
-abbrev pub down_wire : WorldParts → WireParts
-down_wire w = record { bytes = w.down; at = w.at_station }
+-- the station's end of a running session
+abbrev pub at_station_end : WorldParts → AtEnd StationParts
+at_station_end w =
+    at_end w.station (record { bytes = w.down; at = w.at_station }) (record { bytes = w.up; at = w.at_host }) w.events
 
--- the line from the station up to the host end: all that was written to it, and how much has arrived
-abbrev pub up_wire : WorldParts → WireParts
-up_wire w = record { bytes = w.up; at = w.at_host }
+-- the host's end of it
+abbrev pub at_host_end : WorldParts → AtEnd HostParts
+at_host_end w =
+    at_end w.host (record { bytes = w.up; at = w.at_host }) (record { bytes = w.down; at = w.at_station }) w.events
 
 -- so many of the bytes in flight, as they stand there, have come to the station
 abbrev pub IsDeliveredDown : WorldParts → ℕ → WorldParts → Type 0
 IsDeliveredDown old count new =
-    AreDelivered profile_conduct station_telling
-    old.station new.station (down_wire old) (down_wire new) (up_wire old) (up_wire new) old.events new.events count
+    AreDelivered profile_conduct station_telling (at_station_end old) count (at_station_end new)
     × (new.host ≡ old.host)
 
 -- so many of the bytes in flight, as they stand there, have come to the host end
 abbrev pub IsDeliveredUp : WorldParts → ℕ → WorldParts → Type 0
 IsDeliveredUp old count new =
-    AreDelivered host_conduct host_telling
-    old.host new.host (up_wire old) (up_wire new) (down_wire old) (down_wire new) old.events new.events count
+    AreDelivered host_conduct host_telling (at_host_end old) count (at_host_end new)
     × (new.station ≡ old.station)

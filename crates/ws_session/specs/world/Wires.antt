@@ -16,6 +16,18 @@ pub record WireParts : Type 0 where
   pub bytes : List ℕ
   pub at : ℕ
 
+-- An end of a session where bytes come to it: what was written for it, and how much of that has come; what it has
+-- written itself; and what was told.
+pub record AtEnd (E : Type 0) : Type 0 where
+  pub end : E
+  pub from : WireParts
+  pub to : WireParts
+  pub events : List Event
+
+-- such an end, part by part
+abbrev pub at_end : {E : Type 0} → E → WireParts → WireParts → List Event → AtEnd E
+at_end end from to events = record { end = end; from = from; to = to; events = events }
+
 -- the end hasn't stopped for want of memory
 abbrev pub HasMemory : Option Refusal → Type 0
 HasMemory (Some Memory) = ⊥
@@ -58,14 +70,13 @@ module _ {E Deed Told : Type 0} (conduct : Conduct E Deed Told) (telling : Telli
     pub told_is : told' ≡ told ++ events
 
   -- so many of the bytes in flight have come to an end, or all where there were fewer
-  pub record AreDelivered (old new : E) (from from' to to' : WireParts) (told told' : List Event)
-      (count : ℕ) : Type 0 where
+  pub record AreDelivered (old : AtEnd E) (count : ℕ) (new : AtEnd E) : Type 0 where
     pub bytes : List ℕ
     pub written : List ℕ
     pub events : List Event
-    pub first : bytes ≡ take count (drop from.at from.bytes)
-    pub few : length from.bytes + 1 < 2 ^ 64
-    pub come : Comes old bytes new written events
-    pub from_is : from' ≡ record from { at = from.at + length bytes }
-    pub to_is : to' ≡ record to { bytes = to.bytes ++ written }
-    pub told_is : told' ≡ told ++ events
+    pub first : bytes ≡ take count (drop old.from.at old.from.bytes)
+    pub few : length old.from.bytes + 1 < 2 ^ 64
+    pub come : Comes old.end bytes new.end written events
+    pub from_is : new.from ≡ record old.from { at = old.from.at + length bytes }
+    pub to_is : new.to ≡ record old.to { bytes = old.to.bytes ++ written }
+    pub told_is : new.events ≡ old.events ++ events

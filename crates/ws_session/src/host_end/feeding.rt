@@ -39,6 +39,9 @@ impl HostEnd {
         // What a refusal leaves.
         ensures after { IfErr result.step (λ why. self.new.ended ≡ Some why) }
         ensures seen { OnErr result.step (self.new.screen ≡ self.old.screen) }
+        // The screen changes with an event alone.
+        ensures quiet { IfOk result.step (λ step. step.event ≡ None
+            → self.new.screen ≡ self.old.screen) }
     {
         let mut used = 0;
         while used < piece.len() {

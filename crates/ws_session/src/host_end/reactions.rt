@@ -1,7 +1,7 @@
 //! What a host end does at an item.
-ghost use Rattle.std.specs.Prelude.{◌≡◌, None, Some, IfOk, IfErr, OnErr};
+ghost use Rattle.std.specs.Prelude.{◌≡◌};
 ghost use Rattle.ws_nego.specs.Host.{host_answer};
-ghost use Rattle.ws_session.specs.Ends.{StandsAt};
+ghost use Rattle.ws_session.specs.host_end.HostFronts.{HasHostSettled};
 ghost use Rattle.ws_session.specs.host_end.HostLeads.{HostStands, IsReacted};
 ghost use Rattle.ws_session.specs.host_end.HostSide.{HostSide, host_takes, host_negotiates, host_takes_record, host_reads_by, host_ends_cancel, ready_event};
 ghost use Rattle.ws_session.specs.host_end.HostSide as side_spec;
@@ -34,11 +34,7 @@ impl HostEnd {
         ensures reacted { (side : HostSide) → HostStands self.old side
             → IsReacted self.old self.new (host_takes side item.now) place result }
         ensures same { self.new.receiver ≡ self.old.receiver }
-        ensures at { IfErr result (λ why. StandsAt why place) }
-        ensures after { IfErr result (λ why. self.new.ended ≡ Some why) }
-        ensures seen { OnErr result (self.new.screen ≡ self.old.screen) }
-        ensures quiet { IfOk result (λ step. step.event ≡ None
-            → self.new.screen ≡ self.old.screen) }
+        ensures settled { HasHostSettled self.old self.new place result }
     {
         match item {
             Item::Telnet(token) => self.negotiate(token, place),
@@ -58,13 +54,8 @@ impl HostEnd {
             → IsReacted self.old self.new
             (host_negotiates side (host_answer side.options token.now)) place result }
         ensures same { self.new.receiver ≡ self.old.receiver }
-        // Where it is refused, and what that leaves.
-        ensures at { IfErr result (λ why. StandsAt why place) }
-        ensures after { IfErr result (λ why. self.new.ended ≡ Some why) }
-        ensures seen { OnErr result (self.new.screen ≡ self.old.screen) }
-        // The screen changes with an event alone.
-        ensures quiet { IfOk result (λ step. step.event ≡ None
-            → self.new.screen ≡ self.old.screen) }
+        // Where it is refused, what that leaves, and when the screen changes.
+        ensures settled { HasHostSettled self.old self.new place result }
     {
         let was_allowed = self.options.records_allowed();
         match self.options.answer(token) {
@@ -97,13 +88,8 @@ impl HostEnd {
             (host_takes_record side record_.now.flags record_.now.opcode record_.now.body)
             place result }
         ensures same { self.new.receiver ≡ self.old.receiver }
-        // Where it is refused, and what that leaves.
-        ensures at { IfErr result (λ why. StandsAt why place) }
-        ensures after { IfErr result (λ why. self.new.ended ≡ Some why) }
-        ensures seen { OnErr result (self.new.screen ≡ self.old.screen) }
-        // The screen changes with an event alone.
-        ensures quiet { IfOk result (λ step. step.event ≡ None
-            → self.new.screen ≡ self.old.screen) }
+        // Where it is refused, what that leaves, and when the screen changes.
+        ensures settled { HasHostSettled self.old self.new place result }
     {
         let parts = record_.body.as_slice();
         if record_.opcode == Opcode::PutGet {
@@ -126,13 +112,8 @@ impl HostEnd {
             → IsReacted self.old self.new
             (host_reads_by side (side_spec.asked_read side) parts.now) place result }
         ensures same { self.new.receiver ≡ self.old.receiver }
-        // Where it is refused, and what that leaves.
-        ensures at { IfErr result (λ why. StandsAt why place) }
-        ensures after { IfErr result (λ why. self.new.ended ≡ Some why) }
-        ensures seen { OnErr result (self.new.screen ≡ self.old.screen) }
-        // The screen changes with an event alone.
-        ensures quiet { IfOk result (λ step. step.event ≡ None
-            → self.new.screen ≡ self.old.screen) }
+        // Where it is refused, what that leaves, and when the screen changes.
+        ensures settled { HasHostSettled self.old self.new place result }
     {
         let Some(kind) = self.kept.pending() else {
             return self.refuse(place, Reason::UnaskedAnswer);
@@ -154,13 +135,8 @@ impl HostEnd {
         ensures reacted { (side : HostSide) → HostStands self.old side
             → IsReacted self.old self.new (host_ends_cancel side side.cancelling) place result }
         ensures same { self.new.receiver ≡ self.old.receiver }
-        // Where it is refused, and what that leaves.
-        ensures at { IfErr result (λ why. StandsAt why place) }
-        ensures after { IfErr result (λ why. self.new.ended ≡ Some why) }
-        ensures seen { OnErr result (self.new.screen ≡ self.old.screen) }
-        // The screen changes with an event alone.
-        ensures quiet { IfOk result (λ step. step.event ≡ None
-            → self.new.screen ≡ self.old.screen) }
+        // Where it is refused, what that leaves, and when the screen changes.
+        ensures settled { HasHostSettled self.old self.new place result }
     {
         if !self.cancelling {
             return self.refuse(place, Reason::UnaskedAnswer);

@@ -41,6 +41,9 @@ impl<D: StationDisplay> StationOn<D> {
         // What a refusal leaves.
         ensures after { IfErr result.step (λ why. self.new.ended ≡ Some why) }
         ensures seen { OnErr result.step (self.new.screen ≡ self.old.screen) }
+        // The screen changes with a record's end alone.
+        ensures quiet { IfOk result.step (λ step. step.ends_record ≡ false
+            → self.new.screen ≡ self.old.screen) }
     {
         let mut used = 0;
         while used < piece.len() {

@@ -1,23 +1,23 @@
 //! A session whose bytes go over a connection.
-ghost use Rattle.std.specs.Prelude.{◌≡◌, ◌≤◌, ◌+◌, ◌∷◌, [], List as Seq, length, take, IfOk, IfErr, OnOk};
+ghost use Rattle.std.specs.Prelude.{List as Seq, IfOk, IfErr, OnOk};
 ghost use Rattle.ws_nego.specs.declared.terminal.TerminalType.{TerminalType as ATerminal};
-ghost use Rattle.ws_session.specs.world.BrokenOff.{IsDeliveryCut, CutsDown, CutsUp, BreaksOff, HasEndedEarly};
+ghost use Rattle.ws_session.specs.Conducts.{host_conduct, profile_conduct};
+ghost use Rattle.ws_session.specs.world.BrokenOff.{CutsDelivery, BreaksOff, HasEndedEarly};
 ghost use Rattle.ws_session.specs.world.Carried.{HasRunOver};
 ghost use Rattle.ws_session.specs.world.Crossings.{Crossing, AreFaithful, HaveCrossed, IsEnded, AreEnded};
 ghost use Rattle.ws_session.specs.world.Runs.{Runs};
-ghost use Rattle.ws_session.specs.world.TwoLines.{two_ends_of, HasMoved, ComesDown, ComesUp};
+ghost use Rattle.ws_session.specs.world.TwoLines.{two_ends_of, station_hearing, host_hearing, HasMoved, ComesDown, ComesUp};
+ghost use Rattle.ws_session.specs.world.Wires.{station_telling, host_telling};
 ghost use Rattle.ws_session.specs.world.World as spec;
 ghost use Rattle.ws_session.specs.world.World.{World as AWorld, after_move};
 ghost use Rattle.ws_code.specs.Device.{on_devices};
 
 use super::{Move, Report, World};
-use crate::{Line, carry};
+use crate::Line;
+use crate::world::delivery::deliver_over;
 use std::alloc::Global;
 use ws_code::{Fault, Sink, Source};
 use ws_nego::TerminalType;
-
-// The most bytes that are written before they are read.
-const PIECE: usize = 4096;
 
 impl World {
     /// Runs a session as `run` does, but what arrives goes over two lines: in pieces of at most 4,096 bytes, each of
@@ -92,52 +92,18 @@ impl World {
             → Runs t self.old w → Runs t self.new (spec.bytes_to_station count w))) }
         ensures fault { IfErr result
             (IsEnded (on_devices S.writer R.reader) line.old line.new) }
-        ensures early { IfErr result (CutsDown (on_devices S.writer R.reader)
-            (two_ends_of self.old) count line.old line.new) }
+        ensures early { IfErr result (CutsDelivery (on_devices S.writer R.reader)
+            profile_conduct station_telling (station_hearing (two_ends_of self.old)) count
+            line.old line.new) }
     {
-        let mut left = count;
-        while left > 0 {
-            let piece = left.min(PIECE).min(self.down.in_flight());
-            if piece == 0 {
-                return Ok(());
-            }
-            self.piece_to_station(line, piece)?;
-            left -= piece;
-        }
-        Ok(())
-    }
-
-    // So many of the bytes in flight go over the line. What is read takes their place, and arrives.
-    fn piece_to_station<S: Sink, R: Source>(
-        &mut self,
-        line: &mut Line<S, R>,
-        piece: usize,
-    ) -> Result<(), Fault>
-        // A piece of what is in flight.
-        requires some { self.old.at_station + piece ≤ length self.old.down }
-        requires small { piece ≤ 4096 }
-        // What crossed, and what it led to; at a fault what had crossed before it.
-        ensures came { OnOk result ((crossing : Crossing)
-            × HaveCrossed (on_devices S.writer R.reader) line.old (crossing ∷ []) line.new
-            × ComesDown (two_ends_of self.old) piece (crossing ∷ []) (two_ends_of self.new)
-            × (crossing.read ≡ crossing.sent → (t : ATerminal) (w : AWorld)
-            → Runs t self.old w → Runs t self.new (spec.bytes_to_station piece w))) }
-        ensures fault { IfErr result
-            (IsEnded (on_devices S.writer R.reader) line.old line.new) }
-        ensures early { IfErr result (IsDeliveryCut (on_devices S.writer R.reader)
-            (take piece (two_ends_of self.old).to_station) line.old line.new) }
-    {
-        self.known_wires();
-        let mut taken = [0u8; PIECE];
-        let read = &mut taken[..piece];
-        carry(
-            &self.down.waiting()[..piece],
-            &mut line.sink,
-            &mut line.source,
-            read,
-        )?;
-        self.down.write_over(read);
-        self.bytes_to_station(piece)
+        deliver_over(
+            &mut self.station,
+            &mut self.down,
+            &mut self.up,
+            &mut self.events,
+            line,
+            count,
+        )
     }
 
     fn carry_to_host<S: Sink, R: Source>(
@@ -152,51 +118,17 @@ impl World {
             → Runs t self.old w → Runs t self.new (spec.bytes_to_host count w))) }
         ensures fault { IfErr result
             (IsEnded (on_devices S.writer R.reader) line.old line.new) }
-        ensures early { IfErr result (CutsUp (on_devices S.writer R.reader)
-            (two_ends_of self.old) count line.old line.new) }
+        ensures early { IfErr result (CutsDelivery (on_devices S.writer R.reader)
+            host_conduct host_telling (host_hearing (two_ends_of self.old)) count
+            line.old line.new) }
     {
-        let mut left = count;
-        while left > 0 {
-            let piece = left.min(PIECE).min(self.up.in_flight());
-            if piece == 0 {
-                return Ok(());
-            }
-            self.piece_to_host(line, piece)?;
-            left -= piece;
-        }
-        Ok(())
-    }
-
-    // The same at the host end.
-    fn piece_to_host<S: Sink, R: Source>(
-        &mut self,
-        line: &mut Line<S, R>,
-        piece: usize,
-    ) -> Result<(), Fault>
-        // A piece of what is in flight.
-        requires some { self.old.at_host + piece ≤ length self.old.up }
-        requires small { piece ≤ 4096 }
-        // What crossed, and what it led to; at a fault what had crossed before it.
-        ensures came { OnOk result ((crossing : Crossing)
-            × HaveCrossed (on_devices S.writer R.reader) line.old (crossing ∷ []) line.new
-            × ComesUp (two_ends_of self.old) piece (crossing ∷ []) (two_ends_of self.new)
-            × (crossing.read ≡ crossing.sent → (t : ATerminal) (w : AWorld)
-            → Runs t self.old w → Runs t self.new (spec.bytes_to_host piece w))) }
-        ensures fault { IfErr result
-            (IsEnded (on_devices S.writer R.reader) line.old line.new) }
-        ensures early { IfErr result (IsDeliveryCut (on_devices S.writer R.reader)
-            (take piece (two_ends_of self.old).to_host) line.old line.new) }
-    {
-        self.known_wires();
-        let mut taken = [0u8; PIECE];
-        let read = &mut taken[..piece];
-        carry(
-            &self.up.waiting()[..piece],
-            &mut line.sink,
-            &mut line.source,
-            read,
-        )?;
-        self.up.write_over(read);
-        self.bytes_to_host(piece)
+        deliver_over(
+            &mut self.host,
+            &mut self.up,
+            &mut self.down,
+            &mut self.events,
+            line,
+            count,
+        )
     }
 }

@@ -1,4 +1,4 @@
-use Rattle.ws_session.proofs.Common.{◌≡◌, [], refl, Err, rules, went_out_none, HostGoes, HostRefuses, SendFailed}
+use Rattle.ws_session.proofs.Common.{◌≡◌, [], refl, Err, rules, went_out_none, SendFailed}
 use Rattle.ws_session.proofs.Common.{host_send}
 use Rattle.ws_code.specs.Device.{on_devices}
 use Rattle.ws_session.specs.Conducts.{host_conduct}

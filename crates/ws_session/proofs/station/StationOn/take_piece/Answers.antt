@@ -44,7 +44,7 @@ returns-in-Err-clause-counted_up g c =
     let why : Refusal = c.in-Err.refusal in
     counted_up why _ now.self.live.taken _ now.used _ (length (left_of c.args.piece.now now.used))
     _ now.invariant.0 f.ensures.within (length_rest c.args.piece.now now.used) now.invariant.3 f.ensures.counted
-    (λ other. f.ensures.used (λ e. other (cc (c.in-Err.is, e)))) (rw c.in-Err.is at f.ensures.at)
+    (λ other. f.ensures.used (λ e. other (cc (c.in-Err.is, e)))) (rw c.in-Err.is at f.ensures.settled.at)
 
 pub returns-then-step-clause-fed : goal.returns-then-step-clause-fed
 returns-then-step-clause-fed g c = λ bytes items side l fits.
@@ -77,7 +77,7 @@ loop-used-preserved g c = (
     length_rest c.args.piece.now c.loop-used.used,
     c.loop-used.invariant.0,
   ),
-  (rw c.in-Ok.is at c.take_front-more.ensures.quiet) c.if-step.false ∙ c.loop-used.invariant.1,
+  (rw c.in-Ok.is at c.take_front-more.ensures.settled.quiet) c.if-step.false ∙ c.loop-used.invariant.1,
   λ bytes items side l fits. (let now = c.loop-used.self in
       let f = c.take_front-more in
       let piece = c.args.piece.now in

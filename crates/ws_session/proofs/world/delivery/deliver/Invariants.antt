@@ -1,4 +1,4 @@
-use Rattle.ws_session.proofs.Common.{◌≡◌, ◌+◌, ℕ, min, length, ◌-◌, AreDelivered}
+use Rattle.ws_session.proofs.Common.{◌≡◌, ◌+◌, ℕ, min, length, ◌-◌, AreDelivered, at_end}
 use Rattle.ws_session.proofs.world.delivery.deliver.Given as goal
 
 abbrev pub decreases-loop-left : goal.decreases-loop-left
@@ -10,5 +10,5 @@ invariant-loop-left g l = record {
   gone : ℕ;
   all : gone + l.left ≡ min l.count (length l.fn.from.bytes - l.fn.from.at);
   come : AreDelivered g.E.End.conduct g.E.Reported.telling
-      l.fn.end l.end l.fn.from l.from l.fn.to l.to l.fn.events.items l.events.items gone;
+      (at_end l.fn.end l.fn.from l.fn.to l.fn.events.items) gone (at_end l.end l.from l.to l.events.items);
 }
