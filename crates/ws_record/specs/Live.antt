@@ -79,7 +79,7 @@ module _ {Place U : Type 0} where
 
   -- What one byte more gives: its step says what is complete with it, and a refusal is at this byte.
   --
-  -- This is of a stream over any body; what a station does at a byte is IsSteppedOn of ws_session.
+  -- This is of a stream over any body; what a station does at a byte is IsPushedOn of ws_session.
   abbrev pub IsLiveStep : Rules Place U → Watching Place → List ℕ → List (Item U) → RecordSoFar U → ℕ → Step U
       → Type 0
   IsLiveStep rules new bytes items so_far byte (Refused place reason) = (place ≡ length bytes)
