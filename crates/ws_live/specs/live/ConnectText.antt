@@ -4,7 +4,7 @@ use Rattle.std.specs.Prelude.{◌≡◌, ◌≢◌, ℕ, ◌<◌, List, [], ◌�
 use Rattle.std.specs.Prelude.{Some, IfSome, IfNone, is_none}
 use Rattle.std.specs.Prelude.{Result, Ok, Err, string_bytes, length, if◌then◌else◌, codes, encode_utf8}
 use Rattle.ws_code.specs.Code.{Rules}
-use Rattle.ws_code.specs.Device.{Writer, Reader, most_reads, one_more, Devices}
+use Rattle.ws_code.specs.Device.{most_reads, one_more, Devices}
 use Rattle.ws_code.specs.declared.fault.Fault.{Fault}
 use Rattle.ws_code.specs.declared.fault.Fault.TheVariants as fault
 use Rattle.ws_nego.specs.Station.{station_allows_records}
@@ -33,11 +33,10 @@ use Rattle.ws_live.specs.declared.live.connect_line.Awaited.TheVariants.{Turn, R
 use Rattle.ws_live.specs.declared.live.report.Report.{Report as AReport}
 use Rattle.ws_live.specs.declared.live.report.Report.TheVariants.{Note}
 use Rattle.ws_live.specs.script.KeyWords.{KeyWords}
-use Rattle.ws_live.specs.live.LiveText.{IsLiveText, bad_outcome, bad_text}
-use Rattle.ws_live.specs.live.Operating.{OperatedOn}
+use Rattle.ws_live.specs.live.LiveText.{bad_outcome, bad_text}
+use Rattle.ws_live.specs.live.Operating.{LiveDisplay, OperatedOn}
 use Rattle.ws_live.specs.live.Stroking.{no_field_text, stroke_keys}
-use Rattle.ws_live.specs.live.Waits.{InTime}
-use Rattle.ws_live.specs.declared.live.Ran.{Ran}
+use Rattle.ws_live.specs.live.Waits.{WatchTells}
 use Rattle.ws_live.specs.declared.live.Closing.{Closing}
 use Rattle.ws_live.specs.declared.printing.paint.Paint.{Paint}
 use Rattle.ws_live.specs.declared.live.Closing.TheVariants.{Nothing, Done, Declined, Late, Ended, Stopped}
@@ -257,46 +256,46 @@ module _ {D P U H PlaceV V Q R : Type 0} (rules : Rules P U) (d : DisplayOf D U 
         IsQuieted from waited to = (told : List Applied) × (ended : Waited) × (quiet : Bool)
             × AppliesAll from told ended to × rests to.source quiet × (waited ≡ rested quiet ended)
 
-        -- Lines of an operator at it.
-        module _ (operated : OperatedOn D) where
-          -- what is awaited: one more record, quiet, or a display by which it is met
-          abbrev pub IsWaited : Awaited → (AttachedStation × ℕ) → Waited → AttachedStation → Type 0
-          IsWaited Record from waited to = WaitsForRecord from.1 from.0 waited to
-          IsWaited (Quiet time) from waited to = IsQuieted from.0 waited to
-          IsWaited awaited from waited to = WaitsFor (IsMet d.shown operated awaited) from.0 waited to
+-- What a watch may tell.
+module _ {D P U H PlaceV V Q R S K : Type 0} (rules : Rules P U) (d : DisplayOf D U H PlaceV V Q R)
+    (operated : OperatedOn D) (devices : Devices S K) (told : WatchTells S) where
+  -- what is awaited at a display that an operator drives: one more record, quiet, or a display by which it is met
+  abbrev pub IsWaited : Awaited → (AttachedParts (PartsOn D P) S K × ℕ) → Waited → AttachedParts (PartsOn D P) S K
+      → Type 0
+  IsWaited Record from waited to = WaitsForRecord rules d devices told.tells from.1 from.0 waited to
+  IsWaited (Quiet time) from waited to = IsQuieted rules d devices told.tells told.rests from.0 waited to
+  IsWaited awaited from waited to =
+      WaitsFor rules d devices told.tells (IsMet d.shown operated awaited) from.0 waited to
 
-          -- and of keys by these words
-          module _ (w : KeyWords Q) where
-            -- A line at a station, how it closed, and what it printed, with screens in a paint; the keys of a stroke
-            -- are those at the screen that the station then has. Behind a line that waits or presses keys no record is
-            -- ahead.
-            abbrev pub StationRuns : Paint → StationLine Q → (AttachedStation × ℕ) → Result Closing Fault → List ℕ
-                → (AttachedStation × ℕ) → Type 0
-            StationRuns paint NoLine from outcome text to = (to ≡ from) × (outcome ≡ Ok Nothing) × (text ≡ [])
-            StationRuns paint (Press keys) from outcome text to = KeysRun w keys from.0 outcome text to.0 × (to.1 ≡ 0)
-            StationRuns paint (Stroke stroke) from outcome text to =
-                StrokeRuns w (stroke_keys w (d.shown from.0.end.screen) stroke) from.0 outcome text to.0 × (to.1 ≡ 0)
-            StationRuns paint (Await awaited) from outcome text to = (waited : Waited)
-                × IsWaited awaited from waited to.0 × (outcome ≡ waited_outcome waited) × (text ≡ waited_text waited)
-                × (to.1 ≡ 0)
-            StationRuns paint Fields from outcome text to =
-                ShowsStation (λ station. AreFieldLines (d.shown station.screen)) from outcome text to
-            StationRuns paint Show from outcome text to =
-                ShowsStation (λ station. IsDisplayText paint (d.shown station.screen) (operated.behind station.screen)) from
-                outcome text to
-            StationRuns paint (Report report) from outcome text to = Reports report from outcome text to
-            StationRuns paint (Bad cause) from outcome text to = (to ≡ from) × (outcome ≡ bad_outcome)
-                × (text ≡ bad_text (string_bytes cause))
+-- A display at which lines are carried out, and its devices.
+module _ {D P U H PlaceV V Q R S K : Type 0} (on : LiveDisplay D P U H PlaceV V Q R) (devices : Devices S K)
+    (told : WatchTells S) where
+  -- such a station, and how many records are ahead
+  abbrev pub StationAndAhead : Type 0
+  StationAndAhead = AttachedParts (PartsOn D P) S K × ℕ
 
-            module _ {W : Type 0} (begins : W → S → WaitSpan → W → Type 0) (begun : W → ℕ) where
-              -- the same with the time for which it waits
-              abbrev pub StationRunsInTime : Paint → StationLine Q → ((AttachedStation × ℕ) × W) → Result Closing Fault
-                  → List ℕ → ((AttachedStation × ℕ) × W) → Type 0
-              StationRunsInTime paint = InTime (StationRuns paint) station_waits begins begun
+  -- a line that shows what is such a text of the station
+  abbrev pub Shows : (PartsOn D P → List ℕ → Type 0) → StationAndAhead → Result Closing Fault → List ℕ → StationAndAhead
+      → Type 0
+  Shows IsText from outcome text to = ShowsStation on.rules on.does devices told.tells IsText from outcome text to
 
-              -- what the lines of a script at a station print, and whether all went well
-              abbrev pub IsConnectText : Paint → Bool → ((AttachedStation × ℕ) × W) → List (StationLine Q) → Bool → List ℕ
-                  → ((AttachedStation × ℕ) × W) → Type 0
-              IsConnectText paint ready from lines all_well text to = (ran : Ran)
-                  × IsLiveText (StationRunsInTime paint) ready from lines ran text to
-                  × (all_well ≡ ran.all_well)
+  -- A line at a station, how it closed, and what it printed, with screens in a paint; the keys of a stroke are those at
+  -- the screen that the station then has. Behind a line that waits or presses keys no record is ahead.
+  abbrev pub StationRuns : Paint → StationLine Q → StationAndAhead → Result Closing Fault → List ℕ → StationAndAhead
+      → Type 0
+  StationRuns paint NoLine from outcome text to = (to ≡ from) × (outcome ≡ Ok Nothing) × (text ≡ [])
+  StationRuns paint (Press keys) from outcome text to =
+      KeysRun on.rules on.does devices on.words keys from.0 outcome text to.0 × (to.1 ≡ 0)
+  StationRuns paint (Stroke stroke) from outcome text to = StrokeRuns on.rules on.does devices on.words
+      (stroke_keys on.words (on.does.shown from.0.end.screen) stroke) from.0 outcome text to.0 × (to.1 ≡ 0)
+  StationRuns paint (Await awaited) from outcome text to = (waited : Waited)
+      × IsWaited on.rules on.does on.operated devices told awaited from waited to.0
+      × (outcome ≡ waited_outcome waited) × (text ≡ waited_text waited) × (to.1 ≡ 0)
+  StationRuns paint Fields from outcome text to =
+      Shows (λ station. AreFieldLines (on.does.shown station.screen)) from outcome text to
+  StationRuns paint Show from outcome text to = Shows (λ station. IsDisplayText paint (on.does.shown station.screen)
+      (on.operated.behind station.screen)) from outcome text to
+  StationRuns paint (Report report) from outcome text to =
+      Reports on.rules on.does devices told.tells report from outcome text to
+  StationRuns paint (Bad cause) from outcome text to = (to ≡ from) × (outcome ≡ bad_outcome)
+      × (text ≡ bad_text (string_bytes cause))
