@@ -140,7 +140,8 @@ module _ {D P U H PlaceV V Q R : Type 0} (rules : Rules P U) (d : DisplayOf D U 
         IsHearFault (station_conduct rules d) devices from to why
 
     -- a key was pressed: what it sends went out, or it was refused, and nothing is changed; no byte was read or taken
-    pub record IsKeyPressed (key : Q) (from : AttachedStation) (refused : Option KeyFault) (to : AttachedStation) : Type 0 where
+    pub record IsKeyPressed (key : Q) (from : AttachedStation) (refused : Option KeyFault)
+        (to : AttachedStation) : Type 0 where
       pub led : HaveLed (station_conduct rules d) devices from to
           (Did key ∷ []) []
       pub same : IfSome refused (λ why. to ≡ from)
@@ -165,11 +166,13 @@ module _ {D P U H PlaceV V Q R : Type 0} (rules : Rules P U) (d : DisplayOf D U 
       -- keys one after another
       abbrev pub ArePressed : AttachedStation → List Q → Bool → List ℕ → AttachedStation → Type 0
       ArePressed from [] well text to = (to ≡ from) × (well ≡ true) × (text ≡ [])
-      ArePressed from (key ∷ keys) well text to = (refused : Option KeyFault) × (mid : AttachedStation) × (rest_well : Bool)
-          × (rest : List ℕ) × IsKeyPressed key from refused mid × ArePressed mid keys rest_well rest to
+      ArePressed from (key ∷ keys) well text to = (refused : Option KeyFault) × (mid : AttachedStation)
+          × (rest_well : Bool) × (rest : List ℕ) × IsKeyPressed key from refused mid
+          × ArePressed mid keys rest_well rest to
           × (well ≡ is_none refused && rest_well) × (text ≡ key_refused_text (w.entered key) refused ++ rest)
 
-      -- keys at a station, how their line closes, and what it prints: all were pressed, or up to one that wasn't written
+      -- keys at a station, how their line closes, and what it prints: all were pressed, or up to one that wasn't
+      -- written
       abbrev pub KeysRun : List Q → AttachedStation → Result Closing Fault → List ℕ → AttachedStation → Type 0
       KeysRun keys from outcome text to =
           ((well : Bool) × ArePressed from keys well text to × (outcome ≡ Ok (pressed well)))
@@ -185,15 +188,16 @@ module _ {D P U H PlaceV V Q R : Type 0} (rules : Rules P U) (d : DisplayOf D U 
           ⊎ (KeyRuns key from outcome text to × (outcome ≢ Ok Done))
 
       -- the keys of a stroke, or what is printed where the screen hasn't the field that it names
-      abbrev pub StrokeRuns : Option (List Q) → AttachedStation → Result Closing Fault → List ℕ → AttachedStation → Type 0
+      abbrev pub StrokeRuns : Option (List Q) → AttachedStation → Result Closing Fault → List ℕ → AttachedStation
+          → Type 0
       StrokeRuns None from outcome text to = (to ≡ from) × (outcome ≡ Ok Declined) × (text ≡ no_field_text)
       StrokeRuns (Some keys) from outcome text to = KeysUntil keys from outcome text to
 
     -- records were applied one after another, and before each it wasn't yet met
     abbrev pub HasWaited : (D → Type 0) → AttachedStation → List Applied → AttachedStation → Type 0
     HasWaited Met' from [] to = to ≡ from
-    HasWaited Met' from (told ∷ more) to = (mid : AttachedStation) × (Met' from.end.screen → ⊥) × Hears from (Some told) mid
-        × HasWaited Met' mid more to
+    HasWaited Met' from (told ∷ more) to = (mid : AttachedStation) × (Met' from.end.screen → ⊥)
+        × Hears from (Some told) mid × HasWaited Met' mid more to
 
     -- What a wait comes to, at a watch that tells of a source whether the read that failed was late.
     module _ (tells : S → Bool → Type 0) where
@@ -227,8 +231,8 @@ module _ {D P U H PlaceV V Q R : Type 0} (rules : Rules P U) (d : DisplayOf D U 
 
       -- A line that shows something of a station: the records that have come are applied first, and are ahead then;
       -- behind its text stands what there was behind them, if not only that no more has come.
-      pub record ShowsStation (IsText : PartsOn D P → List ℕ → Type 0) (from : AttachedStation × ℕ) (outcome : Result Closing Fault)
-          (text : List ℕ) (to : AttachedStation × ℕ) : Type 0 where
+      pub record ShowsStation (IsText : PartsOn D P → List ℕ → Type 0) (from : AttachedStation × ℕ)
+          (outcome : Result Closing Fault) (text : List ℕ) (to : AttachedStation × ℕ) : Type 0 where
         pub told : List Applied
         pub ended : Waited
         pub taken : AppliesAll from.0 told ended to.0
@@ -239,7 +243,8 @@ module _ {D P U H PlaceV V Q R : Type 0} (rules : Rules P U) (d : DisplayOf D U 
         pub all : text ≡ shown ++ waited_text (rested true ended)
 
       -- a line that reports: a note is printed as it is
-      abbrev pub Reports : AReport → (AttachedStation × ℕ) → Result Closing Fault → List ℕ → (AttachedStation × ℕ) → Type 0
+      abbrev pub Reports : AReport → (AttachedStation × ℕ) → Result Closing Fault → List ℕ → (AttachedStation × ℕ)
+          → Type 0
       Reports (Note note) from outcome text to = (to ≡ from) × (outcome ≡ Ok Done) × (text ≡ note_line note)
       Reports report from outcome text to = ShowsStation (λ station. IsReportText (d.shown station.screen)
           (station_allows_records station.options) station.records station.live.taken report) from outcome text to
@@ -275,9 +280,9 @@ module _ {D P U H PlaceV V Q R S K : Type 0} (on : LiveDisplay D P U H PlaceV V 
   StationAndAhead = AttachedParts (PartsOn D P) S K × ℕ
 
   -- a line that shows what is such a text of the station
-  abbrev pub Shows : (PartsOn D P → List ℕ → Type 0) → StationAndAhead → Result Closing Fault → List ℕ → StationAndAhead
-      → Type 0
-  Shows IsText from outcome text to = ShowsStation on.rules on.does devices told.tells IsText from outcome text to
+  abbrev pub ShowsAsText : (PartsOn D P → List ℕ → Type 0) → StationAndAhead → Result Closing Fault → List ℕ
+      → StationAndAhead → Type 0
+  ShowsAsText IsText from outcome text to = ShowsStation on.rules on.does devices told.tells IsText from outcome text to
 
   -- A line at a station, how it closed, and what it printed, with screens in a paint; the keys of a stroke are those at
   -- the screen that the station then has. Behind a line that waits or presses keys no record is ahead.
@@ -292,8 +297,9 @@ module _ {D P U H PlaceV V Q R S K : Type 0} (on : LiveDisplay D P U H PlaceV V 
       × IsWaited on.rules on.does on.operated devices told awaited from waited to.0
       × (outcome ≡ waited_outcome waited) × (text ≡ waited_text waited) × (to.1 ≡ 0)
   StationRuns paint Fields from outcome text to =
-      Shows (λ station. AreFieldLines (on.does.shown station.screen)) from outcome text to
-  StationRuns paint Show from outcome text to = Shows (λ station. IsDisplayText paint (on.does.shown station.screen)
+      ShowsAsText (λ station. AreFieldLines (on.does.shown station.screen)) from outcome text to
+  StationRuns paint Show from outcome text to =
+      ShowsAsText (λ station. IsDisplayText paint (on.does.shown station.screen)
       (on.operated.behind station.screen)) from outcome text to
   StationRuns paint (Report report) from outcome text to =
       Reports on.rules on.does devices told.tells report from outcome text to

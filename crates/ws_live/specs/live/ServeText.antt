@@ -95,7 +95,8 @@ module _ {S K : Type 0} (devices : Devices S K) where
   HostAndAhead = AttachedHost × ℕ
 
   -- the host end did this: it was written, or refused, and nothing is changed; no byte was read or taken
-  pub record IsDone (order : Order) (from : AttachedHost) (refused : Option SendFault) (to : AttachedHost) : Type 0 where
+  pub record IsDone (order : Order) (from : AttachedHost) (refused : Option SendFault)
+      (to : AttachedHost) : Type 0 where
     pub led : HaveLed host_conduct devices from to (Did order ∷ []) []
     pub same : IfSome refused (λ why. to ≡ from)
     pub why : IfSome refused (IsSendRefusal from.end (reaction_to order))
@@ -145,7 +146,8 @@ module _ {S K : Type 0} (devices : Devices S K) where
           ⊎ ((told ≡ most_reads) × (to ≡ from) × (outcome ≡ Err fault.Read) × (text ≡ [])))
 
       -- the host end heard the station up to the answer, and printed all that it told
-      pub record HearsAnswer (from : AttachedHost) (outcome : Result Closing Fault) (text : List ℕ) (to : AttachedHost) : Type 0 where
+      pub record HearsAnswer (from : AttachedHost) (outcome : Result Closing Fault) (text : List ℕ)
+          (to : AttachedHost) : Type 0 where
         pub told : List HostEvent
         pub mid : AttachedHost
         pub before : HaveToldBeforeAnswer awaited from told mid
@@ -171,5 +173,6 @@ module _ {S K : Type 0} (devices : Devices S K) where
 
     module _ {W : Type 0} (begins : W → S → WaitSpan → W → Type 0) (begun : W → ℕ) where
       -- a line at a host and a watch, how it closed, and what it printed
-      abbrev pub HostRunsInTime : HostLine → (HostAndAhead × W) → Result Closing Fault → List ℕ → (HostAndAhead × W) → Type 0
+      abbrev pub HostRunsInTime : HostLine → (HostAndAhead × W) → Result Closing Fault → List ℕ → (HostAndAhead × W)
+          → Type 0
       HostRunsInTime = InTime HostRuns host_waits begins begun
