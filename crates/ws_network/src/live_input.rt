@@ -58,6 +58,7 @@ where
         (watch_tells W.tells W.rests) paint) station_waits W.begins W.begun) ready) ready
         ((attached.old, ahead.old), watch.old) lines ((attached.new, ahead.new), watch.new)
         (is_some script.entry) (λ ran all_well. all_well ≡ ran.all_well)) result }
+    ensures held { out.new.held ≡ [] }
 {
     match carry_session(
         rt, attached, ahead, watch, script, vocabulary, ready, paint, out,

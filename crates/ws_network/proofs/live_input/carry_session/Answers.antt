@@ -1,4 +1,4 @@
-use Rattle.std.proofs.Common.{refl}
+use Rattle.std.proofs.Common.{refl, true}
 use Rattle.std.proofs.lemmas.Result.{err_from_is_err_and}
 use Rattle.ws_live.specs.live.LiveText.{WithClosing}
 use Rattle.ws_live.specs.live.Waits.{InTime}
@@ -12,13 +12,27 @@ returns-in_err-carry_script-in-Some-clause-printed g c =
     rw (p.1, p.2, c.in-Some.is) (
       c.in-Some.lines.now,
       refl,
-      ?printed,
+      script_fails (WithClosing (InTime (g.L.LiveMove.runs g.W.Watch.tells g.W.Watch.rests c.args.paint)
+          g.L.LiveMove.waits g.W.Watch.begins g.W.Watch.begun) c.args.ready) c.args.ready g.O.Sink.writer
+          ((c.args.attached.now, c.args.ahead.now), c.args.watch.now) c.in-Some.lines.now
+          ((c.carry_script.new.attached, c.carry_script.new.ahead), c.carry_script.new.watch) true
+          c.args.out.now.sink c.carry_script.new.out.sink e.field-0.0 e.ensures.printed,
     )
 
 pub returns-in_ok-carry_script-in-Some-clause-printed : goal.returns-in_ok-carry_script-in-Some-clause-printed
 returns-in_ok-carry_script-in-Some-clause-printed g c =
+    let e = c.in_ok-carry_script-in-Some in
     rw (c.in-Some.is) (
       c.in-Some.lines.now,
       refl,
-      ?printed,
+      script_ends (WithClosing (InTime (g.L.LiveMove.runs g.W.Watch.tells g.W.Watch.rests c.args.paint)
+          g.L.LiveMove.waits g.W.Watch.begins g.W.Watch.begun) c.args.ready) c.args.ready g.O.Sink.writer
+          ((c.args.attached.now, c.args.ahead.now), c.args.watch.now) c.in-Some.lines.now
+          ((c.carry_script.new.attached, c.carry_script.new.ahead), c.carry_script.new.watch) true
+          c.args.out.now.sink c.carry_script.new.out.sink e.field-0 e.ensures.printed,
     )
+
+pub returns-in-None-clause-printed : goal.returns-in-None-clause-printed
+returns-in-None-clause-printed g c =
+    let e = c.carry_input.ensures.printed in
+    rw (c.in-None.is) (e.0, tt, e.1)
