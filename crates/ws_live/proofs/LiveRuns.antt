@@ -142,7 +142,7 @@ module _ {L P : Type 0} (runs : L → P → Result Closing Fault → List ℕ �
           at = stopped_at after lines split (Ok closing) one.0 one.1;
           over = over;
           came = ap (λ (b : Bool). let r : Ran = record { all_well = ran.all_well && is_well closing; is_over = b } in
-          r) over;
+              r) over;
         }),
         went_out_both writer old between new printed one.0 out one.2,
       )

@@ -25,7 +25,7 @@ ToldEnds Tells printing text (Err told) = IsOwnFault (λ why. printing.Ends text
 abbrev pub told_as : {A B : Type 0} → (A → B → Type 0) → Printing A Fault → Printing B ToldFault
 told_as Tells printing = record {
   Ends = ToldEnds Tells printing;
-  Cut = λ text told. IsOwnFault (printing.Cut text) told
+  Cut = λ text told. IsOwnFault (printing.Cut text) told;
 }
 
 -- what is printed behind a text that is out: that text went out, and then this was printed
@@ -51,7 +51,7 @@ module _ {L P : Type 0} (prints : L → P → Result Closing Fault → List ℕ 
   abbrev pub session_printing : {A : Type 0} → (Ran → A → Type 0) → Printing A ToldFault
   session_printing Tells = record {
     Ends = SessionEnds Tells;
-    Cut = (told_as Tells (lines_printing prints from lines to)).Cut
+    Cut = (told_as Tells (lines_printing prints from lines to)).Cut;
   }
 
 -- lines, by what each does, and behind them one that is carried on
@@ -85,5 +85,5 @@ module _ {L P : Type 0} (runs : L → P → Result Closing Fault → List ℕ �
     Ends = λ text outcome. ((first ≡ []) × (ending_lines has_script).Ends text outcome)
         ⊎ ((well : Bool) × (mid : P) × HaveLedTo well first mid × (answering_on well mid).Ends text outcome);
     Cut = λ text told. ((first ≡ []) × (ending_lines has_script).Cut text told)
-        ⊎ ((well : Bool) × (mid : P) × HaveLedTo well first mid × (answering_on well mid).Cut text told)
+        ⊎ ((well : Bool) × (mid : P) × HaveLedTo well first mid × (answering_on well mid).Cut text told);
   }

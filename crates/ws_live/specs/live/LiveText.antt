@@ -79,7 +79,7 @@ module _ {L P : Type 0} (runs : L → P → Result Closing Fault → List ℕ �
   abbrev pub line_printing : P → L → P → Printing Closing Fault
   line_printing from line to = record {
     Ends = λ text outcome. runs line from outcome text to;
-    Cut = IsCutIn (λ outcome text. runs line from outcome text to)
+    Cut = IsCutIn (λ outcome text. runs line from outcome text to);
   }
 
   -- the lines were carried out one after another, none stopped the session, and they printed this
@@ -127,5 +127,5 @@ module _ {L P : Type 0} (runs : L → P → Result Closing Fault → List ℕ �
   abbrev pub lines_printing : P → List L → P → Printing Ran Fault
   lines_printing from lines to = record {
     Ends = LinesEnd from lines to;
-    Cut = IsCutIn (λ outcome text. IsStoppedAt from lines outcome text to)
+    Cut = IsCutIn (λ outcome text. IsStoppedAt from lines outcome text to);
   }

@@ -20,7 +20,7 @@ returns-in-Open-clause-printed g c =
       e.0,
       (
         subst (λ (o : Result Closing Fault). g.L.LiveMove.runs g.W.Watch.tells g.W.Watch.rests c.args.paint
-        c.args.line.now
+            c.args.line.now
             (c.args.attached.now, c.args.ahead.now) o e.0
             (c.carry_out-carried.new.attached, c.carry_out-carried.new.ahead)) c.in-Ok.is e.1,
         c.carry_out-carried.ensures.begun,
@@ -41,7 +41,7 @@ returns-in-Failed-clause-printed g c =
       e.0,
       (
         subst (λ (o : Result Closing Fault). g.L.LiveMove.runs g.W.Watch.tells g.W.Watch.rests c.args.paint
-        c.args.line.now
+            c.args.line.now
             (c.args.attached.now, c.args.ahead.now) o e.0
             (c.carry_out-carried.new.attached, c.carry_out-carried.new.ahead)) c.in-Ok.is e.1,
         c.carry_out-carried.ensures.begun,
@@ -60,7 +60,7 @@ returns-in-Err-clause-printed g c =
     c.hand_on-in-Err.new.out.sink
     _ c.in-Err.fault c.hand_on-in-Err.result e.0 (
       subst (λ (o : Result Closing Fault). g.L.LiveMove.runs g.W.Watch.tells g.W.Watch.rests c.args.paint
-      c.args.line.now
+          c.args.line.now
           (c.args.attached.now, c.args.ahead.now) o e.0
           (c.carry_out-carried.new.attached, c.carry_out-carried.new.ahead)) c.in-Err.is e.1,
       c.carry_out-carried.ensures.begun,

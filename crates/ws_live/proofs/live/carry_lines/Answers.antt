@@ -86,7 +86,7 @@ loop-line-preserved g c =
     let next = taken_here lines i line c.loop-line-test.true c.line-item.is in (
       more.0,
       subst (λ (b : Bool). HaveRun runs ((c.args.attached.now, c.args.ahead.now), c.args.watch.now)
-      (take (i + 1) lines) b more.0
+          (take (i + 1) lines) b more.0
           ((c.carry_line.new.attached, c.carry_line.new.ahead), c.carry_line.new.watch)) well
           (subst (λ (z : List g.row.L.Denot). HaveRun runs ((c.args.attached.now, c.args.ahead.now), c.args.watch.now) z
           (ran_and c.loop-line.ran (ran_by c.in-Ok.closing)).all_well more.0

@@ -59,8 +59,10 @@ returns-in-Err-carry_next-clause-printed g c =
           ((c.carry_next.new.attached, c.carry_next.new.ahead), c.carry_next.new.watch) false c.args.out.now.sink
           c.carry_next.new.out.sink c.in-Err-carry_next.fault
           (breaks runs g.O.Sink.writer ((c.args.attached.now, c.args.ahead.now), c.args.watch.now)
-          ((c.loop.attached, c.loop.ahead), c.loop.watch) ((c.carry_next.new.attached, c.carry_next.new.ahead),
-          c.carry_next.new.watch)
+          ((c.loop.attached, c.loop.ahead), c.loop.watch) (
+            (c.carry_next.new.attached, c.carry_next.new.ahead),
+            c.carry_next.new.watch,
+          )
           c.args.out.now.sink c.loop.out.sink c.carry_next.new.out.sink
           so_far.0 c.in-Some.line c.loop.ran so_far.1 so_far.2 so_far.3 [] lines refl c.in-Err-carry_next.fault
           (subst (IsPrinted g.O.Sink.writer c.loop.out.sink c.carry_next.new.out.sink (line_printing runs
@@ -87,8 +89,10 @@ returns-then-ran-clause-printed g c =
           ((c.carry_next.new.attached, c.carry_next.new.ahead), c.carry_next.new.watch) false c.args.out.now.sink
           c.carry_next.new.out.sink (ran_and c.loop.ran (ran_by c.in-Ok-carry_next.closing))
           (ends_here runs g.O.Sink.writer ((c.args.attached.now, c.args.ahead.now), c.args.watch.now)
-          ((c.loop.attached, c.loop.ahead), c.loop.watch) ((c.carry_next.new.attached, c.carry_next.new.ahead),
-          c.carry_next.new.watch)
+          ((c.loop.attached, c.loop.ahead), c.loop.watch) (
+            (c.carry_next.new.attached, c.carry_next.new.ahead),
+            c.carry_next.new.watch,
+          )
           c.args.out.now.sink c.loop.out.sink c.carry_next.new.out.sink
           so_far.0 c.in-Some.line c.loop.ran so_far.1 so_far.2 so_far.3 [] lines refl c.in-Ok-carry_next.closing
           (subst (IsPrinted g.O.Sink.writer c.loop.out.sink c.carry_next.new.out.sink (line_printing runs
@@ -108,8 +112,10 @@ loop-preserved g c =
     ∙ ap (λ (r : Ran). ran_and c.loop.ran r) c.ran.ensures in
     let going = ap (λ (r : Ran). r.is_over) (sym same) ∙ c.if-ran.false in
     let more = goes_on runs g.O.Sink.writer ((c.args.attached.now, c.args.ahead.now), c.args.watch.now)
-    ((c.loop.attached, c.loop.ahead), c.loop.watch) ((c.carry_next.new.attached, c.carry_next.new.ahead),
-    c.carry_next.new.watch)
+    ((c.loop.attached, c.loop.ahead), c.loop.watch) (
+      (c.carry_next.new.attached, c.carry_next.new.ahead),
+      c.carry_next.new.watch,
+    )
     c.args.out.now.sink c.loop.out.sink c.carry_next.new.out.sink
     so_far.0 c.in-Some.line c.loop.ran so_far.1 so_far.2 so_far.3 c.in-Ok-carry_next.closing
     (subst (IsPrinted g.O.Sink.writer c.loop.out.sink c.carry_next.new.out.sink (line_printing runs

@@ -16,9 +16,10 @@ returns-clause-ran g c =
     judged _ _ c.carry_at_station-outcome.result c.judge.result
     (connected_well (WithClosing (InTime (StationRuns (live_display g.D.Commands.Code.rules g.D.StationDisplay.does
     g.D.OperatedDisplay.operated g.D.Key.NamedKey.words) timed_devices (watch_tells tells rests) c.args.asked.now.paint)
-    station_waits begins (λ n. n)) c.args.asked.now.ready) c.args.asked.now.ready g.O.Sink.writer ((c.new-attached.result, 0), c.new-4.result)
-    ((c.carry_at_station-outcome.new.attached, c.carry_at_station-outcome.new.ahead),
-    c.carry_at_station-outcome.new.watch)
+    station_waits begins (λ n. n)) c.args.asked.now.ready) c.args.asked.now.ready g.O.Sink.writer ((c.new-attached.result, 0), c.new-4.result) (
+      (c.carry_at_station-outcome.new.attached, c.carry_at_station-outcome.new.ahead),
+      c.carry_at_station-outcome.new.watch,
+    )
     (is_some c.lines_of.result) c.args.out.now.sink c.carry_at_station-outcome.new.out.sink
     (λ lines. MatchOption c.lines_of.result (Unit {0}) (λ read. lines ≡ read.now)) c.carry_at_station-outcome.result
     c.carry_at_station-outcome.ensures.printed) c.judge.ensures.done
@@ -29,9 +30,10 @@ returns-clause-ran g c =
           c.in_ok-script.script c.lines_of.result ran.0 c.in_ok-script.ensures.lines c.lines_of.ensures ran.2,
       connected (live_display g.D.Commands.Code.rules g.D.StationDisplay.does g.D.OperatedDisplay.operated
           g.D.Key.NamedKey.words) c.args.asked.now ran.0
-          all_well ran.1
-          ((c.carry_at_station-outcome.new.attached, c.carry_at_station-outcome.new.ahead),
-          c.carry_at_station-outcome.new.watch)
+          all_well ran.1 (
+            (c.carry_at_station-outcome.new.attached, c.carry_at_station-outcome.new.ahead),
+            c.carry_at_station-outcome.new.watch,
+          )
           ran.3.0 c.new.result c.new-2.result c.new-3.result c.new-attached.result c.new-4.result c.new.ensures.leads
           c.new-attached.ensures
           c.new-2.ensures c.new-3.ensures c.new-4.ensures ran.3.1 ran.3.2,

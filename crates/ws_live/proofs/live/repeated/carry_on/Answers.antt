@@ -25,8 +25,10 @@ returns-then-not-is_told-clause-printed g c =
     g.W.Watch.begun in
     let untold : is_told c.in-Ok.closing ≡ false = sym c.is_told.ensures ∙ c.if-not-is_told.true in
     none_told runs c.args.line.now g.O.Sink.writer ((c.args.attached.now, c.args.ahead.now), c.args.watch.now)
-    ((c.loop.attached, c.loop.ahead), c.loop.watch) ((c.carry_once.new.attached, c.carry_once.new.ahead),
-    c.carry_once.new.watch) c.args.out.now.sink c.loop.out.sink
+    ((c.loop.attached, c.loop.ahead), c.loop.watch) (
+      (c.carry_once.new.attached, c.carry_once.new.ahead),
+      c.carry_once.new.watch,
+    ) c.args.out.now.sink c.loop.out.sink
     c.carry_once.new.out.sink c.loop.counter so_far.0 so_far.1 so_far.2 c.in-Ok.closing c.goes_well.result
     (subst (IsPrinted g.O.Sink.writer c.loop.out.sink c.carry_once.new.out.sink
     (line_printing runs ((c.loop.attached, c.loop.ahead), c.loop.watch) c.args.line.now
@@ -39,8 +41,10 @@ returns-in-Err-clause-printed g c =
     let runs = InTime (g.L.LiveMove.runs g.W.Watch.tells g.W.Watch.rests Plain) g.L.LiveMove.waits g.W.Watch.begins
     g.W.Watch.begun in
     once_fails runs c.args.line.now g.O.Sink.writer ((c.args.attached.now, c.args.ahead.now), c.args.watch.now)
-    ((c.loop.attached, c.loop.ahead), c.loop.watch) ((c.carry_once.new.attached, c.carry_once.new.ahead),
-    c.carry_once.new.watch) c.args.out.now.sink c.loop.out.sink
+    ((c.loop.attached, c.loop.ahead), c.loop.watch) (
+      (c.carry_once.new.attached, c.carry_once.new.ahead),
+      c.carry_once.new.watch,
+    ) c.args.out.now.sink c.loop.out.sink
     c.carry_once.new.out.sink c.loop.counter so_far.0 so_far.1 so_far.2 c.in-Err.fault
     (subst (IsPrinted g.O.Sink.writer c.loop.out.sink c.carry_once.new.out.sink
     (line_printing runs ((c.loop.attached, c.loop.ahead), c.loop.watch) c.args.line.now
@@ -54,8 +58,10 @@ loop-preserved g c =
     g.W.Watch.begun in
     let told : is_told c.in-Ok.closing ≡ true = sym c.is_told.ensures ∙ c.if-not-is_told.false in
     let more = one_told runs c.args.line.now g.O.Sink.writer ((c.args.attached.now, c.args.ahead.now), c.args.watch.now)
-    ((c.loop.attached, c.loop.ahead), c.loop.watch) ((c.carry_once.new.attached, c.carry_once.new.ahead),
-    c.carry_once.new.watch) c.args.out.now.sink c.loop.out.sink
+    ((c.loop.attached, c.loop.ahead), c.loop.watch) (
+      (c.carry_once.new.attached, c.carry_once.new.ahead),
+      c.carry_once.new.watch,
+    ) c.args.out.now.sink c.loop.out.sink
     c.carry_once.new.out.sink c.loop.counter so_far.0 so_far.1 so_far.2 c.in-Ok.closing
     (subst (IsPrinted g.O.Sink.writer c.loop.out.sink c.carry_once.new.out.sink
     (line_printing runs ((c.loop.attached, c.loop.ahead), c.loop.watch) c.args.line.now
