@@ -1,6 +1,5 @@
 pub mod AnyActs
 pub mod AnySteps
 pub mod AnyWords
-pub mod CarryOns
 pub mod FreeNames
 pub mod KeyWaits

@@ -3,4 +3,3 @@ pub mod AnyLines
 pub mod AnyOptions
 pub mod AnySide
 pub mod AnyText
-pub mod CarryingOn

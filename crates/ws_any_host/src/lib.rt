@@ -9,7 +9,6 @@ mod any_options;
 mod any_text;
 mod end;
 mod names;
-mod repeated;
 
 pub use any_event::AnyEvent;
 pub use any_host::AnyHost;
@@ -17,4 +16,4 @@ pub use any_line::AnyLine;
 pub use any_options::{AnyOptions, ToldName};
 pub use any_text::put_any_event;
 pub use names::names_are_free;
-pub use repeated::carry_on;
+pub use ws_live::carry_on;

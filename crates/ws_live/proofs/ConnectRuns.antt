@@ -6,7 +6,7 @@ use Rattle.std.proofs.Math.Seq.{drop-cons}
 use Rattle.std.proofs.lemmas.Bool.{cases_lt}
 use Rattle.std.proofs.lemmas.List.{append-nil, take_more}
 use Rattle.ws_code.specs.Code.{Rules}
-use Rattle.ws_code.specs.Device.{Writer, Reader, one_more, Devices}
+use Rattle.ws_code.specs.Device.{one_more, Devices}
 use Rattle.ws_code.specs.declared.fault.Fault.{Fault}
 use Rattle.ws_code.specs.declared.fault.Fault.TheVariants as fault
 use Rattle.ws_nego.specs.Station.{station_allows_records}
@@ -25,6 +25,7 @@ use Rattle.ws_live.specs.declared.live.report.Report.TheVariants as reported
 use Rattle.ws_live.specs.declared.live.watch.WaitSpan.TheVariants.{AtOnce}
 use Rattle.ws_live.specs.live.ConnectText.{key_refused_text, pressed, closing_of_both, IsMet, IsKeyPressed, KeyRuns}
 use Rattle.ws_live.specs.live.ConnectText.{ArePressed, KeysRun, Hears, HasWaited, HearsOne, HearsNone, WaitsFor}
+use Rattle.ws_live.specs.live.Waits.{watch_tells}
 use Rattle.ws_live.specs.live.ConnectText.{IsWaited, IsKeyUnwritten, IsWorking, Reports, ShowsStation, more_ahead}
 use Rattle.ws_live.specs.live.ConnectText.{report_waits, rested}
 use Rattle.ws_live.specs.live.Operating.{OperatedOn}
@@ -177,7 +178,7 @@ module _ {D P U H PlaceV V Q R S K : Type 0} (rules : Rules P U) (d : DisplayOf 
       (awaited : Awaited) (waited : Waited) → (awaited ≡ awaits.Record → ⊥)
       → ((time : ℕ) → awaited ≡ awaits.Quiet time → ⊥)
       → WaitsFor rules d devices tells (IsMet d.shown operated awaited) from waited to
-      → IsWaited rules d devices tells rests operated awaited (from, ahead) waited to
+      → IsWaited rules d operated devices (watch_tells tells rests) awaited (from, ahead) waited to
   is_waited tells rests operated from to ahead awaits.Turn waited other loud h = h
   is_waited tells rests operated from to ahead (awaits.Text text) waited other loud h = h
   is_waited tells rests operated from to ahead (awaits.At cell text) waited other loud h = h

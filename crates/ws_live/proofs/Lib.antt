@@ -1,6 +1,7 @@
 pub mod AddressTexts
 pub mod AwaitedWords
 pub mod Buffers
+pub mod CarryOns
 pub mod CauseTexts
 pub mod ColoredCells
 pub mod ConnectRuns

@@ -5,15 +5,17 @@ use Rattle.std.proofs.Math.Seq.{drop-cons}
 use Rattle.std.proofs.lemmas.List.{append-nil, take_more}
 use Rattle.ws_code.specs.Device.{Writer, WentOut, FailedWithin}
 use Rattle.ws_code.specs.declared.fault.Fault.{Fault}
+use Rattle.ws_code.specs.declared.fault.Fault.TheVariants.{Write}
 use Rattle.ws_code.proofs.DeviceLaws.{went_out_both}
 use Rattle.ws_code.proofs.Parts.{fails_last}
+use Rattle.ws_text.specs.Printed.{Printing, IsPrinted}
 use Rattle.ws_text.specs.Printing.{IsOut}
 use Rattle.ws_text.specs.declared.output.Output.{Output}
-use Rattle.ws_text.specs.declared.output.Output.TheVariants.{Open, Failed as Unwritten}
+use Rattle.ws_text.specs.declared.output.Output.TheVariants.{Open, Failed}
 use Rattle.ws_live.specs.declared.live.Closing.{Closing}
 use Rattle.ws_live.specs.declared.live.Ran.{Ran}
-use Rattle.ws_live.specs.live.LiveText.{closing_text, is_well, stops, ran_by, ran_and, HaveRun, IsStoppedAt, HasCarried}
-use Rattle.ws_live.specs.live.LiveText.{IsLiveLineFault, HasRunLines, IsLiveFault}
+use Rattle.ws_live.specs.live.LiveText.{is_well, stops, ran_by, ran_and, HaveRun, IsStoppedAt, IsCutIn}
+use Rattle.ws_live.specs.live.LiveText.{LinesEnd, line_printing, lines_printing}
 
 -- Lines that are carried out one after another.
 
@@ -25,16 +27,12 @@ and_assoc : (a b c : Bool) → ((a && b) && c) ≡ (a && (b && c))
 and_assoc true b c = refl
 and_assoc false b c = refl
 
-module _ {L P : Type 0} (runs : L → P → Result Closing Fault → List ℕ → P → Type 0) (ready : Bool) where
-  pub run_none : (from : P) → HaveRun runs ready from [] true [] from
-  run_none from = (refl, refl, refl)
-
+module _ {L P : Type 0} (runs : L → P → Result Closing Fault → List ℕ → P → Type 0) where
   -- one line more
   pub run_more : (from mid to : P) (before : List L) (line : L) (well : Bool) (printed last : List ℕ)
       (closing : Closing)
-      → HaveRun runs ready from before well printed mid → runs line mid (Ok closing) last to → stops closing ≡ false
-      → HaveRun runs ready from (before ++ line ∷ []) (well && is_well closing)
-      (printed ++ (last ++ closing_text ready closing)) to
+      → HaveRun runs from before well printed mid → runs line mid (Ok closing) last to → stops closing ≡ false
+      → HaveRun runs from (before ++ line ∷ []) (well && is_well closing) (printed ++ last) to
   run_more from mid to [] line well printed last closing h r s = (
     closing,
     last,
@@ -45,29 +43,68 @@ module _ {L P : Type 0} (runs : L → P → Result Closing Fault → List ℕ �
     s,
     (refl, refl, refl),
     ap (λ b. b && is_well closing) h.1 ∙ sym (and_true (is_well closing)),
-    ap (λ z. z ++ (last ++ closing_text ready closing)) h.2 ∙ sym (append-nil (last ++ closing_text ready closing)),
+    ap (λ z. z ++ last) h.2 ∙ sym (append-nil last),
   )
   run_more from mid to (first ∷ before) line well printed last closing h r s = (
     h.0,
     h.1,
     h.2,
     h.3 && is_well closing,
-    h.4 ++ (last ++ closing_text ready closing),
+    h.4 ++ last,
     h.5,
     h.6,
     run_more h.2 mid to before line h.3 h.4 last closing h.7 r s,
     ap (λ b. b && is_well closing) h.8 ∙ and_assoc (is_well h.0) h.3 (is_well closing),
-    ap (λ z. z ++ (last ++ closing_text ready closing)) h.9 ∙ append_assoc (h.1 ++ closing_text ready h.0) h.4
-        (last ++ closing_text ready closing),
+    ap (λ z. z ++ last) h.9 ∙ append_assoc h.1 h.4 last,
   )
+
+  -- one line, whose text went out or didn't
+  module _ {O : Type 0} (writer : Writer O) (from to : P) (old new : O) (line : L) where
+    pub line_out : (closing : Closing) (text : List ℕ) → runs line from (Ok closing) text to
+        → IsOut writer old new Open text → IsPrinted writer old new (line_printing runs from line to) (Ok closing)
+    line_out closing text r out = (text, r, out)
+
+    pub line_cut : (closing : Closing) (text : List ℕ) → runs line from (Ok closing) text to
+        → IsOut writer old new Failed text → IsPrinted writer old new (line_printing runs from line to) (Err Write)
+    line_cut closing text r out = inr (text, inl (refl, (closing, r)), out)
+
+    pub line_failed : (fault : Fault) (output : Output) (text : List ℕ) → runs line from (Err fault) text to
+        → IsOut writer old new output text → IsPrinted writer old new (line_printing runs from line to) (Err fault)
+    line_failed fault Open text r out = inl (text, r, out)
+    line_failed fault Failed text r out = inr (text, inr r, out)
+
+  -- a line at which a fault came, behind a text that is out
+  module _ {O : Type 0} (writer : Writer O) (mid to : P) (old between new : O) (line : L) (printed : List ℕ)
+      (out : WentOut writer old between printed) (Comes : Result Closing Fault → List ℕ → Type 0)
+      (come : (outcome : Result Closing Fault) (last : List ℕ) → runs line mid outcome last to
+      → Comes outcome (printed ++ last)) where
+    cut_behind : (fault : Fault) (last : List ℕ) → IsCutIn (λ outcome text. runs line mid outcome text to) last fault
+        → IsCutIn Comes (printed ++ last) fault
+    cut_behind fault last (inl p) = inl (p.0, (p.1.0, come (Ok p.1.0) last p.1.1))
+    cut_behind fault last (inr r) = inr (come (Err fault) last r)
+
+    pub fails_behind : {A : Type 0} (Ends : List ℕ → Result A Fault → Type 0) (fault : Fault)
+        → ((text : List ℕ) → Comes (Err fault) text → Ends text (Err fault))
+        → IsPrinted writer between new (line_printing runs mid line to) (Err fault)
+        → IsPrinted writer old new (record { Ends = Ends; Cut = IsCutIn Comes }) (Err fault)
+    fails_behind {A} Ends fault ends (inl e) = inl (
+      printed ++ e.0,
+      ends (printed ++ e.0) (come (Err fault) e.0 e.1),
+      went_out_both writer old between new printed e.0 out e.2,
+    )
+    fails_behind {A} Ends fault ends (inr e) = inr (
+      printed ++ e.0,
+      cut_behind fault e.0 e.1,
+      fails_last writer old between new printed e.0 out e.2,
+    )
 
   -- one line more, behind those that were carried out and printed
   module _ {O : Type 0} (writer : Writer O) (from mid to : P) (old between new : O)
       (before : List L) (line : L) (ran : Ran) (printed : List ℕ)
-      (h : HaveRun runs ready from before ran.all_well printed mid) (out : WentOut writer old between printed)
+      (h : HaveRun runs from before ran.all_well printed mid) (out : WentOut writer old between printed)
     where
       stopped_at : (after lines : List L) → lines ≡ before ++ line ∷ after → (outcome : Result Closing Fault)
-          (last : List ℕ) → runs line mid outcome last to → IsStoppedAt runs ready from lines outcome
+          (last : List ℕ) → runs line mid outcome last to → IsStoppedAt runs from lines outcome
           (printed ++ last) to
       stopped_at after lines split outcome last r = record {
         before = before;
@@ -83,60 +120,41 @@ module _ {L P : Type 0} (runs : L → P → Result Closing Fault → List ℕ �
         all = refl;
       }
 
-      pub goes_on : (closing : Closing) → HasCarried runs ready writer mid to between new line closing
+      pub goes_on : (closing : Closing) → IsPrinted writer between new (line_printing runs mid line to) (Ok closing)
           → (ran_and ran (ran_by closing)).is_over ≡ false
-          → (text : List ℕ) × HaveRun runs ready from (before ++ line ∷ []) (ran_and ran (ran_by closing)).all_well text
-          to × WentOut writer old new text
+          → (text : List ℕ) × HaveRun runs from (before ++ line ∷ []) (ran_and ran (ran_by closing)).all_well text to
+          × WentOut writer old new text
       goes_on closing one going = (
-        printed ++ (one.0 ++ closing_text ready closing),
+        printed ++ one.0,
         run_more from mid to before line ran.all_well printed one.0 closing h one.1 going,
-        went_out_both writer old between new printed (one.0 ++ closing_text ready closing) out one.2,
+        went_out_both writer old between new printed one.0 out one.2,
       )
 
       pub ends_here : (after lines : List L) → lines ≡ before ++ line ∷ after → (closing : Closing)
-          → HasCarried runs ready writer mid to between new line closing
-          → (ran_and ran (ran_by closing)).is_over
-          ≡ true
-          → HasRunLines runs ready writer from to old new lines (ran_and ran (ran_by closing))
+          → IsPrinted writer between new (line_printing runs mid line to) (Ok closing)
+          → (ran_and ran (ran_by closing)).is_over ≡ true
+          → IsPrinted writer old new (lines_printing runs from lines to) (Ok (ran_and ran (ran_by closing)))
       unfolding stopped_at
       ends_here after lines split closing one over = (
-        (printed ++ one.0) ++ closing_text ready closing,
+        printed ++ one.0,
         inr (record {
           closing = closing;
-          last = printed ++ one.0;
           at = stopped_at after lines split (Ok closing) one.0 one.1;
           over = over;
-          came = ap (λ (b : Bool). let r : Ran = record { all_well = ran.all_well && is_well closing; is_over = b } in r) over;
-          all = refl;
+          came = ap (λ (b : Bool). let r : Ran = record { all_well = ran.all_well && is_well closing; is_over = b } in
+              r) over;
         }),
-        subst (WentOut writer old new) (sym (append_assoc printed one.0 (closing_text ready closing)))
-            (went_out_both writer old between new printed (one.0 ++ closing_text ready closing) out one.2),
+        went_out_both writer old between new printed one.0 out one.2,
       )
-
-      out_both : (output : Output) (last : List ℕ) → IsOut writer between new output last
-          → IsOut writer old new output (printed ++ last)
-      out_both Open last w = went_out_both writer old between new printed last out w
-      out_both Unwritten last f = fails_last writer old between new printed last out f
 
       pub breaks : (after lines : List L) → lines ≡ before ++ line ∷ after → (fault : Fault)
-          → IsLiveLineFault runs ready writer mid to between new line fault
-          → IsLiveFault runs ready writer from to old new lines fault
-      breaks after lines split fault (inl p) = let w = p.1 in inl (
-        p.0,
-        record {
-          closing = w.0;
-          text = printed ++ w.1;
-          at = stopped_at after lines split (Ok w.0) w.1 w.2;
-          failed = subst (FailedWithin writer old new) (sym (append_assoc printed w.1 (closing_text ready w.0)))
-              (fails_last writer old between new printed (w.1 ++ closing_text ready w.0) out w.3);
-        },
-      )
-      breaks after lines split fault (inr b) = inr (record {
-        text = printed ++ b.0;
-        at = stopped_at after lines split (Err fault) b.0 b.2;
-        output = b.1;
-        out = out_both b.1 b.0 b.3;
-      })
+          → IsPrinted writer between new (line_printing runs mid line to) (Err fault)
+          → IsPrinted writer old new (lines_printing runs from lines to) (Err fault)
+      breaks after lines split fault one =
+          fails_behind writer mid to old between new line printed out
+          (λ outcome text. IsStoppedAt runs from lines outcome text to) (stopped_at after lines split)
+          (LinesEnd runs from lines to) fault
+          (λ text at. at) one
 
 -- the lines of a list, of which so many are carried out
 module _ {L : Type 0} (lines : List L) (i : ℕ) (line : L) (inside : i < length lines)

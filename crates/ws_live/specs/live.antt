@@ -1,3 +1,4 @@
+pub mod CarryingOn
 pub mod ConnectLines
 pub mod ConnectText
 pub mod LiveScript

@@ -22,6 +22,7 @@ pub use live::connect_line::{Awaited, StationLine};
 pub use live::host_closing::{put_given, put_unheard};
 pub use live::live_line::{LiveLine, is_indented, read_lines};
 pub use live::operated_display::OperatedDisplay;
+pub use live::repeated::carry_on;
 pub use live::report::{Report, Span};
 pub use live::serve::answer_on;
 pub use live::serve_line::{AnswerAwaited, HostLine};

@@ -1,7 +1,8 @@
-ghost use Rattle.std.specs.Prelude.{◌≡◌, [], false, Bool, List, ℕ, Option, Result, IfOk, IfErr};
+ghost use Rattle.std.specs.Prelude.{◌≡◌, [], false, Bool, List, ℕ, Option, Result, IfOk};
 ghost use Rattle.ws_code.specs.declared.fault.Fault.{Fault as AFault};
 ghost use Rattle.ws_session.specs.attached.Attachments.{AttachedParts};
 ghost use Rattle.ws_live.specs.printing.Buffering.{Buffering, buffered_writer};
+ghost use Rattle.ws_text.specs.Printed.{IsPrinted};
 ghost use Rattle.ws_text.specs.Printing.{IsOut, Prints};
 ghost use Rattle.ws_live.specs.live.LiveText as Spec;
 ghost use Rattle.ws_live.specs.live.Waits.{HasBegunIf, InTime};
@@ -15,6 +16,7 @@ pub(crate) mod host_closing;
 pub(crate) mod live_line;
 pub(crate) mod operated_display;
 pub(crate) mod pressing;
+pub(crate) mod repeated;
 pub(crate) mod report;
 pub(crate) mod report_words;
 pub(crate) mod serve;
@@ -154,15 +156,12 @@ pub fn carry_lines<E, S, K, L: LiveMove<E, S, K>, W: Watch<S>, O: Sink>(
     // At an end that works, with nothing held back.
     requires works { attached.old.broken ≡ false }
     requires empty { out.old.held ≡ [] }
-    // What was printed, or why not all.
-    ensures ran { IfOk result (Spec.HasRunLines
-        (InTime (L.runs W.tells W.rests paint) L.waits W.begins W.begun) ready O.writer
-        ((attached.old, ahead.old), watch.old) ((attached.new, ahead.new), watch.new)
-        out.old.sink out.new.sink lines.now) }
-    ensures fault { IfErr result (Spec.IsLiveFault
-        (InTime (L.runs W.tells W.rests paint) L.waits W.begins W.begun) ready O.writer
-        ((attached.old, ahead.old), watch.old) ((attached.new, ahead.new), watch.new)
-        out.old.sink out.new.sink lines.now) }
+    // What was printed, and how it ended.
+    ensures printed { IsPrinted O.writer out.old.sink out.new.sink (Spec.lines_printing
+        (Spec.WithClosing
+        (InTime (L.runs W.tells W.rests paint) L.waits W.begins W.begun) ready)
+        ((attached.old, ahead.old), watch.old) lines.now
+        ((attached.new, ahead.new), watch.new)) result }
     // The end works on unless the session is over, and nothing is held back.
     ensures works { IfOk result (λ ran. ran.is_over ≡ false → attached.new.broken ≡ false) }
     ensures held { out.new.held ≡ [] }
@@ -194,15 +193,12 @@ pub fn carry_line<E, S, K, L: LiveMove<E, S, K>, W: Watch<S>, O: Sink>(
     // At an end that works, with nothing held back.
     requires works { attached.old.broken ≡ false }
     requires empty { out.old.held ≡ [] }
-    // What was printed, or why not all.
-    ensures done { IfOk result (Spec.HasCarried
-        (InTime (L.runs W.tells W.rests paint) L.waits W.begins W.begun) ready O.writer
-        ((attached.old, ahead.old), watch.old) ((attached.new, ahead.new), watch.new)
-        out.old.sink out.new.sink line.now) }
-    ensures fault { IfErr result (Spec.IsLiveLineFault
-        (InTime (L.runs W.tells W.rests paint) L.waits W.begins W.begun) ready O.writer
-        ((attached.old, ahead.old), watch.old) ((attached.new, ahead.new), watch.new)
-        out.old.sink out.new.sink line.now) }
+    // What was printed, and how it ended.
+    ensures printed { IsPrinted O.writer out.old.sink out.new.sink (Spec.line_printing
+        (Spec.WithClosing
+        (InTime (L.runs W.tells W.rests paint) L.waits W.begins W.begun) ready)
+        ((attached.old, ahead.old), watch.old) line.now
+        ((attached.new, ahead.new), watch.new)) result }
     // The end works on unless the session is over, and nothing is held back.
     ensures works { IfOk result (λ closing.
         Spec.stops closing ≡ false → attached.new.broken ≡ false) }

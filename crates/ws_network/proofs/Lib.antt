@@ -1,5 +1,5 @@
 pub mod AnySessionLaws
-pub mod LiveFaults
 pub mod ServedLaws
 pub mod SessionLaws
+pub mod SessionPrinted
 pub mod Turning

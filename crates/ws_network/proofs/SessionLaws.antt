@@ -3,7 +3,6 @@ use Rattle.std.specs.Prelude.{Option, None, Some, MatchOption, Result, IfOk, Ok}
 use Rattle.std.proofs.Common.{◌≡◌, ℕ, List, [], ◌∷◌, Bool, true, false, sym, subst, ◌∙◌, Bor}
 use Rattle.std.proofs.lemmas.Bool.{false≢true}
 use Rattle.std.proofs.lemmas.Result.{IfOk-weaker, IfOk-at_ok}
-use Rattle.ws_code.specs.Code.{Rules}
 use Rattle.ws_code.specs.Device.{WentOut}
 use Rattle.ws_nego.specs.Host.{opening}
 use Rattle.ws_record.specs.Encode.{plain_spelling}
@@ -11,20 +10,23 @@ use Rattle.ws_record.specs.declared.record.Item.TheVariants.{Telnet}
 use Rattle.ws_stream.specs.Elements.{element_rules}
 use Rattle.ws_session.specs.attached.Attachments.{AttachedParts}
 use Rattle.ws_session.specs.host_end.HostLeads.{HostParts, HostLeads, unopened_host_side, side_after_open}
-use Rattle.ws_session.specs.station.Displays.{DisplayOf}
 use Rattle.ws_session.specs.station.PartsOn.{PartsOn}
 use Rattle.ws_session.specs.station.StationManners.{new_side_on}
 use Rattle.ws_session.specs.station.Stations.{LeadsOn}
 use Rattle.ws_live.specs.declared.asked.live_asked.ConnectAsked.{ConnectAsked}
 use Rattle.ws_live.specs.declared.asked.live_asked.ServeAsked.{ServeAsked}
 use Rattle.ws_live.specs.declared.live.connect_line.StationLine.{StationLine}
+use Rattle.ws_live.specs.declared.live.Ran.{Ran}
 use Rattle.ws_live.specs.declared.live.serve_line.HostLine.{HostLine}
-use Rattle.ws_live.specs.live.ConnectText.{IsConnectText}
+use Rattle.ws_live.specs.declared.live.serve_line.HostLine.TheVariants.{Await}
+use Rattle.ws_live.specs.live.ConnectText.{StationRuns, station_waits}
+use Rattle.ws_live.specs.live.LiveText.{IsLiveText, WithClosing}
 use Rattle.ws_live.specs.live.LiveScript.{AreLiveLines}
-use Rattle.ws_live.specs.live.Operating.{OperatedOn}
-use Rattle.ws_live.specs.live.ServeText.{IsServeText}
-use Rattle.ws_live.specs.script.KeyWords.{KeyWords}
+use Rattle.ws_live.specs.live.Operating.{LiveDisplay}
+use Rattle.ws_live.specs.live.Waits.{InTime, watch_tells}
+use Rattle.ws_live.specs.live.ServeText.{HostRunsInTime}
 use Rattle.ws_network.specs.Sessions.{AreFromScript, IsConnected, IsServed}
+use Rattle.ws_network.specs.SessionPrinting.{IsTextAndOn}
 use Rattle.ws_network.specs.Times.{ConnectionReads, ConnectionWrites, no_reads, no_writes, timed_devices, timed_writer}
 use Rattle.ws_network.specs.Times.{tells, rests, begins}
 
@@ -57,36 +59,41 @@ module _ {L V : Type 0} (items : V → List L) (means : List ℕ → List (List 
   )
 
 -- an end at a connection, where the devices are new
-abbrev pub new_at : {E : Type 0} → E → ConnectionReads → ConnectionWrites → AttachedParts E ConnectionReads ConnectionWrites
+abbrev pub new_at : {E : Type 0} → E → ConnectionReads → ConnectionWrites
+    → AttachedParts E ConnectionReads ConnectionWrites
 new_at end source sink = record { end = end; source = source; sink = sink; waiting = []; broken = false }
 
 -- a station that is new at a connection has carried the lines out
-module _ {D P U H PlaceV V Q R : Type 0} (rules : Rules P U) (d : DisplayOf D U H PlaceV V Q R)
-    (operated : OperatedOn D) (words : KeyWords Q) (asked : ConnectAsked) (lines : List (StationLine Q)) (all_well : Bool) (text : List ℕ)
-    (to : (AttachedParts (PartsOn D P) ConnectionReads ConnectionWrites × ℕ) × ℕ) where
-  abbrev Ran : AttachedParts (PartsOn D P) ConnectionReads ConnectionWrites → ℕ → Type 0
-  Ran attached begun = IsConnectText rules d timed_devices tells rests operated words
-      begins (λ n. n) asked.paint asked.ready ((attached, 0), begun) lines all_well text to
+module _ {D P U H PlaceV V Q R : Type 0} (on : LiveDisplay D P U H PlaceV V Q R) (asked : ConnectAsked)
+    (lines : List (StationLine Q)) (all_well : Bool) (text : List ℕ)
+    (to : (AttachedParts (PartsOn D P) ConnectionReads ConnectionWrites × ℕ) × ℕ) (came : Ran) where
+  abbrev RanConnect : AttachedParts (PartsOn D P) ConnectionReads ConnectionWrites → ℕ → Type 0
+  RanConnect attached begun = IsLiveText (WithClosing (InTime (StationRuns on timed_devices (watch_tells tells rests)
+      asked.paint) station_waits begins (λ n. n)) asked.ready) ((attached, 0), begun) lines came text to
 
   pub connected : (station : PartsOn D P) (source : ConnectionReads) (sink : ConnectionWrites)
       (attached : AttachedParts (PartsOn D P) ConnectionReads ConnectionWrites) (begun : ℕ)
-      → LeadsOn rules d station [] [] (new_side_on d asked.terminal)
+      → LeadsOn on.rules on.does station [] [] (new_side_on on.does asked.terminal)
       → attached ≡ new_at station source sink → source ≡ no_reads → sink ≡ no_writes → begun ≡ 0
-      → Ran attached begun → IsConnected rules d operated words asked lines all_well text
-  connected station source sink attached begun new is read written none ran = record {
+      → RanConnect attached begun → all_well ≡ came.all_well
+      → IsConnected on asked lines all_well text
+  connected station source sink attached begun new is read written none ran well = record {
     station = station;
     new = new;
     to = to;
-    ran = subst (λ z. Ran (new_at station no_reads z) 0) written
-        (subst (λ z. Ran (new_at station z sink) 0) read (subst (λ z. Ran z 0) is (subst (Ran attached) none ran)));
+    came = came;
+    ran = subst (λ z. RanConnect (new_at station no_reads z) 0) written
+        (subst (λ z. RanConnect (new_at station z sink) 0) read
+        (subst (λ z. RanConnect z 0) is (subst (RanConnect attached) none ran)));
+    well = well;
   }
 
 -- a host end whose opening went out has carried the lines out
 module _ (asked : ServeAsked) (lines : List HostLine) (all_well : Bool) (text : List ℕ)
     (to : (AttachedParts HostParts ConnectionReads ConnectionWrites × ℕ) × ℕ) where
   abbrev RanServe : AttachedParts HostParts ConnectionReads ConnectionWrites → ℕ → Type 0
-  RanServe attached begun = IsServeText timed_devices tells begins (λ n. n)
-      asked.ready ((attached, 0), begun) lines all_well text to
+  RanServe attached begun = IsTextAndOn (HostRunsInTime timed_devices tells begins (λ n. n)) Await asked.ready
+      ((attached, 0), begun) lines to all_well text
 
   abbrev Told : ConnectionWrites → ConnectionWrites → List ℕ → Type 0
   Told from sink bytes = WentOut timed_writer from sink bytes

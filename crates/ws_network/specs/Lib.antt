@@ -1,11 +1,11 @@
 pub mod AnySessions
 pub mod InputLines
-pub mod LiveFaults
 pub mod Listening
 pub mod LiveSessions
 pub mod ManySessions
 pub mod Recordings
 pub mod ScriptFiles
+pub mod SessionPrinting
 pub mod Sessions
 pub mod TcpFaults
 pub mod Times

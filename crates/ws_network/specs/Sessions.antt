@@ -2,7 +2,6 @@
 
 use Rattle.std.specs.Prelude.{◌≡◌, ℕ, List, [], ◌∷◌, Bool, true, false, Option, MatchOption}
 use Rattle.std.specs.Borrow.{Bor}
-use Rattle.ws_code.specs.Code.{Rules}
 use Rattle.ws_code.specs.Device.{Writer, WentOut}
 use Rattle.ws_nego.specs.Host.{opening}
 use Rattle.ws_record.specs.Encode.{plain_spelling}
@@ -11,23 +10,28 @@ use Rattle.ws_extended.specs.ExtendedElements.{extended_rules}
 use Rattle.ws_extended_station.specs.ExtendedDisplays.{extended}
 use Rattle.ws_session.specs.attached.Attachments.{AttachedParts}
 use Rattle.ws_session.specs.host_end.HostLeads.{HostParts, HostLeads, unopened_host_side, side_after_open}
-use Rattle.ws_session.specs.station.Displays.{DisplayOf}
 use Rattle.ws_session.specs.station.PartsOn.{PartsOn}
 use Rattle.ws_session.specs.station.StationManners.{new_side_on}
 use Rattle.ws_session.specs.station.StationSide.{profile}
 use Rattle.ws_session.specs.station.Stations.{LeadsOn}
 use Rattle.ws_stream.specs.Elements.{element_rules}
 use Rattle.ws_live.specs.live.ConnectLines.{IsStationLine}
-use Rattle.ws_live.specs.live.ConnectText.{IsConnectText}
+use Rattle.ws_live.specs.live.ConnectText.{StationRuns, station_waits}
 use Rattle.ws_live.specs.printing.ErrorRow.{operated_extended}
 use Rattle.ws_live.specs.script.ExtendedKeyNames.{extended_words}
 use Rattle.ws_live.specs.script.KeyWords.{KeyWords, profile_words}
 use Rattle.ws_live.specs.live.LiveScript.{AreLiveLines}
-use Rattle.ws_live.specs.live.Operating.{OperatedOn, operated_profile}
-use Rattle.ws_live.specs.live.ServeText.{IsServeText}
+use Rattle.ws_live.specs.live.Operating.{LiveDisplay, live_display, operated_profile}
+use Rattle.ws_live.specs.live.Waits.{InTime, watch_tells}
+use Rattle.ws_live.specs.live.LiveText.{IsLiveText, WithClosing}
+use Rattle.ws_live.specs.live.ServeText.{HostRunsInTime}
 use Rattle.ws_live.specs.declared.live.connect_line.StationLine.{StationLine}
+use Rattle.ws_live.specs.declared.live.Ran.{Ran}
 use Rattle.ws_live.specs.declared.live.serve_line.HostLine.{HostLine}
-use Rattle.ws_network.specs.Times.{ConnectionReads, ConnectionWrites, no_reads, no_writes, timed_devices, timed_writer, tells, rests, begins}
+use Rattle.ws_live.specs.declared.live.serve_line.HostLine.TheVariants.{Await}
+use Rattle.ws_network.specs.SessionPrinting.{IsTextAndOn}
+use Rattle.ws_network.specs.Times.{ConnectionReads, ConnectionWrites, no_reads, no_writes, timed_devices, timed_writer}
+use Rattle.ws_network.specs.Times.{tells, rests, begins}
 use Rattle.ws_live.specs.declared.asked.live_asked.ConnectAsked.{ConnectAsked}
 use Rattle.ws_live.specs.declared.asked.live_asked.ServeAsked.{ServeAsked}
 
@@ -45,17 +49,18 @@ station_means words line inside read = (inside ≡ []) × IsStationLine words li
 abbrev pub at_connection : {E : Type 0} → E → ConnectionWrites → AttachedParts E ConnectionReads ConnectionWrites
 at_connection end written = record { end = end; source = no_reads; sink = written; waiting = []; broken = false }
 
-module _ {D P U H PlaceV V Q R : Type 0} (rules : Rules P U) (d : DisplayOf D U H PlaceV V Q R)
-    (operated : OperatedOn D) (words : KeyWords Q) where
+module _ {D P U H PlaceV V Q R : Type 0} (on : LiveDisplay D P U H PlaceV V Q R) where
   -- A station on this display, of the terminal that is asked for, new at a connection, carried out the lines, printed
   -- this, and all went well or not.
   pub record IsConnected (asked : ConnectAsked) (lines : List (StationLine Q)) (all_well : Bool) (text : List ℕ)
       : Type 0 where
     pub station : PartsOn D P
-    pub new : LeadsOn rules d station [] [] (new_side_on d asked.terminal)
+    pub new : LeadsOn on.rules on.does station [] [] (new_side_on on.does asked.terminal)
     pub to : (AttachedParts (PartsOn D P) ConnectionReads ConnectionWrites × ℕ) × ℕ
-    pub ran : IsConnectText rules d timed_devices tells rests operated words
-        begins (λ begun. begun) asked.paint asked.ready ((at_connection station no_writes, 0), 0) lines all_well text to
+    pub came : Ran
+    pub ran : IsLiveText (WithClosing (InTime (StationRuns on timed_devices (watch_tells tells rests) asked.paint)
+        station_waits begins (λ begun. begun)) asked.ready) ((at_connection station no_writes, 0), 0) lines came text to
+    pub well : all_well ≡ came.all_well
 
 -- a host end whose opening went out carried out the lines and answered on
 pub record IsServed (asked : ServeAsked) (lines : List HostLine) (all_well : Bool) (text : List ℕ) : Type 0 where
@@ -65,26 +70,25 @@ pub record IsServed (asked : ServeAsked) (lines : List HostLine) (all_well : Boo
   pub told : WentOut timed_writer no_writes sink
       (plain_spelling element_rules (Telnet opening ∷ []))
   pub to : (AttachedParts HostParts ConnectionReads ConnectionWrites × ℕ) × ℕ
-  pub ran : IsServeText timed_devices tells begins (λ begun. begun) asked.ready
-      ((at_connection host sink, 0), 0) lines all_well text to
+  pub ran : IsTextAndOn (HostRunsInTime timed_devices tells begins (λ begun. begun)) Await
+      asked.ready ((at_connection host sink, 0), 0) lines to all_well text
 
 module _ {O : Type 0} (printer : Writer O) (old new : O) where
-  module _ {D P U H PlaceV V Q R : Type 0} (rules : Rules P U) (d : DisplayOf D U H PlaceV V Q R)
-      (operated : OperatedOn D) (words : KeyWords Q) where
+  module _ {D P U H PlaceV V Q R : Type 0} (on : LiveDisplay D P U H PlaceV V Q R) where
     -- the lines of `connect` were carried out at a station on this display, and what they printed went out
     abbrev pub HasConnectedOn : ConnectAsked → Bool → Type 0
     HasConnectedOn asked all_well = (lines : List (StationLine Q)) × (text : List ℕ)
-        × AreFromScript (station_means words) (λ line. ⊥) asked.script lines
-        × IsConnected rules d operated words asked lines all_well text
+        × AreFromScript (station_means on.words) (λ line. ⊥) asked.script lines
+        × IsConnected on asked lines all_well text
         × WentOut printer old new text
 
   -- what a session of `connect` came to, at the profile's display or at one that also takes what live hosts send beside
   -- the profile
   abbrev pub HasConnectedAs : Bool → ConnectAsked → Bool → Type 0
   HasConnectedAs false asked all_well =
-      HasConnectedOn element_rules profile operated_profile profile_words asked all_well
+      HasConnectedOn (live_display element_rules profile operated_profile profile_words) asked all_well
   HasConnectedAs true asked all_well =
-      HasConnectedOn extended_rules extended operated_extended extended_words asked all_well
+      HasConnectedOn (live_display extended_rules extended operated_extended extended_words) asked all_well
 
   -- what a session of `connect` came to, at the display that was asked for
   abbrev pub HasConnected : ConnectAsked → Bool → Type 0

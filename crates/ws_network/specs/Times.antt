@@ -1,6 +1,6 @@
 -- The devices of a session over a connection: the bytes that are read and written in time, and the waits.
 
-use Rattle.std.specs.Prelude.{◌≡◌, ℕ, List, Bool, true, false, Option, None, Some, IfNone}
+use Rattle.std.specs.Prelude.{◌≡◌, ℕ, Bool, true, false, Option, None, Some, IfNone}
 use Rattle.std.specs.Option.{is_some}
 use Rattle.std_io.specs.declared.io.kind.ErrorKind.{ErrorKind}
 use Rattle.ws_code.specs.Device.{Devices, Reader, Writer, on_devices}

@@ -1,10 +1,11 @@
 //! The lines of a live session at a host that takes any record.
-ghost use Rattle.std.specs.Prelude.{◌≡◌, [], List, ℕ, false, IfOk, IfErr, MatchOption};
+ghost use Rattle.std.specs.Prelude.{◌≡◌, [], List, false, MatchOption};
 ghost use Rattle.std.specs.Option.{is_some};
-ghost use Rattle.ws_code.specs.Device.{WentOut, on_devices};
+ghost use Rattle.ws_code.specs.Device.{on_devices};
 ghost use Rattle.ws_any_host.specs.declared.any_line.AnyLine.{AnyLine as AnAnyLine};
 ghost use Rattle.ws_any_host.specs.declared.any_line.AnyLine.TheVariants.{Await};
-ghost use Rattle.ws_network.specs.AnySessions.{IsTextAndOn, IsFaultThenOrOn, RunsAny};
+ghost use Rattle.ws_network.specs.AnySessions.{RunsAny};
+ghost use Rattle.ws_network.specs.SessionPrinting.{IsPrintedBehind, serve_printing};
 
 use crate::live_input::carry_session;
 use crate::timer::LineWatch;
@@ -36,20 +37,14 @@ where
     // At an end that works, with nothing held back.
     requires works { attached.old.broken ≡ false }
     requires empty { out.old.held ≡ [] }
-    // What was printed, or why not all; what was is out.
-    ensures ran { IfOk result (λ all_well. (lines : List AnAnyLine) × (text : List ℕ)
+    // What was printed, and how it ended.
+    ensures printed { (lines : List AnAnyLine)
         × MatchOption script.entry (Unit {0}) (λ asked. lines ≡ asked.now)
-        × IsTextAndOn (RunsAny (on_devices K.writer S.reader) W.tells W.begins W.begun)
-        Await ready ((attached.old, ahead.old), watch.old) lines all_well text
-        ((attached.new, ahead.new), watch.new)
-        × WentOut O.writer out.old.sink out.new.sink text) }
+        × IsPrintedBehind O.writer out.old.sink out.new.sink (serve_printing
+        (RunsAny (on_devices K.writer S.reader) W.tells W.begins W.begun) Await ready
+        ((attached.old, ahead.old), watch.old) lines ((attached.new, ahead.new), watch.new)
+        (is_some script.entry)) result }
     ensures held { out.new.held ≡ [] }
-    ensures fault { IfErr result (λ fault. (lines : List AnAnyLine)
-        × MatchOption script.entry (Unit {0}) (λ asked. lines ≡ asked.now)
-        × IsFaultThenOrOn (RunsAny (on_devices K.writer S.reader) W.tells W.begins W.begun)
-        Await ready O.writer ((attached.old, ahead.old), watch.old)
-        ((attached.new, ahead.new), watch.new)
-        out.old.sink out.new.sink (is_some script.entry) lines fault) }
 {
     let ran = match carry_session(
         rt,

@@ -1,14 +1,17 @@
 //! The lines of a live session: those of a script, or of standard input one by one.
-ghost use Rattle.std.specs.Prelude.{◌≡◌, [], List, ℕ, false, IfOk, IfErr, MatchOption};
+ghost use Rattle.std.specs.Prelude.{◌≡◌, [], List, false, IfOk, MatchOption};
 ghost use Rattle.std.specs.Option.{is_some};
-ghost use Rattle.ws_code.specs.Device.{WentOut, on_devices};
-ghost use Rattle.ws_live.specs.live.ConnectText.{IsConnectText, StationRunsInTime as RunsInTime};
-ghost use Rattle.ws_live.specs.live.Waits.{InTime};
+ghost use Rattle.ws_code.specs.Device.{on_devices};
+ghost use Rattle.ws_live.specs.live.ConnectText.{StationRuns, station_waits};
+ghost use Rattle.ws_live.specs.live.Operating.{live_display};
+ghost use Rattle.ws_live.specs.live.Waits.{InTime, watch_tells};
 ghost use Rattle.ws_live.specs.live.LiveText as Spec;
-ghost use Rattle.ws_network.specs.LiveFaults.{IsServeFault, IsSessionFault};
-ghost use Rattle.ws_live.specs.live.ServeText.{IsServeText};
+ghost use Rattle.ws_network.specs.SessionPrinting.{IsPrintedBehind, serve_printing, session_printing};
+ghost use Rattle.ws_live.specs.live.ServeText.{HostRunsInTime};
 ghost use Rattle.ws_live.specs.declared.live.connect_line.StationLine.{StationLine as AStationLine};
 ghost use Rattle.ws_live.specs.declared.live.serve_line.HostLine.{HostLine as AHostLine};
+ghost use Rattle.ws_live.specs.declared.live.serve_line.HostLine.TheVariants.{Await};
+ghost use Rattle.ws_text.specs.Printed.{IsPrinted};
 
 use crate::input_lines::{InputLines, next_line};
 use crate::timer::LineWatch;
@@ -47,20 +50,15 @@ where
     O: Sink,
     requires works { attached.old.broken ≡ false }
     requires empty { out.old.held ≡ [] }
-    ensures ran { IfOk result (λ all_well. (lines : List (AStationLine D.Key)) × (text : List ℕ)
+    ensures printed { (lines : List (AStationLine D.Key))
         × MatchOption script.entry (Unit {0}) (λ asked. lines ≡ asked.now)
-        × IsConnectText D.Commands.rules D.does (on_devices K.writer S.reader)
-        W.tells W.rests D.operated D.Key.words W.begins W.begun
-        paint ready ((attached.old, ahead.old), watch.old) lines all_well text
-        ((attached.new, ahead.new), watch.new)
-        × WentOut O.writer out.old.sink out.new.sink text) }
-    ensures fault { IfErr result (λ fault. (lines : List (AStationLine D.Key))
-        × MatchOption script.entry (Unit {0}) (λ asked. lines ≡ asked.now)
-        × IsSessionFault
-        (RunsInTime D.Commands.rules D.does (on_devices K.writer S.reader)
-        W.tells W.rests D.operated D.Key.words W.begins W.begun paint) ready O.writer
-        ((attached.old, ahead.old), watch.old) ((attached.new, ahead.new), watch.new) out.old.sink out.new.sink
-        (is_some script.entry) lines fault) }
+        × IsPrinted O.writer out.old.sink out.new.sink (session_printing
+        (Spec.WithClosing (InTime (StationRuns
+        (live_display D.Commands.rules D.does D.operated D.Key.words) (on_devices K.writer S.reader)
+        (watch_tells W.tells W.rests) paint) station_waits W.begins W.begun) ready) ready
+        ((attached.old, ahead.old), watch.old) lines ((attached.new, ahead.new), watch.new)
+        (is_some script.entry) (λ ran all_well. all_well ≡ ran.all_well)) result }
+    ensures held { out.new.held ≡ [] }
 {
     match carry_session(
         rt, attached, ahead, watch, script, vocabulary, ready, paint, out,
@@ -92,19 +90,14 @@ where
     // At an end that works, with nothing held back.
     requires works { attached.old.broken ≡ false }
     requires empty { out.old.held ≡ [] }
-    // What was printed, or why not all; what was is out.
-    ensures ran { IfOk result (λ all_well. (lines : List AHostLine) × (text : List ℕ)
+    // What was printed, and how it ended.
+    ensures printed { (lines : List AHostLine)
         × MatchOption script.entry (Unit {0}) (λ asked. lines ≡ asked.now)
-        × IsServeText (on_devices K.writer S.reader) W.tells W.begins W.begun
-        ready ((attached.old, ahead.old), watch.old) lines all_well text
-        ((attached.new, ahead.new), watch.new)
-        × WentOut O.writer out.old.sink out.new.sink text) }
+        × IsPrintedBehind O.writer out.old.sink out.new.sink (serve_printing
+        (HostRunsInTime (on_devices K.writer S.reader) W.tells W.begins W.begun) Await ready
+        ((attached.old, ahead.old), watch.old) lines ((attached.new, ahead.new), watch.new)
+        (is_some script.entry)) result }
     ensures held { out.new.held ≡ [] }
-    ensures fault { IfErr result (λ fault. (lines : List AHostLine)
-        × MatchOption script.entry (Unit {0}) (λ asked. lines ≡ asked.now)
-        × IsServeFault (on_devices K.writer S.reader) W.tells W.begins W.begun
-        O.writer ready ((attached.old, ahead.old), watch.old) ((attached.new, ahead.new), watch.new)
-        out.old.sink out.new.sink (is_some script.entry) lines fault) }
 {
     let ran = match carry_session(
         rt,
@@ -149,17 +142,13 @@ where
     // At an end that works, with nothing held back.
     requires works { attached.old.broken ≡ false }
     requires empty { out.old.held ≡ [] }
-    // What was printed, or why not all.
-    ensures ran { IfOk result (λ ran. (lines : List L)
+    // What was printed, and how it ended.
+    ensures printed { (lines : List L)
         × MatchOption script.entry (Unit {0}) (λ asked. lines ≡ asked.now)
-        × Spec.HasRunLines (InTime (L.runs W.tells W.rests paint) L.waits W.begins W.begun) ready
-        O.writer ((attached.old, ahead.old), watch.old) ((attached.new, ahead.new), watch.new)
-        out.old.sink out.new.sink lines ran) }
-    ensures fault { IfErr result (λ fault. (lines : List L)
-        × MatchOption script.entry (Unit {0}) (λ asked. lines ≡ asked.now)
-        × IsSessionFault (InTime (L.runs W.tells W.rests paint) L.waits W.begins W.begun) ready
-        O.writer ((attached.old, ahead.old), watch.old) ((attached.new, ahead.new), watch.new)
-        out.old.sink out.new.sink (is_some script.entry) lines fault) }
+        × IsPrinted O.writer out.old.sink out.new.sink (session_printing (Spec.WithClosing
+        (InTime (L.runs W.tells W.rests paint) L.waits W.begins W.begun) ready) ready
+        ((attached.old, ahead.old), watch.old) lines ((attached.new, ahead.new), watch.new)
+        (is_some script.entry) (λ ran told. told ≡ ran)) result }
     // The end works on unless the session is over, and nothing is held back.
     ensures works { IfOk result (λ ran. ran.is_over ≡ false → attached.new.broken ≡ false) }
     ensures held { out.new.held ≡ [] }
@@ -187,15 +176,12 @@ fn carry_script<E, S, K, L: LiveMove<E, S, K>, W: LineWatch<S>, O: Sink>(
     // At an end that works, with nothing held back.
     requires works { attached.old.broken ≡ false }
     requires empty { out.old.held ≡ [] }
-    // What was printed, or why not all.
-    ensures ran { IfOk result (Spec.HasRunLines
-        (InTime (L.runs W.tells W.rests paint) L.waits W.begins W.begun) ready O.writer
-        ((attached.old, ahead.old), watch.old) ((attached.new, ahead.new), watch.new)
-        out.old.sink out.new.sink lines.now) }
-    ensures fault { IfErr result (Spec.IsLiveFault
-        (InTime (L.runs W.tells W.rests paint) L.waits W.begins W.begun) ready O.writer
-        ((attached.old, ahead.old), watch.old) ((attached.new, ahead.new), watch.new)
-        out.old.sink out.new.sink lines.now) }
+    // What was printed, and how it ended.
+    ensures printed { IsPrinted O.writer out.old.sink out.new.sink (Spec.lines_printing
+        (Spec.WithClosing
+        (InTime (L.runs W.tells W.rests paint) L.waits W.begins W.begun) ready)
+        ((attached.old, ahead.old), watch.old) lines.now
+        ((attached.new, ahead.new), watch.new)) result }
     // The end works on unless the session is over, and nothing is held back.
     ensures works { IfOk result (λ ran. ran.is_over ≡ false → attached.new.broken ≡ false) }
     ensures held { out.new.held ≡ [] }
@@ -234,15 +220,12 @@ where
     // At an end that works, with nothing held back.
     requires works { attached.old.broken ≡ false }
     requires empty { out.old.held ≡ [] }
-    // What was printed, or why not all.
-    ensures ran { IfOk result (λ ran. (lines : List L)
-        × Spec.HasRunLines (InTime (L.runs W.tells W.rests paint) L.waits W.begins W.begun) ready
-        O.writer ((attached.old, ahead.old), watch.old) ((attached.new, ahead.new), watch.new)
-        out.old.sink out.new.sink lines ran) }
-    ensures fault { IfErr result (λ fault. (lines : List L)
-        × IsSessionFault (InTime (L.runs W.tells W.rests paint) L.waits W.begins W.begun) ready
-        O.writer ((attached.old, ahead.old), watch.old) ((attached.new, ahead.new), watch.new)
-        out.old.sink out.new.sink false lines fault) }
+    // What was printed, and how it ended.
+    ensures printed { (lines : List L)
+        × IsPrinted O.writer out.old.sink out.new.sink (session_printing (Spec.WithClosing
+        (InTime (L.runs W.tells W.rests paint) L.waits W.begins W.begun) ready) ready
+        ((attached.old, ahead.old), watch.old) lines ((attached.new, ahead.new), watch.new)
+        false (λ ran told. told ≡ ran)) result }
     // The end works on unless the session is over, and nothing is held back.
     ensures works { IfOk result (λ ran. ran.is_over ≡ false → attached.new.broken ≡ false) }
     ensures held { out.new.held ≡ [] }
@@ -286,15 +269,12 @@ fn carry_next<E, S, K, L: LiveMove<E, S, K>, W: LineWatch<S>, O: Sink>(
     // At an end that works, with nothing held back.
     requires works { attached.old.broken ≡ false }
     requires empty { out.old.held ≡ [] }
-    // What was printed, or why not all.
-    ensures done { IfOk result (Spec.HasCarried
-        (InTime (L.runs W.tells W.rests paint) L.waits W.begins W.begun) ready O.writer
-        ((attached.old, ahead.old), watch.old) ((attached.new, ahead.new), watch.new)
-        out.old.sink out.new.sink line.now) }
-    ensures fault { IfErr result (Spec.IsLiveLineFault
-        (InTime (L.runs W.tells W.rests paint) L.waits W.begins W.begun) ready O.writer
-        ((attached.old, ahead.old), watch.old) ((attached.new, ahead.new), watch.new)
-        out.old.sink out.new.sink line.now) }
+    // What was printed, and how it ended.
+    ensures printed { IsPrinted O.writer out.old.sink out.new.sink (Spec.line_printing
+        (Spec.WithClosing
+        (InTime (L.runs W.tells W.rests paint) L.waits W.begins W.begun) ready)
+        ((attached.old, ahead.old), watch.old) line.now
+        ((attached.new, ahead.new), watch.new)) result }
     // The end works on unless the session is over, and nothing is held back.
     ensures works { IfOk result (λ closing.
         Spec.stops closing ≡ false → attached.new.broken ≡ false) }

@@ -3,6 +3,7 @@
 ghost use Rattle.std.specs.Prelude.{◌≡◌, [], Some, IfOk, IsErr};
 ghost use Rattle.std.specs.Option.{is_none};
 ghost use Rattle.ws_live.specs.asked.OpenStreams.{missing};
+ghost use Rattle.ws_live.specs.live.Operating.{live_display};
 ghost use Rattle.ws_live.specs.declared.asked.fault.RunFault.{RunFault as AFault};
 ghost use Rattle.ws_network.specs.LiveSessions.{HasServedAs, HasRunLive, script_of};
 ghost use Rattle.ws_network.specs.Sessions.{HasConnected, HasConnectedOn};
@@ -94,7 +95,7 @@ where
     O: Sink,
     requires empty { out.old.held ≡ [] }
     ensures ran { IfOk result (HasConnectedOn O.writer out.old.sink out.new.sink
-        D.Commands.rules D.does D.operated D.Key.words asked.now) }
+        (live_display D.Commands.rules D.does D.operated D.Key.words) asked.now) }
     ensures closed { (why : AFault) → missing streams (is_none asked.now.script) ≡ Some why
         → IsErr result × (out.new.sink ≡ out.old.sink) }
 {

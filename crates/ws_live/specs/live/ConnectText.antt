@@ -4,7 +4,7 @@ use Rattle.std.specs.Prelude.{◌≡◌, ◌≢◌, ℕ, ◌<◌, List, [], ◌�
 use Rattle.std.specs.Prelude.{Some, IfSome, IfNone, is_none}
 use Rattle.std.specs.Prelude.{Result, Ok, Err, string_bytes, length, if◌then◌else◌, codes, encode_utf8}
 use Rattle.ws_code.specs.Code.{Rules}
-use Rattle.ws_code.specs.Device.{Writer, Reader, most_reads, one_more, Devices}
+use Rattle.ws_code.specs.Device.{most_reads, one_more, Devices}
 use Rattle.ws_code.specs.declared.fault.Fault.{Fault}
 use Rattle.ws_code.specs.declared.fault.Fault.TheVariants as fault
 use Rattle.ws_nego.specs.Station.{station_allows_records}
@@ -33,11 +33,10 @@ use Rattle.ws_live.specs.declared.live.connect_line.Awaited.TheVariants.{Turn, R
 use Rattle.ws_live.specs.declared.live.report.Report.{Report as AReport}
 use Rattle.ws_live.specs.declared.live.report.Report.TheVariants.{Note}
 use Rattle.ws_live.specs.script.KeyWords.{KeyWords}
-use Rattle.ws_live.specs.live.LiveText.{IsLiveText, bad_outcome, bad_text}
-use Rattle.ws_live.specs.live.Operating.{OperatedOn}
+use Rattle.ws_live.specs.live.LiveText.{bad_outcome, bad_text}
+use Rattle.ws_live.specs.live.Operating.{LiveDisplay, OperatedOn}
 use Rattle.ws_live.specs.live.Stroking.{no_field_text, stroke_keys}
-use Rattle.ws_live.specs.live.Waits.{InTime}
-use Rattle.ws_live.specs.declared.live.Ran.{Ran}
+use Rattle.ws_live.specs.live.Waits.{WatchTells}
 use Rattle.ws_live.specs.declared.live.Closing.{Closing}
 use Rattle.ws_live.specs.declared.printing.paint.Paint.{Paint}
 use Rattle.ws_live.specs.declared.live.Closing.TheVariants.{Nothing, Done, Declined, Late, Ended, Stopped}
@@ -141,7 +140,8 @@ module _ {D P U H PlaceV V Q R : Type 0} (rules : Rules P U) (d : DisplayOf D U 
         IsHearFault (station_conduct rules d) devices from to why
 
     -- a key was pressed: what it sends went out, or it was refused, and nothing is changed; no byte was read or taken
-    pub record IsKeyPressed (key : Q) (from : AttachedStation) (refused : Option KeyFault) (to : AttachedStation) : Type 0 where
+    pub record IsKeyPressed (key : Q) (from : AttachedStation) (refused : Option KeyFault)
+        (to : AttachedStation) : Type 0 where
       pub led : HaveLed (station_conduct rules d) devices from to
           (Did key ∷ []) []
       pub same : IfSome refused (λ why. to ≡ from)
@@ -166,11 +166,13 @@ module _ {D P U H PlaceV V Q R : Type 0} (rules : Rules P U) (d : DisplayOf D U 
       -- keys one after another
       abbrev pub ArePressed : AttachedStation → List Q → Bool → List ℕ → AttachedStation → Type 0
       ArePressed from [] well text to = (to ≡ from) × (well ≡ true) × (text ≡ [])
-      ArePressed from (key ∷ keys) well text to = (refused : Option KeyFault) × (mid : AttachedStation) × (rest_well : Bool)
-          × (rest : List ℕ) × IsKeyPressed key from refused mid × ArePressed mid keys rest_well rest to
+      ArePressed from (key ∷ keys) well text to = (refused : Option KeyFault) × (mid : AttachedStation)
+          × (rest_well : Bool) × (rest : List ℕ) × IsKeyPressed key from refused mid
+          × ArePressed mid keys rest_well rest to
           × (well ≡ is_none refused && rest_well) × (text ≡ key_refused_text (w.entered key) refused ++ rest)
 
-      -- keys at a station, how their line closes, and what it prints: all were pressed, or up to one that wasn't written
+      -- keys at a station, how their line closes, and what it prints: all were pressed, or up to one that wasn't
+      -- written
       abbrev pub KeysRun : List Q → AttachedStation → Result Closing Fault → List ℕ → AttachedStation → Type 0
       KeysRun keys from outcome text to =
           ((well : Bool) × ArePressed from keys well text to × (outcome ≡ Ok (pressed well)))
@@ -186,15 +188,16 @@ module _ {D P U H PlaceV V Q R : Type 0} (rules : Rules P U) (d : DisplayOf D U 
           ⊎ (KeyRuns key from outcome text to × (outcome ≢ Ok Done))
 
       -- the keys of a stroke, or what is printed where the screen hasn't the field that it names
-      abbrev pub StrokeRuns : Option (List Q) → AttachedStation → Result Closing Fault → List ℕ → AttachedStation → Type 0
+      abbrev pub StrokeRuns : Option (List Q) → AttachedStation → Result Closing Fault → List ℕ → AttachedStation
+          → Type 0
       StrokeRuns None from outcome text to = (to ≡ from) × (outcome ≡ Ok Declined) × (text ≡ no_field_text)
       StrokeRuns (Some keys) from outcome text to = KeysUntil keys from outcome text to
 
     -- records were applied one after another, and before each it wasn't yet met
     abbrev pub HasWaited : (D → Type 0) → AttachedStation → List Applied → AttachedStation → Type 0
     HasWaited Met' from [] to = to ≡ from
-    HasWaited Met' from (told ∷ more) to = (mid : AttachedStation) × (Met' from.end.screen → ⊥) × Hears from (Some told) mid
-        × HasWaited Met' mid more to
+    HasWaited Met' from (told ∷ more) to = (mid : AttachedStation) × (Met' from.end.screen → ⊥)
+        × Hears from (Some told) mid × HasWaited Met' mid more to
 
     -- What a wait comes to, at a watch that tells of a source whether the read that failed was late.
     module _ (tells : S → Bool → Type 0) where
@@ -228,8 +231,8 @@ module _ {D P U H PlaceV V Q R : Type 0} (rules : Rules P U) (d : DisplayOf D U 
 
       -- A line that shows something of a station: the records that have come are applied first, and are ahead then;
       -- behind its text stands what there was behind them, if not only that no more has come.
-      pub record ShowsStation (IsText : PartsOn D P → List ℕ → Type 0) (from : AttachedStation × ℕ) (outcome : Result Closing Fault)
-          (text : List ℕ) (to : AttachedStation × ℕ) : Type 0 where
+      pub record ShowsStation (IsText : PartsOn D P → List ℕ → Type 0) (from : AttachedStation × ℕ)
+          (outcome : Result Closing Fault) (text : List ℕ) (to : AttachedStation × ℕ) : Type 0 where
         pub told : List Applied
         pub ended : Waited
         pub taken : AppliesAll from.0 told ended to.0
@@ -240,7 +243,8 @@ module _ {D P U H PlaceV V Q R : Type 0} (rules : Rules P U) (d : DisplayOf D U 
         pub all : text ≡ shown ++ waited_text (rested true ended)
 
       -- a line that reports: a note is printed as it is
-      abbrev pub Reports : AReport → (AttachedStation × ℕ) → Result Closing Fault → List ℕ → (AttachedStation × ℕ) → Type 0
+      abbrev pub Reports : AReport → (AttachedStation × ℕ) → Result Closing Fault → List ℕ → (AttachedStation × ℕ)
+          → Type 0
       Reports (Note note) from outcome text to = (to ≡ from) × (outcome ≡ Ok Done) × (text ≡ note_line note)
       Reports report from outcome text to = ShowsStation (λ station. IsReportText (d.shown station.screen)
           (station_allows_records station.options) station.records station.live.taken report) from outcome text to
@@ -257,46 +261,47 @@ module _ {D P U H PlaceV V Q R : Type 0} (rules : Rules P U) (d : DisplayOf D U 
         IsQuieted from waited to = (told : List Applied) × (ended : Waited) × (quiet : Bool)
             × AppliesAll from told ended to × rests to.source quiet × (waited ≡ rested quiet ended)
 
-        -- Lines of an operator at it.
-        module _ (operated : OperatedOn D) where
-          -- what is awaited: one more record, quiet, or a display by which it is met
-          abbrev pub IsWaited : Awaited → (AttachedStation × ℕ) → Waited → AttachedStation → Type 0
-          IsWaited Record from waited to = WaitsForRecord from.1 from.0 waited to
-          IsWaited (Quiet time) from waited to = IsQuieted from.0 waited to
-          IsWaited awaited from waited to = WaitsFor (IsMet d.shown operated awaited) from.0 waited to
+-- What a watch may tell.
+module _ {D P U H PlaceV V Q R S K : Type 0} (rules : Rules P U) (d : DisplayOf D U H PlaceV V Q R)
+    (operated : OperatedOn D) (devices : Devices S K) (told : WatchTells S) where
+  -- what is awaited at a display that an operator drives: one more record, quiet, or a display by which it is met
+  abbrev pub IsWaited : Awaited → (AttachedParts (PartsOn D P) S K × ℕ) → Waited → AttachedParts (PartsOn D P) S K
+      → Type 0
+  IsWaited Record from waited to = WaitsForRecord rules d devices told.tells from.1 from.0 waited to
+  IsWaited (Quiet time) from waited to = IsQuieted rules d devices told.tells told.rests from.0 waited to
+  IsWaited awaited from waited to =
+      WaitsFor rules d devices told.tells (IsMet d.shown operated awaited) from.0 waited to
 
-          -- and of keys by these words
-          module _ (w : KeyWords Q) where
-            -- A line at a station, how it closed, and what it printed, with screens in a paint; the keys of a stroke
-            -- are those at the screen that the station then has. Behind a line that waits or presses keys no record is
-            -- ahead.
-            abbrev pub StationRuns : Paint → StationLine Q → (AttachedStation × ℕ) → Result Closing Fault → List ℕ
-                → (AttachedStation × ℕ) → Type 0
-            StationRuns paint NoLine from outcome text to = (to ≡ from) × (outcome ≡ Ok Nothing) × (text ≡ [])
-            StationRuns paint (Press keys) from outcome text to = KeysRun w keys from.0 outcome text to.0 × (to.1 ≡ 0)
-            StationRuns paint (Stroke stroke) from outcome text to =
-                StrokeRuns w (stroke_keys w (d.shown from.0.end.screen) stroke) from.0 outcome text to.0 × (to.1 ≡ 0)
-            StationRuns paint (Await awaited) from outcome text to = (waited : Waited)
-                × IsWaited awaited from waited to.0 × (outcome ≡ waited_outcome waited) × (text ≡ waited_text waited)
-                × (to.1 ≡ 0)
-            StationRuns paint Fields from outcome text to =
-                ShowsStation (λ station. AreFieldLines (d.shown station.screen)) from outcome text to
-            StationRuns paint Show from outcome text to =
-                ShowsStation (λ station. IsDisplayText paint (d.shown station.screen) (operated.behind station.screen)) from
-                outcome text to
-            StationRuns paint (Report report) from outcome text to = Reports report from outcome text to
-            StationRuns paint (Bad cause) from outcome text to = (to ≡ from) × (outcome ≡ bad_outcome)
-                × (text ≡ bad_text (string_bytes cause))
+-- A display at which lines are carried out, and its devices.
+module _ {D P U H PlaceV V Q R S K : Type 0} (on : LiveDisplay D P U H PlaceV V Q R) (devices : Devices S K)
+    (told : WatchTells S) where
+  -- such a station, and how many records are ahead
+  abbrev pub StationAndAhead : Type 0
+  StationAndAhead = AttachedParts (PartsOn D P) S K × ℕ
 
-            module _ {W : Type 0} (begins : W → S → WaitSpan → W → Type 0) (begun : W → ℕ) where
-              -- the same with the time for which it waits
-              abbrev pub StationRunsInTime : Paint → StationLine Q → ((AttachedStation × ℕ) × W) → Result Closing Fault
-                  → List ℕ → ((AttachedStation × ℕ) × W) → Type 0
-              StationRunsInTime paint = InTime (StationRuns paint) station_waits begins begun
+  -- a line that shows what is such a text of the station
+  abbrev pub ShowsAsText : (PartsOn D P → List ℕ → Type 0) → StationAndAhead → Result Closing Fault → List ℕ
+      → StationAndAhead → Type 0
+  ShowsAsText IsText from outcome text to = ShowsStation on.rules on.does devices told.tells IsText from outcome text to
 
-              -- what the lines of a script at a station print, and whether all went well
-              abbrev pub IsConnectText : Paint → Bool → ((AttachedStation × ℕ) × W) → List (StationLine Q) → Bool → List ℕ
-                  → ((AttachedStation × ℕ) × W) → Type 0
-              IsConnectText paint ready from lines all_well text to = (ran : Ran)
-                  × IsLiveText (StationRunsInTime paint) ready from lines ran text to
-                  × (all_well ≡ ran.all_well)
+  -- A line at a station, how it closed, and what it printed, with screens in a paint; the keys of a stroke are those at
+  -- the screen that the station then has. Behind a line that waits or presses keys no record is ahead.
+  abbrev pub StationRuns : Paint → StationLine Q → StationAndAhead → Result Closing Fault → List ℕ → StationAndAhead
+      → Type 0
+  StationRuns paint NoLine from outcome text to = (to ≡ from) × (outcome ≡ Ok Nothing) × (text ≡ [])
+  StationRuns paint (Press keys) from outcome text to =
+      KeysRun on.rules on.does devices on.words keys from.0 outcome text to.0 × (to.1 ≡ 0)
+  StationRuns paint (Stroke stroke) from outcome text to = StrokeRuns on.rules on.does devices on.words
+      (stroke_keys on.words (on.does.shown from.0.end.screen) stroke) from.0 outcome text to.0 × (to.1 ≡ 0)
+  StationRuns paint (Await awaited) from outcome text to = (waited : Waited)
+      × IsWaited on.rules on.does on.operated devices told awaited from waited to.0
+      × (outcome ≡ waited_outcome waited) × (text ≡ waited_text waited) × (to.1 ≡ 0)
+  StationRuns paint Fields from outcome text to =
+      ShowsAsText (λ station. AreFieldLines (on.does.shown station.screen)) from outcome text to
+  StationRuns paint Show from outcome text to =
+      ShowsAsText (λ station. IsDisplayText paint (on.does.shown station.screen)
+      (on.operated.behind station.screen)) from outcome text to
+  StationRuns paint (Report report) from outcome text to =
+      Reports on.rules on.does devices told.tells report from outcome text to
+  StationRuns paint (Bad cause) from outcome text to = (to ≡ from) × (outcome ≡ bad_outcome)
+      × (text ≡ bad_text (string_bytes cause))

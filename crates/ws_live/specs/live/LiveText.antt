@@ -1,14 +1,12 @@
 -- What a live session prints, by its lines. What a line does at an end stands in ConnectText and ServeText.
 
 use Rattle.std.specs.Prelude.{◌≡◌, ℕ, List, [], ◌∷◌, ◌++◌, ◌⊎◌, Bool, true, false, ◌&&◌, Result, Ok, Err, codes}
-use Rattle.ws_code.specs.Device.{Writer, WentOut, FailedWithin}
 use Rattle.ws_code.specs.declared.fault.Fault.{Fault}
 use Rattle.ws_code.specs.declared.fault.Fault.TheVariants.{Write}
-use Rattle.ws_text.specs.Printing.{IsOut}
+use Rattle.ws_text.specs.Printed.{Printing}
 use Rattle.ws_live.specs.declared.live.Closing.{Closing}
 use Rattle.ws_live.specs.declared.live.Closing.TheVariants.{Nothing, Done, Declined, Late, Ended, Stopped, Closed}
 use Rattle.ws_live.specs.declared.live.Ran.{Ran}
-use Rattle.ws_text.specs.declared.output.Output.{Output}
 
 -- what a line closes with
 abbrev pub closing_word : Closing → List ℕ
@@ -64,16 +62,34 @@ bad_text cause = codes "bad line: " ++ cause ++ codes "\n"
 abbrev pub bad_outcome : Result Closing Fault
 bad_outcome = Ok Declined
 
-module _ {L P : Type 0} (runs : L → P → Result Closing Fault → List ℕ → P → Type 0) (ready : Bool) where
+-- where a sink fails within what is printed: within what comes to a fault it is that fault, else a write that failed
+abbrev pub IsCutIn : {A : Type 0} → (Result A Fault → List ℕ → Type 0) → List ℕ → Fault → Type 0
+IsCutIn {A} Comes text fault = ((fault ≡ Write) × ((made : A) × Comes (Ok made) text)) ⊎ Comes (Err fault) text
+
+-- what a line prints with what ends its output, where it closed
+abbrev pub WithClosing : {L P : Type 0} → (L → P → Result Closing Fault → List ℕ → P → Type 0) → Bool
+    → L → P → Result Closing Fault → List ℕ → P → Type 0
+WithClosing runs ready line from (Ok closing) text to = (told : List ℕ) × runs line from (Ok closing) told to
+    × (text ≡ told ++ closing_text ready closing)
+WithClosing runs ready line from (Err fault) text to = runs line from (Err fault) text to
+
+-- what a line comes to, and all that it prints
+module _ {L P : Type 0} (runs : L → P → Result Closing Fault → List ℕ → P → Type 0) where
+  -- what is printed by a line: its text, within which a sink may fail
+  abbrev pub line_printing : P → L → P → Printing Closing Fault
+  line_printing from line to = record {
+    Ends = λ text outcome. runs line from outcome text to;
+    Cut = IsCutIn (λ outcome text. runs line from outcome text to);
+  }
+
   -- the lines were carried out one after another, none stopped the session, and they printed this
   abbrev pub HaveRun : P → List L → Bool → List ℕ → P → Type 0
   HaveRun from [] well text to = (to ≡ from) × (well ≡ true) × (text ≡ [])
   HaveRun from (line ∷ more) well text to = (closing : Closing) × (first : List ℕ) × (mid : P) × (rest_well : Bool)
       × (rest : List ℕ) × runs line from (Ok closing) first mid × (stops closing ≡ false)
-      × HaveRun mid more rest_well rest to × (well ≡ is_well closing && rest_well)
-      × (text ≡ (first ++ closing_text ready closing) ++ rest)
+      × HaveRun mid more rest_well rest to × (well ≡ is_well closing && rest_well) × (text ≡ first ++ rest)
 
-  -- lines were carried out, and the next came to this
+  -- lines were carried out, the next came to this, and all of them printed this
   pub record IsStoppedAt (from : P) (lines : List L) (outcome : Result Closing Fault) (text : List ℕ)
       (to : P) : Type 0 where
     pub before : List L
@@ -91,11 +107,9 @@ module _ {L P : Type 0} (runs : L → P → Result Closing Fault → List ℕ �
   -- lines were carried out, and the next stopped the session: what they came to, and what all of them printed
   pub record IsOverAt (from : P) (lines : List L) (ran : Ran) (text : List ℕ) (to : P) : Type 0 where
     pub closing : Closing
-    pub last : List ℕ
-    pub at : IsStoppedAt from lines (Ok closing) last to
+    pub at : IsStoppedAt from lines (Ok closing) text to
     pub over : stops closing ≡ true
     pub came : ran ≡ record { all_well = at.well && is_well closing; is_over = true }
-    pub all : text ≡ last ++ closing_text ready closing
 
   -- what lines came to, and what they printed: all of them were carried out, or those up to the first that stopped the
   -- session
@@ -103,40 +117,15 @@ module _ {L P : Type 0} (runs : L → P → Result Closing Fault → List ℕ �
   IsLiveText from lines ran text to = (HaveRun from lines ran.all_well text to × (ran.is_over ≡ false))
       ⊎ IsOverAt from lines ran text to
 
-  module _ {O : Type 0} (writer : Writer O) (from to : P) (old new : O) where
-    -- a line was carried out, and what it printed went out
-    abbrev pub HasCarried : L → Closing → Type 0
-    HasCarried line closing = (text : List ℕ) × runs line from (Ok closing) text to
-        × WentOut writer old new (text ++ closing_text ready closing)
+  -- what lines printed, and how they ended: as they came to, or at one that a fault ended
+  abbrev pub LinesEnd : P → List L → P → List ℕ → Result Ran Fault → Type 0
+  LinesEnd from lines to text (Ok ran) = IsLiveText from lines ran text to
+  LinesEnd from lines to text (Err fault) = IsStoppedAt from lines (Err fault) text to
 
-    -- why a line wasn't carried out: its text didn't go out whole, an end's device failed, or memory was wanting; the
-    -- text so far went out then, or a prefix of it
-    abbrev pub IsLiveLineFault : L → Fault → Type 0
-    IsLiveLineFault line fault = ((fault ≡ Write)
-        × ((closing : Closing) × (text : List ℕ) × runs line from (Ok closing) text to
-        × FailedWithin writer old new (text ++ closing_text ready closing)))
-        ⊎ ((text : List ℕ) × (output : Output) × runs line from (Err fault) text to
-        × IsOut writer old new output text)
-
-    -- the lines were carried out one after another, up to the first that stopped the session, and what they printed
-    -- went out
-    abbrev pub HasRunLines : List L → Ran → Type 0
-    HasRunLines lines ran = (text : List ℕ) × IsLiveText from lines ran text to × WentOut writer old new text
-
-    -- a line's text didn't go out: those before it are out
-    pub record IsUnprinted (lines : List L) : Type 0 where
-      pub closing : Closing
-      pub text : List ℕ
-      pub at : IsStoppedAt from lines (Ok closing) text to
-      pub failed : FailedWithin writer old new (text ++ closing_text ready closing)
-
-    -- an end's device failed, or memory: the text so far went out, or a prefix of it
-    pub record IsBroken (lines : List L) (fault : Fault) : Type 0 where
-      pub text : List ℕ
-      pub at : IsStoppedAt from lines (Err fault) text to
-      pub output : Output
-      pub out : IsOut writer old new output text
-
-    -- why not all lines were carried out: a line's text didn't go out, an end's device failed, or memory was wanting
-    abbrev pub IsLiveFault : List L → Fault → Type 0
-    IsLiveFault lines fault = ((fault ≡ Write) × IsUnprinted lines) ⊎ IsBroken lines fault
+  -- what is printed by lines that are carried out one after another, up to the first that stops the session: a sink
+  -- may fail within the text of those so far
+  abbrev pub lines_printing : P → List L → P → Printing Ran Fault
+  lines_printing from lines to = record {
+    Ends = LinesEnd from lines to;
+    Cut = IsCutIn (λ outcome text. IsStoppedAt from lines outcome text to);
+  }

@@ -1,10 +1,10 @@
 -- What a line of a script for a host does there, and what it prints, by what the host end is told.
 
 use Rattle.std.specs.Prelude.{◌≡◌, ℕ, List, [], ◌∷◌, ◌++◌, ◌⊎◌, Bool, true, false, Option, None, Some}
-use Rattle.std.specs.Prelude.{IfSome, IfNone, not, ◌&&◌, ◌==◌, length, replicate, string_bytes}
+use Rattle.std.specs.Prelude.{IfSome, IfNone, ◌==◌, length, string_bytes}
 use Rattle.std.specs.List.{flat_map}
 use Rattle.std.specs.Prelude.{Result, Ok, Err}
-use Rattle.ws_code.specs.Device.{Writer, Reader, WentOut, FailedWithin, most_reads, Devices}
+use Rattle.ws_code.specs.Device.{most_reads, Devices}
 use Rattle.ws_code.specs.declared.fault.Fault.{Fault}
 use Rattle.ws_code.specs.declared.fault.Fault.TheVariants as fault
 use Rattle.ws_session.specs.Acts.{Did}
@@ -20,21 +20,18 @@ use Rattle.ws_session.specs.declared.host_end.host_event.HostEvent.{HostEvent}
 use Rattle.ws_session.specs.declared.host_end.host_event.HostEvent.TheVariants.{Answer}
 use Rattle.ws_session.specs.declared.host_end.send_fault.SendFault.{SendFault}
 use Rattle.ws_session.specs.declared.world.Event.TheVariants.{SendRefused, HostRefused}
-use Rattle.ws_live.specs.live.LiveText.{HaveRun, IsOverAt, bad_outcome, bad_text, stops}
+use Rattle.ws_live.specs.live.LiveText.{bad_outcome, bad_text}
 use Rattle.ws_live.specs.live.Waits.{InTime}
 use Rattle.ws_live.specs.printing.PlayLines.{event_text}
 use Rattle.ws_live.specs.printing.ToldLines.{told_text}
 use Rattle.ws_live.specs.printing.ScreenLines.{IsScreenText}
 use Rattle.ws_live.specs.live.WireLines.{WireRuns}
-use Rattle.ws_text.specs.Printing.{IsOut}
 use Rattle.ws_live.specs.declared.live.serve_line.AnswerAwaited.{AnswerAwaited}
 use Rattle.ws_live.specs.declared.live.serve_line.AnswerAwaited.TheVariants.{Any, By}
 use Rattle.ws_live.specs.declared.live.serve_line.HostLine.{HostLine}
 use Rattle.ws_live.specs.declared.live.serve_line.HostLine.TheVariants.{Nothing as NoLine, Give, Await, AwaitAnswer}
 use Rattle.ws_live.specs.declared.live.serve_line.HostLine.TheVariants.{Show, Wire, Bad}
-use Rattle.ws_text.specs.declared.output.Output.{Output}
 use Rattle.ws_live.specs.declared.live.Closing.{Closing}
-use Rattle.ws_live.specs.declared.live.Ran.{Ran}
 use Rattle.ws_live.specs.declared.printing.paint.Paint.TheVariants.{Plain}
 use Rattle.ws_live.specs.declared.live.watch.WaitSpan.{WaitSpan}
 use Rattle.ws_live.specs.declared.live.watch.WaitSpan.TheVariants.{Whole}
@@ -50,11 +47,6 @@ given_outcome (Err why) = Err why
 abbrev pub given_text : Result (Option SendFault) Fault → List ℕ
 given_text (Ok (Some why)) = event_text (SendRefused why)
 given_text given = []
-
--- the wait closed with something that was told
-abbrev pub is_told : Closing → Bool
-is_told Done = true
-is_told closing = false
 
 -- how a wait closes that a fault ended, late or not, and what it prints
 abbrev pub unheard_outcome : Bool → Fault → Result Closing Fault
@@ -103,7 +95,8 @@ module _ {S K : Type 0} (devices : Devices S K) where
   HostAndAhead = AttachedHost × ℕ
 
   -- the host end did this: it was written, or refused, and nothing is changed; no byte was read or taken
-  pub record IsDone (order : Order) (from : AttachedHost) (refused : Option SendFault) (to : AttachedHost) : Type 0 where
+  pub record IsDone (order : Order) (from : AttachedHost) (refused : Option SendFault)
+      (to : AttachedHost) : Type 0 where
     pub led : HaveLed host_conduct devices from to (Did order ∷ []) []
     pub same : IfSome refused (λ why. to ≡ from)
     pub why : IfSome refused (IsSendRefusal from.end (reaction_to order))
@@ -153,7 +146,8 @@ module _ {S K : Type 0} (devices : Devices S K) where
           ⊎ ((told ≡ most_reads) × (to ≡ from) × (outcome ≡ Err fault.Read) × (text ≡ [])))
 
       -- the host end heard the station up to the answer, and printed all that it told
-      pub record HearsAnswer (from : AttachedHost) (outcome : Result Closing Fault) (text : List ℕ) (to : AttachedHost) : Type 0 where
+      pub record HearsAnswer (from : AttachedHost) (outcome : Result Closing Fault) (text : List ℕ)
+          (to : AttachedHost) : Type 0 where
         pub told : List HostEvent
         pub mid : AttachedHost
         pub before : HaveToldBeforeAnswer awaited from told mid
@@ -179,63 +173,6 @@ module _ {S K : Type 0} (devices : Devices S K) where
 
     module _ {W : Type 0} (begins : W → S → WaitSpan → W → Type 0) (begun : W → ℕ) where
       -- a line at a host and a watch, how it closed, and what it printed
-      abbrev pub HostRunsInTime : HostLine → (HostAndAhead × W) → Result Closing Fault → List ℕ → (HostAndAhead × W) → Type 0
+      abbrev pub HostRunsInTime : HostLine → (HostAndAhead × W) → Result Closing Fault → List ℕ → (HostAndAhead × W)
+          → Type 0
       HostRunsInTime = InTime HostRuns host_waits begins begun
-
-      -- a wait for the next thing, which begins then
-      abbrev pub AwaitsNext : (HostAndAhead × W) → Result Closing Fault → List ℕ → (HostAndAhead × W) → Type 0
-      AwaitsNext from outcome text to = HostRunsInTime Await from outcome text to
-
-      -- what the host end tells behind a script: things were told and printed, and then this came
-      pub record AnswersOn (from to : HostAndAhead × W) (outcome : Result Closing Fault) (text : List ℕ) : Type 0 where
-        pub count : ℕ
-        pub printed : List ℕ
-        pub mid : HostAndAhead × W
-        pub ran : HaveRun HostRunsInTime false from (replicate count Await) true printed mid
-        pub last : List ℕ
-        pub came : AwaitsNext mid outcome last to
-        pub all : text ≡ printed ++ last
-
-      -- what is printed behind a script, up to the first thing that isn't told: the station closed, the wait was over,
-      -- or a byte was refused
-      abbrev pub IsAnsweringText : (HostAndAhead × W) → Bool → List ℕ → (HostAndAhead × W) → Type 0
-      IsAnsweringText from all_well text to = (closing : Closing) × AnswersOn from to (Ok closing) text
-          × (is_told closing ≡ false) × (all_well ≡ not (stops closing))
-
-      -- What the lines of a script at a host print, and behind them what the host end is told, and whether all went well:
-      -- where a line stopped the session, nothing stands behind it.
-      abbrev pub IsServeText : Bool → (HostAndAhead × W) → List HostLine → Bool → List ℕ → (HostAndAhead × W) → Type 0
-      IsServeText ready from lines all_well text to =
-          ((well : Bool) × (mid : HostAndAhead × W) × (printed : List ℕ) × (answers_well : Bool) × (told : List ℕ)
-          × HaveRun HostRunsInTime ready from lines well printed mid × IsAnsweringText mid answers_well told to
-          × (all_well ≡ well && answers_well) × (text ≡ printed ++ told))
-          ⊎ ((ran : Ran) × IsOverAt HostRunsInTime ready from lines ran text to × (all_well ≡ ran.all_well))
-
-      module _ {O : Type 0} (printer : Writer O) (from to : HostAndAhead × W) (old new : O) where
-        -- the next thing that the host end tells is printed, or none came
-        abbrev pub HasAnsweredOnce : Closing → Type 0
-        HasAnsweredOnce closing = (text : List ℕ) × AwaitsNext from (Ok closing) text to
-            × WentOut printer old new text
-
-        -- why the next thing wasn't printed: a device failed, memory was wanting, or it didn't go out
-        abbrev pub IsAnswerOnceFault : Fault → Type 0
-        IsAnswerOnceFault why = ((text : List ℕ) × (output : Output) × AwaitsNext from (Err why) text to
-            × IsOut printer old new output text)
-            ⊎ ((why ≡ fault.Write) × ((closing : Closing) × (text : List ℕ) × AwaitsNext from (Ok closing) text to
-            × FailedWithin printer old new text))
-
-        -- what the host end tells behind a script is printed, up to the first thing that isn't told
-        abbrev pub HasAnsweredOn : Bool → Type 0
-        HasAnsweredOn all_well = (text : List ℕ) × IsAnsweringText from all_well text to
-            × WentOut printer old new text
-
-        -- why not all that the host end tells was printed: a device failed, memory was wanting, it didn't go out, or
-        -- too much was told
-        abbrev pub IsAnswerOnFault : Fault → Type 0
-        IsAnswerOnFault why = ((text : List ℕ) × (output : Output) × AnswersOn from to (Err why) text
-            × IsOut printer old new output text)
-            ⊎ (((why ≡ fault.Write) × ((closing : Closing) × (text : List ℕ) × AnswersOn from to (Ok closing) text
-            × FailedWithin printer old new text))
-            ⊎ ((why ≡ fault.Read) × ((text : List ℕ)
-            × HaveRun HostRunsInTime false from (replicate most_reads Await) true text to
-            × WentOut printer old new text)))

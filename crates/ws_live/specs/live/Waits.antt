@@ -1,11 +1,21 @@
 -- The waits of a live session, which begin at what tells their time.
 
-use Rattle.std.specs.Prelude.{◌≡◌, ℕ, List, Option, None, Some, Result}
+use Rattle.std.specs.Prelude.{◌≡◌, ℕ, List, Bool, Option, None, Some, Result}
 use Rattle.ws_code.specs.Device.{one_more}
 use Rattle.ws_code.specs.declared.fault.Fault.{Fault}
 use Rattle.ws_session.specs.attached.Attachments.{AttachedParts}
 use Rattle.ws_live.specs.declared.live.Closing.{Closing}
 use Rattle.ws_live.specs.declared.live.watch.WaitSpan.{WaitSpan}
+
+-- what a watch may tell of a source at which a read has failed: whether that was for want of time, and then whether
+-- nothing had come for the time of a quiet wait
+pub record WatchTells (S : Type 0) : Type 1 where
+  pub tells : S → Bool → Type 0
+  pub rests : S → Bool → Type 0
+
+-- it may tell this, and then this
+abbrev pub watch_tells : {S : Type 0} → (S → Bool → Type 0) → (S → Bool → Type 0) → WatchTells S
+watch_tells tells rests = record { tells = tells; rests = rests }
 
 -- What a watch does at the beginning of a wait of a span: it leads from there, where the source is this, to there. And
 -- how many waits have begun at it.

@@ -2,7 +2,8 @@ ghost use Rattle.std.specs.Prelude.{◌≡◌, List, ℕ, Bool, true, false, IfO
 ghost use Rattle.ws_session.specs.declared.end_step.Applied.{Applied};
 ghost use Rattle.ws_live.specs.live.ConnectText as Spec;
 ghost use Rattle.ws_live.specs.live.LiveText.{stops};
-ghost use Rattle.ws_live.specs.live.Waits.{HasBegun, HasBegunIf};
+ghost use Rattle.ws_live.specs.live.Operating.{live_display};
+ghost use Rattle.ws_live.specs.live.Waits.{HasBegun, HasBegunIf, watch_tells};
 ghost use Rattle.ws_live.specs.declared.live.watch.WaitSpan.TheVariants.{AtOnce};
 ghost use Rattle.ws_text.specs.Printing.{Prints};
 ghost use Rattle.ws_code.specs.Device.{on_devices};
@@ -37,8 +38,9 @@ impl<D: OperatedDisplay, S: Source, K: Sink> LiveMove<StationOn<D>, S, K> for St
 where
     D::Key: NamedKey,
 {
-    ghost runs = { λ tells rests. Spec.StationRuns D.Commands.rules D.does
-        (on_devices K.writer S.reader) tells rests D.operated D.Key.words };
+    ghost runs = { λ tells rests. Spec.StationRuns
+        (live_display D.Commands.rules D.does D.operated D.Key.words)
+        (on_devices K.writer S.reader) (watch_tells tells rests) };
 
     ghost waits = { Spec.station_waits };
 
@@ -171,8 +173,9 @@ fn wait<D: OperatedDisplay, S: Source, K: Sink, W: Watch<S>>(
     awaited: &Awaited,
 ) -> Waited
     requires works { attached.old.broken ≡ false }
-    ensures waited { Spec.IsWaited D.Commands.rules D.does (on_devices K.writer S.reader)
-        W.tells W.rests D.operated awaited.now (attached.old, ahead) result attached.new }
+    ensures waited { Spec.IsWaited D.Commands.rules D.does D.operated
+        (on_devices K.writer S.reader) (watch_tells W.tells W.rests)
+        awaited.now (attached.old, ahead) result attached.new }
     ensures begun { HasBegun W.begins W.begun attached.old.source (Spec.span_of awaited.now)
         watch.old watch.new }
     ensures works { Spec.IsWorking result attached.new.broken }

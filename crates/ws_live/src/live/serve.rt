@@ -1,16 +1,20 @@
 //! The lines of a script, carried out at a host; and what is told behind them.
-ghost use Rattle.std.specs.Prelude.{◌≡◌, [], false, Bool, List, ℕ, IfOk, IfErr};
+ghost use Rattle.std.specs.Prelude.{◌≡◌, [], false, Bool, List, ℕ, IfOk};
 ghost use Rattle.ws_session.specs.declared.end_step.Order.TheVariants.{Send};
 ghost use Rattle.ws_live.specs.live.ServeText as Spec;
+ghost use Rattle.ws_live.specs.live.CarryingOn.{carrying_on};
 ghost use Rattle.ws_live.specs.live.LiveText.{stops};
+ghost use Rattle.ws_live.specs.declared.live.serve_line.HostLine.TheVariants.{Await};
+ghost use Rattle.ws_text.specs.Printed.{IsPrinted};
 ghost use Rattle.ws_text.specs.Printing.{Prints};
 ghost use Rattle.ws_code.specs.Device.{on_devices};
 
 use crate::live::host_closing::{put_given, put_unheard};
+use crate::live::repeated::carry_on;
 use crate::live::serve_line::{AnswerAwaited, HostLine};
 use crate::live::watch::{WaitSpan, Watch};
 use crate::live::wire_line::carry_wire;
-use crate::live::{Carried, Closing, LiveMove, hand_on, put_bad};
+use crate::live::{Carried, Closing, LiveMove, put_bad};
 use crate::printing::buffered_sink::BufferedSink;
 use crate::printing::paint::Paint;
 use crate::printing::screen_lines::put_screen;
@@ -191,75 +195,12 @@ pub fn answer_on<S: Source, K: Sink, W: Watch<S>, O: Sink>(
     // At an end that works, with nothing held back.
     requires works { attached.old.broken ≡ false }
     requires empty { out.old.held ≡ [] }
-    // What was printed, or why not all; what was is out.
-    ensures answered { IfOk result (Spec.HasAnsweredOn (on_devices K.writer S.reader)
-        W.tells W.begins W.begun O.writer
-        ((attached.old, ahead.old), watch.old) ((attached.new, ahead.new), watch.new)
-        out.old.sink out.new.sink) }
-    ensures fault { IfErr result (Spec.IsAnswerOnFault (on_devices K.writer S.reader)
-        W.tells W.begins W.begun O.writer
-        ((attached.old, ahead.old), watch.old) ((attached.new, ahead.new), watch.new)
-        out.old.sink out.new.sink) }
+    // What was printed, and how it ended.
+    ensures printed { IsPrinted O.writer out.old.sink out.new.sink (carrying_on
+        (Spec.HostRunsInTime (on_devices K.writer S.reader) W.tells W.begins W.begun) Await
+        ((attached.old, ahead.old), watch.old)
+        ((attached.new, ahead.new), watch.new)) result }
     ensures held { out.new.held ≡ [] }
 {
-    for _ in 0..4_294_967_296u64 {
-        match answer_once(attached, ahead, watch, out) {
-            Ok(closing) => {
-                if !is_told(closing) {
-                    return Ok(!closing.ran().is_over);
-                }
-            }
-            Err(fault) => return Err(fault),
-        }
-    }
-    Err(Fault::Read)
-}
-
-// Takes what the station sends up to the next thing that the host end tells, and prints it: how the wait closed.
-fn answer_once<S: Source, K: Sink, W: Watch<S>, O: Sink>(
-    attached: &mut Attached<HostEnd, S, K>,
-    ahead: &mut u64,
-    watch: &mut W,
-    out: &mut BufferedSink<O>,
-) -> Result<Closing, Fault>
-    // At an end that works, with nothing held back.
-    requires works { attached.old.broken ≡ false }
-    requires empty { out.old.held ≡ [] }
-    // What was printed, or why not all.
-    ensures answered { IfOk result (Spec.HasAnsweredOnce (on_devices K.writer S.reader)
-        W.tells W.begins W.begun O.writer
-        ((attached.old, ahead.old), watch.old) ((attached.new, ahead.new), watch.new)
-        out.old.sink out.new.sink) }
-    ensures fault { IfErr result (Spec.IsAnswerOnceFault (on_devices K.writer S.reader)
-        W.tells W.begins W.begun O.writer
-        ((attached.old, ahead.old), watch.old) ((attached.new, ahead.new), watch.new)
-        out.old.sink out.new.sink) }
-    // The end works on unless the session is over, and nothing is held back.
-    ensures works { IfOk result (λ closing.
-        stops closing ≡ false → attached.new.broken ≡ false) }
-    ensures held { out.new.held ≡ [] }
-{
-    let carried = HostLine::Await.carry_out(
-        attached,
-        ahead,
-        watch,
-        Paint::Plain,
-        out,
-        Output::Open,
-    );
-    let output = hand_on(out, carried.output);
-    match carried.outcome {
-        Ok(closing) => match output {
-            Output::Open => Ok(closing),
-            Output::Failed => Err(Fault::Write),
-        },
-        Err(fault) => Err(fault),
-    }
-}
-
-// Whether a wait closed with something that was told.
-fn is_told(closing: Closing) -> bool
-    ensures { result ≡ Spec.is_told closing }
-{
-    matches!(closing, Closing::Done)
+    carry_on(attached, ahead, watch, &HostLine::Await, out)
 }

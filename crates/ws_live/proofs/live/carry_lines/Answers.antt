@@ -1,7 +1,9 @@
 use Rattle.std.proofs.Common.{◌≡◌, [], ◌+◌, Bool, List, take, drop, refl, sym, ap, ◌∙◌, subst}
+use Rattle.std.specs.Prelude.{Ok}
 use Rattle.ws_code.proofs.DeviceLaws.{went_out_none}
+use Rattle.ws_text.specs.Printed.{IsPrinted}
 use Rattle.ws_live.specs.declared.live.Ran.{Ran}
-use Rattle.ws_live.specs.live.LiveText.{HaveRun, HasRunLines, ran_and, ran_by}
+use Rattle.ws_live.specs.live.LiveText.{HaveRun, WithClosing, line_printing, lines_printing, ran_and, ran_by}
 use Rattle.ws_live.specs.live.Waits.{InTime}
 use Rattle.ws_live.proofs.LiveRuns.{goes_on, ends_here, breaks, split_here, taken_here}
 use Rattle.ws_live.proofs.live.carry_lines.Goals as goal
@@ -16,33 +18,48 @@ loop-line-init g c = (
   c.requires.empty,
 )
 
-pub returns-in-Err-clause-fault : goal.returns-in-Err-clause-fault
-returns-in-Err-clause-fault g c =
+pub returns-in-Err-clause-printed : goal.returns-in-Err-clause-printed
+returns-in-Err-clause-printed g c =
     let so_far = c.loop-line.invariant in
     let lines = c.args.lines.now in
     let i = c.loop-line.line-index in
     let line = c.line-item.result in
-    breaks (InTime (g.L.LiveMove.runs g.W.Watch.tells g.W.Watch.rests c.args.paint) g.L.LiveMove.waits g.W.Watch.begins g.W.Watch.begun)
-    c.args.ready g.O.Sink.writer ((c.args.attached.now, c.args.ahead.now), c.args.watch.now) ((c.loop-line.attached, c.loop-line.ahead), c.loop-line.watch) ((c.carry_line.new.attached, c.carry_line.new.ahead), c.carry_line.new.watch) c.args.out.now.sink
-    c.loop-line.out.sink c.carry_line.new.out.sink
+    let runs = WithClosing (InTime (g.L.LiveMove.runs g.W.Watch.tells g.W.Watch.rests c.args.paint) g.L.LiveMove.waits
+    g.W.Watch.begins g.W.Watch.begun) c.args.ready in
+    breaks runs g.O.Sink.writer ((c.args.attached.now, c.args.ahead.now), c.args.watch.now)
+    ((c.loop-line.attached, c.loop-line.ahead), c.loop-line.watch)
+    ((c.carry_line.new.attached, c.carry_line.new.ahead), c.carry_line.new.watch)
+    c.args.out.now.sink c.loop-line.out.sink c.carry_line.new.out.sink
     (take i lines) line c.loop-line.ran so_far.0 so_far.1 so_far.2 (drop (i + 1) lines) lines
-    (split_here lines i line c.loop-line-test.true c.line-item.is) c.in-Err.fault c.in-Err.ensures.fault
+    (split_here lines i line c.loop-line-test.true c.line-item.is) c.in-Err.fault
+    (subst (IsPrinted g.O.Sink.writer c.loop-line.out.sink c.carry_line.new.out.sink (line_printing runs
+    ((c.loop-line.attached, c.loop-line.ahead), c.loop-line.watch) line
+    ((c.carry_line.new.attached, c.carry_line.new.ahead), c.carry_line.new.watch)))
+    c.in-Err.is c.carry_line.ensures.printed)
 
-pub returns-then-ran-clause-ran : goal.returns-then-ran-clause-ran
-returns-then-ran-clause-ran g c =
+pub returns-then-ran-clause-printed : goal.returns-then-ran-clause-printed
+returns-then-ran-clause-printed g c =
     let so_far = c.loop-line.invariant in
     let lines = c.args.lines.now in
     let i = c.loop-line.line-index in
     let line = c.line-item.result in
-    let runs = InTime (g.L.LiveMove.runs g.W.Watch.tells g.W.Watch.rests c.args.paint) g.L.LiveMove.waits g.W.Watch.begins g.W.Watch.begun in
+    let runs = WithClosing (InTime (g.L.LiveMove.runs g.W.Watch.tells g.W.Watch.rests c.args.paint) g.L.LiveMove.waits
+    g.W.Watch.begins g.W.Watch.begun) c.args.ready in
     let same : c.and-ran.result ≡ ran_and c.loop-line.ran (ran_by c.in-Ok.closing) = c.and-ran.ensures
     ∙ ap (λ (r : Ran). ran_and c.loop-line.ran r) c.ran.ensures in
-    subst (HasRunLines runs c.args.ready g.O.Sink.writer ((c.args.attached.now, c.args.ahead.now), c.args.watch.now) ((c.carry_line.new.attached, c.carry_line.new.ahead), c.carry_line.new.watch)
-    c.args.out.now.sink c.carry_line.new.out.sink lines) (sym same)
-    (ends_here runs c.args.ready g.O.Sink.writer ((c.args.attached.now, c.args.ahead.now), c.args.watch.now) ((c.loop-line.attached, c.loop-line.ahead), c.loop-line.watch)
-    ((c.carry_line.new.attached, c.carry_line.new.ahead), c.carry_line.new.watch) c.args.out.now.sink c.loop-line.out.sink c.carry_line.new.out.sink
+    subst (λ (r : Ran). IsPrinted g.O.Sink.writer c.args.out.now.sink c.carry_line.new.out.sink
+    (lines_printing runs ((c.args.attached.now, c.args.ahead.now), c.args.watch.now) lines
+    ((c.carry_line.new.attached, c.carry_line.new.ahead), c.carry_line.new.watch)) (Ok r)) (sym same)
+    (ends_here runs g.O.Sink.writer ((c.args.attached.now, c.args.ahead.now), c.args.watch.now)
+    ((c.loop-line.attached, c.loop-line.ahead), c.loop-line.watch)
+    ((c.carry_line.new.attached, c.carry_line.new.ahead), c.carry_line.new.watch) c.args.out.now.sink
+    c.loop-line.out.sink c.carry_line.new.out.sink
     (take i lines) line c.loop-line.ran so_far.0 so_far.1 so_far.2 (drop (i + 1) lines) lines
-    (split_here lines i line c.loop-line-test.true c.line-item.is) c.in-Ok.closing c.in-Ok.ensures.done
+    (split_here lines i line c.loop-line-test.true c.line-item.is) c.in-Ok.closing
+    (subst (IsPrinted g.O.Sink.writer c.loop-line.out.sink c.carry_line.new.out.sink (line_printing runs
+    ((c.loop-line.attached, c.loop-line.ahead), c.loop-line.watch) line
+    ((c.carry_line.new.attached, c.carry_line.new.ahead), c.carry_line.new.watch)))
+    c.in-Ok.is c.carry_line.ensures.printed)
     (ap (λ (r : Ran). r.is_over) (sym same) ∙ c.if-ran.true))
 
 pub loop-line-preserved : goal.loop-line-preserved
@@ -51,21 +68,29 @@ loop-line-preserved g c =
     let lines = c.args.lines.now in
     let i = c.loop-line.line-index in
     let line = c.line-item.result in
-    let runs = InTime (g.L.LiveMove.runs g.W.Watch.tells g.W.Watch.rests c.args.paint) g.L.LiveMove.waits g.W.Watch.begins g.W.Watch.begun in
+    let runs = WithClosing (InTime (g.L.LiveMove.runs g.W.Watch.tells g.W.Watch.rests c.args.paint) g.L.LiveMove.waits
+    g.W.Watch.begins g.W.Watch.begun) c.args.ready in
     let same : c.and-ran.result ≡ ran_and c.loop-line.ran (ran_by c.in-Ok.closing) = c.and-ran.ensures
     ∙ ap (λ (r : Ran). ran_and c.loop-line.ran r) c.ran.ensures in
     let going = ap (λ (r : Ran). r.is_over) (sym same) ∙ c.if-ran.false in
-    let more = goes_on runs c.args.ready g.O.Sink.writer ((c.args.attached.now, c.args.ahead.now), c.args.watch.now) ((c.loop-line.attached, c.loop-line.ahead), c.loop-line.watch)
-    ((c.carry_line.new.attached, c.carry_line.new.ahead), c.carry_line.new.watch) c.args.out.now.sink c.loop-line.out.sink c.carry_line.new.out.sink
-    (take i lines) line c.loop-line.ran so_far.0 so_far.1 so_far.2 c.in-Ok.closing c.in-Ok.ensures.done going in
+    let more = goes_on runs g.O.Sink.writer ((c.args.attached.now, c.args.ahead.now), c.args.watch.now)
+    ((c.loop-line.attached, c.loop-line.ahead), c.loop-line.watch)
+    ((c.carry_line.new.attached, c.carry_line.new.ahead), c.carry_line.new.watch) c.args.out.now.sink
+    c.loop-line.out.sink
+    c.carry_line.new.out.sink (take i lines) line c.loop-line.ran so_far.0 so_far.1 so_far.2 c.in-Ok.closing
+    (subst (IsPrinted g.O.Sink.writer c.loop-line.out.sink c.carry_line.new.out.sink (line_printing runs
+    ((c.loop-line.attached, c.loop-line.ahead), c.loop-line.watch) line
+    ((c.carry_line.new.attached, c.carry_line.new.ahead), c.carry_line.new.watch)))
+    c.in-Ok.is c.carry_line.ensures.printed) going in
     let well = ap (λ (r : Ran). r.all_well) (sym same) in
     let next = taken_here lines i line c.loop-line-test.true c.line-item.is in (
       more.0,
-      subst (λ (b : Bool). HaveRun runs c.args.ready ((c.args.attached.now, c.args.ahead.now), c.args.watch.now)
-          (take (i + 1) lines) b more.0 ((c.carry_line.new.attached, c.carry_line.new.ahead), c.carry_line.new.watch)) well
-          (subst (λ (z : List g.row.L.Denot). HaveRun runs c.args.ready ((c.args.attached.now, c.args.ahead.now), c.args.watch.now) z
-          (ran_and c.loop-line.ran (ran_by c.in-Ok.closing)).all_well more.0 ((c.carry_line.new.attached, c.carry_line.new.ahead), c.carry_line.new.watch)) next
-          more.1),
+      subst (λ (b : Bool). HaveRun runs ((c.args.attached.now, c.args.ahead.now), c.args.watch.now)
+          (take (i + 1) lines) b more.0
+          ((c.carry_line.new.attached, c.carry_line.new.ahead), c.carry_line.new.watch)) well
+          (subst (λ (z : List g.row.L.Denot). HaveRun runs ((c.args.attached.now, c.args.ahead.now), c.args.watch.now) z
+          (ran_and c.loop-line.ran (ran_by c.in-Ok.closing)).all_well more.0
+          ((c.carry_line.new.attached, c.carry_line.new.ahead), c.carry_line.new.watch)) next more.1),
       more.2,
       c.if-ran.false,
       c.in-Ok.ensures.works going,

@@ -1,62 +1,69 @@
 use Rattle.std.specs.Option.{is_some}
-use Rattle.std.proofs.Common.{◌≡◌, ◌++◌, ◌&&◌, Bool, List, ℕ, sym, ap, ◌∙◌, subst, inl}
+use Rattle.std.proofs.Common.{◌≡◌, ◌&&◌, Bool, sym, ap, ◌∙◌}
 use Rattle.ws_code.specs.Device.{on_devices}
-use Rattle.ws_code.proofs.DeviceLaws.{went_out_both}
 use Rattle.ws_any_host.specs.declared.any_line.AnyLine.TheVariants.{Await}
-use Rattle.ws_network.specs.AnySessions.{IsTextAndOn, RunsAny}
-use Rattle.ws_network.proofs.AnySessionLaws.{stopped_text, carried_text, uncarried}
+use Rattle.ws_network.specs.AnySessions.{RunsAny}
+use Rattle.ws_network.proofs.SessionPrinted.{goes_on_badly, goes_on_well, session_fails, session_stops}
 use Rattle.ws_network.proofs.any_input.carry_at_any_host.Goals as goal
 use Rattle.ws_network.proofs.any_input.carry_at_any_host.Goals.{then-ran-2, else-ran-2}
 
-pub returns-in-Err-clause-fault : goal.returns-in-Err-clause-fault
-returns-in-Err-clause-fault g c = let e = c.in-Err.ensures.fault in (e.0, e.1, inl e.2)
-
-pub returns-then-ran-clause-ran : goal.returns-then-ran-clause-ran
-returns-then-ran-clause-ran g c =
-    let runs = RunsAny (on_devices g.K.Sink.writer g.S.Source.reader) g.W.Watch.tells
-    g.W.Watch.begins g.W.Watch.begun in
-    let e = c.in-Ok.ensures.ran in (
+pub returns-in-Err-clause-printed : goal.returns-in-Err-clause-printed
+returns-in-Err-clause-printed g c =
+    let e = c.carry_session.ensures.printed in (
       e.0,
-      e.2.0,
       e.1,
-      stopped_text runs Await c.args.ready ((c.args.attached.now, c.args.ahead.now), c.args.watch.now)
-          ((c.carry_session.new.attached, c.carry_session.new.ahead), c.carry_session.new.watch) e.0 c.in-Ok.ran e.2.0 e.2.1 c.if-ran.true,
-      e.2.2,
+      session_fails (RunsAny (on_devices g.K.Sink.writer g.S.Source.reader) g.W.Watch.tells
+          g.W.Watch.begins g.W.Watch.begun) Await c.args.ready g.O.Sink.writer
+          ((c.args.attached.now, c.args.ahead.now), c.args.watch.now) e.0 (is_some c.args.script)
+          ((c.carry_session.new.attached, c.carry_session.new.ahead), c.carry_session.new.watch)
+          c.args.out.now.sink c.carry_session.new.out.sink c.carry_session.result c.in-Err.fault c.in-Err.is e.2,
     )
 
-pub returns-after-ran-2-clause-ran : goal.returns-after-ran-2-clause-ran
-returns-after-ran-2-clause-ran g c =
-    let runs = RunsAny (on_devices g.K.Sink.writer g.S.Source.reader) g.W.Watch.tells
-    g.W.Watch.begins g.W.Watch.begun in
-    let e = c.in-Ok.ensures.ran in
-    let a = c.in-Ok-carry_on.ensures.carried in
+pub returns-then-ran-clause-printed : goal.returns-then-ran-clause-printed
+returns-then-ran-clause-printed g c =
+    let e = c.carry_session.ensures.printed in (
+      e.0,
+      e.1,
+      session_stops (RunsAny (on_devices g.K.Sink.writer g.S.Source.reader) g.W.Watch.tells
+          g.W.Watch.begins g.W.Watch.begun) Await c.args.ready g.O.Sink.writer
+          ((c.args.attached.now, c.args.ahead.now), c.args.watch.now) e.0 (is_some c.args.script)
+          ((c.carry_session.new.attached, c.carry_session.new.ahead), c.carry_session.new.watch)
+          c.args.out.now.sink c.carry_session.new.out.sink c.carry_session.result c.in-Ok.ran c.in-Ok.is e.2
+          c.if-ran.true,
+    )
+
+pub returns-after-ran-2-clause-printed : goal.returns-after-ran-2-clause-printed
+returns-after-ran-2-clause-printed g c =
+    let e = c.carry_session.ensures.printed in
     let well = c.in-Ok-carry_on.is_well in
-    let text : List ℕ = e.2.0 ++ a.0 in
     let same : c.in-Ok.ran.all_well && well ≡ c.if-ran-2.result = elim c.if-ran-2.branch [
       | then-ran-2 w ↦ ap (λ (b : Bool). b && well) w.if-ran-2.true ∙ sym w.result-is
       | else-ran-2 w ↦ ap (λ (b : Bool). b && well) w.if-ran-2.false ∙ (sym w.if-ran-2.false ∙ sym w.result-is)
     ] in (
       e.0,
-      text,
       e.1,
-      subst (λ (b : Bool). IsTextAndOn runs Await c.args.ready ((c.args.attached.now, c.args.ahead.now), c.args.watch.now) e.0 b text
-          ((c.carry_on.new.attached, c.carry_on.new.ahead), c.carry_on.new.watch)) same
-          (carried_text runs Await c.args.ready ((c.args.attached.now, c.args.ahead.now), c.args.watch.now)
-          ((c.carry_session.new.attached, c.carry_session.new.ahead), c.carry_session.new.watch) e.0 c.in-Ok.ran e.2.0 e.2.1
-          ((c.carry_on.new.attached, c.carry_on.new.ahead), c.carry_on.new.watch) well a.0 c.if-ran.false a.1),
-      went_out_both g.O.Sink.writer c.args.out.now.sink c.carry_session.new.out.sink
-          c.carry_on.new.out.sink e.2.0 a.0 e.2.2 a.2,
+      goes_on_well (RunsAny (on_devices g.K.Sink.writer g.S.Source.reader) g.W.Watch.tells
+          g.W.Watch.begins g.W.Watch.begun) Await c.args.ready g.O.Sink.writer
+          ((c.args.attached.now, c.args.ahead.now), c.args.watch.now) e.0 (is_some c.args.script)
+          ((c.carry_on.new.attached, c.carry_on.new.ahead), c.carry_on.new.watch) c.args.out.now.sink
+          c.carry_on.new.out.sink
+          ((c.carry_session.new.attached, c.carry_session.new.ahead), c.carry_session.new.watch)
+          c.carry_session.new.out.sink c.carry_session.result c.in-Ok.ran c.in-Ok.is e.2 c.if-ran.false
+          c.carry_on.result well c.if-ran-2.result c.in-Ok-carry_on.is c.carry_on.ensures.printed same,
     )
 
-pub returns-in-Err-carry_on-clause-fault : goal.returns-in-Err-carry_on-clause-fault
-returns-in-Err-carry_on-clause-fault g c =
-    let runs = RunsAny (on_devices g.K.Sink.writer g.S.Source.reader) g.W.Watch.tells
-    g.W.Watch.begins g.W.Watch.begun in
-    let e = c.in-Ok.ensures.ran in (
+pub returns-in-Err-carry_on-clause-printed : goal.returns-in-Err-carry_on-clause-printed
+returns-in-Err-carry_on-clause-printed g c =
+    let e = c.carry_session.ensures.printed in (
       e.0,
       e.1,
-      uncarried runs Await c.args.ready ((c.args.attached.now, c.args.ahead.now), c.args.watch.now)
-          ((c.carry_session.new.attached, c.carry_session.new.ahead), c.carry_session.new.watch) e.0 c.in-Ok.ran e.2.0 e.2.1 g.O.Sink.writer ((c.carry_on.new.attached, c.carry_on.new.ahead), c.carry_on.new.watch) c.args.out.now.sink
-          c.carry_session.new.out.sink c.carry_on.new.out.sink (is_some c.args.script) c.from.result
-          c.in-Err-carry_on.fault c.from.ensures c.if-ran.false e.2.2 c.in-Err-carry_on.ensures.fault,
+      goes_on_badly (RunsAny (on_devices g.K.Sink.writer g.S.Source.reader) g.W.Watch.tells
+          g.W.Watch.begins g.W.Watch.begun) Await c.args.ready g.O.Sink.writer
+          ((c.args.attached.now, c.args.ahead.now), c.args.watch.now) e.0 (is_some c.args.script)
+          ((c.carry_on.new.attached, c.carry_on.new.ahead), c.carry_on.new.watch) c.args.out.now.sink
+          c.carry_on.new.out.sink
+          ((c.carry_session.new.attached, c.carry_session.new.ahead), c.carry_session.new.watch)
+          c.carry_session.new.out.sink c.carry_session.result c.in-Ok.ran c.in-Ok.is e.2 c.if-ran.false
+          c.carry_on.result c.in-Err-carry_on.fault c.from.result c.in-Err-carry_on.is
+          c.carry_on.ensures.printed c.from.ensures,
     )

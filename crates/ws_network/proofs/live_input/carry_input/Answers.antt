@@ -1,9 +1,14 @@
-use Rattle.std.proofs.Common.{◌≡◌, ◌++◌, ◌∷◌, [], Bool, true, List, refl, sym, ap, ◌∙◌, subst, inl, inr}
+use Rattle.std.specs.Prelude.{Ok, Err}
+use Rattle.std.proofs.Common.{◌≡◌, ◌++◌, ◌∷◌, [], Bool, true, false, List, refl, sym, ap, ◌∙◌, subst, inl, inr}
 use Rattle.ws_code.proofs.DeviceLaws.{went_out_none}
+use Rattle.ws_text.specs.Printed.{IsPrinted}
+use Rattle.ws_live.specs.asked.RunFaults.{told_fault}
 use Rattle.ws_live.specs.declared.live.Ran.{Ran}
-use Rattle.ws_live.specs.live.LiveText.{HaveRun, HasRunLines, ran_and, ran_by}
+use Rattle.ws_live.specs.live.LiveText.{HaveRun, WithClosing, line_printing, ran_and, ran_by}
 use Rattle.ws_live.specs.live.Waits.{InTime}
 use Rattle.ws_live.proofs.LiveRuns.{goes_on, ends_here, breaks}
+use Rattle.ws_network.specs.SessionPrinting.{session_printing}
+use Rattle.ws_network.proofs.SessionPrinted.{script_ends, script_fails}
 use Rattle.ws_network.proofs.live_input.carry_input.Goals as goal
 
 pub loop-init : goal.loop-init
@@ -17,63 +22,110 @@ loop-init g c = (
   c.requires.empty,
 )
 
-pub returns-in_default-clause-fault : goal.returns-in_default-clause-fault
-returns-in_default-clause-fault g c = (
+pub returns-in_default-clause-printed : goal.returns-in_default-clause-printed
+returns-in_default-clause-printed g c = (
   [],
-  inr (
-    refl,
-    (true, [], (refl, refl, refl), went_out_none g.O.Sink.writer c.args.out.now.sink),
-    inl (inr refl),
+  inl (
+    [],
+    inr (refl, (true, (refl, refl, refl)), inl (inr refl)),
+    went_out_none g.O.Sink.writer c.args.out.now.sink,
   ),
 )
 
-pub returns-in-Err-carry_next-clause-fault : goal.returns-in-Err-carry_next-clause-fault
-returns-in-Err-carry_next-clause-fault g c =
-    let so_far = c.loop.invariant in
-    let lines : List g.row.L.Denot = so_far.0 ++ c.in-Some.line ∷ [] in (
-      lines,
+pub returns-in-Err-clause-printed : goal.returns-in-Err-clause-printed
+returns-in-Err-clause-printed g c =
+    let so_far = c.loop.invariant in (
+      so_far.0,
       inl (
-        c.in-Err-carry_next.fault,
-        breaks (InTime (g.L.LiveMove.runs g.W.Watch.tells g.W.Watch.rests c.args.paint) g.L.LiveMove.waits g.W.Watch.begins g.W.Watch.begun) c.args.ready g.O.Sink.writer ((c.args.attached.now, c.args.ahead.now), c.args.watch.now) ((c.loop.attached, c.loop.ahead), c.loop.watch) ((c.carry_next.new.attached, c.carry_next.new.ahead), c.carry_next.new.watch) c.args.out.now.sink
-            c.loop.out.sink c.carry_next.new.out.sink
-            so_far.0 c.in-Some.line c.loop.ran so_far.1 so_far.2 so_far.3
-            [] lines refl c.in-Err-carry_next.fault c.in-Err-carry_next.ensures.fault,
-        c.from.ensures,
+        so_far.1,
+        inr (refl, (c.loop.ran.all_well, so_far.2), c.in-Err.ensures.fault),
+        so_far.3,
       ),
     )
 
-pub returns-then-ran-clause-ran : goal.returns-then-ran-clause-ran
-returns-then-ran-clause-ran g c =
+pub returns-in-Err-carry_next-clause-printed : goal.returns-in-Err-carry_next-clause-printed
+returns-in-Err-carry_next-clause-printed g c =
     let so_far = c.loop.invariant in
     let lines : List g.row.L.Denot = so_far.0 ++ c.in-Some.line ∷ [] in
-    let runs = InTime (g.L.LiveMove.runs g.W.Watch.tells g.W.Watch.rests c.args.paint) g.L.LiveMove.waits g.W.Watch.begins g.W.Watch.begun in
+    let runs = WithClosing (InTime (g.L.LiveMove.runs g.W.Watch.tells g.W.Watch.rests c.args.paint) g.L.LiveMove.waits
+    g.W.Watch.begins g.W.Watch.begun) c.args.ready in (
+      lines,
+      subst (λ told. IsPrinted g.O.Sink.writer c.args.out.now.sink c.carry_next.new.out.sink
+          (session_printing runs c.args.ready ((c.args.attached.now, c.args.ahead.now), c.args.watch.now) lines
+          ((c.carry_next.new.attached, c.carry_next.new.ahead), c.carry_next.new.watch) false
+          (λ ran told. told ≡ ran)) (Err told)) (sym c.from.ensures)
+          (script_fails runs c.args.ready g.O.Sink.writer ((c.args.attached.now, c.args.ahead.now), c.args.watch.now)
+          lines
+          ((c.carry_next.new.attached, c.carry_next.new.ahead), c.carry_next.new.watch) false c.args.out.now.sink
+          c.carry_next.new.out.sink c.in-Err-carry_next.fault
+          (breaks runs g.O.Sink.writer ((c.args.attached.now, c.args.ahead.now), c.args.watch.now)
+          ((c.loop.attached, c.loop.ahead), c.loop.watch) (
+            (c.carry_next.new.attached, c.carry_next.new.ahead),
+            c.carry_next.new.watch,
+          )
+          c.args.out.now.sink c.loop.out.sink c.carry_next.new.out.sink
+          so_far.0 c.in-Some.line c.loop.ran so_far.1 so_far.2 so_far.3 [] lines refl c.in-Err-carry_next.fault
+          (subst (IsPrinted g.O.Sink.writer c.loop.out.sink c.carry_next.new.out.sink (line_printing runs
+          ((c.loop.attached, c.loop.ahead), c.loop.watch) c.in-Some.line
+          ((c.carry_next.new.attached, c.carry_next.new.ahead), c.carry_next.new.watch)))
+          c.in-Err-carry_next.is c.carry_next.ensures.printed))),
+    )
+
+pub returns-then-ran-clause-printed : goal.returns-then-ran-clause-printed
+returns-then-ran-clause-printed g c =
+    let so_far = c.loop.invariant in
+    let lines : List g.row.L.Denot = so_far.0 ++ c.in-Some.line ∷ [] in
+    let runs = WithClosing (InTime (g.L.LiveMove.runs g.W.Watch.tells g.W.Watch.rests c.args.paint) g.L.LiveMove.waits
+    g.W.Watch.begins g.W.Watch.begun) c.args.ready in
     let same : c.and-ran.result ≡ ran_and c.loop.ran (ran_by c.in-Ok-carry_next.closing) = c.and-ran.ensures
     ∙ ap (λ (r : Ran). ran_and c.loop.ran r) c.ran.ensures in (
       lines,
-      subst (HasRunLines runs c.args.ready g.O.Sink.writer ((c.args.attached.now, c.args.ahead.now), c.args.watch.now) ((c.carry_next.new.attached, c.carry_next.new.ahead), c.carry_next.new.watch)
-          c.args.out.now.sink c.carry_next.new.out.sink lines) (sym same)
-          (ends_here runs c.args.ready g.O.Sink.writer ((c.args.attached.now, c.args.ahead.now), c.args.watch.now) ((c.loop.attached, c.loop.ahead), c.loop.watch)
-          ((c.carry_next.new.attached, c.carry_next.new.ahead), c.carry_next.new.watch) c.args.out.now.sink c.loop.out.sink c.carry_next.new.out.sink
-          so_far.0 c.in-Some.line c.loop.ran so_far.1 so_far.2 so_far.3
-          [] lines refl c.in-Ok-carry_next.closing c.in-Ok-carry_next.ensures.done
-          (ap (λ (r : Ran). r.is_over) (sym same) ∙ c.if-ran.true)),
+      subst (λ (r : Ran). IsPrinted g.O.Sink.writer c.args.out.now.sink c.carry_next.new.out.sink
+          (session_printing runs c.args.ready ((c.args.attached.now, c.args.ahead.now), c.args.watch.now) lines
+          ((c.carry_next.new.attached, c.carry_next.new.ahead), c.carry_next.new.watch) false
+          (λ ran told. told ≡ ran)) (Ok r)) (sym same)
+          (script_ends runs c.args.ready g.O.Sink.writer ((c.args.attached.now, c.args.ahead.now), c.args.watch.now)
+          lines
+          ((c.carry_next.new.attached, c.carry_next.new.ahead), c.carry_next.new.watch) false c.args.out.now.sink
+          c.carry_next.new.out.sink (ran_and c.loop.ran (ran_by c.in-Ok-carry_next.closing))
+          (ends_here runs g.O.Sink.writer ((c.args.attached.now, c.args.ahead.now), c.args.watch.now)
+          ((c.loop.attached, c.loop.ahead), c.loop.watch) (
+            (c.carry_next.new.attached, c.carry_next.new.ahead),
+            c.carry_next.new.watch,
+          )
+          c.args.out.now.sink c.loop.out.sink c.carry_next.new.out.sink
+          so_far.0 c.in-Some.line c.loop.ran so_far.1 so_far.2 so_far.3 [] lines refl c.in-Ok-carry_next.closing
+          (subst (IsPrinted g.O.Sink.writer c.loop.out.sink c.carry_next.new.out.sink (line_printing runs
+          ((c.loop.attached, c.loop.ahead), c.loop.watch) c.in-Some.line
+          ((c.carry_next.new.attached, c.carry_next.new.ahead), c.carry_next.new.watch)))
+          c.in-Ok-carry_next.is c.carry_next.ensures.printed)
+          (ap (λ (r : Ran). r.is_over) (sym same) ∙ c.if-ran.true))),
     )
 
 pub loop-preserved : goal.loop-preserved
 loop-preserved g c =
     let so_far = c.loop.invariant in
     let lines : List g.row.L.Denot = so_far.0 ++ c.in-Some.line ∷ [] in
-    let runs = InTime (g.L.LiveMove.runs g.W.Watch.tells g.W.Watch.rests c.args.paint) g.L.LiveMove.waits g.W.Watch.begins g.W.Watch.begun in
+    let runs = WithClosing (InTime (g.L.LiveMove.runs g.W.Watch.tells g.W.Watch.rests c.args.paint) g.L.LiveMove.waits
+    g.W.Watch.begins g.W.Watch.begun) c.args.ready in
     let same : c.and-ran.result ≡ ran_and c.loop.ran (ran_by c.in-Ok-carry_next.closing) = c.and-ran.ensures
     ∙ ap (λ (r : Ran). ran_and c.loop.ran r) c.ran.ensures in
     let going = ap (λ (r : Ran). r.is_over) (sym same) ∙ c.if-ran.false in
-    let more = goes_on runs c.args.ready g.O.Sink.writer ((c.args.attached.now, c.args.ahead.now), c.args.watch.now) ((c.loop.attached, c.loop.ahead), c.loop.watch)
-    ((c.carry_next.new.attached, c.carry_next.new.ahead), c.carry_next.new.watch) c.args.out.now.sink c.loop.out.sink c.carry_next.new.out.sink
+    let more = goes_on runs g.O.Sink.writer ((c.args.attached.now, c.args.ahead.now), c.args.watch.now)
+    ((c.loop.attached, c.loop.ahead), c.loop.watch) (
+      (c.carry_next.new.attached, c.carry_next.new.ahead),
+      c.carry_next.new.watch,
+    )
+    c.args.out.now.sink c.loop.out.sink c.carry_next.new.out.sink
     so_far.0 c.in-Some.line c.loop.ran so_far.1 so_far.2 so_far.3 c.in-Ok-carry_next.closing
-    c.in-Ok-carry_next.ensures.done going in (
+    (subst (IsPrinted g.O.Sink.writer c.loop.out.sink c.carry_next.new.out.sink (line_printing runs
+    ((c.loop.attached, c.loop.ahead), c.loop.watch) c.in-Some.line
+    ((c.carry_next.new.attached, c.carry_next.new.ahead), c.carry_next.new.watch)))
+    c.in-Ok-carry_next.is c.carry_next.ensures.printed) going in (
       lines,
       more.0,
-      subst (λ (b : Bool). HaveRun runs c.args.ready ((c.args.attached.now, c.args.ahead.now), c.args.watch.now) lines b more.0 ((c.carry_next.new.attached, c.carry_next.new.ahead), c.carry_next.new.watch))
+      subst (λ (b : Bool). HaveRun runs ((c.args.attached.now, c.args.ahead.now), c.args.watch.now) lines b more.0
+          ((c.carry_next.new.attached, c.carry_next.new.ahead), c.carry_next.new.watch))
           (ap (λ (r : Ran). r.all_well) (sym same)) more.1,
       more.2,
       c.if-ran.false,

@@ -1,25 +1,38 @@
-use Rattle.std.proofs.Common.{inl, refl}
+use Rattle.std.proofs.Common.{refl, true}
 use Rattle.std.proofs.lemmas.Result.{err_from_is_err_and}
+use Rattle.ws_live.specs.live.LiveText.{WithClosing}
+use Rattle.ws_live.specs.live.Waits.{InTime}
+use Rattle.ws_network.proofs.SessionPrinted.{script_ends, script_fails}
 use Rattle.ws_network.proofs.live_input.carry_session.Goals as goal
 
-pub returns-in_err-carry_script-in-Some-clause-fault : goal.returns-in_err-carry_script-in-Some-clause-fault
-returns-in_err-carry_script-in-Some-clause-fault g c =
+pub returns-in_err-carry_script-in-Some-clause-printed : goal.returns-in_err-carry_script-in-Some-clause-printed
+returns-in_err-carry_script-in-Some-clause-printed g c =
     let p = err_from_is_err_and c.from_residual.result c.from_residual.ensures.1 in
     let e = c.in_err-carry_script-in-Some in
     rw (p.1, p.2, c.in-Some.is) (
       c.in-Some.lines.now,
       refl,
-      inl (
-        e.field-0.0,
-        e.ensures.fault,
-        refl,
-      ),
+      script_fails (WithClosing (InTime (g.L.LiveMove.runs g.W.Watch.tells g.W.Watch.rests c.args.paint)
+          g.L.LiveMove.waits g.W.Watch.begins g.W.Watch.begun) c.args.ready) c.args.ready g.O.Sink.writer
+          ((c.args.attached.now, c.args.ahead.now), c.args.watch.now) c.in-Some.lines.now
+          ((c.carry_script.new.attached, c.carry_script.new.ahead), c.carry_script.new.watch) true
+          c.args.out.now.sink c.carry_script.new.out.sink e.field-0.0 e.ensures.printed,
     )
 
-pub returns-in_ok-carry_script-in-Some-clause-ran : goal.returns-in_ok-carry_script-in-Some-clause-ran
-returns-in_ok-carry_script-in-Some-clause-ran g c =
+pub returns-in_ok-carry_script-in-Some-clause-printed : goal.returns-in_ok-carry_script-in-Some-clause-printed
+returns-in_ok-carry_script-in-Some-clause-printed g c =
+    let e = c.in_ok-carry_script-in-Some in
     rw (c.in-Some.is) (
       c.in-Some.lines.now,
       refl,
-      c.in_ok-carry_script-in-Some.ensures.ran,
+      script_ends (WithClosing (InTime (g.L.LiveMove.runs g.W.Watch.tells g.W.Watch.rests c.args.paint)
+          g.L.LiveMove.waits g.W.Watch.begins g.W.Watch.begun) c.args.ready) c.args.ready g.O.Sink.writer
+          ((c.args.attached.now, c.args.ahead.now), c.args.watch.now) c.in-Some.lines.now
+          ((c.carry_script.new.attached, c.carry_script.new.ahead), c.carry_script.new.watch) true
+          c.args.out.now.sink c.carry_script.new.out.sink e.field-0 e.ensures.printed,
     )
+
+pub returns-in-None-clause-printed : goal.returns-in-None-clause-printed
+returns-in-None-clause-printed g c =
+    let e = c.carry_input.ensures.printed in
+    rw (c.in-None.is) (e.0, tt, e.1)

@@ -1,18 +1,34 @@
-use Rattle.std.proofs.Common.{◌∙◌, []}
+use Rattle.std.specs.Option.{is_some}
+use Rattle.std.specs.Prelude.{MatchOption}
+use Rattle.std.proofs.Common.{◌≡◌, ◌∙◌, []}
 use Rattle.ws_any_host.specs.AnyOptions.{new_negotiated}
 use Rattle.ws_network.proofs.AnySessionLaws.{any_served}
 use Rattle.ws_network.proofs.SessionLaws.{judged}
+use Rattle.ws_any_host.specs.declared.any_line.AnyLine.TheVariants.{Await}
+use Rattle.ws_network.specs.AnySessions.{RunsAny}
+use Rattle.ws_network.specs.Times.{timed_devices, tells, begins}
+use Rattle.ws_network.proofs.SessionPrinted.{served_well}
 use Rattle.ws_network.proofs.serving.AnyLineServedLine.serve.Goals as goal
 
 pub returns-clause-served : goal.returns-clause-served
 returns-clause-served g c =
-    judged _ _ c.carry_at_any_host-outcome.result c.judge.result c.carry_at_any_host-outcome.ensures.ran c.judge.ensures.done
+    judged _ _ c.carry_at_any_host-outcome.result c.judge.result
+    (served_well (RunsAny timed_devices tells begins (λ n. n)) Await c.args.asked.now.ready g.O.Sink.writer
+    ((c.new-attached.result, 0), c.new.result) (
+      (c.carry_at_any_host-outcome.new.attached, c.carry_at_any_host-outcome.new.ahead),
+      c.carry_at_any_host-outcome.new.watch,
+    )
+    (is_some c.args.script) c.args.out.now.sink c.carry_at_any_host-outcome.new.out.sink
+    (λ lines. MatchOption c.args.script (Unit {0}) (λ read. lines ≡ read.now)) c.carry_at_any_host-outcome.result
+    c.carry_at_any_host-outcome.ensures.printed) c.judge.ensures.done
     (λ all_well ran. (
       ran.0,
       ran.1,
       ran.2,
-      any_served c.args.asked.now ran.0 all_well ran.1
-          ((c.carry_at_any_host-outcome.new.attached, c.carry_at_any_host-outcome.new.ahead), c.carry_at_any_host-outcome.new.watch)
+      any_served c.args.asked.now ran.0 all_well ran.1 (
+        (c.carry_at_any_host-outcome.new.attached, c.carry_at_any_host-outcome.new.ahead),
+        c.carry_at_any_host-outcome.new.watch,
+      )
           c.open.new.self c.new-source.result c.new-sink.result c.write_whole.new.sink c.as_slice.result.now
           c.new-attached.result c.new.result (c.open.ensures.opened [] [] new_negotiated c.new-host.ensures)
           c.in_ok-write_whole.ensures.ok (c.as_slice.ensures.value ∙ c.open.ensures.reply) c.new-attached.ensures

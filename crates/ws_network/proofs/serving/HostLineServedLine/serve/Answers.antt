@@ -1,11 +1,23 @@
-use Rattle.std.proofs.Common.{◌∙◌, []}
+use Rattle.std.specs.Option.{is_some}
+use Rattle.std.specs.Prelude.{MatchOption}
+use Rattle.std.proofs.Common.{◌≡◌, ◌∙◌, []}
 use Rattle.ws_session.specs.host_end.HostLeads.{unopened_host_side}
 use Rattle.ws_network.proofs.SessionLaws.{judged, served}
+use Rattle.ws_live.specs.declared.live.serve_line.HostLine.TheVariants.{Await}
+use Rattle.ws_live.specs.live.ServeText.{HostRunsInTime}
+use Rattle.ws_network.specs.Times.{timed_devices, tells, begins}
+use Rattle.ws_network.proofs.SessionPrinted.{served_well}
 use Rattle.ws_network.proofs.serving.HostLineServedLine.serve.Goals as goal
 
 pub returns-clause-served : goal.returns-clause-served
 returns-clause-served g c =
-    judged _ _ c.carry_at_host-outcome.result c.judge.result c.carry_at_host-outcome.ensures.ran c.judge.ensures.done
+    judged _ _ c.carry_at_host-outcome.result c.judge.result
+    (served_well (HostRunsInTime timed_devices tells begins (λ n. n)) Await c.args.asked.now.ready g.O.Sink.writer
+    ((c.new-attached.result, 0), c.new.result)
+    ((c.carry_at_host-outcome.new.attached, c.carry_at_host-outcome.new.ahead), c.carry_at_host-outcome.new.watch)
+    (is_some c.args.script) c.args.out.now.sink c.carry_at_host-outcome.new.out.sink
+    (λ lines. MatchOption c.args.script (Unit {0}) (λ read. lines ≡ read.now)) c.carry_at_host-outcome.result
+    c.carry_at_host-outcome.ensures.printed) c.judge.ensures.done
     (λ all_well ran. (
       ran.0,
       ran.1,

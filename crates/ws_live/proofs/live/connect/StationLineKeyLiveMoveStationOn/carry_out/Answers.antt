@@ -3,6 +3,8 @@ use Rattle.ws_code.specs.Device.{on_devices}
 use Rattle.ws_text.proofs.Prints.{prints_both, prints_same}
 use Rattle.ws_live.specs.declared.live.connect_line.StationLine.{StationLine}
 use Rattle.ws_live.specs.live.ConnectText.{KeysRun, ShowsStation, StationRuns, rested, waited_outcome, waited_text}
+use Rattle.ws_live.specs.live.Operating.{live_display}
+use Rattle.ws_live.specs.live.Waits.{watch_tells}
 use Rattle.ws_live.specs.printing.FieldLines.{AreFieldLines}
 use Rattle.ws_live.specs.printing.ScreenLines.{IsDisplayText}
 use Rattle.ws_live.proofs.live.connect.StationLineKeyLiveMoveStationOn.carry_out.Goals as goal
@@ -14,9 +16,9 @@ returns-in-Press-clause-runs g c =
     let from = c.args.attached.now in
     let to = c.press_keys.new.attached in (
       e.0,
-      subst (λ (line : StationLine g.row.D-Key.Denot). StationRuns g.D.Commands.Code.rules g.D.StationDisplay.does
-          (on_devices g.K.Sink.writer g.S.Source.reader)
-          g.W.Watch.tells g.W.Watch.rests g.D.OperatedDisplay.operated g.D.Key.NamedKey.words c.args.paint line
+      subst (λ (line : StationLine g.row.D-Key.Denot). StationRuns (live_display g.D.Commands.Code.rules
+          g.D.StationDisplay.does g.D.OperatedDisplay.operated g.D.Key.NamedKey.words)
+          (on_devices g.K.Sink.writer g.S.Source.reader) (watch_tells g.W.Watch.tells g.W.Watch.rests) c.args.paint line
           (from, c.args.ahead.now) outcome e.0 (to, 0)) (sym c.in-Press.is) (
             subst (λ (keys : List g.row.D-Key.Denot). KeysRun g.D.Commands.Code.rules g.D.StationDisplay.does
                 (on_devices g.K.Sink.writer g.S.Source.reader) g.D.Key.NamedKey.words
@@ -44,9 +46,9 @@ returns-in-Fields-clause-runs g c =
       all = refl;
     } in (
       text,
-      subst (λ (line : StationLine g.row.D-Key.Denot). StationRuns g.D.Commands.Code.rules g.D.StationDisplay.does
-          (on_devices g.K.Sink.writer g.S.Source.reader)
-          g.W.Watch.tells g.W.Watch.rests g.D.OperatedDisplay.operated g.D.Key.NamedKey.words c.args.paint line
+      subst (λ (line : StationLine g.row.D-Key.Denot). StationRuns (live_display g.D.Commands.Code.rules
+          g.D.StationDisplay.does g.D.OperatedDisplay.operated g.D.Key.NamedKey.words)
+          (on_devices g.K.Sink.writer g.S.Source.reader) (watch_tells g.W.Watch.tells g.W.Watch.rests) c.args.paint line
           (c.args.attached.now, c.args.ahead.now) c.put_waited-in-Fields.result.outcome text
           (c.take_what_came-ended.new.attached, c.take_what_came-ended.new.ahead)) (sym c.in-Fields.is) shows,
       prints_both p.2 (prints_same (ap waited_text t.4) c.put_waited-in-Fields.ensures.text),
@@ -72,9 +74,9 @@ returns-in-Show-clause-runs g c =
       all = refl;
     } in (
       text,
-      subst (λ (line : StationLine g.row.D-Key.Denot). StationRuns g.D.Commands.Code.rules g.D.StationDisplay.does
-          (on_devices g.K.Sink.writer g.S.Source.reader)
-          g.W.Watch.tells g.W.Watch.rests g.D.OperatedDisplay.operated g.D.Key.NamedKey.words c.args.paint line
+      subst (λ (line : StationLine g.row.D-Key.Denot). StationRuns (live_display g.D.Commands.Code.rules
+          g.D.StationDisplay.does g.D.OperatedDisplay.operated g.D.Key.NamedKey.words)
+          (on_devices g.K.Sink.writer g.S.Source.reader) (watch_tells g.W.Watch.tells g.W.Watch.rests) c.args.paint line
           (c.args.attached.now, c.args.ahead.now) c.put_waited-in-Show.result.outcome text
           (c.take_what_came-ended-in-Show.new.attached, c.take_what_came-ended-in-Show.new.ahead)) (sym c.in-Show.is) shows,
       prints_both p.2 (prints_same (ap waited_text t.4) c.put_waited-in-Show.ensures.text),

@@ -1,17 +1,21 @@
-ghost use Rattle.std.specs.Prelude.{◌≡◌, [], false, IfOk, IfErr};
-ghost use Rattle.ws_live.specs.live.LiveText.{stops};
-ghost use Rattle.ws_live.specs.live.ServeText as Told;
+//! A line that is carried out again and again.
+ghost use Rattle.std.specs.Prelude.{◌≡◌, [], false, IfOk};
+ghost use Rattle.ws_live.specs.live.CarryingOn as Spec;
+ghost use Rattle.ws_live.specs.live.LiveText.{line_printing, stops};
 ghost use Rattle.ws_live.specs.live.Waits.{InTime};
-ghost use Rattle.ws_any_host.specs.CarryingOn as Spec;
+ghost use Rattle.ws_text.specs.Printed.{IsPrinted};
 
+use crate::live::watch::Watch;
+use crate::live::{Closing, LiveMove, hand_on};
+use crate::printing::buffered_sink::BufferedSink;
+use crate::printing::paint::Paint;
 use ws_code::{Fault, Sink};
-use ws_live::{BufferedSink, Closing, LiveMove, Paint, Watch, hand_on};
 use ws_session::Attached;
 use ws_text::Output;
 
 /// Carries a line out again and again, and prints what it tells, for as long as it closes with something that was told:
-/// true where it then closes otherwise, and false where a byte is refused. With `AnyLine::Await` it answers a station
-/// on, behind a script.
+/// true where it then closes otherwise, and false where a byte is refused. With a line that awaits what is next told it
+/// answers a station on, behind a script.
 ///
 /// `Write` where the sink or the connection failed, `Read` where a read failed, though not for want of time, or
 /// 4,294,967,296 things were told; `Memory` where a growth was refused.
@@ -25,17 +29,11 @@ pub fn carry_on<E, S, K, L: LiveMove<E, S, K>, W: Watch<S>, O: Sink>(
     // At an end that works, with nothing held back.
     requires works { attached.old.broken ≡ false }
     requires empty { out.old.held ≡ [] }
-    // What was printed, or why not all; what was is out.
-    ensures carried { IfOk result (Spec.HasCarriedOn
+    // What was printed, and how it ended.
+    ensures printed { IsPrinted O.writer out.old.sink out.new.sink (Spec.carrying_on
         (InTime (L.runs W.tells W.rests Paint.Plain) L.waits W.begins W.begun) line.now
-        O.writer
-        ((attached.old, ahead.old), watch.old) ((attached.new, ahead.new), watch.new)
-        out.old.sink out.new.sink) }
-    ensures fault { IfErr result (Spec.IsCarryOnFault
-        (InTime (L.runs W.tells W.rests Paint.Plain) L.waits W.begins W.begun) line.now
-        O.writer
-        ((attached.old, ahead.old), watch.old) ((attached.new, ahead.new), watch.new)
-        out.old.sink out.new.sink) }
+        ((attached.old, ahead.old), watch.old)
+        ((attached.new, ahead.new), watch.new)) result }
     ensures held { out.new.held ≡ [] }
 {
     for _ in 0..4_294_967_296u64 {
@@ -62,17 +60,11 @@ fn carry_once<E, S, K, L: LiveMove<E, S, K>, W: Watch<S>, O: Sink>(
     // At an end that works, with nothing held back.
     requires works { attached.old.broken ≡ false }
     requires empty { out.old.held ≡ [] }
-    // What was printed, or why not all.
-    ensures carried { IfOk result (Spec.HasCarriedOnce
-        (InTime (L.runs W.tells W.rests Paint.Plain) L.waits W.begins W.begun) line.now
-        O.writer
-        ((attached.old, ahead.old), watch.old) ((attached.new, ahead.new), watch.new)
-        out.old.sink out.new.sink) }
-    ensures fault { IfErr result (Spec.IsOnceFault
-        (InTime (L.runs W.tells W.rests Paint.Plain) L.waits W.begins W.begun) line.now
-        O.writer
-        ((attached.old, ahead.old), watch.old) ((attached.new, ahead.new), watch.new)
-        out.old.sink out.new.sink) }
+    // What was printed, and how it ended.
+    ensures printed { IsPrinted O.writer out.old.sink out.new.sink (line_printing
+        (InTime (L.runs W.tells W.rests Paint.Plain) L.waits W.begins W.begun)
+        ((attached.old, ahead.old), watch.old) line.now
+        ((attached.new, ahead.new), watch.new)) result }
     // The end works on unless the session is over, and nothing is held back.
     ensures works { IfOk result (λ closing.
         stops closing ≡ false → attached.new.broken ≡ false) }
@@ -91,7 +83,7 @@ fn carry_once<E, S, K, L: LiveMove<E, S, K>, W: Watch<S>, O: Sink>(
 
 // Whether a line closed with something that was told.
 fn is_told(closing: Closing) -> bool
-    ensures { result ≡ Told.is_told closing }
+    ensures { result ≡ Spec.is_told closing }
 {
     matches!(closing, Closing::Done)
 }

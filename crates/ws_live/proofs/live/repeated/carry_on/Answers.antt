@@ -1,0 +1,80 @@
+use Rattle.std.proofs.Common.{◌≡◌, [], true, false, refl, sym, ◌∙◌, subst, arith}
+use Rattle.ws_code.specs.Device.{most_reads}
+use Rattle.ws_code.proofs.DeviceLaws.{went_out_none}
+use Rattle.ws_text.specs.Printed.{IsPrinted}
+use Rattle.ws_live.specs.declared.printing.paint.Paint.TheVariants.{Plain}
+use Rattle.ws_live.specs.live.CarryingOn.{is_told}
+use Rattle.ws_live.specs.live.LiveText.{line_printing}
+use Rattle.ws_live.specs.live.Waits.{InTime}
+use Rattle.ws_live.proofs.CarryOns.{one_told, none_told, once_fails, too_much_told, told_goes}
+use Rattle.ws_live.proofs.live.repeated.carry_on.Goals as goal
+
+pub loop-init : goal.loop-init
+loop-init g c = (
+  [],
+  (refl, refl, refl),
+  went_out_none g.O.Sink.writer c.args.out.now.sink,
+  c.requires.works,
+  c.requires.empty,
+)
+
+pub returns-then-not-is_told-clause-printed : goal.returns-then-not-is_told-clause-printed
+returns-then-not-is_told-clause-printed g c =
+    let so_far = c.loop.invariant in
+    let runs = InTime (g.L.LiveMove.runs g.W.Watch.tells g.W.Watch.rests Plain) g.L.LiveMove.waits g.W.Watch.begins
+    g.W.Watch.begun in
+    let untold : is_told c.in-Ok.closing ≡ false = sym c.is_told.ensures ∙ c.if-not-is_told.true in
+    none_told runs c.args.line.now g.O.Sink.writer ((c.args.attached.now, c.args.ahead.now), c.args.watch.now)
+    ((c.loop.attached, c.loop.ahead), c.loop.watch) (
+      (c.carry_once.new.attached, c.carry_once.new.ahead),
+      c.carry_once.new.watch,
+    ) c.args.out.now.sink c.loop.out.sink
+    c.carry_once.new.out.sink c.loop.counter so_far.0 so_far.1 so_far.2 c.in-Ok.closing c.goes_well.result
+    (subst (IsPrinted g.O.Sink.writer c.loop.out.sink c.carry_once.new.out.sink
+    (line_printing runs ((c.loop.attached, c.loop.ahead), c.loop.watch) c.args.line.now
+    ((c.carry_once.new.attached, c.carry_once.new.ahead), c.carry_once.new.watch))) c.in-Ok.is
+    c.carry_once.ensures.printed) untold c.goes_well.ensures
+
+pub returns-in-Err-clause-printed : goal.returns-in-Err-clause-printed
+returns-in-Err-clause-printed g c =
+    let so_far = c.loop.invariant in
+    let runs = InTime (g.L.LiveMove.runs g.W.Watch.tells g.W.Watch.rests Plain) g.L.LiveMove.waits g.W.Watch.begins
+    g.W.Watch.begun in
+    once_fails runs c.args.line.now g.O.Sink.writer ((c.args.attached.now, c.args.ahead.now), c.args.watch.now)
+    ((c.loop.attached, c.loop.ahead), c.loop.watch) (
+      (c.carry_once.new.attached, c.carry_once.new.ahead),
+      c.carry_once.new.watch,
+    ) c.args.out.now.sink c.loop.out.sink
+    c.carry_once.new.out.sink c.loop.counter so_far.0 so_far.1 so_far.2 c.in-Err.fault
+    (subst (IsPrinted g.O.Sink.writer c.loop.out.sink c.carry_once.new.out.sink
+    (line_printing runs ((c.loop.attached, c.loop.ahead), c.loop.watch) c.args.line.now
+    ((c.carry_once.new.attached, c.carry_once.new.ahead), c.carry_once.new.watch))) c.in-Err.is
+    c.carry_once.ensures.printed)
+
+pub loop-preserved : goal.loop-preserved
+loop-preserved g c =
+    let so_far = c.loop.invariant in
+    let runs = InTime (g.L.LiveMove.runs g.W.Watch.tells g.W.Watch.rests Plain) g.L.LiveMove.waits g.W.Watch.begins
+    g.W.Watch.begun in
+    let told : is_told c.in-Ok.closing ≡ true = sym c.is_told.ensures ∙ c.if-not-is_told.false in
+    let more = one_told runs c.args.line.now g.O.Sink.writer ((c.args.attached.now, c.args.ahead.now), c.args.watch.now)
+    ((c.loop.attached, c.loop.ahead), c.loop.watch) (
+      (c.carry_once.new.attached, c.carry_once.new.ahead),
+      c.carry_once.new.watch,
+    ) c.args.out.now.sink c.loop.out.sink
+    c.carry_once.new.out.sink c.loop.counter so_far.0 so_far.1 so_far.2 c.in-Ok.closing
+    (subst (IsPrinted g.O.Sink.writer c.loop.out.sink c.carry_once.new.out.sink
+    (line_printing runs ((c.loop.attached, c.loop.ahead), c.loop.watch) c.args.line.now
+    ((c.carry_once.new.attached, c.carry_once.new.ahead), c.carry_once.new.watch))) c.in-Ok.is
+    c.carry_once.ensures.printed) told in
+    (more.0, more.1, more.2, c.in-Ok.ensures.works (told_goes c.in-Ok.closing told), c.carry_once.ensures.held)
+
+pub returns-clause-printed : goal.returns-clause-printed
+returns-clause-printed g c =
+    let so_far = c.loop.invariant in
+    let runs = InTime (g.L.LiveMove.runs g.W.Watch.tells g.W.Watch.rests Plain) g.L.LiveMove.waits g.W.Watch.begins
+    g.W.Watch.begun in
+    let all : c.loop.counter ≡ most_reads = omega (arith, c.loop-test.false, c.loop.auto.counter-end) in
+    too_much_told runs c.args.line.now g.O.Sink.writer ((c.args.attached.now, c.args.ahead.now), c.args.watch.now)
+    ((c.loop.attached, c.loop.ahead), c.loop.watch) c.args.out.now.sink c.loop.out.sink so_far.0 c.loop.counter
+    so_far.1 so_far.2 all
