@@ -1,16 +1,24 @@
 -- What a live session prints, by its lines and what stands behind them, and how it ends; a fault is the program's own.
 
-use Rattle.std.specs.Prelude.{◌≡◌, ℕ, List, [], ◌++◌, ◌⊎◌, Bool, true, false, ◌&&◌, Result, Ok, Err}
+use Rattle.std.specs.Borrow.{Bor}
+use Rattle.std.specs.Prelude.{◌≡◌, ℕ, List, [], ◌++◌, ◌⊎◌, Bool, true, false, ◌&&◌, Option, MatchOption, Result, Ok, Err}
 use Rattle.ws_code.specs.Device.{Writer, WentOut}
 use Rattle.ws_code.specs.declared.fault.Fault.{Fault}
 use Rattle.ws_text.specs.Printed.{Printing, IsPrinted}
 use Rattle.ws_live.specs.asked.RunFaults.{told_fault}
 use Rattle.ws_live.specs.live.CarryingOn.{IsCarriedText, carrying_on}
-use Rattle.ws_live.specs.live.LiveText.{HaveRun, IsOverAt, WithClosing, lines_printing}
+use Rattle.ws_live.specs.live.LiveText.{HaveRun, IsOverAt, LinesDo, WithClosing, lines_printing}
 use Rattle.ws_live.specs.declared.asked.fault.ToldFault.{ToldFault}
-use Rattle.ws_live.specs.declared.live.Closing.{Closing}
 use Rattle.ws_live.specs.declared.live.Ran.{Ran}
 use Rattle.ws_network.specs.InputLines.{IsInputFault}
+
+-- the lines are those of a script, where there is one
+abbrev pub AreScriptLines : {L : Type 0} → Option (Bor (List L)) → List L → Type 0
+AreScriptLines script lines = MatchOption script (Unit {0}) (λ asked. lines ≡ asked.now)
+
+-- what is told of lines is whether all went well
+abbrev pub TellsWell : Ran → Bool → Type 0
+TellsWell ran all_well = all_well ≡ ran.all_well
 
 -- one of these faults came, and is told as the program's own
 abbrev pub IsOwnFault : (Fault → Type 0) → ToldFault → Type 0
@@ -34,8 +42,8 @@ IsPrintedBehind {S} writer from to printing outcome = (first : List ℕ) × (bet
     × WentOut writer from between first × IsPrinted writer between to (printing first) outcome
 
 -- the lines of a session, of a script or of standard input, by what each does and prints
-module _ {L P : Type 0} (prints : L → P → Result Closing Fault → List ℕ → P → Type 0) (ready : Bool) (from : P)
-    (lines : List L) (to : P) (has_script : Bool) where
+module _ {L P : Type 0} (prints : LinesDo L P) (ready : Bool) (from : P) (lines : List L) (to : P)
+    (has_script : Bool) where
   -- all were carried out, and without a script there was none more to be had: it couldn't be read, or is bad
   abbrev pub IsOutOfLines : List ℕ → ToldFault → Type 0
   IsOutOfLines text told = (has_script ≡ false) × ((well : Bool) × HaveRun prints from lines well text to)
@@ -55,8 +63,7 @@ module _ {L P : Type 0} (prints : L → P → Result Closing Fault → List ℕ 
   }
 
 -- lines, by what each does, and behind them one that is carried on
-module _ {L P : Type 0} (runs : L → P → Result Closing Fault → List ℕ → P → Type 0) (on : L) (ready : Bool) (from : P)
-    (lines : List L) (to : P) where
+module _ {L P : Type 0} (runs : LinesDo L P) (on : L) (ready : Bool) (from : P) (lines : List L) (to : P) where
   -- the lines went so well, printed this, and came to there
   abbrev pub HaveLedTo : Bool → List ℕ → P → Type 0
   HaveLedTo well printed mid = HaveRun (WithClosing runs ready) from lines well printed mid

@@ -16,14 +16,14 @@ use Rattle.ws_session.specs.station.StationSide.{profile}
 use Rattle.ws_session.specs.station.Stations.{LeadsOn}
 use Rattle.ws_stream.specs.Elements.{element_rules}
 use Rattle.ws_live.specs.live.ConnectLines.{IsStationLine}
-use Rattle.ws_live.specs.live.ConnectText.{StationRuns, station_waits}
+use Rattle.ws_live.specs.live.ConnectText.{StationDoes}
 use Rattle.ws_live.specs.printing.ErrorRow.{operated_extended}
 use Rattle.ws_live.specs.script.ExtendedKeyNames.{extended_words}
 use Rattle.ws_live.specs.script.KeyWords.{KeyWords, profile_words}
 use Rattle.ws_live.specs.live.LiveScript.{AreLiveLines}
 use Rattle.ws_live.specs.live.Operating.{LiveDisplay, live_display, operated_profile}
 use Rattle.ws_live.specs.live.Waits.{InTime, watch_tells}
-use Rattle.ws_live.specs.live.LiveText.{IsLiveText, WithClosing}
+use Rattle.ws_live.specs.live.LiveText.{IsLiveText}
 use Rattle.ws_live.specs.live.ServeText.{HostRunsInTime}
 use Rattle.ws_live.specs.declared.live.connect_line.StationLine.{StationLine}
 use Rattle.ws_live.specs.declared.live.Ran.{Ran}
@@ -58,8 +58,8 @@ module _ {D P U H PlaceV V Q R : Type 0} (on : LiveDisplay D P U H PlaceV V Q R)
     pub new : LeadsOn on.rules on.does station [] [] (new_side_on on.does asked.terminal)
     pub to : (AttachedParts (PartsOn D P) ConnectionReads ConnectionWrites × ℕ) × ℕ
     pub came : Ran
-    pub ran : IsLiveText (WithClosing (InTime (StationRuns on timed_devices (watch_tells tells rests) asked.paint)
-        station_waits begins (λ begun. begun)) asked.ready) ((at_connection station no_writes, 0), 0) lines came text to
+    pub ran : IsLiveText (StationDoes on timed_devices (watch_tells tells rests) begins (λ begun. begun)
+        asked.paint asked.ready) ((at_connection station no_writes, 0), 0) lines came text to
     pub well : all_well ≡ came.all_well
 
 -- a host end whose opening went out carried out the lines and answered on

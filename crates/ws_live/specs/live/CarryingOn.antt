@@ -5,7 +5,7 @@ use Rattle.ws_code.specs.Device.{most_reads}
 use Rattle.ws_code.specs.declared.fault.Fault.{Fault}
 use Rattle.ws_code.specs.declared.fault.Fault.TheVariants as fault
 use Rattle.ws_text.specs.Printed.{Printing}
-use Rattle.ws_live.specs.live.LiveText.{HaveRun, IsCutIn}
+use Rattle.ws_live.specs.live.LiveText.{HaveRun, IsCutIn, LinesDo}
 use Rattle.ws_live.specs.declared.live.Closing.{Closing}
 use Rattle.ws_live.specs.declared.live.Closing.TheVariants.{Done, Stopped}
 
@@ -20,7 +20,7 @@ goes_well Stopped = false
 goes_well closing = true
 
 -- what the line does
-module _ {L P : Type 0} (runs : L → P → Result Closing Fault → List ℕ → P → Type 0) (line : L) where
+module _ {L P : Type 0} (runs : LinesDo L P) (line : L) where
   -- the line was carried out so many times, went well and printed this, and then came to this
   pub record CarriesOn (from to : P) (outcome : Result Closing Fault) (text : List ℕ) : Type 0 where
     pub count : ℕ

@@ -33,10 +33,10 @@ use Rattle.ws_live.specs.declared.live.connect_line.Awaited.TheVariants.{Turn, R
 use Rattle.ws_live.specs.declared.live.report.Report.{Report as AReport}
 use Rattle.ws_live.specs.declared.live.report.Report.TheVariants.{Note}
 use Rattle.ws_live.specs.script.KeyWords.{KeyWords}
-use Rattle.ws_live.specs.live.LiveText.{bad_outcome, bad_text}
+use Rattle.ws_live.specs.live.LiveText.{LinesDo, WithClosing, bad_outcome, bad_text}
 use Rattle.ws_live.specs.live.Operating.{LiveDisplay, OperatedOn}
 use Rattle.ws_live.specs.live.Stroking.{no_field_text, stroke_keys}
-use Rattle.ws_live.specs.live.Waits.{WatchTells}
+use Rattle.ws_live.specs.live.Waits.{WatchTells, InTime}
 use Rattle.ws_live.specs.declared.live.Closing.{Closing}
 use Rattle.ws_live.specs.declared.printing.paint.Paint.{Paint}
 use Rattle.ws_live.specs.declared.live.Closing.TheVariants.{Nothing, Done, Declined, Late, Ended, Stopped}
@@ -305,3 +305,8 @@ module _ {D P U H PlaceV V Q R S K : Type 0} (on : LiveDisplay D P U H PlaceV V 
       Reports on.rules on.does devices told.tells report from outcome text to
   StationRuns paint (Bad cause) from outcome text to = (to ≡ from) × (outcome ≡ bad_outcome)
       × (text ≡ bad_text (string_bytes cause))
+
+  -- what a line at a station does and prints, at a watch that begins its waits
+  abbrev pub StationDoes : {W : Type 0} → (W → S → WaitSpan → W → Type 0) → (W → ℕ) → Paint → Bool
+      → LinesDo (StationLine Q) (StationAndAhead × W)
+  StationDoes begins begun paint ready = WithClosing (InTime (StationRuns paint) station_waits begins begun) ready

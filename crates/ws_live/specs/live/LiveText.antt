@@ -62,19 +62,22 @@ bad_text cause = codes "bad line: " ++ cause ++ codes "\n"
 abbrev pub bad_outcome : Result Closing Fault
 bad_outcome = Ok Declined
 
+-- What lines do: by each it leads from there to there, closes in this way or is ended by a fault, and prints this.
+abbrev pub LinesDo : Type 0 → Type 0 → Type 1
+LinesDo L P = L → P → Result Closing Fault → List ℕ → P → Type 0
+
 -- where a sink fails within what is printed: within what comes to a fault it is that fault, else a write that failed
 abbrev pub IsCutIn : {A : Type 0} → (Result A Fault → List ℕ → Type 0) → List ℕ → Fault → Type 0
 IsCutIn {A} Comes text fault = ((fault ≡ Write) × ((made : A) × Comes (Ok made) text)) ⊎ Comes (Err fault) text
 
 -- what a line prints with what ends its output, where it closed
-abbrev pub WithClosing : {L P : Type 0} → (L → P → Result Closing Fault → List ℕ → P → Type 0) → Bool
-    → L → P → Result Closing Fault → List ℕ → P → Type 0
+abbrev pub WithClosing : {L P : Type 0} → LinesDo L P → Bool → LinesDo L P
 WithClosing runs ready line from (Ok closing) text to = (told : List ℕ) × runs line from (Ok closing) told to
     × (text ≡ told ++ closing_text ready closing)
 WithClosing runs ready line from (Err fault) text to = runs line from (Err fault) text to
 
 -- what a line comes to, and all that it prints
-module _ {L P : Type 0} (runs : L → P → Result Closing Fault → List ℕ → P → Type 0) where
+module _ {L P : Type 0} (runs : LinesDo L P) where
   -- what is printed by a line: its text, within which a sink may fail
   abbrev pub line_printing : P → L → P → Printing Closing Fault
   line_printing from line to = record {
