@@ -7,12 +7,12 @@ pub mod Makings
 pub mod OpenParts
 pub mod Parts
 pub mod Plays
+pub mod Printings
 pub mod Shows
 pub mod SoFarShows
 pub mod SoFarTexts
 pub mod SourceAnswers
 pub mod SourceReads
-pub mod UnflushedBuffers
 pub mod ViewLaws
 pub mod RawRuns
 pub mod ReadBack

@@ -1,4 +1,5 @@
-use Rattle.std.proofs.Common.{◌≡◌, ℕ, List, Bool, inl, inr, refl, ap, ◌∙◌, subst}
+use Rattle.std.specs.Prelude.{Result, Err}
+use Rattle.std.proofs.Common.{◌≡◌, ℕ, List, Bool, inl, inr, sym, ap, ◌∙◌, subst}
 use Rattle.ws_code.specs.Device.{Writer}
 use Rattle.ws_nego.specs.declared.terminal.TerminalType.TheVariants.{Ibm3179Model2}
 use Rattle.ws_screen.specs.ScreenParts.{ScreenParts}
@@ -16,12 +17,21 @@ use Rattle.ws_live.specs.declared.printing.paint.Paint.{Paint}
 use Rattle.ws_live.specs.declared.script.ScriptFault.{ScriptFault}
 use Rattle.ws_live.specs.declared.script.ScriptFault.TheVariants as scripts
 use Rattle.ws_live.specs.printing.PlayLines.{IsPaintedPlayText, no_end_refuses}
-use Rattle.ws_live.specs.script.Script.{IsScript}
 use Rattle.ws_live.specs.script.ScriptFaults.{IsScriptFault}
 use Rattle.ws_network.specs.TcpFaults.{tcp_run_fault}
 use Rattle.ws_network.specs.declared.tcp.TcpFault.{TcpFault}
 use Rattle.ws_network.specs.declared.tcp.TcpFault.TheVariants.{NoConnection, Write, Read, Memory}
-use Rattle.ws_program.specs.Answering.{IsSessionText, IsPlayFault, IsTcpPlayFault}
+use Rattle.ws_program.specs.Actions.{Action, IsCarriedOut}
+use Rattle.ws_program.specs.Answering.{IsSessionText, IsUnplayed, IsUnplayedByTcp, SpellsMoves}
+
+-- an action that came to this fault
+pub carried_err : {S A E : Type 0} (writer : Writer S) (from to : S) (action : Action A E) (result : Result A E)
+    (given fault : E) → result ≡ Err given → given ≡ fault → IsCarriedOut writer from to action (Err fault)
+    → IsCarriedOut writer from to action result
+carried_err {S} {A} {E} writer from to action result given fault is same h =
+    let P : Result A E → Type 0 = λ z. IsCarriedOut writer from to action z in
+    let Q : E → Type 0 = λ z. IsCarriedOut writer from to action (Err z) in
+    subst P (sym is) (subst Q (sym same) h)
 
 -- What is told of a session is its report's.
 
@@ -50,24 +60,21 @@ pub carried_moves : (given moves : List Move) (downs ups : List Crossing) (now :
 carried_moves given moves downs ups now same ran =
     subst (λ (ms : List Move). HasRun Ibm3179Model2 ms downs ups now) same ran
 
--- where a script isn't read, nothing was written
-pub unread_script : {S : Type 0} (writer : Writer S) (sink : S) (paint : Paint) (screen : Bool)
-    (script : List ℕ) (fault : ScriptFault) → IsScriptFault script fault
-    → IsPlayFault writer sink sink paint screen script (script_run_fault fault)
-unread_script writer sink paint screen script (scripts.Line number) bad = (refl, bad)
-unread_script writer sink paint screen script scripts.Memory good = (refl, inl good)
+-- where a script isn't read
+pub unread_script : (script : List ℕ) (fault : ScriptFault) → IsScriptFault script fault
+    → IsUnplayed script (script_run_fault fault)
+unread_script script (scripts.Line number) bad = bad
+unread_script script scripts.Memory good = inl good
 
-pub unread_tcp_script : {S : Type 0} (writer : Writer S) (sink : S) (paint : Paint) (screen : Bool)
-    (script : List ℕ) (fault : ScriptFault) → IsScriptFault script fault
-    → IsTcpPlayFault writer sink sink paint screen script (script_run_fault fault)
-unread_tcp_script writer sink paint screen script (scripts.Line number) bad = (refl, bad)
-unread_tcp_script writer sink paint screen script scripts.Memory good = (refl, inl good)
+pub unread_tcp_script : (script : List ℕ) (fault : ScriptFault) → IsScriptFault script fault
+    → IsUnplayedByTcp script (script_run_fault fault)
+unread_tcp_script script (scripts.Line number) bad = bad
+unread_tcp_script script scripts.Memory good = inl good
 
--- where a connection fails, nothing was written
-pub unconnected : {S : Type 0} (writer : Writer S) (sink : S) (paint : Paint) (screen : Bool)
-    (script : List ℕ) (moves : List Move) → IsScript script moves → (fault : TcpFault)
-    → IsTcpPlayFault writer sink sink paint screen script (tcp_run_fault fault)
-unconnected writer sink paint screen script moves is NoConnection = (refl, (moves, is))
-unconnected writer sink paint screen script moves is Write = (moves, is, inl refl)
-unconnected writer sink paint screen script moves is Read = (refl, (moves, is))
-unconnected writer sink paint screen script moves is Memory = (refl, inr (moves, is))
+-- where a connection fails
+pub unconnected : (script : List ℕ) → SpellsMoves script → (fault : TcpFault)
+    → IsUnplayedByTcp script (tcp_run_fault fault)
+unconnected script is NoConnection = is
+unconnected script is Write = is
+unconnected script is Read = is
+unconnected script is Memory = inr is

@@ -1,4 +1,4 @@
-use Rattle.std.specs.Prelude.{◌⊎◌, Bool, false, true}
+use Rattle.std.specs.Prelude.{◌⊎◌, Bool, false, true, Err}
 use Rattle.std.proofs.Common.{◌≡◌, ℕ, ◌+◌, ◌-◌, ◌^◌, ◌<◌, ◌≤◌, List, [], ◌∷◌, ◌++◌, Option, None, Some, inl, inr}
 use Rattle.std.proofs.Common.{length, take, drop, refl, sym, ap, ◌∙◌, subst, arith, append_assoc, length-append}
 use Rattle.std.proofs.Common.{length-take, take-append-drop}
@@ -16,9 +16,11 @@ use Rattle.ws_record.specs.Grammar.{IsInGrammar}
 use Rattle.ws_record.specs.Receiver.{Receiving, HasReceived, HasUnit, IsFeedFault, NoneBefore}
 use Rattle.ws_record.specs.Refusal.{IsOpen, IsRefused, IsTruncated}
 use Rattle.ws_record.specs.declared.record.Item.{Item}
+use Rattle.ws_text.specs.Printed.{IsPrinted}
 use Rattle.ws_program.specs.CheckLine.{line_of, verdict_by}
+use Rattle.ws_program.specs.SoFar.{IsStop, show_printing}
 use Rattle.ws_program.specs.StreamText.{View, Placed, items_without_places, lines_of, HoldsItems, IsComplete, AreShown}
-use Rattle.ws_program.specs.StreamText.{IsShown, AreFirstLines, IsShowFault, IsStop, HasTaken, HasBegunStream}
+use Rattle.ws_program.specs.StreamText.{IsShown, AreFirstLines, HasTaken, HasBegunStream}
 use Rattle.ws_program.specs.StreamText.{IsNextItem, IsNext, IsNextFault}
 use Rattle.ws_program.specs.declared.verdict.Verdict.TheVariants.{Refused, Truncated}
 
@@ -303,9 +305,9 @@ module _ {S : Type 0} (writer : Writer S) (from : S) where
       → WentOut writer from mid lines → AreFirstLines rules view bytes (lines ++ text)
       ⊎ ((accepted : Bool) × IsShown rules view bytes accepted (lines ++ text))
       → (fault : Fault) → (fault ≡ faults.Write) × FailedWithin writer mid to text
-      → IsShowFault writer from to rules view bytes fault
+      → IsPrinted writer from to (show_printing false rules view bytes) (Err fault)
   text_fails rules view bytes lines text mid to w shown fault f =
-      rw f.0 (lines ++ text, shown, fails_last writer from mid to lines text w f.1)
+      inr (lines ++ text, (f.0, shown), fails_last writer from mid to lines text w f.1)
 
   module _ {Place U Made : Type 0} {rules : Rules Place U} {view : View U} {makes : List (Item U) → Made → Type 0}
       {bytes lines : List ℕ} {receiver : Receiving Place U} {made : Made}
@@ -316,12 +318,8 @@ module _ {S : Type 0} (writer : Writer S) (from : S) where
     stops_next went (faults.Refused place reason) f =
         (refl, (lines, part w, went, refused_behind w place reason f.0 (f.1 (items_without_places w.placed) w.taken)))
     stops_next went (faults.Truncated n) f = absurd f
-    stops_next went faults.Memory f = (
-      w.placed,
-      w.shown,
-      f (items_without_places w.placed) w.taken,
-      subst (λ (t : List ℕ). WentOut writer from to t) w.are_lines went,
-    )
+    stops_next went faults.Memory f =
+        inl (lines, (w.placed, w.shown, inl (f (items_without_places w.placed) w.taken), w.are_lines), went)
     stops_next went faults.Read f = absurd f
     stops_next went faults.Write f = absurd f
     stops_next went faults.Failed f = absurd f

@@ -1,4 +1,4 @@
-use Rattle.std.specs.Prelude.{Ok, Err}
+use Rattle.std.specs.Prelude.{Result, Ok, Err, IfOk, IfErr}
 use Rattle.std.proofs.Common.{◌≡◌, ℕ, List, [], ◌++◌, Bool, true, false, None, Some, inl, inr, length, refl, sym, ap}
 use Rattle.std.proofs.Common.{◌∙◌, subst, append_assoc}
 use Rattle.ws_code.specs.Code.{Rules}
@@ -12,10 +12,11 @@ use Rattle.ws_record.specs.Grammar.{IsInGrammar}
 use Rattle.ws_record.specs.Receiver.{Receiving, HasReceived}
 use Rattle.ws_record.specs.Refusal.{IsTruncated}
 use Rattle.ws_record.specs.declared.record.Item.{Item}
+use Rattle.ws_text.specs.Printed.{IsPrinted}
 use Rattle.ws_text.specs.Printing.{IsPrintingFault}
 use Rattle.ws_program.specs.CheckLine.{line_of, is_accepted, verdict_by}
-use Rattle.ws_program.specs.SoFar.{IsShownSoFar, IsShownWith, IsSoFarText, IsSoFarFault, IsThrough, IsHalted}
-use Rattle.ws_program.specs.SoFar.{StopsBehind, IsShowFaultWith, bytes_before}
+use Rattle.ws_program.specs.SoFar.{IsShownSoFar, IsShownWith, IsSoFarText, IsThrough, IsHalted}
+use Rattle.ws_program.specs.SoFar.{StopsBehind, show_printing, bytes_before}
 use Rattle.ws_program.specs.StreamText.{View, Placed, items_without_places, lines_of, HoldsItems, AreShown}
 use Rattle.ws_program.specs.StreamText.{AreFirstLines, IsComplete, IsNextFault}
 use Rattle.ws_program.specs.declared.verdict.Verdict.{Verdict}
@@ -218,23 +219,23 @@ module _ {Place U S : Type 0} (writer : Writer S) (from mid : S) (rules : Rules 
   -- the fault before that
   pub halted_fault : (fault given : Fault) → verdict_by fault ≡ Err given
       → IsHalted writer from mid rules view bytes IsMade fault
-      → IsSoFarFault writer from mid rules view bytes given
+      → IsPrinted writer from mid (show_printing true rules view bytes) (Err given)
   halted_fault (faults.Refused place reason) given e h = absurd (refused_not place reason given e)
   halted_fault (faults.Truncated n) given e h = absurd (truncated_not n given e)
   halted_fault faults.Memory given e h =
-      subst (λ (f : Fault). IsSoFarFault writer from mid rules view bytes f) (memory_is given e) (inl h)
+      rw (sym (memory_is given e)) (inl (lines_of view h.0, (h.0, h.1, inl h.2, refl), h.3))
   halted_fault faults.Read given e h = absurd h.2
-  halted_fault faults.Write given e h =
-      subst (λ (f : Fault). IsSoFarFault writer from mid rules view bytes f) (write_is given e)
-      (h.0, inl h.1, h.2)
+  halted_fault faults.Write given e h = inr (h.0, (sym (write_is given e), inl h.1), h.2)
   halted_fault faults.Failed given e h = absurd h.2
 
   -- where the growth for what is added is refused, or it doesn't go out whole
   pub unadded : (fault : Fault) (verdict : Verdict) → verdict_by fault ≡ Ok verdict
       → IsHalted writer from mid rules view bytes IsMade fault → (to : S) (why : Fault)
       → IsPrintingFault writer mid to (AddsThere verdict) why
-      → IsSoFarFault writer from to rules view bytes why
-  unadded fault verdict e h to faults.Memory f = inr (placed_at fault verdict e h to f)
+      → IsPrinted writer from to (show_printing true rules view bytes) (Err why)
+  unadded fault verdict e h to faults.Memory f =
+      let p = placed_at fault verdict e h to f in
+      inl (lines_of view p.0, (p.0, p.2, inr (refl, (p.1, p.3)), refl), p.4)
     where
       placed_at : (fault : Fault) (verdict : Verdict) → verdict_by fault ≡ Ok verdict
           → IsHalted writer from mid rules view bytes IsMade fault → (to : S) → to ≡ mid
@@ -249,9 +250,10 @@ module _ {Place U S : Type 0} (writer : Writer S) (from mid : S) (rules : Rules 
       placed_at faults.Failed verdict e h to same = absurd h.2
   unadded fault verdict e h to faults.Write f =
       let on = halted_goes_on fault verdict e h in
-      let line : List ℕ = line_of verdict (length bytes) in (
+      let line : List ℕ = line_of verdict (length bytes) in
+      inr (
         on.0 ++ (f.0 ++ line),
-        inr (false, on.1.on f.0 f.1),
+        (refl, inr (false, on.1.on f.0 f.1)),
         failed_within_both writer from mid to on.0 f.0 line on.1.went f.2,
       )
   unadded fault verdict e h to (faults.Refused place reason) f = absurd f
@@ -261,58 +263,43 @@ module _ {Place U S : Type 0} (writer : Writer S) (from mid : S) (rules : Rules 
 
 module _ {Place U S : Type 0} (writer : Writer S) (from mid to : S) (rules : Rules Place U)
     (view : View U) (bytes : List ℕ) (so_far : Bool) where
-  -- the whole text went out
-  abbrev pub HasGoneOut : Bool → Type 0
-  HasGoneOut accepted = (text : List ℕ) × IsShownWith so_far rules view bytes accepted text
-      × WentOut writer from to text
+  -- what came of this is printed
+  abbrev pub IsShownAs : Result Bool Fault → Type 0
+  IsShownAs result = IsPrinted writer from to (show_printing so_far rules view bytes) result
 
-  -- what comes behind lines that went out goes out
-  pub went_behind : (accepted : Bool) (lines text : List ℕ) → WentOut writer from mid lines
-      → IsShownWith so_far rules view bytes accepted (lines ++ text) → WentOut writer mid to text
-      → HasGoneOut accepted
-  went_behind accepted lines text w shown h =
-      (lines ++ text, shown, went_out_both writer from mid to lines text w h)
-
-  -- or not the whole of it
-  pub fails_behind : (accepted : Bool) (lines text : List ℕ) → WentOut writer from mid lines
-      → IsShownWith so_far rules view bytes accepted (lines ++ text) → (fault : Fault)
-      → (fault ≡ faults.Write) × FailedWithin writer mid to text
-      → IsShowFaultWith writer from to rules view so_far bytes fault
-  fails_behind accepted lines text w shown fault f = rw f.0 (failed so_far shown)
-    where
-      failed : (so_far : Bool) → IsShownWith so_far rules view bytes accepted (lines ++ text)
-          → IsShowFaultWith writer from to rules view so_far bytes faults.Write
-      failed false shown =
-          (lines ++ text, inr (accepted, shown), fails_last writer from mid to lines text w f.1)
-      failed true shown =
-          (lines ++ text, inr (accepted, shown), fails_last writer from mid to lines text w f.1)
+  -- what comes behind lines that went out goes out, or not the whole of it
+  printed_behind : (accepted : Bool) (lines text : List ℕ) → WentOut writer from mid lines
+      → IsShownWith so_far rules view bytes accepted (lines ++ text) → (result : Result Bool Fault)
+      → IfOk result (λ made. (made ≡ accepted) × WentOut writer mid to text)
+      → IfErr result (λ fault. (fault ≡ faults.Write) × FailedWithin writer mid to text) → IsShownAs result
+  printed_behind accepted lines text w shown (Ok made) done failed =
+      (lines ++ text, rw done.0 shown, went_out_both writer from mid to lines text w done.1)
+  printed_behind accepted lines text w shown (Err fault) done failed =
+      inr (lines ++ text, (failed.0, inr (accepted, shown)), fails_last writer from mid to lines text w failed.1)
 
   -- behind all items
-  pub all_written : (IsEnding : List ℕ → Type 0) (accepted : Bool) (text : List ℕ)
-      → IsThrough writer from mid rules view bytes IsEnding None → accepted ≡ true → IsEnding text
-      → WentOut writer mid to text → HasGoneOut accepted
-  all_written IsEnding accepted text t is ending h =
-      went_behind accepted t.0 text t.2 (rw is (t.3 text ending so_far)) h
+  pub all_printed : (IsEnding : List ℕ → Type 0) → IsThrough writer from mid rules view bytes IsEnding None
+      → (result : Result Bool Fault)
+      → IfOk result (λ made. (made ≡ true) × ((text : List ℕ) × IsEnding text × WentOut writer mid to text))
+      → IfErr result (λ fault. (fault ≡ faults.Write)
+      × ((text : List ℕ) × IsEnding text × FailedWithin writer mid to text)) → IsShownAs result
+  all_printed IsEnding t (Ok made) done failed = printed_behind true t.0 done.1.0 t.2 (t.3 done.1.0 done.1.1 so_far)
+      (Ok made) (done.0, done.1.2) tt
+  all_printed IsEnding t (Err fault) done failed =
+      printed_behind true t.0 failed.1.0 t.2 (t.3 failed.1.0 failed.1.1 so_far) (Err fault) tt (failed.0, failed.1.2)
 
-  pub all_unwritten : (IsEnding : List ℕ → Type 0) (text : List ℕ)
-      → IsThrough writer from mid rules view bytes IsEnding None → IsEnding text → (fault : Fault)
-      → (fault ≡ faults.Write) × FailedWithin writer mid to text
-      → IsShowFaultWith writer from to rules view so_far bytes fault
-  all_unwritten IsEnding text t ending fault f = fails_behind true t.0 text t.2 (t.3 text ending so_far) fault f
-
-  -- behind one that isn't carried out
-  pub unapplied_written : (IsEnding : List ℕ → Type 0) (verdict : Verdict) (accepted : Bool)
-      → IsThrough writer from mid rules view bytes IsEnding (Some verdict)
-      → accepted ≡ is_accepted verdict → WentOut writer mid to (line_of verdict (length bytes))
-      → HasGoneOut accepted
-  unapplied_written IsEnding verdict accepted t is h =
-      went_behind accepted t.1.0 _ t.1.2 (rw (is ∙ t.0) (t.1.3 so_far)) h
-
-  pub unapplied_unwritten : (IsEnding : List ℕ → Type 0) (verdict : Verdict)
-      → IsThrough writer from mid rules view bytes IsEnding (Some verdict) → (fault : Fault)
-      → (fault ≡ faults.Write) × FailedWithin writer mid to (line_of verdict (length bytes))
-      → IsShowFaultWith writer from to rules view so_far bytes fault
-  unapplied_unwritten IsEnding verdict t fault f = fails_behind false t.1.0 _ t.1.2 (t.1.3 so_far) fault f
+  -- the line of a stream that isn't accepted
+  pub line_behind : (verdict : Verdict) → is_accepted verdict ≡ false → (lines : List ℕ)
+      → WentOut writer from mid lines
+      → IsShownWith so_far rules view bytes false (lines ++ line_of verdict (length bytes))
+      → (result : Result Bool Fault)
+      → IfOk result (λ made. (made ≡ is_accepted verdict) × WentOut writer mid to (line_of verdict (length bytes)))
+      → IfErr result (λ fault. (fault ≡ faults.Write)
+      × FailedWithin writer mid to (line_of verdict (length bytes))) → IsShownAs result
+  line_behind verdict refused lines w shown (Ok made) done failed =
+      printed_behind false lines _ w shown (Ok made) (done.0 ∙ refused, done.1) tt
+  line_behind verdict refused lines w shown (Err fault) done failed =
+      printed_behind false lines _ w shown (Err fault) tt failed
 
 -- no stream that stops is accepted
 stop_refuses : (fault : Fault) (verdict : Verdict) → verdict_by fault ≡ Ok verdict → is_accepted verdict ≡ false
@@ -331,25 +318,23 @@ module _ {Place U S : Type 0} (writer : Writer S) (from mid next to : S) (rules 
   abbrev pub line : List ℕ
   line = line_of verdict (length bytes)
 
-  -- the last line goes out behind what is added
-  pub stop_written : (accepted : Bool) → accepted ≡ is_accepted verdict → WentOut writer next to line
-      → (text : List ℕ) × IsShownSoFar rules view bytes accepted text × WentOut writer from to text
-  stop_written accepted e w =
+  -- the last line goes out behind what is added, or not
+  pub stop_printed : (result : Result Bool Fault)
+      → IfOk result (λ made. (made ≡ is_accepted verdict) × WentOut writer next to line)
+      → IfErr result (λ fault. (fault ≡ faults.Write) × FailedWithin writer next to line)
+      → IsPrinted writer from to (show_printing true rules view bytes) result
+  stop_printed (Ok made) done failed =
       let on = halted_goes_on writer from mid rules view bytes IsMade fault verdict is h in (
         on.0 ++ (added ++ line),
-        rw (e ∙ stop_refuses fault verdict is) (on.1.on added adds),
+        rw (done.0 ∙ stop_refuses fault verdict is) (on.1.on added adds),
         went_out_both writer from mid to on.0 (added ++ line) on.1.went
-            (went_out_both writer mid next to added line went w),
+            (went_out_both writer mid next to added line went done.1),
       )
-
-  -- or not
-  pub stop_unwritten : (why : Fault) → (why ≡ faults.Write) × FailedWithin writer next to line
-      → IsSoFarFault writer from to rules view bytes why
-  stop_unwritten why f =
+  stop_printed (Err why) done failed =
       let on = halted_goes_on writer from mid rules view bytes IsMade fault verdict is h in
-      rw f.0 (
+      inr (
         on.0 ++ (added ++ line),
-        inr (false, on.1.on added adds),
+        (failed.0, inr (false, on.1.on added adds)),
         fails_last writer from mid to on.0 (added ++ line) on.1.went
-            (fails_last writer mid next to added line went f.1),
+            (fails_last writer mid next to added line went failed.1),
       )

@@ -1,23 +1,33 @@
--- What the program makes of an input: what it writes, and what it answers where that isn't all.
+-- What the program makes of an input: what it prints of it, and what it answers.
 
-use Rattle.std.specs.Prelude.{◌≡◌, ℕ, List, Bool, true, false, Result, Ok, Err, ◌⊎◌, length}
+use Rattle.std.specs.Prelude.{◌≡◌, ℕ, List, Bool, true, false, Result, Ok, Err, ◌⊎◌}
 use Rattle.ws_code.specs.Code.{Rules}
-use Rattle.ws_code.specs.Device.{Writer, WentOut, FailedWithin}
 use Rattle.ws_code.specs.declared.fault.Fault.{Fault}
 use Rattle.ws_extended.specs.ExtendedAnswers.{extended_answer_rules}
 use Rattle.ws_extended.specs.ExtendedElements.{extended_rules}
 use Rattle.ws_stream.specs.Elements.{element_rules}
 use Rattle.ws_stream.specs.AnswerParts.{answer_rules}
-use Rattle.ws_program.specs.CheckLine.{IsVerdict, is_accepted, line_of}
-use Rattle.ws_program.specs.Checking.{IsCheckFault}
+use Rattle.ws_stream.specs.declared.answer_part.AnswerPart.{AnswerPart}
+use Rattle.ws_stream.specs.declared.answer_place.AnswerPlace.{AnswerPlace}
+use Rattle.ws_stream.specs.declared.element.Element.{Element}
+use Rattle.ws_stream.specs.declared.place.Place.{Place as ElementPlace}
+use Rattle.ws_extended.specs.declared.extended_answer_part.ExtendedAnswerPart.{ExtendedAnswerPart}
+use Rattle.ws_extended.specs.declared.extended_answer_place.ExtendedAnswerPlace.{ExtendedAnswerPlace}
+use Rattle.ws_extended.specs.declared.extended_element.ExtendedElement.{ExtendedElement}
+use Rattle.ws_extended.specs.declared.extended_place.ExtendedPlace.{ExtendedPlace}
+use Rattle.ws_record.specs.declared.record.Item.{Item}
 use Rattle.ws_text.specs.AnswerWords.{answer_wording}
 use Rattle.ws_text.specs.ElementWords.{element_wording}
 use Rattle.ws_text.specs.ExtendedAnswerWords.{told_wording}
 use Rattle.ws_text.specs.ExtendedWords.{extended_wording}
+use Rattle.ws_text.specs.Printed.{Printing, in_whole}
 use Rattle.ws_text.specs.Shown.{ShowsElements, ShowsAnswers, ShowsExtended, ShowsTold}
-use Rattle.ws_program.specs.Making.{HasMade, IsMakeFault}
+use Rattle.ws_text.specs.Wording.{Wording}
 use Rattle.ws_live.specs.asked.RunFaults.{run_fault}
-use Rattle.ws_program.specs.SoFar.{IsShownWith, IsShowFaultWith}
+use Rattle.ws_program.specs.Actions.{Action}
+use Rattle.ws_program.specs.Checking.{check_printing}
+use Rattle.ws_program.specs.Making.{make_action}
+use Rattle.ws_program.specs.SoFar.{show_printing}
 use Rattle.ws_program.specs.StreamBytes.{AreBytesOf, IsFormFault}
 use Rattle.ws_program.specs.StreamText.{View}
 use Rattle.ws_program.specs.ExtendedView.{extended_view}
@@ -30,7 +40,6 @@ use Rattle.ws_live.specs.declared.asked.sender.Sender.TheVariants.{Host, Extende
 use Rattle.ws_program.specs.declared.words.command_line.StreamForm.{StreamForm}
 use Rattle.ws_live.specs.declared.asked.fault.RunFault.{RunFault}
 use Rattle.ws_live.specs.declared.asked.fault.RunFault.TheVariants.{Read, Line, Memory, Write, NoConnection}
-use Rattle.ws_program.specs.declared.verdict.Verdict.{Verdict}
 use Rattle.ws_nego.specs.declared.terminal.TerminalType.TheVariants.{Ibm3179Model2}
 use Rattle.ws_session.specs.declared.world.Move.{Move}
 use Rattle.ws_session.specs.world.Crossings.{Crossing}
@@ -59,134 +68,115 @@ pub record IsToldText (paint : Paint) (moves : List Move) (screen all_well : Boo
 abbrev pub IsGoodScript : List ℕ → Type 0
 IsGoodScript script = IsReadSoFar script ⊎ ((moves : List Move) × IsScript script moves)
 
-module _ {S : Type 0} (writer : Writer S) (from to : S) where
-  -- the line of a check went out
-  abbrev pub HasChecked : {Place U : Type 0} → Rules Place U → List ℕ → Bool → Type 0
-  HasChecked rules bytes accepted = (verdict : Verdict) × IsVerdict rules bytes verdict
-      × (accepted ≡ is_accepted verdict) × WentOut writer from to (line_of verdict (length bytes))
+-- a script that spells moves
+abbrev pub SpellsMoves : List ℕ → Type 0
+SpellsMoves script = (moves : List Move) × IsScript script moves
 
-  -- what is shown of a stream went out, without what has come of an open record or with it
-  abbrev pub HasShown : {Place U : Type 0} → Rules Place U → View U → Bool → List ℕ → Bool → Type 0
-  HasShown rules view so_far bytes accepted = (text : List ℕ) × IsShownWith so_far rules view bytes accepted text
-      × WentOut writer from to text
+-- the faults of a script that isn't played, which are met before anything is written
+abbrev pub IsUnplayed : List ℕ → RunFault → Type 0
+IsUnplayed script (Line number) = IsFirstBad script number
+IsUnplayed script Memory = IsGoodScript script
+IsUnplayed script fault = ⊥
 
-  -- what a session tells after a script's moves went out; its terminal is the default one
-  abbrev pub HasPlayed : Paint → Bool → List ℕ → Bool → Type 0
-  HasPlayed paint screen script all_well = (moves : List Move) × IsScript script moves × (text : List ℕ)
+-- the same of a script that isn't played over a connection, which may fail where the script is good
+abbrev pub IsUnplayedByTcp : List ℕ → RunFault → Type 0
+IsUnplayedByTcp script (Line number) = IsFirstBad script number
+IsUnplayedByTcp script Memory = IsGoodScript script
+IsUnplayedByTcp script NoConnection = SpellsMoves script
+IsUnplayedByTcp script Read = SpellsMoves script
+IsUnplayedByTcp script Write = SpellsMoves script
+IsUnplayedByTcp script fault = ⊥
+
+-- a script is played, and what its session tells is printed; its terminal is the default one
+abbrev pub play_action : Paint → Bool → List ℕ → Action Bool RunFault
+play_action paint screen script = record {
+  Refuses = IsUnplayed script;
+  prints = in_whole Write (λ text outcome. (moves : List Move) × IsScript script moves
       × IsSessionText paint (after_moves (new_world Ibm3179Model2) moves) screen text
-      × WentOut writer from to text
-      × (all_well ≡ no_end_refuses (after_moves (new_world Ibm3179Model2) moves).events)
+      × (outcome ≡ Ok (no_end_refuses (after_moves (new_world Ibm3179Model2) moves).events)));
+}
 
-  -- a script was played over a connection, and what is told of its session went out
-  abbrev pub HasPlayedByTcp : Paint → Bool → List ℕ → Bool → Type 0
-  HasPlayedByTcp paint screen script all_well = (moves : List Move) × IsScript script moves
-      × (text : List ℕ) × IsToldText paint moves screen all_well text × WentOut writer from to text
+-- a script is played over a connection, and what is told of its session is printed
+abbrev pub play_tcp_action : Paint → Bool → List ℕ → Action Bool RunFault
+play_tcp_action paint screen script = record {
+  Refuses = IsUnplayedByTcp script;
+  prints = in_whole Write (λ text outcome. (moves : List Move) × IsScript script moves
+      × ((all_well : Bool) × IsToldText paint moves screen all_well text × (outcome ≡ Ok all_well)));
+}
 
-  -- the line of a check of the bytes of a sender went out: as the commands of a host, of the profile alone or also
-  -- beside it, or as a station's answers, alone or with what is told at once
-  abbrev pub HasCheckedBy : Sender → List ℕ → Bool → Type 0
-  HasCheckedBy Host bytes accepted = HasChecked element_rules bytes accepted
-  HasCheckedBy ExtendedHost bytes accepted = HasChecked extended_rules bytes accepted
-  HasCheckedBy Station bytes accepted = HasChecked answer_rules bytes accepted
-  HasCheckedBy ExtendedStation bytes accepted = HasChecked extended_answer_rules bytes accepted
+-- What is known of a sender: what it sends, how that is shown in a paint, how it is written as text, and which texts
+-- show it.
+pub record SenderParts : Type 1 where
+  pub Place : Type 0
+  pub Sent : Type 0
+  pub rules : Rules Place Sent
+  pub view : Paint → View Sent
+  pub wording : Wording Sent
+  pub IsShowing : List ℕ → List (Item Sent) → Type 0
 
-  -- what is shown of the bytes of a sender went out; a station's answers have no screen
-  abbrev pub HasShownBy : Paint → Bool → Sender → List ℕ → Bool → Type 0
-  HasShownBy paint so_far Host bytes accepted =
-      HasShown element_rules (painted_host_view paint) so_far bytes accepted
-  HasShownBy paint so_far ExtendedHost bytes accepted =
-      HasShown extended_rules (extended_view paint) so_far bytes accepted
-  HasShownBy paint so_far Station bytes accepted = HasShown answer_rules answer_view so_far bytes accepted
-  HasShownBy paint so_far ExtendedStation bytes accepted =
-      HasShown extended_answer_rules told_view so_far bytes accepted
+-- A sender's parts: a host sends the commands of the profile alone, or also beside it; a station answers, alone or with
+-- what is told at once, and has no screen.
+abbrev pub sender_parts : Sender → SenderParts
+sender_parts Host = record {
+  Place = ElementPlace;
+  Sent = Element;
+  rules = element_rules;
+  view = painted_host_view;
+  wording = element_wording;
+  IsShowing = ShowsElements;
+}
+sender_parts ExtendedHost = record {
+  Place = ExtendedPlace;
+  Sent = ExtendedElement;
+  rules = extended_rules;
+  view = extended_view;
+  wording = extended_wording;
+  IsShowing = ShowsExtended;
+}
+sender_parts Station = record {
+  Place = AnswerPlace;
+  Sent = AnswerPart;
+  rules = answer_rules;
+  view = λ paint. answer_view;
+  wording = answer_wording;
+  IsShowing = ShowsAnswers;
+}
+sender_parts ExtendedStation = record {
+  Place = ExtendedAnswerPlace;
+  Sent = ExtendedAnswerPart;
+  rules = extended_answer_rules;
+  view = λ paint. told_view;
+  wording = told_wording;
+  IsShowing = ShowsTold;
+}
 
-  -- the stream of the items that a text spells went out, as those of a sender, in bytes or in hex
-  abbrev pub HasMadeBy : Bool → Sender → List ℕ → Bool → Type 0
-  HasMadeBy raw Host input accepted =
-      HasMade element_rules element_wording ShowsElements writer from to raw input accepted
-  HasMadeBy raw ExtendedHost input accepted =
-      HasMade extended_rules extended_wording ShowsExtended writer from to raw input accepted
-  HasMadeBy raw Station input accepted =
-      HasMade answer_rules answer_wording ShowsAnswers writer from to raw input accepted
-  HasMadeBy raw ExtendedStation input accepted =
-      HasMade extended_answer_rules told_wording ShowsTold writer from to raw input accepted
+-- the outcome of a command as the program's own
+abbrev pub run_outcome : Result Bool Fault → Result Bool RunFault
+run_outcome (Ok accepted) = Ok accepted
+run_outcome (Err fault) = Err (run_fault fault)
 
-  -- the program did what it was asked for with its input: with the bytes that it tells, with a script, or with items as
-  -- text
-  abbrev pub HasAnswered : Asked → List ℕ → Bool → Type 0
-  HasAnswered (Check file form cut sender) input accepted = (bytes : List ℕ) × AreBytesOf form bytes input
-      × HasCheckedBy sender bytes accepted
-  HasAnswered (Show file form sender paint so_far) input accepted = (bytes : List ℕ) × AreBytesOf form bytes input
-      × HasShownBy paint so_far sender bytes accepted
-  HasAnswered (Play file screen false paint) input accepted = HasPlayed paint screen input accepted
-  HasAnswered (Play file screen true paint) input accepted = HasPlayedByTcp paint screen input accepted
-  HasAnswered (Make file sender raw) input accepted = HasMadeBy raw sender input accepted
+-- the bytes that an input tells are printed of; where it gives none, this is answered before anything is written
+abbrev pub of_bytes : StreamForm → (List ℕ → Printing Bool Fault) → List ℕ → Action Bool RunFault
+of_bytes form printing input = record {
+  Refuses = IsFormFault form input;
+  prints = record {
+    Ends = λ text outcome. (bytes : List ℕ) × AreBytesOf form bytes input × ((met : Result Bool Fault)
+        × (printing bytes).Ends text met × (outcome ≡ run_outcome met));
+    Cut = λ text fault. (bytes : List ℕ) × AreBytesOf form bytes input × ((met : Fault)
+        × (printing bytes).Cut text met × (fault ≡ run_fault met));
+  };
+}
 
-  -- what is answered of an input by a command that meets such faults with its bytes: it gives none, before anything was
-  -- written; or the command met one
-  abbrev pub IsBytesFault : StreamForm → (List ℕ → Fault → Type 0) → List ℕ → RunFault → Type 0
-  IsBytesFault form IsFault input fault = ((to ≡ from) × IsFormFault form input fault)
-      ⊎ ((bytes : List ℕ) × (met : Fault) × AreBytesOf form bytes input × IsFault bytes met × (fault ≡ run_fault met))
-
-  -- where the line of a check of the bytes of a sender doesn't go out
-  abbrev pub IsCheckFaultBy : Sender → List ℕ → Fault → Type 0
-  IsCheckFaultBy Host bytes fault = IsCheckFault element_rules writer from to bytes fault
-  IsCheckFaultBy ExtendedHost bytes fault = IsCheckFault extended_rules writer from to bytes fault
-  IsCheckFaultBy Station bytes fault = IsCheckFault answer_rules writer from to bytes fault
-  IsCheckFaultBy ExtendedStation bytes fault = IsCheckFault extended_answer_rules writer from to bytes fault
-
-  -- where not all that is shown of the bytes of a sender goes out
-  abbrev pub IsShowFaultBy : Paint → Bool → Sender → List ℕ → Fault → Type 0
-  IsShowFaultBy paint so_far Host bytes fault =
-      IsShowFaultWith writer from to element_rules (painted_host_view paint) so_far bytes fault
-  IsShowFaultBy paint so_far ExtendedHost bytes fault =
-      IsShowFaultWith writer from to extended_rules (extended_view paint) so_far bytes fault
-  IsShowFaultBy paint so_far Station bytes fault =
-      IsShowFaultWith writer from to answer_rules answer_view so_far bytes fault
-  IsShowFaultBy paint so_far ExtendedStation bytes fault =
-      IsShowFaultWith writer from to extended_answer_rules told_view so_far bytes fault
-
-  -- what is answered of items as text whose stream doesn't go out
-  abbrev pub IsMakeFaultBy : Bool → Sender → List ℕ → RunFault → Type 0
-  IsMakeFaultBy raw Host input fault =
-      IsMakeFault element_rules element_wording ShowsElements writer from to raw input fault
-  IsMakeFaultBy raw ExtendedHost input fault =
-      IsMakeFault extended_rules extended_wording ShowsExtended writer from to raw input fault
-  IsMakeFaultBy raw Station input fault =
-      IsMakeFault answer_rules answer_wording ShowsAnswers writer from to raw input fault
-  IsMakeFaultBy raw ExtendedStation input fault =
-      IsMakeFault extended_answer_rules told_wording ShowsTold writer from to raw input fault
-
-  -- what is answered of a script that isn't played, or whose lines don't go out
-  abbrev pub IsPlayFault : Paint → Bool → List ℕ → RunFault → Type 0
-  IsPlayFault paint screen script (Line number) = (to ≡ from) × IsFirstBad script number
-  IsPlayFault paint screen script Memory = (to ≡ from) × IsGoodScript script
-  IsPlayFault paint screen script Write = (moves : List Move) × IsScript script moves × (text : List ℕ)
-      × IsSessionText paint (after_moves (new_world Ibm3179Model2) moves) screen text
-      × FailedWithin writer from to text
-  IsPlayFault paint screen script fault = ⊥
-
-  -- what is answered of a script that isn't played over a connection, or whose lines don't go out; the connection may
-  -- fail where the script is good, and then nothing was written
-  abbrev pub IsTcpPlayFault : Paint → Bool → List ℕ → RunFault → Type 0
-  IsTcpPlayFault paint screen script (Line number) = (to ≡ from) × IsFirstBad script number
-  IsTcpPlayFault paint screen script Memory = (to ≡ from) × IsGoodScript script
-  IsTcpPlayFault paint screen script NoConnection = (to ≡ from) × ((moves : List Move) × IsScript script moves)
-  IsTcpPlayFault paint screen script Read = (to ≡ from) × ((moves : List Move) × IsScript script moves)
-  IsTcpPlayFault paint screen script Write = (moves : List Move) × IsScript script moves
-      × ((to ≡ from)
-      ⊎ ((all_well : Bool) × (text : List ℕ) × IsToldText paint moves screen all_well text
-      × FailedWithin writer from to text))
-  IsTcpPlayFault paint screen script fault = ⊥
-
-  -- what the program answers where it didn't do all that it was asked for
-  abbrev pub IsAnswerFault : Asked → List ℕ → RunFault → Type 0
-  IsAnswerFault (Check file form cut sender) input fault = IsBytesFault form (IsCheckFaultBy sender) input fault
-  IsAnswerFault (Show file form sender paint so_far) input fault =
-      IsBytesFault form (IsShowFaultBy paint so_far sender) input fault
-  IsAnswerFault (Play file screen false paint) input fault = IsPlayFault paint screen input fault
-  IsAnswerFault (Play file screen true paint) input fault = IsTcpPlayFault paint screen input fault
-  IsAnswerFault (Make file sender raw) input fault = IsMakeFaultBy raw sender input fault
+-- what the program does with its input: with the bytes that it tells, with a script, or with items as text
+abbrev pub answer_action : Asked → List ℕ → Action Bool RunFault
+answer_action (Check file form cut sender) input =
+    of_bytes form (λ bytes. check_printing (sender_parts sender).rules bytes) input
+answer_action (Show file form sender paint so_far) input =
+    of_bytes form (show_printing so_far (sender_parts sender).rules ((sender_parts sender).view paint)) input
+answer_action (Play file screen false paint) input = play_action paint screen input
+answer_action (Play file screen true paint) input = play_tcp_action paint screen input
+answer_action (Make file sender raw) input = make_action (sender_parts sender).rules (sender_parts sender).wording
+    (sender_parts sender).IsShowing raw input
 
 -- the exit status: 0 where all was accepted, 1 where it wasn't, 2 on a fault
 abbrev pub status_of : {E : Type 0} → Result Bool E → ℕ

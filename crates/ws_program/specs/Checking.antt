@@ -1,9 +1,9 @@
--- How a check counts the items that come, and what it answers where it prints no line.
+-- How a check counts the items that come, and what it prints.
 
-use Rattle.std.specs.Prelude.{◌≡◌, ℕ, ◌+◌, ◌-◌, ◌^◌, ◌≤◌, min, List, length}
+use Rattle.std.specs.Prelude.{◌≡◌, ℕ, ◌+◌, ◌-◌, ◌^◌, ◌≤◌, min, List, length, Bool, Ok}
 use Rattle.ws_code.specs.Code.{Rules}
-use Rattle.ws_code.specs.Device.{Writer}
 use Rattle.ws_code.specs.declared.fault.Fault.{Fault}
+use Rattle.ws_code.specs.declared.fault.Fault.TheVariants.{Write}
 use Rattle.ws_record.specs.declared.record.Item.{Item}
 use Rattle.ws_record.specs.declared.news.News.{News}
 use Rattle.ws_record.specs.declared.news.News.TheVariants.{Close, Command, Option, Sub}
@@ -11,8 +11,8 @@ use Rattle.ws_record.specs.Live.{Watching, Leads}
 use Rattle.ws_record.specs.OpenRecord.{RecordSoFar}
 use Rattle.ws_program.specs.declared.check.Tally.{Tally}
 use Rattle.ws_program.specs.declared.verdict.Verdict.{Verdict}
-use Rattle.ws_program.specs.CheckLine.{IsVerdict, line_of, record_count, command_count}
-use Rattle.ws_text.specs.Printing.{IsPrintingFault}
+use Rattle.ws_program.specs.CheckLine.{IsVerdict, is_accepted, line_of, record_count, command_count}
+use Rattle.ws_text.specs.Printed.{Printing, in_whole}
 
 -- the tally with one record more; a count stays at the highest number that it can hold
 abbrev pub one_record : Tally → Tally
@@ -40,12 +40,8 @@ pub record Counts {Place U : Type 0} (rules : Rules Place U) (live : Watching Pl
   pub commands : tally.commands ≡ command_count items
   pub few : tally.records + tally.commands ≤ length bytes
 
--- the line of what holds of the bytes
-abbrev pub IsCheckText : {Place U : Type 0} → Rules Place U → List ℕ → List ℕ → Type 0
-IsCheckText rules bytes text = (verdict : Verdict) × IsVerdict rules bytes verdict
-    × (text ≡ line_of verdict (length bytes))
-
--- what a check answers where it doesn't print its line: nothing went out, or a part of the line
-abbrev pub IsCheckFault : {Place U S : Type 0} → Rules Place U → Writer S → S → S → List ℕ → Fault → Type 0
-IsCheckFault rules writer from to bytes fault = IsPrintingFault writer from to
-    (IsCheckText rules bytes) fault
+-- what a check prints: the line of what holds of the bytes. It ends well where they are accepted, and with no other
+-- fault than `Write`.
+abbrev pub check_printing : {Place U : Type 0} → Rules Place U → List ℕ → Printing Bool Fault
+check_printing rules bytes = in_whole Write (λ text outcome. (verdict : Verdict) × IsVerdict rules bytes verdict
+    × (text ≡ line_of verdict (length bytes)) × (outcome ≡ Ok (is_accepted verdict)))

@@ -1,3 +1,4 @@
+pub mod Actions
 pub mod Answering
 pub mod CheckLine
 pub mod Checking

@@ -1,17 +1,18 @@
 -- A stream of items, as hex text or as bytes: what `make` writes of the items that a text spells.
 
-use Rattle.std.specs.Prelude.{◌≡◌, ℕ, List, [], ◌∷◌, ◌++◌, Bool, true, false}
+use Rattle.std.specs.Prelude.{◌≡◌, ℕ, List, [], ◌∷◌, ◌++◌, Bool, true, false, Ok}
 use Rattle.std.specs.List.{flat_map}
 use Rattle.hex.specs.Hex.{encode_upper}
 use Rattle.ws_code.specs.Code.{Rules}
-use Rattle.ws_code.specs.Device.{Writer, WentOut, FailedWithin}
 use Rattle.ws_record.specs.Encode.{plain_spelling}
 use Rattle.ws_record.specs.declared.record.Item.{Item}
 use Rattle.ws_text.specs.Items.{AreItems, IsTextFault}
+use Rattle.ws_text.specs.Printed.{in_whole}
 use Rattle.ws_text.specs.Wording.{Wording}
 use Rattle.ws_text.specs.declared.items.TextFault.TheVariants as items
 use Rattle.ws_live.specs.declared.asked.fault.RunFault.{RunFault}
 use Rattle.ws_live.specs.declared.asked.fault.RunFault.TheVariants.{Line, Memory, Write}
+use Rattle.ws_program.specs.Actions.{Action}
 
 module _ {Place U : Type 0} (rules : Rules Place U) where
   -- an item's line: its plain spelling in upper case hex (RFC 1205, section 3; RFC 854; RFC 885)
@@ -38,17 +39,16 @@ module _ {Place U : Type 0} (rules : Rules Place U) (w : Wording U) (IsShowing :
   IsBadLine text number = IsTextFault rules w text (items.Line number)
       × ((shown : List (Item U)) → ¬ IsShowing text shown)
 
-  module _ {S : Type 0} (writer : Writer S) (from to : S) where
-    -- the stream of the items that a text spells went out, in bytes or in hex
-    abbrev pub HasMade : Bool → List ℕ → Bool → Type 0
-    HasMade raw text accepted = (items : List (Item U)) × AreTold text items
-        × WentOut writer from to (made_stream rules raw items) × (accepted ≡ true)
+  -- the faults of a text that are met before anything is written: a bad line, or want of memory where it spells items
+  abbrev pub IsUnmade : List ℕ → RunFault → Type 0
+  IsUnmade text (Line number) = IsBadLine text number
+  IsUnmade text Memory = (items : List (Item U)) × AreItems rules w text items
+  IsUnmade text fault = ⊥
 
-    -- Why no stream went out: a bad line, or want of memory for a text that spells items, before anything was written;
-    -- or the sink failed.
-    abbrev pub IsMakeFault : Bool → List ℕ → RunFault → Type 0
-    IsMakeFault raw text (Line number) = (to ≡ from) × IsBadLine text number
-    IsMakeFault raw text Memory = (to ≡ from) × ((items : List (Item U)) × AreItems rules w text items)
-    IsMakeFault raw text Write = (items : List (Item U)) × AreTold text items
-        × FailedWithin writer from to (made_stream rules raw items)
-    IsMakeFault raw text fault = ⊥
+  -- the stream of the items that a text spells is made and printed, in bytes or in hex
+  abbrev pub make_action : Bool → List ℕ → Action Bool RunFault
+  make_action raw text = record {
+    Refuses = IsUnmade text;
+    prints = in_whole Write (λ out outcome. (items : List (Item U)) × AreTold text items
+        × (out ≡ made_stream rules raw items) × (outcome ≡ Ok true));
+  }

@@ -1,6 +1,6 @@
 -- What a run of the program comes to: what it printed, and how it ended.
 
-use Rattle.std.specs.Prelude.{◌≡◌, ℕ, List, Bool, Option, None, Some, ◌⊎◌}
+use Rattle.std.specs.Prelude.{◌≡◌, ℕ, List, Bool, Option, None, Some, Ok, Err, ◌⊎◌}
 use Rattle.std.specs.Option.{is_none}
 use Rattle.ws_code.specs.Device.{Writer}
 use Rattle.ws_live.specs.declared.asked.fault.RunFault.{RunFault}
@@ -11,7 +11,8 @@ use Rattle.ws_live.specs.declared.asked.live_asked.Live.{Live as ALive}
 use Rattle.ws_live.specs.declared.asked.open_streams.OpenStreams.{OpenStreams}
 use Rattle.ws_live.specs.asked.OpenStreams.{missing}
 use Rattle.ws_network.specs.LiveSessions.{HasRunLive, script_of}
-use Rattle.ws_program.specs.Streams.{HasAnsweredOpenly, IsOpenFault}
+use Rattle.ws_program.specs.Actions.{IsCarriedOut}
+use Rattle.ws_program.specs.Streams.{openly}
 use Rattle.ws_program.specs.ToldFaults.{IsToldOf}
 use Rattle.ws_program.specs.declared.command_fault.CommandFault.{CommandFault}
 use Rattle.ws_program.specs.declared.command_fault.CommandFault.TheVariants.{Words, Run, Told}
@@ -37,13 +38,14 @@ module _ {S : Type 0} (writer : Writer S) (from to : S) (streams : OpenStreams) 
   -- what is asked of an input was done, with the bytes that were read of it
   abbrev pub HasRunInput : Asked → Bool → Type 0
   HasRunInput asked accepted = (input : List ℕ)
-      × HasAnsweredOpenly writer from to streams.output asked input accepted
+      × IsCarriedOut writer from to (openly streams.output asked input) (Ok accepted)
 
   -- Why what is asked of an input wasn't done. It can't be read, and nothing was written; or this was met with the
   -- bytes that were read of it, and is told with its cause.
   abbrev pub IsFaultOfInput : Asked → ToldFault → Type 0
   IsFaultOfInput asked fault = ((why : RunFault) × (to ≡ from) × IsInputUnread why × (fault ≡ told.Run why))
-      ⊎ ((why : RunFault) × ((input : List ℕ) × IsOpenFault writer from to streams.output asked input why
+      ⊎ ((why : RunFault) × ((input : List ℕ)
+      × IsCarriedOut writer from to (openly streams.output asked input) (Err why)
       × IsToldOf asked input fault why))
 
   -- the task of a command line was done: something of an input, or a live session

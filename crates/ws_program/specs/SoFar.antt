@@ -1,7 +1,8 @@
--- What `show --so-far` adds where a stream is refused or cut: what has come of the record whose IAC EOR hasn't.
+-- What `show --so-far` adds where a stream is refused or cut: what has come of the record whose IAC EOR hasn't. And what
+-- `show` prints, with that or without.
 
 use Rattle.std.specs.Prelude.{◌≡◌, ℕ, List, [], ◌∷◌, ◌++◌, ◌⊎◌, Bool, true, false, Option, None, Some, codes, length}
-use Rattle.std.specs.Prelude.{take, drop}
+use Rattle.std.specs.Prelude.{take, drop, Result, Ok, Err}
 use Rattle.ws_code.specs.Code.{Rules}
 use Rattle.ws_code.specs.Device.{Writer, WentOut, FailedWithin}
 use Rattle.ws_code.specs.declared.fault.Fault.{Fault}
@@ -13,9 +14,10 @@ use Rattle.ws_record.specs.Refusal.{IsRefused, IsTruncated}
 use Rattle.ws_record.specs.declared.record.Head.{Head}
 use Rattle.ws_record.specs.declared.record.Item.{Item}
 use Rattle.ws_record.specs.declared.record.Item.TheVariants.{Record as RecordItem}
+use Rattle.ws_text.specs.Printed.{Printing, IsPrinted}
 use Rattle.ws_program.specs.CheckLine.{line_of, is_accepted}
 use Rattle.ws_program.specs.StreamText.{View, Placed, items_without_places, lines_of, HoldsItems, AreShown, AreFirstLines, IsShown}
-use Rattle.ws_program.specs.StreamText.{IsEnd, IsRefusedEnd, IsTruncatedEnd, IsUnappliedEnd, IsShowFault}
+use Rattle.ws_program.specs.StreamText.{IsEnd, IsRefusedEnd, IsTruncatedEnd, IsUnappliedEnd, GrowsBehind}
 use Rattle.ws_program.specs.declared.verdict.Verdict.{Verdict}
 use Rattle.ws_program.specs.declared.verdict.Verdict.TheVariants.{Accepted, Refused, Truncated}
 
@@ -102,21 +104,38 @@ module _ {Place U : Type 0} where
       × HoldsItems rules bytes (items_without_places placed)
   StopsBehind rules bytes placed fault = ⊥
 
+  -- a growth behind the items may be refused: for a unit of the next record, or for what has come of an open one
+  abbrev pub CanRunShort : Bool → Rules Place U → List ℕ → List (Placed U) → Type 0
+  CanRunShort so_far rules bytes placed = GrowsBehind rules bytes (items_without_places placed)
+      ⊎ ((so_far ≡ true) × ((stop : Fault) × StopsBehind rules bytes placed stop))
+
+  module _ (so_far : Bool) (rules : Rules Place U) (view : View U) (bytes : List ℕ) where
+    -- how what is shown ends: with the whole text; or with the lines of the first items, behind which a growth is
+    -- refused
+    abbrev pub IsShowEnd : List ℕ → Result Bool Fault → Type 0
+    IsShowEnd text (Ok accepted) = IsShownWith so_far rules view bytes accepted text
+    IsShowEnd text (Err Memory) = (placed : List (Placed U)) × AreShown rules view bytes [] placed
+        × CanRunShort so_far rules bytes placed × (text ≡ lines_of view placed)
+    IsShowEnd text (Err fault) = ⊥
+
+    -- What is shown of a stream, without what has come of an open record or with it. A sink may fail within the lines
+    -- of the first items, or within the whole text.
+    abbrev pub show_printing : Printing Bool Fault
+    show_printing = record {
+      Ends = IsShowEnd;
+      Cut = λ text fault. (fault ≡ Write) × (AreFirstLines rules view bytes text
+          ⊎ ((accepted : Bool) × IsShownWith so_far rules view bytes accepted text));
+    }
+
   module _ {S : Type 0} (writer : Writer S) (from to : S) (rules : Rules Place U)
       (view : View U) where
-    -- Why not all of a stream is shown with what has come of an open record. The growth for that may be refused too.
-    abbrev pub IsSoFarFault : List ℕ → Fault → Type 0
-    IsSoFarFault bytes Memory = IsShowFault writer from to rules view bytes Memory
-        ⊎ ((placed : List (Placed U)) × (stop : Fault) × AreShown rules view bytes [] placed
-        × StopsBehind rules bytes placed stop × WentOut writer from to (lines_of view placed))
-    IsSoFarFault bytes Write = (text : List ℕ) × (AreFirstLines rules view bytes text
-        ⊎ ((accepted : Bool) × IsShownSoFar rules view bytes accepted text)) × FailedWithin writer from to text
-    IsSoFarFault bytes fault = ⊥
-
-    -- why not all of a stream is shown, without what has come of an open record or with it
-    abbrev pub IsShowFaultWith : Bool → List ℕ → Fault → Type 0
-    IsShowFaultWith false bytes fault = IsShowFault writer from to rules view bytes fault
-    IsShowFaultWith true bytes fault = IsSoFarFault bytes fault
+    -- what is answered where not all items are carried out: the items' lines went out, and the line of a verdict
+    -- goes on behind them, or there was a fault
+    abbrev pub IsStop : List ℕ → Result Verdict Fault → Type 0
+    IsStop bytes (Ok verdict) = (is_accepted verdict ≡ false) × ((lines : List ℕ) × AreFirstLines rules view bytes lines
+        × WentOut writer from to lines
+        × IsShown rules view bytes false (lines ++ line_of verdict (length bytes)))
+    IsStop bytes (Err fault) = IsPrinted writer from to (show_printing false rules view bytes) (Err fault)
 
     -- All items were shown and carried out, and so is a stream that is accepted; or the last one isn't carried out, and
     -- the line of that verdict goes on behind it.
@@ -131,7 +150,8 @@ module _ {Place U : Type 0} where
     -- where the bytes stop behind the items, the lines of these went out, and so much is made of them; or there was a
     -- fault before
     abbrev pub IsHalted : List ℕ → (List (Item U) → Type 0) → Fault → Type 0
-    IsHalted bytes IsMade Memory = IsShowFault writer from to rules view bytes Memory
+    IsHalted bytes IsMade Memory = (placed : List (Placed U)) × AreShown rules view bytes [] placed
+        × GrowsBehind rules bytes (items_without_places placed) × WentOut writer from to (lines_of view placed)
     IsHalted bytes IsMade Write = (text : List ℕ) × AreFirstLines rules view bytes text
         × FailedWithin writer from to text
     IsHalted bytes IsMade fault = (placed : List (Placed U)) × AreShown rules view bytes [] placed

@@ -1,24 +1,18 @@
 -- A check of what a source gives, which holds none of it.
 
-use Rattle.std.specs.Prelude.{ℕ, List, Bool, true, false, Option, Some, None, Result, Ok, Err, ◌⊎◌}
+use Rattle.std.specs.Prelude.{ℕ, List, Bool, true, false, Option, Some, None, Result, ◌⊎◌}
 use Rattle.ws_code.specs.Code.{Rules}
 use Rattle.ws_code.specs.Device.{Reader, Gave, GaveAll, ReadFault}
 use Rattle.ws_code.specs.declared.fault.Fault.{Fault}
 use Rattle.ws_code.specs.declared.reason.Reason.{Reason}
-use Rattle.ws_extended.specs.ExtendedAnswers.{extended_answer_rules}
-use Rattle.ws_extended.specs.ExtendedElements.{extended_rules}
 use Rattle.ws_record.specs.Live.{Watching}
 use Rattle.ws_record.specs.Refusal.{IsRefused}
-use Rattle.ws_stream.specs.Elements.{element_rules}
-use Rattle.ws_stream.specs.AnswerParts.{answer_rules}
+use Rattle.ws_program.specs.Answering.{run_outcome}
 use Rattle.ws_program.specs.Checking.{Counts}
-use Rattle.ws_live.specs.asked.RunFaults.{run_fault}
+use Rattle.ws_program.specs.Streams.{closed_outcome}
 use Rattle.ws_program.specs.declared.check.Refusal.{Refusal}
 use Rattle.ws_program.specs.declared.check.Tally.{Tally}
 use Rattle.ws_live.specs.declared.asked.fault.RunFault.{RunFault}
-use Rattle.ws_live.specs.declared.asked.fault.RunFault.TheVariants.{Write}
-use Rattle.ws_live.specs.declared.asked.sender.Sender.{Sender}
-use Rattle.ws_live.specs.declared.asked.sender.Sender.TheVariants.{Host, ExtendedHost, Station, ExtendedStation}
 
 -- no byte is refused, and the tally is of the bytes' items; or this one is
 abbrev pub IsPieceTaken : {Place U : Type 0} → Rules Place U → Watching Place → Tally → List ℕ → Option Refusal → Type 0
@@ -29,18 +23,10 @@ IsPieceTaken rules live tally bytes (Some refusal) = IsRefused rules bytes refus
 abbrev pub HasRefusal : {Place U : Type 0} → Rules Place U → List ℕ → Type 0
 HasRefusal rules bytes = (place : ℕ) × (reason : Reason) × IsRefused rules bytes place reason
 
--- a byte of a sender's stream is refused
-abbrev pub HasRefusalBy : Sender → List ℕ → Type 0
-HasRefusalBy Host bytes = HasRefusal element_rules bytes
-HasRefusalBy ExtendedHost bytes = HasRefusal extended_rules bytes
-HasRefusalBy Station bytes = HasRefusal answer_rules bytes
-HasRefusalBy ExtendedStation bytes = HasRefusal extended_answer_rules bytes
-
 -- what a command comes to that came to this, with an output or without
 abbrev pub command_outcome : Bool → Result Bool Fault → Result Bool RunFault
-command_outcome true (Ok accepted) = Ok accepted
-command_outcome false (Ok accepted) = Err Write
-command_outcome has_output (Err fault) = Err (run_fault fault)
+command_outcome true outcome = run_outcome outcome
+command_outcome false outcome = closed_outcome (run_outcome outcome)
 
 module _ {S : Type 0} (reader : Reader S) (from to : S) where
   -- a source gave bytes of which such are refused: all, up to its end, or some with a refused one, behind which no more

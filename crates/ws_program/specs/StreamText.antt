@@ -1,13 +1,11 @@
 -- What is shown of a stream: the lines of its items, and what stands behind them: a screen, or the line of a refusal.
 
 use Rattle.std.specs.Prelude.{◌≡◌, ℕ, ◌+◌, ◌<◌, List, [], ◌∷◌, ◌++◌, ◌⊎◌, Bool, true, false, Option, None, Some, IfSome}
-use Rattle.std.specs.Prelude.{Result, Ok, Err}
 use Rattle.std.specs.Prelude.{length, take, map}
 use Rattle.std.specs.List.{flat_map}
 use Rattle.ws_code.specs.Code.{Rules, IsChain}
-use Rattle.ws_code.specs.Device.{Writer, WentOut, FailedWithin}
 use Rattle.ws_code.specs.declared.fault.Fault.{Fault}
-use Rattle.ws_code.specs.declared.fault.Fault.TheVariants.{Memory, Write}
+use Rattle.ws_code.specs.declared.fault.Fault.TheVariants.{Memory}
 use Rattle.ws_code.specs.declared.fault.Fault.TheVariants as faults
 use Rattle.ws_code.specs.declared.reason.Reason.{Reason}
 use Rattle.ws_record.specs.Grammar.{IsInGrammar}
@@ -16,8 +14,7 @@ use Rattle.ws_record.specs.Receiver.{Receiving, HasReceived, HasUnit}
 use Rattle.ws_record.specs.declared.record.Item.{Item}
 use Rattle.ws_record.specs.declared.record.Item.TheVariants.{Record as RecordItem, Telnet as TelnetItem}
 pub use Rattle.ws_session.specs.Acts.{HoldsItems}
-use Rattle.ws_program.specs.CheckLine.{line_of, is_accepted}
-use Rattle.ws_program.specs.declared.verdict.Verdict.{Verdict}
+use Rattle.ws_program.specs.CheckLine.{line_of}
 use Rattle.ws_program.specs.declared.verdict.Verdict.TheVariants.{Refused, Truncated}
 
 -- How items of some body are shown: an item's lines, why one isn't carried out behind others, and what stands behind
@@ -144,22 +141,3 @@ module _ {Place U : Type 0} where
   IsNextFault rules bytes old Memory = (items : List (Item U)) → HasTaken rules bytes old items
       → GrowsBehind rules bytes items
   IsNextFault rules bytes old fault = ⊥
-
-  module _ {S : Type 0} (writer : Writer S) (from to : S) (rules : Rules Place U)
-      (view : View U) where
-    -- Why not all of a stream is shown: the lines of the first items went out, and the growth for a unit behind them
-    -- was refused; or only a part of the lines went out.
-    abbrev pub IsShowFault : List ℕ → Fault → Type 0
-    IsShowFault bytes Memory = (placed : List (Placed U)) × AreShown rules view bytes [] placed
-        × GrowsBehind rules bytes (items_without_places placed) × WentOut writer from to (lines_of view placed)
-    IsShowFault bytes Write = (text : List ℕ) × (AreFirstLines rules view bytes text
-        ⊎ ((accepted : Bool) × IsShown rules view bytes accepted text)) × FailedWithin writer from to text
-    IsShowFault bytes fault = ⊥
-
-    -- what is answered where not all items are carried out: the items' lines went out, and the line of a verdict
-    -- goes on behind them, or there was a fault
-    abbrev pub IsStop : List ℕ → Result Verdict Fault → Type 0
-    IsStop bytes (Ok verdict) = (is_accepted verdict ≡ false) × ((lines : List ℕ) × AreFirstLines rules view bytes lines
-        × WentOut writer from to lines
-        × IsShown rules view bytes false (lines ++ line_of verdict (length bytes)))
-    IsStop bytes (Err fault) = IsShowFault bytes fault

@@ -1,10 +1,10 @@
--- What a command comes to whose standard streams may have been closed when the program began.
+-- What a command does whose standard streams may have been closed when the program began.
 
-use Rattle.std.specs.Prelude.{◌≡◌, ℕ, List, Bool, true, false, ◌⊎◌}
-use Rattle.ws_code.specs.Device.{Writer}
+use Rattle.std.specs.Prelude.{◌≡◌, ℕ, List, Bool, true, false, Result, Ok, Err}
+use Rattle.ws_program.specs.Actions.{Action}
+use Rattle.ws_program.specs.Answering.{answer_action}
 use Rattle.ws_program.specs.declared.words.command_line.Asked.{Asked}
 use Rattle.ws_program.specs.declared.words.command_line.Asked.TheVariants.{Check, Show, Play, Make}
-use Rattle.ws_program.specs.Answering.{HasAnswered, IsAnswerFault}
 use Rattle.ws_live.specs.declared.asked.fault.RunFault.{RunFault}
 use Rattle.ws_live.specs.declared.asked.fault.RunFault.TheVariants.{Write}
 
@@ -15,14 +15,24 @@ in_one_place (Show file form sender paint so_far) = Show file form sender paint 
 in_one_place (Play file screen tcp paint) = Play file screen false paint
 in_one_place (Make file sender raw) = Make file sender raw
 
-module _ {S : Type 0} (writer : Writer S) (from to : S) (has_output : Bool) where
-  -- the program did what it was asked for, and had an output for it
-  abbrev pub HasAnsweredOpenly : Asked → List ℕ → Bool → Type 0
-  HasAnsweredOpenly asked input accepted = (has_output ≡ true) × HasAnswered writer from to asked input accepted
+-- what a command comes to without an output that came to this: `Write` where it met no fault
+abbrev pub closed_outcome : Result Bool RunFault → Result Bool RunFault
+closed_outcome (Ok accepted) = Err Write
+closed_outcome (Err fault) = Err fault
 
-  -- Why the program didn't do what it was asked for. Where standard output is closed it opens no connection, and what
-  -- is found in the input and in running comes first.
-  abbrev pub IsOpenFault : Asked → List ℕ → RunFault → Type 0
-  IsOpenFault asked input fault = ((has_output ≡ true) × IsAnswerFault writer from to asked input fault)
-      ⊎ ((has_output ≡ false) × (IsAnswerFault writer from to (in_one_place asked) input fault
-      ⊎ ((fault ≡ Write) × ((accepted : Bool) × HasAnswered writer from to (in_one_place asked) input accepted))))
+-- what is done where standard output is closed: the same, and nothing ends well
+abbrev pub into_closed : Action Bool RunFault → Action Bool RunFault
+into_closed action = record {
+  Refuses = action.Refuses;
+  prints = record {
+    Ends = λ text outcome. (met : Result Bool RunFault) × action.prints.Ends text met
+        × (outcome ≡ closed_outcome met);
+    Cut = action.prints.Cut;
+  };
+}
+
+-- What the program does with its input, with an output or without. Where it has none it opens no connection, and what
+-- is found in the input and in running comes first.
+abbrev pub openly : Bool → Asked → List ℕ → Action Bool RunFault
+openly true asked input = answer_action asked input
+openly false asked input = into_closed (answer_action (in_one_place asked) input)

@@ -1,9 +1,7 @@
 ghost use Rattle.std.specs.Prelude.{◌≡◌, ◌≢◌, ◌+◌, ◌<◌, ◌≤◌, ◌^◌, ◌++◌, ◌⊎◌, [], List, ℕ, length, IfOk, IfErr};
-ghost use Rattle.ws_program.specs.CheckLine.{IsVerdict, is_accepted, line_of};
-ghost use Rattle.ws_program.specs.declared.verdict.Verdict.{Verdict};
-ghost use Rattle.ws_code.specs.Device.{WentOut};
-ghost use Rattle.ws_program.specs.Answering.{HasChecked};
-ghost use Rattle.ws_program.specs.Checking.{IsCheckFault};
+ghost use Rattle.ws_program.specs.CheckLine.{IsVerdict};
+ghost use Rattle.ws_program.specs.Checking.{check_printing};
+ghost use Rattle.ws_text.specs.Printed.{IsPrinted};
 ghost use Rattle.ws_program.specs.SourceChecks.{HasRefusal, GaveEnough, FailedBefore};
 
 use crate::verdict::Verdict;
@@ -132,13 +130,7 @@ pub fn check_to<B: Body, S: Sink>(
     sink: &mut S,
 ) -> Result<bool, Fault>
     requires { cut ≢ 0 }
-    ensures printed { IfOk result (λ accepted. (verdict : Verdict)
-        × IsVerdict B.rules bytes.now verdict
-        × (accepted ≡ is_accepted verdict)
-        × WentOut S.writer sink.old sink.new (line_of verdict (length bytes.now))) }
-    ensures fault { IfErr result
-        (λ fault. IsCheckFault B.rules S.writer sink.old sink.new bytes.now fault) }
-    ensures only { IfErr result (λ fault. fault ≡ Fault.Write) }
+    ensures { IsPrinted S.writer sink.old sink.new (check_printing B.rules bytes.now) result }
 {
     verdict_of::<B>(bytes, cut).write_to(bytes.len(), sink)
 }
@@ -155,17 +147,12 @@ pub fn check_from<B: Body, R: Source, S: Sink>(
     sink: &mut S,
 ) -> Result<bool, Fault>
     requires { cut ≢ 0 }
-    // What is printed of the bytes that were read.
-    ensures printed { IfOk result (λ accepted. (bytes : List ℕ)
+    // The source failed; or this is printed of the bytes that were read.
+    ensures { ((result ≡ Err Fault.Read) × (sink.new ≡ sink.old)
+        × FailedBefore R.reader source.old source.new (HasRefusal B.rules))
+        ⊎ ((bytes : List ℕ)
         × GaveEnough R.reader source.old source.new (HasRefusal B.rules) bytes
-        × HasChecked S.writer sink.old sink.new B.rules bytes accepted) }
-    // Why not, and what stands then.
-    ensures read { result ≡ Err Fault.Read → (sink.new ≡ sink.old)
-        × FailedBefore R.reader source.old source.new (HasRefusal B.rules) }
-    ensures write { result ≡ Err Fault.Write → (bytes : List ℕ)
-        × GaveEnough R.reader source.old source.new (HasRefusal B.rules) bytes
-        × IsCheckFault B.rules S.writer sink.old sink.new bytes Fault.Write }
-    ensures only { IfErr result (λ fault. (fault ≡ Fault.Read) ⊎ (fault ≡ Fault.Write)) }
+        × IsPrinted S.writer sink.old sink.new (check_printing B.rules bytes) result) }
 {
     let mut room = [0u8; 65_535];
     let (verdict, size) = verdict_from::<B, R>(source, &mut room[..usize::from(cut)])?;

@@ -1,6 +1,7 @@
-ghost use Rattle.std.specs.Prelude.{◌≡◌, ◌⊎◌, [], List as Seq, ℕ, IfOk, IfErr};
-ghost use Rattle.ws_program.specs.Runs.{HasRunInput, IsInputUnread, IsWordsFault};
-ghost use Rattle.ws_program.specs.Streams.{IsOpenFault};
+ghost use Rattle.std.specs.Prelude.{◌≡◌, ◌⊎◌, [], List as Seq, ℕ, IfErr, IsErrAnd};
+ghost use Rattle.ws_program.specs.Actions.{IsCarriedOut};
+ghost use Rattle.ws_program.specs.Runs.{IsInputUnread, IsWordsFault};
+ghost use Rattle.ws_program.specs.Streams.{openly};
 
 use crate::command_fault::CommandFault;
 use crate::source_check::check_source_openly;
@@ -54,12 +55,10 @@ pub fn check_file<R: Files<File = File> + Input, S: Sink>(
     sink: &mut BufferedSink<S>,
 ) -> Result<bool, RunFault>
     requires empty { sink.old.held ≡ [] }
-    // The bytes that were read are those of a raw input.
-    ensures done { IfOk result (HasRunInput S.writer sink.old.sink sink.new.sink
-        streams (Asked.Check file.entry StreamForm.Raw cut from)) }
-    ensures fault { IfErr result (λ fault. ((sink.new.sink ≡ sink.old.sink) × IsInputUnread fault)
-        ⊎ ((input : Seq ℕ) × IsOpenFault S.writer sink.old.sink sink.new.sink
-        streams.output (Asked.Check file.entry StreamForm.Raw cut from) input fault)) }
+    // It can't be read; or this is done with the bytes that were read, as with a raw input.
+    ensures { IsErrAnd result (λ fault. (sink.new.sink ≡ sink.old.sink) × IsInputUnread fault)
+        ⊎ ((input : Seq ℕ) × IsCarriedOut S.writer sink.old.sink sink.new.sink (openly
+        streams.output (Asked.Check file.entry StreamForm.Raw cut from) input) result) }
 {
     match file {
         Some(path) => {

@@ -1,8 +1,7 @@
-ghost use Rattle.std.specs.Prelude.{◌≡◌, IfOk, IfErr, OnOk};
-ghost use Rattle.ws_code.specs.Device.{WentOut};
+ghost use Rattle.std.specs.Prelude.{◌≡◌, IfOk, IfErr};
 ghost use Rattle.ws_record.specs.Encode.{CanAllBeEncoded, plain_spelling};
 ghost use Rattle.ws_program.specs.Making.{made_text, made_stream};
-ghost use Rattle.ws_text.specs.Printing.{IsPrintingFault};
+ghost use Rattle.ws_program.specs.Actions.{IsCarriedOut, print_made};
 
 use std::alloc::Global;
 use std::slice;
@@ -21,11 +20,8 @@ pub fn make_to<B: Body, S: Sink>(
     sink: &mut S,
 ) -> Result<(), Fault>
     requires { CanAllBeEncoded B.rules items.now }
-    ensures ok { OnOk result
-        (WentOut S.writer sink.old sink.new (made_text B.rules items.now)) }
-    ensures fault { IfErr result
-        (IsPrintingFault S.writer sink.old sink.new
-        (λ text. text ≡ made_text B.rules items.now)) }
+    ensures { IsCarriedOut S.writer sink.old sink.new
+        (print_made (made_text B.rules items.now)) result }
 {
     let text = hex_lines::<B>(alloc, items)?;
     match put(sink, Output::Open, text.as_slice()) {
@@ -44,11 +40,8 @@ pub fn make_stream_to<B: Body, S: Sink>(
     sink: &mut S,
 ) -> Result<(), Fault>
     requires { CanAllBeEncoded B.rules items.now }
-    ensures ok { OnOk result
-        (WentOut S.writer sink.old sink.new (made_stream B.rules raw items.now)) }
-    ensures fault { IfErr result
-        (IsPrintingFault S.writer sink.old sink.new
-        (λ text. text ≡ made_stream B.rules raw items.now)) }
+    ensures { IsCarriedOut S.writer sink.old sink.new
+        (print_made (made_stream B.rules raw items.now)) result }
 {
     if raw {
         make_bytes_to::<B, S>(alloc, items, sink)
@@ -64,11 +57,8 @@ fn make_bytes_to<B: Body, S: Sink>(
     sink: &mut S,
 ) -> Result<(), Fault>
     requires { CanAllBeEncoded B.rules items.now }
-    ensures ok { OnOk result
-        (WentOut S.writer sink.old sink.new (plain_spelling B.rules items.now)) }
-    ensures fault { IfErr result
-        (IsPrintingFault S.writer sink.old sink.new
-        (λ text. text ≡ plain_spelling B.rules items.now)) }
+    ensures { IsCarriedOut S.writer sink.old sink.new
+        (print_made (plain_spelling B.rules items.now)) result }
 {
     let bytes = spelling::<B>(alloc, items)?;
     match put(sink, Output::Open, bytes.as_slice()) {

@@ -1,20 +1,20 @@
-ghost use Rattle.std.specs.Prelude.{◌≡◌, ◌≢◌, [], IfOk, IfErr};
+ghost use Rattle.std.specs.Prelude.{◌≡◌, ◌≢◌, []};
 ghost use Rattle.ws_stream.specs.AnswerParts.{answer_rules};
 ghost use Rattle.ws_stream.specs.Elements.{element_rules};
-ghost use Rattle.ws_program.specs.Answering.{HasAnswered, HasCheckedBy, HasShownBy, HasMadeBy, HasPlayed, HasPlayedByTcp};
-ghost use Rattle.ws_program.specs.Answering.{IsAnswerFault, IsBytesFault, IsCheckFaultBy, IsShowFaultBy, IsMakeFaultBy};
-ghost use Rattle.ws_program.specs.Answering.{IsPlayFault, IsTcpPlayFault, status_of};
 ghost use Rattle.ws_text.specs.AnswerWords.{answer_wording};
 ghost use Rattle.ws_text.specs.ElementWords.{element_wording};
 ghost use Rattle.ws_extended.specs.ExtendedAnswers.{extended_answer_rules};
 ghost use Rattle.ws_extended.specs.ExtendedElements.{extended_rules};
 ghost use Rattle.ws_text.specs.ExtendedAnswerWords.{told_wording};
 ghost use Rattle.ws_text.specs.ExtendedWords.{extended_wording};
+ghost use Rattle.ws_text.specs.Printed.{IsPrinted};
 ghost use Rattle.ws_text.specs.Shown.{ShowsElements, ShowsAnswers, ShowsExtended, ShowsTold};
-ghost use Rattle.ws_program.specs.Making.{HasMade, IsMakeFault};
-ghost use Rattle.ws_program.specs.StreamBytes.{AreBytesOf};
-ghost use Rattle.ws_program.specs.Streams.{HasAnsweredOpenly, IsOpenFault, in_one_place as without_connection};
-ghost use Rattle.std.specs.Prelude.{List as Seq, ℕ};
+ghost use Rattle.ws_program.specs.Actions.{IsCarriedOut};
+ghost use Rattle.ws_program.specs.Answering.{of_bytes, play_action, play_tcp_action, answer_action, sender_parts, status_of};
+ghost use Rattle.ws_program.specs.Checking.{check_printing};
+ghost use Rattle.ws_program.specs.Making.{make_action};
+ghost use Rattle.ws_program.specs.SoFar.{show_printing};
+ghost use Rattle.ws_program.specs.Streams.{openly, in_one_place as without_connection};
 
 use crate::check::check_to;
 use crate::make::make_stream_to;
@@ -47,10 +47,8 @@ pub fn answer<R: Net<Listener = TcpListener, Stream = TcpStream>, S: Sink>(
     text: &[u8],
     sink: &mut S,
 ) -> Result<bool, RunFault>
-    ensures done { IfOk result (λ accepted.
-        HasAnswered S.writer sink.old sink.new asked.entry text.now accepted) }
-    ensures fault { IfErr result (λ fault.
-        IsAnswerFault S.writer sink.old sink.new asked.entry text.now fault) }
+    ensures { IsCarriedOut S.writer sink.old sink.new
+        (answer_action asked.entry text.now) result }
 {
     match asked {
         Asked::Check {
@@ -93,10 +91,8 @@ pub fn answer_buffered<R: Net<Listener = TcpListener, Stream = TcpStream>, S: Si
     sink: &mut BufferedSink<S>,
 ) -> Result<bool, RunFault>
     requires empty { sink.old.held ≡ [] }
-    ensures done { IfOk result (λ accepted. HasAnswered
-        S.writer sink.old.sink sink.new.sink asked.entry text.now accepted) }
-    ensures fault { IfErr result (λ fault. IsAnswerFault
-        S.writer sink.old.sink sink.new.sink asked.entry text.now fault) }
+    ensures { IsCarriedOut S.writer sink.old.sink sink.new.sink
+        (answer_action asked.entry text.now) result }
 {
     let outcome = answer(rt, alloc, asked, text, sink);
     match sink.flush() {
@@ -116,10 +112,8 @@ pub fn answer_openly<R: Net<Listener = TcpListener, Stream = TcpStream>, S: Sink
     sink: &mut BufferedSink<S>,
 ) -> Result<bool, RunFault>
     requires empty { sink.old.held ≡ [] }
-    ensures done { IfOk result (λ accepted. HasAnsweredOpenly S.writer
-        sink.old.sink sink.new.sink streams.output asked.entry text.now accepted) }
-    ensures fault { IfErr result (λ fault. IsOpenFault S.writer
-        sink.old.sink sink.new.sink streams.output asked.entry text.now fault) }
+    ensures { IsCarriedOut S.writer sink.old.sink sink.new.sink
+        (openly streams.output asked.entry text.now) result }
 {
     if streams.output {
         return answer_buffered(rt, alloc, asked, text, sink);
@@ -160,10 +154,8 @@ fn check_input<S: Sink>(
     sink: &mut S,
 ) -> Result<bool, RunFault>
     requires { cut ≢ 0 }
-    ensures done { IfOk result (λ accepted. (bytes : Seq ℕ) × AreBytesOf form bytes input.now
-        × HasCheckedBy S.writer sink.old sink.new from bytes accepted) }
-    ensures fault { IfErr result (λ fault. IsBytesFault S.writer sink.old sink.new form
-        (IsCheckFaultBy S.writer sink.old sink.new from) input.now fault) }
+    ensures { IsCarriedOut S.writer sink.old sink.new (of_bytes form
+        (λ bytes. check_printing (sender_parts from).rules bytes) input.now) result }
 {
     let bytes = bytes_of(alloc, form, input)?;
     Ok(check_sent(alloc, bytes.as_slice(), cut, from, sink)?)
@@ -178,10 +170,8 @@ fn check_sent<S: Sink>(
     sink: &mut S,
 ) -> Result<bool, Fault>
     requires { cut ≢ 0 }
-    ensures done { IfOk result (λ accepted.
-        HasCheckedBy S.writer sink.old sink.new from bytes.now accepted) }
-    ensures fault { IfErr result (λ fault.
-        IsCheckFaultBy S.writer sink.old sink.new from bytes.now fault) }
+    ensures { IsPrinted S.writer sink.old sink.new
+        (check_printing (sender_parts from).rules bytes.now) result }
 {
     match from {
         Sender::Host => check_to::<Commands, S>(alloc, bytes, cut, sink),
@@ -201,10 +191,9 @@ fn show_input<S: Sink>(
     from: Sender,
     sink: &mut S,
 ) -> Result<bool, RunFault>
-    ensures done { IfOk result (λ accepted. (bytes : Seq ℕ) × AreBytesOf form bytes input.now
-        × HasShownBy S.writer sink.old sink.new paint so_far from bytes accepted) }
-    ensures fault { IfErr result (λ fault. IsBytesFault S.writer sink.old sink.new form
-        (IsShowFaultBy S.writer sink.old sink.new paint so_far from) input.now fault) }
+    ensures { IsCarriedOut S.writer sink.old sink.new (of_bytes form
+        (show_printing so_far (sender_parts from).rules ((sender_parts from).view paint))
+        input.now) result }
 {
     let bytes = bytes_of(alloc, form, input)?;
     Ok(show_sent(alloc, bytes.as_slice(), paint, so_far, from, sink)?)
@@ -219,10 +208,8 @@ fn show_sent<S: Sink>(
     from: Sender,
     sink: &mut S,
 ) -> Result<bool, Fault>
-    ensures done { IfOk result (λ accepted.
-        HasShownBy S.writer sink.old sink.new paint so_far from bytes.now accepted) }
-    ensures fault { IfErr result (λ fault.
-        IsShowFaultBy S.writer sink.old sink.new paint so_far from bytes.now fault) }
+    ensures { IsPrinted S.writer sink.old sink.new (show_printing so_far
+        (sender_parts from).rules ((sender_parts from).view paint) bytes.now) result }
 {
     match from {
         Sender::Host => show_with::<Commands, S>(alloc, paint, so_far, bytes, sink),
@@ -242,10 +229,8 @@ fn play_script<S: Sink>(
     paint: Paint,
     sink: &mut S,
 ) -> Result<bool, RunFault>
-    ensures done { IfOk result
-        (HasPlayed S.writer sink.old sink.new paint screen script.now) }
-    ensures fault { IfErr result
-        (IsPlayFault S.writer sink.old sink.new paint screen script.now) }
+    ensures { IsCarriedOut S.writer sink.old sink.new
+        (play_action paint screen script.now) result }
 {
     let moves = read_script(alloc, script)?;
     let report = World::run(alloc, TerminalType::Ibm3179Model2, moves.as_slice())?;
@@ -261,10 +246,8 @@ fn play_script_by_tcp<R: Net<Listener = TcpListener, Stream = TcpStream>, S: Sin
     paint: Paint,
     sink: &mut S,
 ) -> Result<bool, RunFault>
-    ensures done { IfOk result
-        (HasPlayedByTcp S.writer sink.old sink.new paint screen script.now) }
-    ensures fault { IfErr result
-        (IsTcpPlayFault S.writer sink.old sink.new paint screen script.now) }
+    ensures { IsCarriedOut S.writer sink.old sink.new
+        (play_tcp_action paint screen script.now) result }
 {
     let moves = read_script(alloc, script)?;
     let report = play_tcp(rt, alloc, TerminalType::Ibm3179Model2, moves.as_slice())?;
@@ -279,10 +262,9 @@ fn make_sent<S: Sink>(
     raw: bool,
     sink: &mut S,
 ) -> Result<bool, RunFault>
-    ensures done { IfOk result (λ accepted.
-        HasMadeBy S.writer sink.old sink.new raw from text.now accepted) }
-    ensures fault { IfErr result (λ fault.
-        IsMakeFaultBy S.writer sink.old sink.new raw from text.now fault) }
+    ensures { IsCarriedOut S.writer sink.old sink.new
+        (make_action (sender_parts from).rules (sender_parts from).wording
+        (sender_parts from).IsShowing raw text.now) result }
 {
     match from {
         Sender::Host => make_stream(alloc, text, raw, sink),
@@ -299,10 +281,8 @@ fn make_stream<S: Sink>(
     raw: bool,
     sink: &mut S,
 ) -> Result<bool, RunFault>
-    ensures done { IfOk result (HasMade element_rules element_wording ShowsElements
-        S.writer sink.old sink.new raw text.now) }
-    ensures fault { IfErr result (IsMakeFault element_rules element_wording ShowsElements
-        S.writer sink.old sink.new raw text.now) }
+    ensures { IsCarriedOut S.writer sink.old sink.new
+        (make_action element_rules element_wording ShowsElements raw text.now) result }
 {
     let items = read_items(alloc, text)?;
     make_stream_to::<Commands, S>(alloc, items.as_slice(), raw, sink)?;
@@ -316,10 +296,8 @@ fn make_extended_stream<S: Sink>(
     raw: bool,
     sink: &mut S,
 ) -> Result<bool, RunFault>
-    ensures done { IfOk result (HasMade extended_rules extended_wording ShowsExtended
-        S.writer sink.old sink.new raw text.now) }
-    ensures fault { IfErr result (IsMakeFault extended_rules extended_wording ShowsExtended
-        S.writer sink.old sink.new raw text.now) }
+    ensures { IsCarriedOut S.writer sink.old sink.new
+        (make_action extended_rules extended_wording ShowsExtended raw text.now) result }
 {
     let items = read_extended_items(alloc, text)?;
     make_stream_to::<ExtendedCommands, S>(alloc, items.as_slice(), raw, sink)?;
@@ -333,10 +311,8 @@ fn make_answers_stream<S: Sink>(
     raw: bool,
     sink: &mut S,
 ) -> Result<bool, RunFault>
-    ensures done { IfOk result (HasMade answer_rules answer_wording ShowsAnswers
-        S.writer sink.old sink.new raw text.now) }
-    ensures fault { IfErr result (IsMakeFault answer_rules answer_wording ShowsAnswers
-        S.writer sink.old sink.new raw text.now) }
+    ensures { IsCarriedOut S.writer sink.old sink.new
+        (make_action answer_rules answer_wording ShowsAnswers raw text.now) result }
 {
     let items = read_answer_items(alloc, text)?;
     make_stream_to::<Answers, S>(alloc, items.as_slice(), raw, sink)?;
@@ -350,10 +326,8 @@ fn make_extended_answers_stream<S: Sink>(
     raw: bool,
     sink: &mut S,
 ) -> Result<bool, RunFault>
-    ensures done { IfOk result (HasMade extended_answer_rules told_wording ShowsTold
-        S.writer sink.old sink.new raw text.now) }
-    ensures fault { IfErr result (IsMakeFault extended_answer_rules told_wording ShowsTold
-        S.writer sink.old sink.new raw text.now) }
+    ensures { IsCarriedOut S.writer sink.old sink.new
+        (make_action extended_answer_rules told_wording ShowsTold raw text.now) result }
 {
     let items = read_extended_answer_items(alloc, text)?;
     make_stream_to::<ExtendedAnswers, S>(alloc, items.as_slice(), raw, sink)?;

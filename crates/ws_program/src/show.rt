@@ -1,4 +1,4 @@
-ghost use Rattle.std.specs.Prelude.{◌≡◌, ◌++◌, [], Bool, List, ℕ, true, IfOk, IfErr, OnOk};
+ghost use Rattle.std.specs.Prelude.{◌≡◌, ◌++◌, [], Bool, List, ℕ, true, false, IfOk, IfErr, OnOk};
 ghost use Rattle.ws_code.specs.Device.{WentOut, FailedWithin};
 ghost use Rattle.ws_record.specs.Grammar.{IsInGrammar};
 ghost use Rattle.ws_record.specs.declared.record.Item.{Item as AnItem};
@@ -8,11 +8,12 @@ ghost use Rattle.ws_stream.specs.declared.element.Element.{Element as AnElement}
 ghost use Rattle.ws_extended.specs.ExtendedAnswers.{extended_answer_rules};
 ghost use Rattle.ws_extended.specs.ExtendedElements.{extended_rules};
 ghost use Rattle.ws_program.specs.ExtendedView.{extended_view};
+ghost use Rattle.ws_text.specs.Printed.{IsPrinted};
 ghost use Rattle.ws_text.specs.Shown.{ShowsElements};
 ghost use Rattle.ws_program.specs.CheckLine.{verdict_by};
-ghost use Rattle.ws_program.specs.SoFar.{IsShownSoFar, IsSoFarFault, IsShownWith, IsShowFaultWith};
-ghost use Rattle.ws_program.specs.SoFar.{IsThrough, IsHalted, bytes_before as the_bytes_before};
-ghost use Rattle.ws_program.specs.StreamText.{IsShown, AreFirstLines, IsShowFault, IsStop, HasBegunStream, IsNext, IsNextFault};
+ghost use Rattle.ws_program.specs.SoFar.{IsShownSoFar, show_printing};
+ghost use Rattle.ws_program.specs.SoFar.{IsStop, IsThrough, IsHalted, bytes_before as the_bytes_before};
+ghost use Rattle.ws_program.specs.StreamText.{IsShown, AreFirstLines, HasBegunStream, IsNext, IsNextFault};
 ghost use Rattle.ws_live.specs.declared.printing.paint.Paint.{Paint as APaint};
 ghost use Rattle.ws_program.specs.Views.{host_view, painted_host_view, answer_view, told_view, in_paint};
 
@@ -32,11 +33,8 @@ use ws_text::Output;
 /// A record is written and then applied. Where the stream is accepted, what is written shows its items, as
 /// `ws_text::read_items` reads them back. The rest is said at `show_body_to`.
 pub fn show_to<S: Sink>(alloc: Global, bytes: &[u8], sink: &mut S) -> Result<bool, Fault>
-    ensures printed { IfOk result (λ accepted. (text : List ℕ)
-        × IsShown element_rules host_view bytes.now accepted text
-        × WentOut S.writer sink.old sink.new text) }
-    ensures fault { IfErr result (λ fault. IsShowFault
-        S.writer sink.old sink.new element_rules host_view bytes.now fault) }
+    ensures printed { IsPrinted S.writer sink.old sink.new
+        (show_printing false element_rules host_view bytes.now) result }
     ensures parts_begin { (accepted : Bool) (whole part : List ℕ)
         → IsShown element_rules host_view bytes.now accepted whole
         → AreFirstLines element_rules host_view bytes.now part
@@ -55,11 +53,8 @@ pub fn show_painted_to<S: Sink>(
     bytes: &[u8],
     sink: &mut S,
 ) -> Result<bool, Fault>
-    ensures printed { IfOk result (λ accepted. (text : List ℕ)
-        × IsShown element_rules (painted_host_view paint) bytes.now accepted text
-        × WentOut S.writer sink.old sink.new text) }
-    ensures fault { IfErr result (λ fault. IsShowFault S.writer sink.old sink.new
-        element_rules (painted_host_view paint) bytes.now fault) }
+    ensures printed { IsPrinted S.writer sink.old sink.new
+        (show_printing false element_rules (painted_host_view paint) bytes.now) result }
     ensures parts_begin { (accepted : Bool) (whole part : List ℕ)
         → IsShown element_rules (painted_host_view paint) bytes.now accepted whole
         → AreFirstLines element_rules (painted_host_view paint) bytes.now part
@@ -78,11 +73,8 @@ pub fn show_extended_to<S: Sink>(
     bytes: &[u8],
     sink: &mut S,
 ) -> Result<bool, Fault>
-    ensures printed { IfOk result (λ accepted. (text : List ℕ)
-        × IsShown extended_rules (extended_view paint) bytes.now accepted text
-        × WentOut S.writer sink.old sink.new text) }
-    ensures fault { IfErr result (λ fault. IsShowFault S.writer sink.old sink.new
-        extended_rules (extended_view paint) bytes.now fault) }
+    ensures printed { IsPrinted S.writer sink.old sink.new
+        (show_printing false extended_rules (extended_view paint) bytes.now) result }
     ensures parts_begin { (accepted : Bool) (whole part : List ℕ)
         → IsShown extended_rules (extended_view paint) bytes.now accepted whole
         → AreFirstLines extended_rules (extended_view paint) bytes.now part
@@ -95,11 +87,8 @@ pub fn show_extended_to<S: Sink>(
 ///
 /// The rest is said at `show_body_to`.
 pub fn show_answers_to<S: Sink>(alloc: Global, bytes: &[u8], sink: &mut S) -> Result<bool, Fault>
-    ensures printed { IfOk result (λ accepted. (text : List ℕ)
-        × IsShown answer_rules answer_view bytes.now accepted text
-        × WentOut S.writer sink.old sink.new text) }
-    ensures fault { IfErr result (λ fault. IsShowFault
-        S.writer sink.old sink.new answer_rules answer_view bytes.now fault) }
+    ensures printed { IsPrinted S.writer sink.old sink.new
+        (show_printing false answer_rules answer_view bytes.now) result }
     ensures parts_begin { (accepted : Bool) (whole part : List ℕ)
         → IsShown answer_rules answer_view bytes.now accepted whole
         → AreFirstLines answer_rules answer_view bytes.now part
@@ -117,11 +106,8 @@ pub fn show_extended_answers_to<S: Sink>(
     bytes: &[u8],
     sink: &mut S,
 ) -> Result<bool, Fault>
-    ensures printed { IfOk result (λ accepted. (text : List ℕ)
-        × IsShown extended_answer_rules told_view bytes.now accepted text
-        × WentOut S.writer sink.old sink.new text) }
-    ensures fault { IfErr result (λ fault. IsShowFault S.writer sink.old sink.new
-        extended_answer_rules told_view bytes.now fault) }
+    ensures printed { IsPrinted S.writer sink.old sink.new
+        (show_printing false extended_answer_rules told_view bytes.now) result }
     ensures parts_begin { (accepted : Bool) (whole part : List ℕ)
         → IsShown extended_answer_rules told_view bytes.now accepted whole
         → AreFirstLines extended_answer_rules told_view bytes.now part
@@ -143,11 +129,8 @@ pub fn show_body_to<B: Shown, S: Sink>(
     bytes: &[u8],
     sink: &mut S,
 ) -> Result<bool, Fault>
-    ensures printed { IfOk result (λ accepted. (text : List ℕ)
-        × IsShown B.rules (in_paint B.view B.Ends paint) bytes.now accepted text
-        × WentOut S.writer sink.old sink.new text) }
-    ensures fault { IfErr result (λ fault. IsShowFault S.writer sink.old sink.new
-        B.rules (in_paint B.view B.Ends paint) bytes.now fault) }
+    ensures printed { IsPrinted S.writer sink.old sink.new
+        (show_printing false B.rules (in_paint B.view B.Ends paint) bytes.now) result }
     ensures parts_begin { (accepted : Bool) (whole part : List ℕ)
         → IsShown B.rules (in_paint B.view B.Ends paint) bytes.now accepted whole
         → AreFirstLines B.rules (in_paint B.view B.Ends paint) bytes.now part
@@ -175,11 +158,8 @@ pub fn show_so_far_to<B: Shown, S: Sink>(
     bytes: &[u8],
     sink: &mut S,
 ) -> Result<bool, Fault>
-    ensures printed { IfOk result (λ accepted. (text : List ℕ)
-        × IsShownSoFar B.rules (in_paint B.view B.Ends paint) bytes.now accepted text
-        × WentOut S.writer sink.old sink.new text) }
-    ensures fault { IfErr result (λ fault. IsSoFarFault S.writer sink.old sink.new
-        B.rules (in_paint B.view B.Ends paint) bytes.now fault) }
+    ensures printed { IsPrinted S.writer sink.old sink.new
+        (show_printing true B.rules (in_paint B.view B.Ends paint) bytes.now) result }
     ensures parts_begin { (accepted : Bool) (whole part : List ℕ)
         → IsShownSoFar B.rules (in_paint B.view B.Ends paint) bytes.now accepted whole
         → AreFirstLines B.rules (in_paint B.view B.Ends paint) bytes.now part
@@ -205,11 +185,8 @@ pub fn show_with<B: Shown, S: Sink>(
     bytes: &[u8],
     sink: &mut S,
 ) -> Result<bool, Fault>
-    ensures printed { IfOk result (λ accepted. (text : List ℕ)
-        × IsShownWith so_far B.rules (in_paint B.view B.Ends paint) bytes.now accepted text
-        × WentOut S.writer sink.old sink.new text) }
-    ensures fault { IfErr result (λ fault. IsShowFaultWith S.writer sink.old sink.new
-        B.rules (in_paint B.view B.Ends paint) so_far bytes.now fault) }
+    ensures { IsPrinted S.writer sink.old sink.new
+        (show_printing so_far B.rules (in_paint B.view B.Ends paint) bytes.now) result }
 {
     if so_far {
         show_so_far_to::<B, S>(alloc, paint, bytes, sink)

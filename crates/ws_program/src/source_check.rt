@@ -1,8 +1,13 @@
 //! Checks of what a source gives, through a buffer, where standard output may have been closed.
-ghost use Rattle.std.specs.Prelude.{◌≡◌, ◌≢◌, ◌⊎◌, [], List, ℕ, Bool, true, false, IfOk, IfErr};
-ghost use Rattle.ws_program.specs.Answering.{HasCheckedBy, IsCheckFaultBy};
-ghost use Rattle.ws_program.specs.SourceChecks.{HasRefusalBy, GaveEnough, FailedBefore, command_outcome};
-ghost use Rattle.ws_code.specs.declared.fault.Fault.TheVariants as device;
+ghost use Rattle.std.specs.Prelude.{◌≡◌, ◌≢◌, ◌⊎◌, [], List, ℕ, None};
+ghost use Rattle.ws_program.specs.Actions.{IsCarriedOut};
+ghost use Rattle.ws_program.specs.Answering.{sender_parts};
+ghost use Rattle.ws_program.specs.Checking.{check_printing};
+ghost use Rattle.ws_program.specs.SourceChecks.{HasRefusal, GaveEnough, FailedBefore, command_outcome};
+ghost use Rattle.ws_program.specs.Streams.{openly};
+ghost use Rattle.ws_program.specs.declared.words.command_line.Asked.TheVariants.{Check};
+ghost use Rattle.ws_program.specs.declared.words.command_line.StreamForm.TheVariants.{Raw};
+ghost use Rattle.ws_text.specs.Printed.{IsPrinted};
 
 use crate::check::check_from;
 use std::num::NonZeroU16;
@@ -24,19 +29,13 @@ pub fn check_source_openly<R: Source, S: Sink>(
     sink: &mut BufferedSink<S>,
 ) -> Result<bool, RunFault>
     requires empty { sink.old.held ≡ [] }
-    // What is printed of the bytes that were read.
-    ensures done { IfOk result (λ accepted. (streams.output ≡ true) × ((bytes : List ℕ)
-        × GaveEnough R.reader source.old source.new (HasRefusalBy from) bytes
-        × HasCheckedBy S.writer sink.old.sink sink.new.sink from bytes accepted)) }
-    // Why not, and what stands then.
-    ensures read { result ≡ Err RunFault.Read → (sink.new.sink ≡ sink.old.sink)
-        × FailedBefore R.reader source.old source.new (HasRefusalBy from) }
-    ensures write { result ≡ Err RunFault.Write → (bytes : List ℕ)
-        × GaveEnough R.reader source.old source.new (HasRefusalBy from) bytes
-        × (IsCheckFaultBy S.writer sink.old.sink sink.new.sink from bytes device.Write
-        ⊎ ((streams.output ≡ false) × ((accepted : Bool)
-        × HasCheckedBy S.writer sink.old.sink sink.new.sink from bytes accepted))) }
-    ensures only { IfErr result (λ fault. (fault ≡ RunFault.Read) ⊎ (fault ≡ RunFault.Write)) }
+    // The source failed; or this is done with the bytes that were read, as with a raw input.
+    ensures { ((result ≡ Err RunFault.Read) × (sink.new.sink ≡ sink.old.sink)
+        × FailedBefore R.reader source.old source.new (HasRefusal (sender_parts from).rules))
+        ⊎ ((bytes : List ℕ)
+        × GaveEnough R.reader source.old source.new (HasRefusal (sender_parts from).rules) bytes
+        × IsCarriedOut S.writer sink.old.sink sink.new.sink
+        (openly streams.output (Check None Raw cut from) bytes) result) }
 {
     let outcome = check_sender::<R, BufferedSink<S>>(cut.get(), from, source, sink);
     match sink.flush() {
@@ -65,17 +64,13 @@ fn check_sender<R: Source, S: Sink>(
     sink: &mut S,
 ) -> Result<bool, Fault>
     requires { cut ≢ 0 }
-    // What is printed of the bytes that were read.
-    ensures printed { IfOk result (λ accepted. (bytes : List ℕ)
-        × GaveEnough R.reader source.old source.new (HasRefusalBy from) bytes
-        × HasCheckedBy S.writer sink.old sink.new from bytes accepted) }
-    // Why not, and what stands then.
-    ensures read { result ≡ Err Fault.Read → (sink.new ≡ sink.old)
-        × FailedBefore R.reader source.old source.new (HasRefusalBy from) }
-    ensures write { result ≡ Err Fault.Write → (bytes : List ℕ)
-        × GaveEnough R.reader source.old source.new (HasRefusalBy from) bytes
-        × IsCheckFaultBy S.writer sink.old sink.new from bytes Fault.Write }
-    ensures only { IfErr result (λ fault. (fault ≡ Fault.Read) ⊎ (fault ≡ Fault.Write)) }
+    // The source failed; or this is printed of the bytes that were read.
+    ensures { ((result ≡ Err Fault.Read) × (sink.new ≡ sink.old)
+        × FailedBefore R.reader source.old source.new (HasRefusal (sender_parts from).rules))
+        ⊎ ((bytes : List ℕ)
+        × GaveEnough R.reader source.old source.new (HasRefusal (sender_parts from).rules) bytes
+        × IsPrinted S.writer sink.old sink.new
+        (check_printing (sender_parts from).rules bytes) result) }
 {
     match from {
         Sender::Host => check_from::<Commands, R, S>(source, cut, sink),

@@ -1,21 +1,14 @@
-use Rattle.std.proofs.Common.{refl, subst, ◌∙◌}
+use Rattle.std.proofs.Common.{◌∙◌}
 use Rattle.ws_record.specs.Encode.{plain_spelling}
-use Rattle.ws_text.specs.Printing.{IsOut}
-use Rattle.ws_text.specs.declared.output.Output.{Output}
-use Rattle.ws_text.proofs.Prints.{prints_same, whole_out}
+use Rattle.ws_program.proofs.Printings.{made_open, made_failed}
 use Rattle.ws_program.proofs.make.make_bytes_to.Goals as goal
 
-pub returns-in-Open-clause-ok : goal.returns-in-Open-clause-ok
-returns-in-Open-clause-ok g c =
-    subst (λ (o : Output). IsOut g.S.Sink.writer c.args.sink.now c.put.new.sink o
-    (plain_spelling g.B.Code.rules c.args.items.now)) c.in-Open.is
-    (whole_out (prints_same (c.as_slice.ensures.value ∙ c.in_ok-bytes.ensures.ok) c.put.ensures))
+pub returns-in-Open : goal.returns-in-Open
+returns-in-Open g c = made_open g.S.Sink.writer c.args.sink.now c.put.new.sink c.as_slice.result.now
+    (plain_spelling g.B.Code.rules c.args.items.now) c.put.result (c.as_slice.ensures.value ∙ c.in_ok-bytes.ensures.ok)
+    c.put.ensures c.in-Open.is
 
-pub returns-clause-fault : goal.returns-clause-fault
-returns-clause-fault g c = (
-  plain_spelling g.B.Code.rules c.args.items.now,
-  refl,
-  subst (λ (o : Output). IsOut g.S.Sink.writer c.args.sink.now c.put.new.sink o
-      (plain_spelling g.B.Code.rules c.args.items.now)) c.in-Failed.is
-      (whole_out (prints_same (c.as_slice.ensures.value ∙ c.in_ok-bytes.ensures.ok) c.put.ensures)),
-)
+pub returns : goal.returns
+returns g c = made_failed g.S.Sink.writer c.args.sink.now c.put.new.sink c.as_slice.result.now
+    (plain_spelling g.B.Code.rules c.args.items.now) c.put.result (c.as_slice.ensures.value ∙ c.in_ok-bytes.ensures.ok)
+    c.put.ensures c.in-Failed.is

@@ -1,0 +1,13 @@
+use Rattle.ws_program.proofs.program.answer.Goals as goal
+
+pub returns-in-Show : goal.returns-in-Show
+returns-in-Show g c = rw c.in-Show.is c.show_input.ensures
+
+pub returns-then-tcp : goal.returns-then-tcp
+returns-then-tcp g c = rw (c.in-Play.is, c.if-tcp.true) c.play_script_by_tcp.ensures
+
+pub returns-else-tcp : goal.returns-else-tcp
+returns-else-tcp g c = rw (c.in-Play.is, c.if-tcp.false) c.play_script.ensures
+
+pub returns-in-Make : goal.returns-in-Make
+returns-in-Make g c = rw c.in-Make.is c.make_sent.ensures
