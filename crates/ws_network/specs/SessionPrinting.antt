@@ -13,8 +13,8 @@ use Rattle.ws_live.specs.declared.live.Ran.{Ran}
 use Rattle.ws_network.specs.InputLines.{IsInputFault}
 
 -- the lines are those of a script, where there is one
-abbrev pub AreScriptLines : {L : Type 0} → Option (Bor (List L)) → List L → Type 0
-AreScriptLines script lines = MatchOption script (Unit {0}) (λ asked. lines ≡ asked.now)
+abbrev pub AreScripted : {L : Type 0} → Option (Bor (List L)) → List L → Type 0
+AreScripted script lines = MatchOption script (Unit {0}) (λ asked. lines ≡ asked.now)
 
 -- what is told of lines is whether all went well
 abbrev pub TellsWell : Ran → Bool → Type 0

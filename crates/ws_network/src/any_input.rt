@@ -5,7 +5,7 @@ ghost use Rattle.ws_code.specs.Device.{on_devices};
 ghost use Rattle.ws_any_host.specs.declared.any_line.AnyLine.{AnyLine as AnAnyLine};
 ghost use Rattle.ws_any_host.specs.declared.any_line.AnyLine.TheVariants.{Await};
 ghost use Rattle.ws_network.specs.AnySessions.{RunsAny};
-ghost use Rattle.ws_network.specs.SessionPrinting.{AreScriptLines, IsPrintedBehind, serve_printing};
+ghost use Rattle.ws_network.specs.SessionPrinting.{AreScripted, IsPrintedBehind, serve_printing};
 
 use crate::live_input::carry_session;
 use crate::timer::LineWatch;
@@ -39,7 +39,7 @@ where
     requires empty { out.old.held ≡ [] }
     // What was printed, and how it ended.
     ensures printed { (lines : List AnAnyLine)
-        × AreScriptLines script.entry lines
+        × AreScripted script.entry lines
         × IsPrintedBehind O.writer out.old.sink out.new.sink (serve_printing
         (RunsAny (on_devices K.writer S.reader) W.tells W.begins W.begun) Await ready
         ((attached.old, ahead.old), watch.old) lines ((attached.new, ahead.new), watch.new)

@@ -6,7 +6,7 @@ ghost use Rattle.ws_live.specs.live.ConnectText.{StationDoes};
 ghost use Rattle.ws_live.specs.live.Operating.{live_display};
 ghost use Rattle.ws_live.specs.live.Waits.{InTime, watch_tells};
 ghost use Rattle.ws_live.specs.live.LiveText as Spec;
-ghost use Rattle.ws_network.specs.SessionPrinting.{AreScriptLines, TellsWell, IsPrintedBehind, serve_printing, session_printing};
+ghost use Rattle.ws_network.specs.SessionPrinting.{AreScripted, TellsWell, IsPrintedBehind, serve_printing, session_printing};
 ghost use Rattle.ws_live.specs.live.ServeText.{HostRunsInTime};
 ghost use Rattle.ws_live.specs.declared.live.connect_line.StationLine.{StationLine as AStationLine};
 ghost use Rattle.ws_live.specs.declared.live.serve_line.HostLine.{HostLine as AHostLine};
@@ -51,7 +51,7 @@ where
     requires works { attached.old.broken ≡ false }
     requires empty { out.old.held ≡ [] }
     ensures printed { (lines : List (AStationLine D.Key))
-        × AreScriptLines script.entry lines
+        × AreScripted script.entry lines
         × IsPrinted O.writer out.old.sink out.new.sink (session_printing (StationDoes
         (live_display D.Commands.rules D.does D.operated D.Key.words) (on_devices K.writer S.reader)
         (watch_tells W.tells W.rests) W.begins W.begun paint ready) ready
@@ -91,7 +91,7 @@ where
     requires empty { out.old.held ≡ [] }
     // What was printed, and how it ended.
     ensures printed { (lines : List AHostLine)
-        × AreScriptLines script.entry lines
+        × AreScripted script.entry lines
         × IsPrintedBehind O.writer out.old.sink out.new.sink (serve_printing
         (HostRunsInTime (on_devices K.writer S.reader) W.tells W.begins W.begun) Await ready
         ((attached.old, ahead.old), watch.old) lines ((attached.new, ahead.new), watch.new)
@@ -143,7 +143,7 @@ where
     requires empty { out.old.held ≡ [] }
     // What was printed, and how it ended.
     ensures printed { (lines : List L)
-        × AreScriptLines script.entry lines
+        × AreScripted script.entry lines
         × IsPrinted O.writer out.old.sink out.new.sink (session_printing (Spec.WithClosing
         (InTime (L.runs W.tells W.rests paint) L.waits W.begins W.begun) ready) ready
         ((attached.old, ahead.old), watch.old) lines ((attached.new, ahead.new), watch.new)

@@ -3,7 +3,7 @@ ghost use Rattle.std.specs.Prelude.{◌≡◌, ◌++◌, [], ℕ, List, Bool, So
 ghost use Rattle.std.specs.Option.{is_none};
 ghost use Rattle.ws_code.specs.Device.{WentOut};
 ghost use Rattle.ws_network.specs.AnySessions.{IsAnyServed};
-ghost use Rattle.ws_network.specs.SessionPrinting.{AreScriptLines};
+ghost use Rattle.ws_network.specs.SessionPrinting.{AreScripted};
 ghost use Rattle.ws_network.specs.ManySessions.{AreMany, HasServedBy, number_line, session_line};
 ghost use Rattle.ws_network.specs.Sessions.{IsServed};
 ghost use Rattle.ws_text.specs.Printing.{Prints};
@@ -52,7 +52,7 @@ pub trait ServedLine: LiveLine {
         requires empty { out.old.held ≡ [] }
         ensures held { out.new.held ≡ [] }
         ensures served { IfOk result (λ all_well. (lines : List Self) × (text : List ℕ)
-            × AreScriptLines script.entry lines
+            × AreScripted script.entry lines
             × served asked.now lines all_well text
             × WentOut O.writer out.old.sink out.new.sink text) };
 }
@@ -101,7 +101,7 @@ where
     O: Sink,
     requires empty { out.old.held ≡ [] }
     ensures { IfOk result (λ all_well. (lines : List L) × (first : List ℕ) × (text : List ℕ)
-        × AreScriptLines script.entry lines
+        × AreScripted script.entry lines
         × L.served asked.now lines all_well text
         × WentOut O.writer out.old.sink out.new.sink (first ++ text)) }
 {

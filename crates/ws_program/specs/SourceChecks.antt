@@ -7,12 +7,13 @@ use Rattle.ws_code.specs.declared.fault.Fault.{Fault}
 use Rattle.ws_code.specs.declared.reason.Reason.{Reason}
 use Rattle.ws_record.specs.Live.{Watching}
 use Rattle.ws_record.specs.Refusal.{IsRefused}
-use Rattle.ws_program.specs.Answering.{run_outcome}
+use Rattle.ws_program.specs.Answering.{run_outcome, sender_parts}
 use Rattle.ws_program.specs.Checking.{Counts}
 use Rattle.ws_program.specs.Streams.{closed_outcome}
 use Rattle.ws_program.specs.declared.check.Refusal.{Refusal}
 use Rattle.ws_program.specs.declared.check.Tally.{Tally}
 use Rattle.ws_live.specs.declared.asked.fault.RunFault.{RunFault}
+use Rattle.ws_live.specs.declared.asked.sender.Sender.{Sender}
 
 -- no byte is refused, and the tally is of the bytes' items; or this one is
 abbrev pub IsPieceTaken : {Place U : Type 0} → Rules Place U → Watching Place → Tally → List ℕ → Option Refusal → Type 0
@@ -22,6 +23,10 @@ IsPieceTaken rules live tally bytes (Some refusal) = IsRefused rules bytes refus
 -- a byte is refused
 abbrev pub HasRefusal : {Place U : Type 0} → Rules Place U → List ℕ → Type 0
 HasRefusal rules bytes = (place : ℕ) × (reason : Reason) × IsRefused rules bytes place reason
+
+-- a byte of a sender's stream is refused
+abbrev pub HasRefusalBy : Sender → List ℕ → Type 0
+HasRefusalBy sender = HasRefusal (sender_parts sender).rules
 
 -- what a command comes to that came to this, with an output or without
 abbrev pub command_outcome : Bool → Result Bool Fault → Result Bool RunFault

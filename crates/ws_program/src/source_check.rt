@@ -3,7 +3,7 @@ ghost use Rattle.std.specs.Prelude.{◌≡◌, ◌≢◌, ◌⊎◌, [], List, �
 ghost use Rattle.ws_program.specs.Actions.{IsCarriedOut};
 ghost use Rattle.ws_program.specs.Answering.{sender_parts};
 ghost use Rattle.ws_program.specs.Checking.{check_printing};
-ghost use Rattle.ws_program.specs.SourceChecks.{HasRefusal, GaveEnough, FailedBefore, command_outcome};
+ghost use Rattle.ws_program.specs.SourceChecks.{HasRefusalBy, GaveEnough, FailedBefore, command_outcome};
 ghost use Rattle.ws_program.specs.Streams.{openly};
 ghost use Rattle.ws_program.specs.declared.words.command_line.Asked.TheVariants.{Check};
 ghost use Rattle.ws_program.specs.declared.words.command_line.StreamForm.TheVariants.{Raw};
@@ -31,9 +31,9 @@ pub fn check_source_openly<R: Source, S: Sink>(
     requires empty { sink.old.held ≡ [] }
     // The source failed; or this is done with the bytes that were read, as with a raw input.
     ensures { ((result ≡ Err RunFault.Read) × (sink.new.sink ≡ sink.old.sink)
-        × FailedBefore R.reader source.old source.new (HasRefusal (sender_parts from).rules))
+        × FailedBefore R.reader source.old source.new (HasRefusalBy from))
         ⊎ ((bytes : List ℕ)
-        × GaveEnough R.reader source.old source.new (HasRefusal (sender_parts from).rules) bytes
+        × GaveEnough R.reader source.old source.new (HasRefusalBy from) bytes
         × IsCarriedOut S.writer sink.old.sink sink.new.sink
         (openly streams.output (Check None Raw cut from) bytes) result) }
 {
@@ -66,9 +66,9 @@ fn check_sender<R: Source, S: Sink>(
     requires { cut ≢ 0 }
     // The source failed; or this is printed of the bytes that were read.
     ensures { ((result ≡ Err Fault.Read) × (sink.new ≡ sink.old)
-        × FailedBefore R.reader source.old source.new (HasRefusal (sender_parts from).rules))
+        × FailedBefore R.reader source.old source.new (HasRefusalBy from))
         ⊎ ((bytes : List ℕ)
-        × GaveEnough R.reader source.old source.new (HasRefusal (sender_parts from).rules) bytes
+        × GaveEnough R.reader source.old source.new (HasRefusalBy from) bytes
         × IsPrinted S.writer sink.old sink.new
         (check_printing (sender_parts from).rules bytes) result) }
 {
