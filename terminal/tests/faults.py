@@ -244,7 +244,8 @@ def floods():
     t.type("\x1d")
     t.shows(1, "q  leave", "and so is ^]")
     t.type("x")
-    t.idles("where a host doesn't read")
+    # Till the line's buffers are full it answers.
+    t.idles("where a host doesn't read", within=30)
     t.rings("Attention without end", lambda: t.type("\x1ba" * 3000))
     t.tells("The host doesn't take what is sent: the key wasn't pressed.")
     t.type("34")

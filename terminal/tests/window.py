@@ -280,17 +280,24 @@ class Terminal:
         act()
         return self.until(lambda: self.window.bells > before, f"{what} rings")
 
-    def idles(self, what):
-        """The program waits, and takes no time of the processor."""
+    def idles(self, what, within=0):
+        """The program waits, and takes no time of the processor: at once, or within so many seconds."""
 
         def ticks():
             with open(f"/proc/{self.child.pid}/stat") as file:
                 return sum(int(word) for word in file.read().rpartition(")")[2].split()[11:13])
 
-        self.settle()
-        before = ticks()
-        self.settle(0.5)
-        return check(ticks() - before <= 0.1 * os.sysconf("SC_CLK_TCK"), f"it idles {what}", ticks() - before)
+        def taken():
+            self.settle()
+            before = ticks()
+            self.settle(0.5)
+            return ticks() - before
+
+        few, last = 0.1 * os.sysconf("SC_CLK_TCK"), time.monotonic() + within
+        now = taken()
+        while now > few and time.monotonic() < last:
+            now = taken()
+        return check(now <= few, f"it idles {what}", now)
 
     def settle(self, seconds=0.25):
         while self.read(seconds):
