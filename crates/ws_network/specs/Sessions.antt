@@ -22,7 +22,7 @@ use Rattle.ws_live.specs.script.ExtendedKeyNames.{extended_words}
 use Rattle.ws_live.specs.script.KeyWords.{KeyWords, profile_words}
 use Rattle.ws_live.specs.live.LiveScript.{AreLiveLines}
 use Rattle.ws_live.specs.live.Operating.{LiveDisplay, live_display, operated_profile}
-use Rattle.ws_live.specs.live.Waits.{InTime, watch_tells}
+use Rattle.ws_live.specs.live.Waits.{watch_tells}
 use Rattle.ws_live.specs.live.LiveText.{IsLiveText}
 use Rattle.ws_live.specs.live.ServeText.{HostRunsInTime}
 use Rattle.ws_live.specs.declared.live.connect_line.StationLine.{StationLine}

@@ -2,7 +2,6 @@ use Rattle.std.specs.Prelude.{Ok, Err}
 use Rattle.std.proofs.Common.{◌≡◌, ◌++◌, ◌∷◌, [], Bool, true, false, List, refl, sym, ap, ◌∙◌, subst, inl, inr}
 use Rattle.ws_code.proofs.DeviceLaws.{went_out_none}
 use Rattle.ws_text.specs.Printed.{IsPrinted}
-use Rattle.ws_live.specs.asked.RunFaults.{told_fault}
 use Rattle.ws_live.specs.declared.live.Ran.{Ran}
 use Rattle.ws_live.specs.live.LiveText.{HaveRun, WithClosing, line_printing, ran_and, ran_by}
 use Rattle.ws_live.specs.live.Waits.{InTime}
