@@ -79,10 +79,12 @@ impl AnyOptions {
     // Takes a name.
     fn take_name(&mut self, name: &[u8]) -> Result<Reply, Reason>
         requires short { length name.now < 64 }
-        ensures answer { (sub : ASub) → host.name_in sub ≡ Some name.now → IfOk result (λ reply.
+        ensures answer { (sub : ASub) → host.name_in sub ≡ Some name.now
+            → IfOk result (λ reply.
             AnswersWith (any_answer self.old (Telnet.Sub sub)) self.new reply) }
-        ensures refused { (sub : ASub) → host.name_in sub ≡ Some name.now → IfErr result (λ reason.
-            (reason ≡ UnsupportedTerminal) × (any_answer self.old (Telnet.Sub sub) ≡ None)) }
+        ensures refused { (sub : ASub) → host.name_in sub ≡ Some name.now
+            → IfErr result (λ reason. (reason ≡ UnsupportedTerminal)
+            × (any_answer self.old (Telnet.Sub sub) ≡ None)) }
         ensures unchanged { OnErr result (self.new ≡ self.old) }
     {
         let was_known = self.options.terminal().is_some();

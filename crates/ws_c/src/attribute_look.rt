@@ -113,8 +113,8 @@ fn monochrome_look(attribute: Attribute) -> LookTold
 pub extern "C" fn ws_c_attribute_look(attribute: u8, is_color: bool, look: &mut LookTold) -> u32
     ensures attribute { is_attribute attribute ≡ true → (result ≡ status_number Status.Done)
         × (look.new ≡ look_told is_color attribute) }
-    ensures other { is_attribute attribute ≡ false → (result ≡ status_number Status.BadArgument)
-        × (look.new ≡ no_look) }
+    ensures other { is_attribute attribute ≡ false
+        → (result ≡ status_number Status.BadArgument) × (look.new ≡ no_look) }
 {
     match Attribute::from_byte(attribute) {
         Some(attribute) => {

@@ -316,7 +316,8 @@ fn tell_end(ended: Result<(), Fault>, place: &mut u64) -> Status
 // Ends a decoder's stream.
 fn finish_decoder<C: Body>(decoder: &mut Live<C>, place: &mut u64) -> Status
     ensures { (ended : Result (Unit {0}) AFault)
-        × DecoderFinishedOn C.rules decoder.old decoder.new ended × IsEndTold ended result place.new }
+        × DecoderFinishedOn C.rules decoder.old decoder.new ended
+        × IsEndTold ended result place.new }
 {
     let ended = decoder.finish();
     tell_end(ended, place)
@@ -338,8 +339,8 @@ fn finish(alloc: Global, handle: &mut Handle, place: &mut u64) -> Status
 #[unsafe(no_mangle)]
 pub extern "C" fn ws_c_decoder_finish(alloc: Global, handle: &mut Handle, place: &mut u64) -> u32
     ensures { (status : AStatus) × (result ≡ status_number status)
-        × OnDecoders handle.old.owned.value handle.new.owned.value status (IsStreamEnd status place.new)
-        (IsExtendedStreamEnd status place.new) (place.new ≡ 0) }
+        × OnDecoders handle.old.owned.value handle.new.owned.value status
+        (IsStreamEnd status place.new) (IsExtendedStreamEnd status place.new) (place.new ≡ 0) }
 {
     finish(alloc, handle, place).number()
 }

@@ -97,8 +97,8 @@ fn field_at(screen: &Screen, index: usize) -> Option<Field>
 // Tells the text of a field by its index.
 fn tell_text(screen: &Screen, index: usize, buffer: &mut [u8], told: &mut Told) -> Status
     requires { told.old ≡ told_length 0 }
-    ensures { IsFieldTextTold (slice_get screen.now.fields index) screen.now result told.new buffer.old
-        buffer.new }
+    ensures { IsFieldTextTold (slice_get screen.now.fields index) screen.now result told.new
+        buffer.old buffer.new }
 {
     screen.known();
     match field_at(screen, index) {

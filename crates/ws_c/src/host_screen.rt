@@ -86,14 +86,16 @@ pub extern "C" fn ws_c_host_cells(
     last_row: u8,
     cells: &mut [CellTold],
 ) -> u32
-    ensures cells { AreRowNumbers first_row last_row → cells_in first_row last_row ≤ length cells.old
+    ensures cells { AreRowNumbers first_row last_row
+        → cells_in first_row last_row ≤ length cells.old
         → (status : AStatus) × (result ≡ status_number status)
         × OnHost handle.old.owned.value handle.new.owned.value status
         (λ old new. (new ≡ old) × (status ≡ Status.Done)
         × (cells.new ≡ rows_told old.end.screen first_row last_row
         ++ drop (cells_in first_row last_row) cells.old))
         (cells.new ≡ cells.old) }
-    ensures off { ¬ AreRowNumbers first_row last_row → (result ≡ status_number Status.BadArgument)
+    ensures off { ¬ AreRowNumbers first_row last_row
+        → (result ≡ status_number Status.BadArgument)
         × (handle.new ≡ handle.old) × (cells.new ≡ cells.old) }
     ensures room { AreRowNumbers first_row last_row
         → length cells.old < cells_in first_row last_row → (result ≡ status_number Status.NoRoom)

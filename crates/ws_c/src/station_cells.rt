@@ -133,14 +133,16 @@ pub extern "C" fn ws_c_station_cells(
     last_row: u8,
     cells: &mut [CellTold],
 ) -> u32
-    ensures cells { AreRowNumbers first_row last_row → cells_in first_row last_row ≤ length cells.old
+    ensures cells { AreRowNumbers first_row last_row
+        → cells_in first_row last_row ≤ length cells.old
         → (status : AStatus) × (result ≡ status_number status)
         × OnScreen handle.old.owned.value handle.new.owned.value status
         (λ screen. (status ≡ Status.Done)
         × (cells.new ≡ rows_told screen first_row last_row
         ++ drop (cells_in first_row last_row) cells.old))
         (cells.new ≡ cells.old) }
-    ensures off { ¬ AreRowNumbers first_row last_row → (result ≡ status_number Status.BadArgument)
+    ensures off { ¬ AreRowNumbers first_row last_row
+        → (result ≡ status_number Status.BadArgument)
         × (handle.new ≡ handle.old) × (cells.new ≡ cells.old) }
     ensures room { AreRowNumbers first_row last_row
         → length cells.old < cells_in first_row last_row → (result ≡ status_number Status.NoRoom)

@@ -49,7 +49,8 @@ impl<'a, C: Clock> Recording<'a, C> {
     /// What a session came to, whose pieces were recorded: `Write` where the file couldn't be written.
     pub fn judge(&self, outcome: Result<bool, ToldFault>) -> Result<bool, ToldFault>
         ensures done { IfOk result (λ all_well. outcome ≡ Ok all_well) }
-        ensures fault { IfErr result (λ fault. (fault ≡ told.Run run.Write) ⊎ (outcome ≡ Err fault)) }
+        ensures fault { IfErr result (λ fault.
+            (fault ≡ told.Run run.Write) ⊎ (outcome ≡ Err fault)) }
     {
         if self.has_failed.get() {
             return Err(ToldFault::Run(RunFault::Write));
