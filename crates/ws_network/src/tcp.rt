@@ -2,7 +2,8 @@ ghost use Rattle.std.specs.Prelude.{◌≡◌, List as Seq, IfOk, IfErr};
 ghost use Rattle.ws_code.specs.declared.fault.Fault.{Fault as AFault};
 ghost use Rattle.ws_code.specs.Device.{on_devices};
 ghost use Rattle.ws_session.specs.world.Carried.{HasRunOver};
-ghost use Rattle.ws_session.specs.world.Crossings.{Crossing, HaveCrossed, AreEnded};
+ghost use Rattle.ws_session.specs.world.Carrying.{passage};
+ghost use Rattle.ws_session.specs.world.Crossings.{Crossing, HaveCrossed, AreEnded, passages};
 ghost use Rattle.ws_session.specs.world.TwoLines.{HasRun};
 ghost use Rattle.ws_network.specs.TcpFaults.{tcp_fault, tcp_run_fault};
 
@@ -119,8 +120,8 @@ pub fn play_over<S: Sink, R: Source, T: Sink, Q: Source>(
         (λ downs. HaveCrossed (on_devices S.writer R.reader) down.old downs down.new)
         (λ ups. HaveCrossed (on_devices T.writer Q.reader) up.old ups up.new)) }
     ensures fault { IfErr result (λ told. (fault : AFault) × (told ≡ tcp_fault fault)
-        × AreEnded (on_devices S.writer R.reader) (on_devices T.writer Q.reader)
-        down.old down.new up.old up.new fault) }
+        × AreEnded (passages (passage (on_devices S.writer R.reader) down.old down.new)
+        (passage (on_devices T.writer Q.reader) up.old up.new)) fault) }
 {
     Ok(World::run_carried(alloc, terminal, moves, down, up)?)
 }

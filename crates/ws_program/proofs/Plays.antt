@@ -9,6 +9,7 @@ use Rattle.ws_session.specs.host_end.HostLeads.{HostParts}
 use Rattle.ws_session.specs.station.StationLeads.{StationParts}
 use Rattle.ws_session.specs.station.StationSide.{screen_at}
 use Rattle.ws_session.specs.world.Crossings.{Crossing}
+use Rattle.ws_session.specs.declared.world.Report.{Report}
 use Rattle.ws_session.specs.world.Reports.{IsReport}
 use Rattle.ws_session.specs.world.TwoLines.{TwoEnds, HasRun}
 use Rattle.ws_session.specs.world.World.{World, new_world, after_moves}
@@ -35,23 +36,21 @@ carried_err {S} {A} {E} writer from to action result given fault is same h =
 
 -- What is told of a session is its report's.
 
-pub session_text : (moves given : List Move) (events : List Event) (station : StationParts) (host : HostParts)
-    (down up : List ℕ) (paint : Paint) (screen : Bool) (text : List ℕ) → given ≡ moves
-    → IsReport events station host down up (after_moves (new_world Ibm3179Model2) given)
-    → IsPaintedPlayText paint events station.screen.screen screen text → IsSessionText paint
+pub session_text : (moves given : List Move) (report : Report) (paint : Paint) (screen : Bool) (text : List ℕ)
+    → given ≡ moves → IsReport report (after_moves (new_world Ibm3179Model2) given)
+    → IsPaintedPlayText paint report.events report.station.screen.screen screen text → IsSessionText paint
     (after_moves (new_world Ibm3179Model2) moves) screen text
-session_text moves given events station host down up paint screen text same r t =
+session_text moves given report paint screen text same r t =
     let w : World = after_moves (new_world Ibm3179Model2) given in
     let told : IsPaintedPlayText paint w.events (screen_at w.station) screen text = subst
     (λ (s : ScreenParts). IsPaintedPlayText paint w.events s screen text) r.screen
-    (subst (λ (es : List Event). IsPaintedPlayText paint es station.screen.screen screen text) r.events t) in
+    (subst (λ (es : List Event). IsPaintedPlayText paint es report.station.screen.screen screen text) r.events t) in
     subst (λ (ms : List Move). IsSessionText paint (after_moves (new_world Ibm3179Model2) ms) screen text) same told
 
-pub session_well : (moves given : List Move) (events : List Event) (station : StationParts) (host : HostParts)
-    (down up : List ℕ) → given ≡ moves
-    → IsReport events station host down up (after_moves (new_world Ibm3179Model2) given) → no_end_refuses events
+pub session_well : (moves given : List Move) (report : Report) → given ≡ moves
+    → IsReport report (after_moves (new_world Ibm3179Model2) given) → no_end_refuses report.events
     ≡ no_end_refuses (after_moves (new_world Ibm3179Model2) moves).events
-session_well moves given events station host down up same r = ap no_end_refuses r.events
+session_well moves given report same r = ap no_end_refuses r.events
     ∙ ap (λ (ms : List Move). no_end_refuses (after_moves (new_world Ibm3179Model2) ms).events) same
 
 -- a session of the moves that were given is one of the script's

@@ -147,7 +147,7 @@ pub use Rattle.ws_session.specs.station.Answered.{host_answers}
 pub use Rattle.ws_session.specs.station.Moments.{Presses, outcome, due, later, Moment, Outcome, idle_outcome}
 pub use Rattle.ws_session.specs.station.Moments.{outcome_of_both, at_item, at_moment, AreTaken, records_in_item}
 pub use Rattle.ws_session.specs.station.Moments.{moments_from, moments, at_key}
-pub use Rattle.ws_session.specs.station.StationLeads.{AtStation, StationParts, StationLeads, IsPushed, IsKeyed}
+pub use Rattle.ws_session.specs.station.StationLeads.{AtStation, StationParts, StationLeads}
 pub use Rattle.ws_session.specs.station.StationLeads.{is_record, records_in, keeps_body}
 pub use Rattle.ws_session.specs.station.StationSide.{StationSide, opcode_events, after_record, after_key, screen_at}
 pub use Rattle.ws_session.specs.station.StationSide.{opcode_answer, station_applies, station_takes, KeyReaction}
@@ -158,6 +158,7 @@ pub use Rattle.ws_session.specs.world.Crossings.{Crossing, with_piece_at, AreFai
 pub use Rattle.ws_session.specs.world.Crossings.{IsStopped, IsEnded, AreEnded}
 pub use Rattle.ws_session.specs.world.Deliveries.{delivery, three_deliveries}
 pub use Rattle.ws_session.specs.world.Refusals.{is_refusal, refusals_in}
+pub use Rattle.ws_session.specs.declared.world.Report.{Report}
 pub use Rattle.ws_session.specs.world.Reports.{IsReport, IsOpened}
 pub use Rattle.ws_session.specs.world.Runs.{AreWritable, WorldParts, RunsWith, Runs, IsKey}
 pub use Rattle.ws_session.specs.world.Through.{HasRefusedIn, Through}

@@ -15,6 +15,7 @@ use Rattle.ws_session.specs.station.StationNews.{StopsWithinOn}
 use Rattle.ws_session.specs.station.Stations.{LeadsOn}
 use Rattle.ws_session.proofs.Feedings.{come_weaker, value_at}
 use Rattle.ws_session.proofs.station.StationSteps.{is_led}
+use Rattle.ws_session.specs.Acts.{ways}
 
 -- A piece at an end, as acts: so many of its bytes came.
 
@@ -58,16 +59,16 @@ module _ {Place PlaceV Side U V Deed Event E : Type 0} (rules : Rules Place U) (
   abbrev Led : (List ℕ → List (Item U) → Side → Type 0) → List ℕ → List Event → Type 0
   Led Then reply told = (bytes : List ℕ) (items : List (Item U)) (side : Side) → leads old bytes items side
       → length bytes + length part < 2 ^ 64
-      → HasGone rules out manner Then bytes items side (all_came {Deed = Deed} (take used part)) reply told
+      → HasGone (ways rules out manner) Then bytes items side (all_came {Deed = Deed} (take used part)) reply told
 
   gone_by : (Then : List ℕ → List (Item U) → Side → Type 0) (reply : List ℕ) (told : List Event) → Led Then reply told
       → (bytes : List ℕ) (items : List (Item U)) (side : Side) → leads old bytes items side
-      → HasGone rules out manner Then bytes items side (all_came {Deed = Deed} (take used piece)) reply told
+      → HasGone (ways rules out manner) Then bytes items side (all_came {Deed = Deed} (take used piece)) reply told
   gone_by Then reply told led bytes items side l = rw whole (rw (take-append-le used part more within)
       (led bytes items side l (omega (arith, fits, count old bytes items side l))))
 
   pub goes_by : (new : E) (reply : List ℕ) (told : List Event) → (is_shut old → ⊥) → Led (leads new) reply told
-      → Goes rules out manner leads is_shut old (all_came {Deed = Deed} (take used piece)) reply told new
+      → Goes (ways rules out manner) leads is_shut old (all_came {Deed = Deed} (take used piece)) reply told new
   goes_by new reply told works led = record {
     led = λ bytes items side l few. gone_by (leads new) reply told led bytes items side l;
     shut = λ shut. absurd (works shut);
@@ -76,16 +77,16 @@ module _ {Place PlaceV Side U V Deed Event E : Type 0} (rules : Rules Place U) (
   pub stops_by : (AtLast : List ℕ → List (Item U) → Side → Type 0) → Led AtLast [] []
       → (bytes : List ℕ) (items : List (Item U)) (side : Side) → leads old bytes items side
       → length bytes + length (take used piece) + 1 < 2 ^ 64
-      → HasGone rules out manner AtLast bytes items side (all_came {Deed = Deed} (take used piece)) [] []
+      → HasGone (ways rules out manner) AtLast bytes items side (all_came {Deed = Deed} (take used piece)) [] []
   stops_by AtLast led bytes items side l few = gone_by AtLast [] [] led bytes items side l
 
   pub silent_by : (Then : List ℕ → List (Item U) → Side → Type 0) (n : ℕ) → n < used
       → ((bytes : List ℕ) (items : List (Item U)) (side : Side) → leads old bytes items side
       → length bytes + length part < 2 ^ 64
-      → HasGone rules out manner Then bytes items side (all_came {Deed = Deed} (take n part)) [] [])
+      → HasGone (ways rules out manner) Then bytes items side (all_came {Deed = Deed} (take n part)) [] [])
       → (bytes : List ℕ) (items : List (Item U)) (side : Side) → leads old bytes items side
       → length bytes + length (take n piece) + 1 < 2 ^ 64
-      → HasGone rules out manner Then bytes items side (all_came {Deed = Deed} (take n piece)) [] []
+      → HasGone (ways rules out manner) Then bytes items side (all_came {Deed = Deed} (take n piece)) [] []
   silent_by Then n lt quiet bytes items side l few =
       rw whole (rw (take-append-le n part more (omega (arith, lt, within)))
       (quiet bytes items side l (omega (arith, fits, count old bytes items side l))))

@@ -4,6 +4,7 @@ use Rattle.ws_session.proofs.Common.{length-take-le, append-nil, take-take, Rule
 use Rattle.ws_session.proofs.Common.{bytes_on, Item, came_append, gone_on, bytes_came, Act, all_came, doing, items_of}
 use Rattle.ws_session.proofs.Common.{HasGone, Arrives, Manner, Happen, HoldsItems}
 use Rattle.ws_session.specs.Acts.{bytes_of}
+use Rattle.ws_session.specs.Acts.{ways}
 
 -- A piece of bytes at an end of a session, by its fronts.
 
@@ -79,7 +80,7 @@ module _ {Place PlaceV Side U V Deed Event : Type 0} (rules : Rules Place U) (ou
   -- the bytes come one after another, and then this holds
   abbrev pub AllCome : (List ℕ → List (Item U) → Side → Type 0) → List ℕ → List (Item U) → Side → List ℕ → List ℕ
       → List Event → Type 0
-  AllCome Then bytes items side came = HasGone rules out manner Then bytes items side (all_came {Deed = Deed} came)
+  AllCome Then bytes items side came = HasGone (ways rules out manner) Then bytes items side (all_came {Deed = Deed} came)
 
   -- what then holds, where nothing happens in a front
   silent_then : (Then : List ℕ → List (Item U) → Side → Type 0) (bytes : List ℕ) (items : List (Item U)) (side : Side)
@@ -143,7 +144,7 @@ module _ {Place PlaceV Side U V Deed Event : Type 0} (rules : Rules Place U) (ou
           → ((b : List ℕ) (its : List (Item U)) (s : Side) → Now b its s → length b ≡ length bytes + length
           (take i piece) → AllCome Then b its s (take k (left_of piece i)) reply told)
           → AllCome Then bytes items side (take (i + k) piece) reply told
-      then_taken Then k reply told next = rw (← came_on k) (gone_on rules out manner Now Then bytes items side
+      then_taken Then k reply told next = rw (← came_on k) (gone_on (ways rules out manner) Now Then bytes items side
           (all_came (take i piece)) (all_came (take k (left_of piece i))) [] reply [] told before (λ b its s l size.
           next b its s l (size ∙ ap (λ (x : List ℕ). length bytes + length x) (bytes_came Deed (take i piece)))))
 

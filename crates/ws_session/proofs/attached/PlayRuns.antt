@@ -8,6 +8,9 @@ use Rattle.ws_code.specs.declared.fault.Fault.TheVariants.{Read}
 use Rattle.ws_session.specs.declared.attached.run.Played.{Played}
 use Rattle.ws_session.proofs.attached.PlaySteps.{keys_taken}
 use Rattle.ws_session.proofs.attached.Plays.{text_of}
+use Rattle.ws_code.specs.Device.{on_devices}
+use Rattle.ws_session.specs.attached.StationRun.{asked, outflow}
+use Rattle.ws_session.specs.world.Carrying.{passage, line_of}
 
 -- What the reads of a run make of its player.
 
@@ -16,7 +19,7 @@ pub record Reading {R S : Type 0} (reader : Reader R) (source now : R) (reads : 
   pub bytes : List ℕ
   pub items : List (Item Element)
   pub gave : Gave reader source now reads bytes
-  pub come : HaveBroughtPlayer writer t keys sink player here bytes items
+  pub come : HaveBroughtPlayer (asked t keys) (outflow writer sink here) player bytes items
   pub few : length bytes ≤ 4096 * reads
 
 module _ {R S : Type 0} (reader : Reader R) (writer : Writer S) (t : TerminalType) (keys : List (ℕ × Key)) where
@@ -46,7 +49,7 @@ module _ {R S : Type 0} (reader : Reader R) (writer : Writer S) (t : TerminalTyp
 
   pub start_fails : (station : StationParts) (source : R) (sink here : S) → StationLeads station [] [] (new_station_side
       t) → FailedWithin writer sink here (text_of (outcome (new_station_side t) (due 0 keys)).written)
-      → IsRun t keys reader source source writer sink here (Err Write)
+      → IsRun (asked t keys) (passage (on_devices writer reader) (line_of sink source) (line_of here source)) (Err Write)
   start_fails station source sink here l failed = record {
     bytes = [];
     reads = 0;
@@ -73,18 +76,18 @@ module _ {R S : Type 0} (reader : Reader R) (writer : Writer S) (t : TerminalTyp
         → IfErr result (λ fault. (bytes : List ℕ) (items : List (Item Element)) (side : StationSide)
         → StationLeads player.station bytes items side → length bytes + 1 < 2 ^ 64
         → (fault ≡ Truncated (length bytes)) × IsTruncated {Place = Place} {U = Element} element_rules bytes)
-        → IsRun t keys reader source now' writer sink here result
+        → IsRun (asked t keys) (passage (on_devices writer reader) (line_of sink source) (line_of here now')) result
     run_ends now' room (Ok played) h made same ok err = record {
       bytes = r.bytes;
       items = r.items;
       gave = gave_all reader source now now' reads r.bytes room r.gave one_left h made same;
-      accepted = ok.2 r.bytes r.items (behind t keys r.items).side r.come.is_behind.leads;
+      accepted = ok.2 r.bytes r.items (behind (asked t keys) r.items).side r.come.is_behind.leads;
       is_behind = record { leads = rw ok.0 r.come.is_behind.leads; taken = r.come.is_behind.taken };
       refused = ok.1 ∙ r.come.refused;
       wrote = r.come.wrote;
     }
     run_ends now' room (Err fault) h made same ok err =
-        let e = err r.bytes r.items (behind t keys r.items).side r.come.is_behind.leads
+        let e = err r.bytes r.items (behind (asked t keys) r.items).side r.come.is_behind.leads
         (omega (arith, r.few, one_left)) in
         rw e.0 (record {
           bytes = r.bytes;
@@ -99,7 +102,7 @@ module _ {R S : Type 0} (reader : Reader R) (writer : Writer S) (t : TerminalTyp
 
     -- a read that failed
     pub run_unread : (now' : R) (room : ℕ) → reader.gives now room None now' → reader.failures now' ≡ one_more (reader.failures now)
-        → IsRun t keys reader source now' writer sink here (Err Read)
+        → IsRun (asked t keys) (passage (on_devices writer reader) (line_of sink source) (line_of here now')) (Err Read)
     run_unread now' room made counted = record {
       bytes = r.bytes;
       items = r.items;
@@ -126,8 +129,7 @@ module _ {R S : Type 0} (reader : Reader R) (writer : Writer S) (t : TerminalTyp
       fits = omega (arith, r.few, one_left, small)
 
       -- a piece that is taken
-      pub reads_on : (next : Player) (to : S) → ((items : List (Item Element)) × HaveBroughtPlayer writer t keys sink next
-          to (r.bytes ++ given) items) → Reading reader source now' (reads + 1) writer t keys sink to next
+      pub reads_on : (next : Player) (to : S) → ((items : List (Item Element)) × HaveBroughtPlayer (asked t keys) (outflow writer sink to) next (r.bytes ++ given) items) → Reading reader source now' (reads + 1) writer t keys sink to next
       reads_on next to come = record {
         bytes = r.bytes ++ given;
         items = come.0;
@@ -137,8 +139,8 @@ module _ {R S : Type 0} (reader : Reader R) (writer : Writer S) (t : TerminalTyp
       }
 
       -- and one that isn't
-      pub run_stops : (to : S) (fault : Fault) → IsRunFault t keys writer sink to (length r.bytes)
-          (r.bytes ++ given) fault → IsRun t keys reader source now' writer sink to (Err fault)
+      pub run_stops : (to : S) (fault : Fault) → IsRunFault (asked t keys) (outflow writer sink to) (length r.bytes)
+          (r.bytes ++ given) fault → IsRun (asked t keys) (passage (on_devices writer reader) (line_of sink source) (line_of to now')) (Err fault)
       run_stops to (Refused place reason) f = (
         record {
           first = r.bytes;
@@ -160,7 +162,7 @@ module _ {R S : Type 0} (reader : Reader R) (writer : Writer S) (t : TerminalTyp
 pub run_endless : {R S : Type 0} (reader : Reader R) (writer : Writer S)
     (t : TerminalType) (keys : List (ℕ × Key)) (source now : R) (reads : ℕ) (sink here : S) (player : Player)
     → Reading reader source now reads writer t keys sink here player
-    → reads ≡ most_reads → IsRun t keys reader source now writer sink here (Err Read)
+    → reads ≡ most_reads → IsRun (asked t keys) (passage (on_devices writer reader) (line_of sink source) (line_of here now)) (Err Read)
 run_endless reader writer t keys source now reads sink here player r is = record {
   bytes = r.bytes;
   items = r.items;

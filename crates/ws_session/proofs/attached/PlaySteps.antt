@@ -14,6 +14,7 @@ use Rattle.ws_session.specs.station.StationNews.{IsFrontedOn}
 use Rattle.ws_session.specs.station.StationSide.{profile}
 use Rattle.ws_session.specs.station.Stations.{TakesItemOn}
 use Rattle.ws_session.proofs.attached.Plays.{outcome_append, text_append, later_by, none_due, text_of}
+use Rattle.ws_session.specs.attached.StationRun.{asked, outflow}
 
 -- What a front of a piece makes of a run's player.
 
@@ -77,9 +78,9 @@ one_of_record (TelnetItem token) ends is e = (let h : false ≡ true = sym is �
 module _ {S : Type 0} (writer : Writer S) (t : TerminalType) (keys : List (ℕ × Key))
     (start now : S) (old : Player) (before : StationParts) (bytes : List ℕ) (items : List (Item Element))
     (piece : List ℕ) (used : ℕ) (within : used ≤ length piece) (some : 0 < used)
-    (c : HaveBroughtPlayer writer t keys start (record old { station = before }) now bytes items) where
+    (c : HaveBroughtPlayer (asked t keys) (outflow writer start now) (record old { station = before }) bytes items) where
   abbrev so_far : Outcome
-  so_far = behind t keys items
+  so_far = behind (asked t keys) items
 
   abbrev longer : List ℕ
   longer = bytes ++ take used piece
@@ -89,15 +90,15 @@ module _ {S : Type 0} (writer : Writer S) (t : TerminalType) (keys : List (ℕ �
 
   -- no item is complete
   inside_comes : (reply : List ℕ) (to : S) → reply ≡ [] → StationLeads old.station longer items so_far.side
-      → WentOut writer now to reply → HaveBroughtPlayer writer t keys start old to longer items
+      → WentOut writer now to reply → HaveBroughtPlayer (asked t keys) (outflow writer start to) old longer items
   inside_comes reply to silent leads went = record {
     is_behind = record { leads = leads; taken = c.is_behind.taken };
     refused = c.refused;
     records = c.records;
     left = c.left;
     few = omega (arith, c.few, size);
-    wrote = rw (← (ap (λ z. run_text t keys items ++ z) silent ∙ append-nil (run_text t keys items)))
-        (went_out_both writer start now to (run_text t keys items) reply c.wrote went);
+    wrote = rw (← (ap (λ z. run_text (asked t keys) items ++ z) silent ∙ append-nil (run_text (asked t keys) items)))
+        (went_out_both writer start now to (run_text (asked t keys) items) reply c.wrote went);
   }
 
   module _ (reply : List ℕ)
@@ -114,7 +115,7 @@ module _ {S : Type 0} (writer : Writer S) (t : TerminalType) (keys : List (ℕ �
     abbrev keyed : Outcome
     keyed = outcome taken.next due_then
 
-    one_more : behind t keys more ≡ outcome_of_both so_far (outcome_of_both did keyed)
+    one_more : behind (asked t keys) more ≡ outcome_of_both so_far (outcome_of_both did keyed)
     one_more = ap (outcome (new_station_side t)) (moments_more 0 keys items _)
         ∙ outcome_append _ _ _ ∙ ap (λ r. let a : Outcome = at_item so_far.side r in
         outcome_of_both so_far (outcome_of_both a (outcome a.side due_then))) taken.goes_on
@@ -127,16 +128,16 @@ module _ {S : Type 0} (writer : Writer S) (t : TerminalType) (keys : List (ℕ �
               (records_from 0 items + records_in_item taken.item) (keys_left_from 0 keys items),
         ))
 
-    text_more : run_text t keys items ++ (reply ++ text_of keyed.written) ≡ run_text t keys more
-    text_more = ap (λ z. run_text t keys items ++ (z ++ text_of keyed.written)) taken.spelled
-        ∙ ap (λ z. run_text t keys items ++ z) (sym (text_append taken.writes keyed.written)) ∙ sym (text_append
+    text_more : run_text (asked t keys) items ++ (reply ++ text_of keyed.written) ≡ run_text (asked t keys) more
+    text_more = ap (λ z. run_text (asked t keys) items ++ (z ++ text_of keyed.written)) taken.spelled
+        ∙ ap (λ z. run_text (asked t keys) items ++ z) (sym (text_append taken.writes keyed.written)) ∙ sym (text_append
         so_far.written (taken.writes ++ keyed.written)) ∙ ap (λ (o : Outcome). text_of o.written) (sym one_more)
 
     -- an item is, and the keys that are due behind it are pressed
     item_comes : (records : ℕ) (new : Player) (mid to : S) → records ≡ old.records + records_in_item taken.item
         → WentOut writer now mid reply → HasDone writer longer more (record old { records = records })
         new mid to keyed → drop new.pressed keys ≡ later (records_from 0 items + records_in_item taken.item) (keys_left_from
-        0 keys items) → records_in_item taken.item ≤ 1 → HaveBroughtPlayer writer t keys start new to longer more
+        0 keys items) → records_in_item taken.item ≤ 1 → HaveBroughtPlayer (asked t keys) (outflow writer start to) new longer more
     item_comes records new mid to is went done left one = record {
       is_behind = record { leads = rw one_more done.leads; taken = taken_more };
       refused = done.refused so_far.refused c.refused ∙ ap refusal_count
@@ -146,12 +147,12 @@ module _ {S : Type 0} (writer : Writer S) (t : TerminalType) (keys : List (ℕ �
       left = left ∙ sym (left_more 0 keys items _);
       few = omega (arith, done.records, is, one, c.few, some, size);
       wrote = rw (← text_more)
-          (went_out_both writer start now to (run_text t keys items) (reply ++ text_of keyed.written) c.wrote
+          (went_out_both writer start now to (run_text (asked t keys) items) (reply ++ text_of keyed.written) c.wrote
           (went_out_both writer now mid to reply (text_of keyed.written) went done.wrote));
     }
 
-    unwritten : (to : S) → FailedWithin writer start to (run_text t keys more)
-        → RunUnwritten t keys writer start to (bytes ++ piece)
+    unwritten : (to : S) → FailedWithin writer start to (run_text (asked t keys) more)
+        → RunUnwritten (asked t keys) (outflow writer start to) (bytes ++ piece)
     unwritten to failed = record {
       before = longer;
       after = drop used piece;
@@ -165,16 +166,16 @@ module _ {S : Type 0} (writer : Writer S) (t : TerminalType) (keys : List (ℕ �
     }
 
     reply_unwritten : (to : S) → FailedWithin writer now to reply
-        → RunUnwritten t keys writer start to (bytes ++ piece)
+        → RunUnwritten (asked t keys) (outflow writer start to) (bytes ++ piece)
     reply_unwritten to failed = unwritten to (rw (← text_more) (failed_within_both writer start now to
-        (run_text t keys items) reply (text_of keyed.written) c.wrote failed))
+        (run_text (asked t keys) items) reply (text_of keyed.written) c.wrote failed))
 
     keys_unwritten : (mid to : S) → WentOut writer now mid reply → FailedWithin writer mid to
-        (text_of keyed.written) → RunUnwritten t keys writer start to (bytes ++ piece)
+        (text_of keyed.written) → RunUnwritten (asked t keys) (outflow writer start to) (bytes ++ piece)
     keys_unwritten mid to went failed =
-        let xs = run_text t keys items in
+        let xs = run_text (asked t keys) items in
         let ys = text_of keyed.written in
-        let text : (xs ++ reply) ++ (ys ++ []) ≡ run_text t keys more = append_assoc xs reply (ys ++ [])
+        let text : (xs ++ reply) ++ (ys ++ []) ≡ run_text (asked t keys) more = append_assoc xs reply (ys ++ [])
         ∙ ap (λ z. xs ++ (reply ++ z)) (append-nil ys) ∙ text_more in
         unwritten to (rw (← text) (failed_within_both writer start mid to
         (xs ++ reply) ys [] (went_out_both writer start now mid xs reply c.wrote went) failed))
@@ -188,7 +189,7 @@ module _ {S : Type 0} (writer : Writer S) (t : TerminalType) (keys : List (ℕ �
         (fronted : IsFrontedOn element_rules profile before old.station longer items so_far.side (Ok step)) where
       -- the reply isn't written
       pub reply_fails : (to : S) → FailedWithin writer now to step.reply
-          → RunUnwritten t keys writer start to (bytes ++ piece)
+          → RunUnwritten (asked t keys) (outflow writer start to) (bytes ++ piece)
       reply_fails to failed = elim fronted [
         | inl i ↦ (let none = rw i.0.silent at failed in
             absurd (let e : 0 < 0 = omega (arith, none.within) in omega (arith, e)))
@@ -197,7 +198,7 @@ module _ {S : Type 0} (writer : Writer S) (t : TerminalType) (keys : List (ℕ �
 
       -- it ends no record
       pub no_record : (to : S) → step.ends_record ≡ false → WentOut writer now to step.reply
-          → (next : List (Item Element)) × HaveBroughtPlayer writer t keys start old to longer next
+          → (next : List (Item Element)) × HaveBroughtPlayer (asked t keys) (outflow writer start to) old longer next
       no_record to e went = elim fronted [
         | inl i ↦ (items, inside_comes step.reply to i.0.silent i.0.leads went)
         | inr taken ↦ (let item : Item Element = taken.0.item in
@@ -241,7 +242,7 @@ module _ {S : Type 0} (writer : Writer S) (t : TerminalType) (keys : List (ℕ �
         pub record_comes : (new : Player) (to : S) → AtStation old.station (λ bytes items side. length bytes + 1
             < 2 ^ 64 → HasDone writer bytes items (record old { records = records }) new mid to (outcome side
             (due records (drop old.pressed keys)))) → drop new.pressed keys ≡ later records (drop old.pressed keys)
-            → (next : List (Item Element)) × HaveBroughtPlayer writer t keys start new to longer next
+            → (next : List (Item Element)) × HaveBroughtPlayer (asked t keys) (outflow writer start to) new longer next
         record_comes new to done left = elim fronted [
           | inl i ↦ absurd (let e : true ≡ false = sym ends ∙ i.1 in cc)
           | inr taken ↦ (let item : Item Element = taken.0.item in
@@ -256,7 +257,7 @@ module _ {S : Type 0} (writer : Writer S) (t : TerminalType) (keys : List (ℕ �
 
         pub keys_fail : (to : S) → AtStation old.station (λ bytes items side. length bytes + 1 < 2 ^ 64 → FailedWithin
             writer mid to (text_of (outcome side (due records (drop old.pressed keys))).written))
-            → RunUnwritten t keys writer start to (bytes ++ piece)
+            → RunUnwritten (asked t keys) (outflow writer start to) (bytes ++ piece)
         keys_fail to failed = elim fronted [
           | inl i ↦ absurd (let e : true ≡ false = sym ends ∙ i.1 in cc)
           | inr taken ↦ keys_unwritten step.reply taken.0 mid to went
@@ -267,10 +268,10 @@ module _ {S : Type 0} (writer : Writer S) (t : TerminalType) (keys : List (ℕ �
 -- the byte behind a front is refused, or its item
 pub refused_as : {S : Type 0} (writer : Writer S) (t : TerminalType) (keys : List (ℕ × Key))
     (start now : S) (old : Player) (new : StationParts) (bytes : List ℕ) (items : List (Item Element))
-    → HaveBroughtPlayer writer t keys start old now bytes items → (piece front : List ℕ) (byte : ℕ) (rest : List ℕ)
+    → HaveBroughtPlayer (asked t keys) (outflow writer start now) old bytes items → (piece front : List ℕ) (byte : ℕ) (rest : List ℕ)
     → piece ≡ front ++ byte ∷ rest → HoldsItems element_rules (bytes ++ front) items → (refusal : Refusal)
-    → IsFrontedOn element_rules profile old.station new (bytes ++ (front ++ byte ∷ [])) items (behind t keys items).side
-    (Err refusal) → IsRunFault t keys writer start now (length bytes) (bytes ++ piece) (fault_of refusal)
+    → IsFrontedOn element_rules profile old.station new (bytes ++ (front ++ byte ∷ [])) items (behind (asked t keys) items).side
+    (Err refusal) → IsRunFault (asked t keys) (outflow writer start now) (length bytes) (bytes ++ piece) (fault_of refusal)
 refused_as writer t keys start now old new bytes items c piece front byte rest split held (At place reason) f =
     let upto : (bytes ++ front) ++ byte ∷ [] ≡ bytes ++ (front ++ byte ∷ []) = append_assoc bytes front (byte ∷ []) in
     let at : place ≡ length (bytes ++ front) =
@@ -294,8 +295,7 @@ refused_as writer t keys start now old new bytes items c piece front byte rest s
 
 -- a fault of a last read is one where that read began earlier
 pub fault_within : (t : TerminalType) (keys : List (ℕ × Key)) {S : Type 0} (writer : Writer S)
-    (start now : S) (first first' : ℕ) (bytes : List ℕ) (fault : Fault) → first' ≤ first → IsRunFault t keys
-    writer start now first bytes fault → IsRunFault t keys writer start now first' bytes fault
+    (start now : S) (first first' : ℕ) (bytes : List ℕ) (fault : Fault) → first' ≤ first → IsRunFault (asked t keys) (outflow writer start now) first bytes fault → IsRunFault (asked t keys) (outflow writer start now) first' bytes fault
 fault_within t keys writer start now first first' bytes (Refused place reason) le f = record {
   before = f.before;
   front = f.front;

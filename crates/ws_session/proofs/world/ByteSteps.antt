@@ -6,7 +6,7 @@ use C.{element_bytes, element_prefix_free, element_begins, element_rules, Answer
 use C.{HoldsItems, station_at_item, StationRefuses, station_manner, host_at_item, host_manner}
 use C.{HostRefuses, goes_on, Refuses, GoesOn, Reaction, Applied, HostEvent, Refusal, At, Failed, Memory, Event, Host}
 use C.{StationRefused, HostRefused, ToStation, ToHost, HostLeads, HostParts, IsHostPushed, HostSide, host_takes}
-use C.{HostOutput, StationParts, StationLeads, IsPushed, StationSide, station_takes, AreWritable, WorldParts, RunsWith}
+use C.{HostOutput, StationParts, StationLeads, StationSide, station_takes, AreWritable, WorldParts, RunsWith}
 use C.{Runs, WireParts, HasMemory, AreDelivered, at_end, at_station_end, at_host_end, World, down_bytes, station_did}
 use C.{station_gets, byte_to_station}
 use C.{up_bytes, host_did, host_gets, byte_to_host, events_with, bytes_to_station, bytes_to_host}
@@ -23,6 +23,7 @@ use Rattle.ws_session.proofs.world.Bytes.{byte_down, byte_up}
 use Rattle.ws_session.proofs.world.OneByOne.{Later, gone_first, delivered, many_on, stop}
 use Rattle.ws_session.proofs.world.Reached.{station_writes, going_station, host_writes, going_host, is_sound, OfStation}
 use Rattle.ws_session.proofs.world.Reached.{OfHost}
+use Rattle.ws_session.specs.station.Stations.{IsPushedOn}
 
 -- A byte comes to the station of a running session.
 
@@ -87,7 +88,7 @@ module _ {S : OfStation} {H : OfHost} {t : TerminalType} {w : World} {old : Worl
           held leads (steps (Some item) o.0 ∙ ap (station_did byte_on) does)
 
     -- no byte is refused
-    pub station_never : (from station : StationParts) (refusal : Refusal) → IsPushed from station
+    pub station_never : (from station : StationParts) (refusal : Refusal) → IsPushedOn element_rules profile from station
         (take w.at_station (down_bytes w)) done w.station byte (Err refusal) → ⊥
     station_never from station (At at reason) p = elim p.2 [
       | inl refused ↦ came.none_refused at reason refused
@@ -198,7 +199,7 @@ station_delivered {t} {w} {old} r {station} {from} {to} {events} {count} d =
     (λ Then x xs v said n up told w' h more is. station_next Then x xs v said h more is)
     (λ A n up told w' h all. none_comes h all) StationLeads IsShutOn StationRefuses
     (StaysSilentOn element_rules profile) (λ (e : StationParts). IsSome e.ended) (λ place reason. StationRefused place reason)
-    (λ e byte why e' b i s. IsPushed e e' b i s byte (Err why))
+    (λ e byte why e' b i s. IsPushedOn element_rules profile e e' b i s byte (Err why))
     (λ e front byte why e' refuses b i s l few. refuses.led b i s l few)
     (λ e byte why e' n up told w' h more is memory. station_never h more byte is e e' why h.station)
     old.station old.at_station old.up old.events w (with_station r station (λ l. l)) station from to old.at_host events

@@ -14,6 +14,7 @@ use Rattle.ws_session.specs.host_end.HostFeeds.{HostStaysSilent}
 use Rattle.ws_session.specs.station.StationActs.{IsShutOn, StaysSilentOn}
 use Rattle.ws_session.specs.station.StationSide.{profile}
 use Rattle.ws_session.specs.world.Wires.{Telling, host_telling, station_telling}
+use Rattle.ws_session.specs.Acts.{ways}
 
 -- What crossed a line leads to its end, or the end has refused a byte of it.
 
@@ -22,12 +23,12 @@ module _ {Place PlaceV Side U V Deed Told E : Type 0} (rules : Rules Place U) (o
     (leads : E → List ℕ → List (Item U) → Side → Type 0) (refuses : E → List ℕ → ℕ → Refusal → E → Type 0) (silent : E → List ℕ → Type 0)
     (over : E → Type 0) (telling : Telling Told) (is_shut : E → Type 0) where
   abbrev conduct : Conduct E Deed Told
-  conduct = record { goes = Goes rules out manner leads is_shut; refuses = refuses; silent = silent; over = over }
+  conduct = record { goes = Goes (ways rules out manner) leads is_shut; refuses = refuses; silent = silent; over = over }
 
   abbrev Led : E → List ℕ → Type 0
   Led e bytes = ((items : List (Item U)) × (side : Side) × leads e bytes items side) ⊎ over e
 
-  act_led : (a b : E) (deed : Deed) (w : List ℕ) (t : List Told) (front : List ℕ) → Goes rules out manner leads
+  act_led : (a b : E) (deed : Deed) (w : List ℕ) (t : List Told) (front : List ℕ) → Goes (ways rules out manner) leads
       is_shut a
       (Did deed ∷ []) w t b → (over a → b ≡ a) → length front + 1 < 2 ^ 64 → Led a front → Led b front
   act_led a b deed w t front goes same few (inl l) =

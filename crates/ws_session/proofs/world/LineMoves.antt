@@ -12,6 +12,8 @@ use Rattle.ws_code.specs.Device.{Devices}
 use Rattle.ws_session.specs.Conduct.{Conduct}
 use Rattle.ws_session.specs.declared.world.line.Line.{Line}
 use Rattle.ws_session.specs.world.BrokenOff.{AreNext, IsDeliveryCut}
+use Rattle.ws_session.specs.world.Carrying.{passage}
+use Rattle.ws_session.specs.world.Crossings.{Passages, passages}
 use Rattle.ws_session.specs.world.Wires.{Telling}
 use Rattle.ws_session.proofs.world.Arriving.{come_on, none_comes}
 
@@ -228,11 +230,14 @@ module _ {S R : Type 0} (devices : Devices R S) where
   stopped_behind a b c cs fault p (inr k) = inr (stop_behind a b c cs fault p k)
 
 -- one of two lines stops
-module _ {S R T Q : Type 0} (devices : Devices R S)
-    (devices' : Devices Q T) where
+module _ {S R T Q : Type 0} (devices : Devices R S) (devices' : Devices Q T) where
+  -- both lines were this, and are that
+  abbrev pub both : Line S R → Line S R → Line T Q → Line T Q → Passages S R T Q
+  both down down' up up' = passages (passage devices down down') (passage devices' up up')
+
   pub either_behind : (a b c : Line S R) (cs : List Crossing) (a' b' c' : Line T Q) (cs' : List Crossing)
-      (fault : Fault) → HaveCrossed devices a cs b → HaveCrossed devices' a' cs' b' → AreEnded devices devices' b c b' c' fault
-      → AreEnded devices devices' a c a' c' fault
+      (fault : Fault) → HaveCrossed devices a cs b → HaveCrossed devices' a' cs' b' → AreEnded (both b c b' c') fault
+      → AreEnded (both a c a' c') fault
   either_behind a b c cs a' b' c' cs' fault p p'
       (inl m) = inl (m.0, crossed_behind devices a b c cs p m.1, crossed_behind _ a' b' c' cs' p' m.2)
   either_behind a b c cs a' b' c' cs' fault p p' (inr (inl k)) =
@@ -241,11 +246,12 @@ module _ {S R T Q : Type 0} (devices : Devices R S)
       inr (inr (crossed_behind devices a b c cs p k.0, stop_behind _ a' b' c' cs' fault p' k.1))
 
   pub first_stops : (a c : Line S R) (a' : Line T Q) (fault : Fault) → IsEnded devices a c fault
-      → AreEnded devices devices' a c a' a' fault
+      → AreEnded (both a c a' a') fault
   first_stops a c a' fault (inl m) = inl (m.0, m.1, ([], refl))
   first_stops a c a' fault (inr k) = inr (inl (k, ([], refl)))
 
-  pub second_stops : (a : Line S R) (a' c' : Line T Q) (fault : Fault) → IsEnded devices' a' c' fault → AreEnded devices devices' a a a' c' fault
+  pub second_stops : (a : Line S R) (a' c' : Line T Q) (fault : Fault) → IsEnded devices' a' c' fault
+      → AreEnded (both a a a' c') fault
   second_stops a a' c' fault (inl m) = inl (m.0, ([], refl), m.1)
   second_stops a a' c' fault (inr k) = inr (inr (([], refl), k))
 

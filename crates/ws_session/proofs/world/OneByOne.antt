@@ -9,6 +9,7 @@ use Rattle.ws_session.specs.Acts.{bytes_of}
 use Rattle.ws_session.specs.Conduct.{Conduct}
 use Rattle.ws_session.specs.world.Wires.{Telling}
 use Rattle.ws_session.proofs.EndSteps.{gone_none}
+use Rattle.ws_session.specs.Acts.{ways}
 
 -- Bytes that come to an end, one by one.
 
@@ -31,7 +32,7 @@ module _ {Place PlaceV Side U V Deed Told : Type 0} (rules : Rules Place U) (out
   -- these bytes come, and then this holds
   abbrev pub Later : Here → List ℕ → List ℕ → List Told → List ℕ → List (Item U) → Side → Type 0
   Later Then xs written told bytes items side =
-      HasGone rules out manner Then bytes items side (all_came {Deed = Deed} xs) written told
+      HasGone (ways rules out manner) Then bytes items side (all_came {Deed = Deed} xs) written told
 
   module _ (Then : Here) (bytes : List ℕ) (items : List (Item U)) (side : Side) (x : ℕ) (xs written : List ℕ)
       (told : List Told) where
@@ -169,7 +170,7 @@ module _ (one : World → World) (many : ℕ → World → World) (none : (w : W
         → Stands (AtLast e byte why e') at wrote said w → at < length bytes → byte ≡ get_or bytes at byte
         → HasMemory (Some why) → ⊥) where
       abbrev conduct : Conduct E Deed Told
-      conduct = record { goes = Goes rules out manner leads is_shut; refuses = refuses; silent = silent; over = over }
+      conduct = record { goes = Goes (ways rules out manner) leads is_shut; refuses = refuses; silent = silent; over = over }
 
       abbrev telling : Telling Told
       telling = record { tells = tells; refusal = refusal }
@@ -177,7 +178,7 @@ module _ (one : World → World) (many : ℕ → World → World) (none : (w : W
       -- the bytes that came, as acts that led on
       led_by : (e e' : E) (xs rest v : List ℕ) (t : List Told) (at : ℕ) (wrote : List ℕ) (said : List Event) (w : World)
           → length bytes + 1 < 2 ^ 64 → Stands (leads e) at wrote said w → drop at bytes ≡ xs ++ rest
-          → Goes rules out manner leads is_shut e (all_came xs) v t e'
+          → Goes (ways rules out manner) leads is_shut e (all_came xs) v t e'
           → Stands (leads e') (at + length xs) (wrote ++ v) (said ++ flat_map tells t) (many (length xs) w)
       led_by e e' xs rest v t at wrote said w few h split g =
           one_by_one xs rest (leads e') v t at wrote said w (with (leads e) (Later rules out manner (leads e') xs v t) at

@@ -7,7 +7,7 @@ use C.{element_rules, AnswerPart, Element, ScreenParts, IsLegal, ReadKind, one_s
 use C.{answer_of, Read, Attention, SystemRequest, HostAnswer, Key, Send, KeyRefusal, empty_record, SendFault}
 use C.{SendFailed, NoMemory, ATN, SRQ, KeyFault, KeyFailed, NotReady, Event, KeyRefused, SendRefused, Move, Press}
 use C.{AtHost, HostLeads, HostParts, IsSent, IsSendFault, HostSide, SendReaction, RefusesSend, host_send}
-use C.{answer_spelling, AtStation, StationParts, StationLeads, IsKeyed, StationSide, screen_at, KeyReaction, RefusesKey}
+use C.{answer_spelling, AtStation, StationParts, StationLeads, StationSide, screen_at, KeyReaction, RefusesKey}
 use C.{Silent, Answers, Signals, station_key, answers_read, key_by_refusal, presses, answer_record, AreWritable}
 use C.{WorldParts, RunsWith, Runs, IsKey, World, new_world, after_moves, after_move, down_bytes, up_bytes}
 use C.{station_pressed, host_sent, host_sends, after_press, after_send}
@@ -17,6 +17,8 @@ use Rattle.ws_keys.specs.declared.answer.Answer.{Answer}
 use Rattle.ws_keys.proofs.WholeLaws.{answer_whole, answer_short}
 use Rattle.ws_session.proofs.world.Betweens.{Sound}
 use Rattle.ws_session.proofs.world.Worlds.{sound}
+use Rattle.ws_session.specs.station.StationSide.{profile}
+use Rattle.ws_session.specs.station.Stations.{IsKeyedOn}
 
 -- A running session is a world that its moves lead to.
 
@@ -190,7 +192,7 @@ module _ {t : TerminalType} {w : World} {old : WorldParts} (r : Runs t old w) (k
   module _ (few : length old.down + 1 < 2 ^ 64) (station : StationParts) where
     abbrev Keys : Result (Option Answer) KeyFault → Type 0
     Keys result = AtStation old.station (λ bytes items side. length bytes + 1 < 2 ^ 64
-        → IsKeyed old.station station bytes items side key result)
+        → IsKeyedOn element_rules profile old.station station bytes items side key result)
 
     pub key_silent : Keys (Ok None) → Runs t (record old { station = station }) (after_press w key)
     key_silent p =

@@ -6,7 +6,7 @@ use C.{after_all_to_station, after_all_to_host, after_three_deliveries, host_all
 use C.{TerminalType, agrees, settled_quiet, settled_station, settled_host, plain_spelling, Item, answer_rules}
 use C.{element_rules, AnswerPart, Field, ReadKind, HostAnswer, Refuses, GoesOn, Reaction, telnets, Event, Move}
 use C.{HostParts, HostSide, HostOutput, answers_in, items_coming, is_answer, answers_coming, StationParts, StationSide}
-use C.{delivery, three_deliveries, refusals_in, IsReport, IsOpened, World, new_world, after_moves, IsQuiet, down_bytes}
+use C.{delivery, three_deliveries, refusals_in, Report, IsReport, IsOpened, World, new_world, after_moves, IsQuiet, down_bytes}
 use C.{station_did, byte_to_station, up_bytes, host_did, byte_to_host, bytes_to_station, bytes_to_host}
 use Rattle.ws_nego.proofs.Exchanges.{x_few}
 use Rattle.ws_record.proofs.Flights.{total_append, all_arrived, total_cons, InFlight, IsInside, not_more, total, quiet}
@@ -245,20 +245,20 @@ after_both : (xs ys : List Move) (w : World) → after_moves w (xs ++ ys) ≡ af
 after_both [] ys w = refl
 after_both (x ∷ xs) ys w = after_both xs ys _
 
-module _ (t : TerminalType) (ms : List Move) (told : List Event) (station : StationParts) (host : HostParts)
-    (down up : List ℕ) (r : IsReport told station host down up (after_moves (new_world t) ms)) where
+module _ (t : TerminalType) (ms : List Move) (report : Report) (r : IsReport report (after_moves (new_world t) ms)) where
   abbrev now : World
   now = after_moves (new_world t) ms
 
-  pub unrefused : refusals_in told ≡ []
+  pub unrefused : refusals_in report.events ≡ []
   unrefused = ap refusals_in r.events ∙ none_refused t ms
 
-  pub answers_first : (later : List HostAnswer) × (now.answered ≡ answers_in told ++ later)
+  pub answers_first : (later : List HostAnswer) × (now.answered ≡ answers_in report.events ++ later)
       × (length later ≡ length (answers_coming now))
   answers_first = let s = sound t ms in
       (s.later, s.answered ∙ ap (λ l. answers_in l ++ s.later) (sym r.events), rest_on_its_way t now s)
 
-  pub tables_agree : down ≡ [] → up ≡ [] → TablesAgree station.options host.options
+  pub tables_agree : report.to_station ≡ [] → report.to_host ≡ []
+      → TablesAgree report.station.options report.host.options
   tables_agree d u =
       let s = sound t ms in
       let at_station : now.at_station ≡ length (down_bytes now) = all_gone (down_bytes now) now.at_station
@@ -269,7 +269,7 @@ module _ (t : TerminalType) (ms : List Move) (told : List Event) (station : Stat
       (record { to_station = at_station; to_host = at_host })))
 
   pub opened : length (down_bytes now) < 2 ^ 64 → length (up_bytes now) < 2 ^ 64 → (before : List Move) (all : ℕ)
-      → 2 ^ 64 ≤ all + 1 → ms ≡ before ++ three_deliveries all → IsOpened station host down up
+      → 2 ^ 64 ≤ all + 1 → ms ≡ before ++ three_deliveries all → IsOpened report
   opened few_down few_up before all enough e =
       let w = after_moves (new_world t) before in
       let is : now ≡ after_moves w (three_deliveries all) = ap (after_moves (new_world t)) e ∙ after_both before

@@ -17,8 +17,10 @@ use Rattle.ws_keys.specs.declared.key.Key.{Key}
 use Rattle.ws_session.specs.declared.attached.run.Played.{Played}
 use Rattle.ws_session.specs.Acts.{HoldsItems}
 use Rattle.ws_session.specs.station.Moments.{Outcome, outcome, AreTaken, moments}
-use Rattle.ws_session.specs.station.StationLeads.{StationParts, StationLeads, IsItemRefused}
-use Rattle.ws_session.specs.station.StationSide.{new_station_side}
+use Rattle.ws_session.specs.station.StationLeads.{StationParts, StationLeads}
+use Rattle.ws_session.specs.station.StationSide.{new_station_side, profile}
+use Rattle.ws_session.specs.station.Stations.{RefusesItemOn}
+use Rattle.ws_session.specs.world.Carrying.{Passage}
 
 -- the count of refused keys stops at the greatest number of 32 bits
 abbrev pub refusal_count : ℕ → ℕ
@@ -36,38 +38,65 @@ pub record LastRead {R : Type 0} (reader : Reader R) (source source' : R) : Type
   pub gave_last : reader.gives before room (Some last) source'
   pub uncounted : reader.failures source' ≡ reader.failures source
 
-module _ (terminal : TerminalType) (keys : List (ℕ × Key)) where
+-- what a run is asked: its terminal, and the keys to be pressed, each behind so many records
+pub record Asked : Type 0 where
+  pub terminal : TerminalType
+  pub keys : List (ℕ × Key)
+
+-- this terminal, and these keys
+abbrev pub asked : TerminalType → List (ℕ × Key) → Asked
+asked terminal keys = record { terminal = terminal; keys = keys }
+
+-- a sink, by what it may take, as it was and as it is
+pub record Outflow (S : Type 0) : Type 1 where
+  pub writer : Writer S
+  pub from : S
+  pub to : S
+
+-- such a sink was this, and is that
+abbrev pub outflow : {S : Type 0} → Writer S → S → S → Outflow S
+outflow writer from to = record { writer = writer; from = from; to = to }
+
+module _ (run : Asked) where
   -- what a new station has done behind these items and the keys that were due
   abbrev pub behind : List (Item Element) → Outcome
-  behind items = outcome (new_station_side terminal) (moments keys items)
+  behind items = outcome (new_station_side run.terminal) (moments run.keys items)
 
   -- what a new station has written behind these items and the keys that were due
   abbrev pub run_text : List (Item Element) → List ℕ
   run_text items = plain_spelling answer_rules (behind items).written
 
+  -- no item of these is refused, where the keys are pressed that are due
+  abbrev pub AreTakenAll : List (Item Element) → Type 0
+  AreTakenAll items = AreTaken (new_station_side run.terminal) (moments run.keys items)
+
   -- the bytes hold these items, none of them is refused, and the station is one behind them and the keys that were due
   pub record IsBehind (bytes : List ℕ) (items : List (Item Element)) (station : StationParts) : Type 0 where
     pub leads : StationLeads station bytes items (behind items).side
-    pub taken : AreTaken (new_station_side terminal) (moments keys items)
+    pub taken : AreTakenAll items
 
-  module _ {S : Type 0} (writer : Writer S) (from to : S) where
+  module _ {S : Type 0} (out : Outflow S) where
+    -- what is to be written behind these items went out
+    abbrev pub HasWrittenAll : List (Item Element) → Type 0
+    HasWrittenAll items = WentOut out.writer out.from out.to (run_text items)
+
     -- A byte of these is refused, and not one of the first so many; all that was to be written before it went out. The
     -- station stood behind a front of the bytes before it, and no item is complete with the others.
-    pub record RunRefuses (first : ℕ) (bytes : List ℕ) (place : ℕ) (reason : Reason) : Type 0 where
+    pub record RunRefuses (first : ℕ) (bytes : List ℕ) (at : ℕ × Reason) : Type 0 where
       pub before : List ℕ
       pub front : List ℕ
       pub byte : ℕ
       pub after : List ℕ
       pub split : bytes ≡ (before ++ front) ++ byte ∷ after
-      pub at_place : place ≡ length (before ++ front)
-      pub prompt : first ≤ place
+      pub at_place : at.0 ≡ length (before ++ front)
+      pub prompt : first ≤ at.0
       pub items : List (Item Element)
       pub station : StationParts
       pub is_behind : IsBehind before items station
       pub inside : HoldsItems element_rules (before ++ front) items
-      pub why : IsRefused element_rules ((before ++ front) ++ byte ∷ []) place reason
-          ⊎ IsItemRefused (before ++ front) items (behind items).side byte reason
-      pub wrote : WentOut writer from to (run_text items)
+      pub why : IsRefused element_rules ((before ++ front) ++ byte ∷ []) at.0 at.1
+          ⊎ RefusesItemOn element_rules profile ((before ++ front) ++ byte ∷ []) items (behind items).side at.1
+      pub wrote : HasWrittenAll items
 
     -- A write failed, in what was to be written behind items of these bytes.
     pub record RunUnwritten (bytes : List ℕ) : Type 0 where
@@ -78,59 +107,64 @@ module _ (terminal : TerminalType) (keys : List (ℕ × Key)) where
       pub so_far : List ℕ
       pub begun : List ℕ
       pub holds : Holds element_rules before items so_far begun
-      pub taken : AreTaken (new_station_side terminal) (moments keys items)
-      pub failed : FailedWithin writer from to (run_text items)
+      pub taken : AreTakenAll items
+      pub failed : FailedWithin out.writer out.from out.to (run_text items)
 
     -- why a run stops within these bytes
     abbrev pub IsRunFault : ℕ → List ℕ → Fault → Type 0
-    IsRunFault first bytes (Refused place reason) = RunRefuses first bytes place reason
+    IsRunFault first bytes (Refused place reason) = RunRefuses first bytes (place, reason)
     IsRunFault first bytes Write = RunUnwritten bytes
     IsRunFault first bytes fault = ⊥
 
-  module _ {R S : Type 0} (reader : Reader R) (source source' : R) (writer : Writer S) (sink sink' : S) where
+  module _ {S R : Type 0} (line : Passage S R) where
+    -- the sink of the line
+    abbrev pub sink_of : Outflow S
+    sink_of = outflow line.devices.writer line.from.sink line.to.sink
+
     -- the source gave its end, and the station took all
     pub record IsPlayed (played : Played) : Type 0 where
       pub bytes : List ℕ
       pub items : List (Item Element)
-      pub gave : GaveAll reader source source' bytes
+      pub gave : GaveAll line.devices.reader line.from.source line.to.source bytes
       pub accepted : IsInGrammar element_rules bytes items
       pub is_behind : IsBehind bytes items played.station
       pub refused : played.keys_refused ≡ refusal_count (behind items).refused
-      pub wrote : WentOut writer sink sink' (run_text items)
+      pub wrote : HasWrittenAll sink_of items
 
     -- the source gave its end inside a token or a record
     pub record IsRunTruncated (n : ℕ) : Type 0 where
       pub bytes : List ℕ
       pub items : List (Item Element)
       pub station : StationParts
-      pub gave : GaveAll reader source source' bytes
+      pub gave : GaveAll line.devices.reader line.from.source line.to.source bytes
       pub at_end : n ≡ length bytes
       pub truncated : IsTruncated element_rules bytes
       pub is_behind : IsBehind bytes items station
-      pub wrote : WentOut writer sink sink' (run_text items)
+      pub wrote : HasWrittenAll sink_of items
 
     -- a read of the source failed, or there were too many
     pub record IsRunUnread : Type 0 where
       pub bytes : List ℕ
       pub items : List (Item Element)
       pub station : StationParts
-      pub failed : ReadFault reader source source' bytes
+      pub failed : ReadFault line.devices.reader line.from.source line.to.source bytes
       pub is_behind : IsBehind bytes items station
-      pub wrote : WentOut writer sink sink' (run_text items)
+      pub wrote : HasWrittenAll sink_of items
 
     -- a write failed
     pub record IsRunUnwritten : Type 0 where
       pub bytes : List ℕ
       pub reads : ℕ
-      pub gave : Gave reader source source' reads bytes
-      pub unwritten : RunUnwritten writer sink sink' bytes
+      pub gave : Gave line.devices.reader line.from.source line.to.source reads bytes
+      pub unwritten : RunUnwritten sink_of bytes
 
     -- what a run comes to: played, refused at a byte of the last read, truncated, a failed read or a failed write, each
     -- with what was read and what went out
     abbrev pub IsRun : Result Played Fault → Type 0
     IsRun (Ok played) = IsPlayed played
-    IsRun (Err (Refused place reason)) = (read : LastRead reader source source')
-        × RunRefuses writer sink sink' (length read.first) (read.first ++ read.last) place reason
+    IsRun (Err (Refused place reason)) =
+        (read : LastRead line.devices.reader line.from.source line.to.source)
+        × RunRefuses sink_of (length read.first) (read.first ++ read.last) (place, reason)
     IsRun (Err (Truncated n)) = IsRunTruncated n
     IsRun (Err Read) = IsRunUnread
     IsRun (Err Write) = IsRunUnwritten

@@ -12,12 +12,13 @@ use Rattle.ws_session.specs.Acts.{all_came, as_list, HasGone}
 use Rattle.ws_session.specs.Manners.{host_manner, IsHostShut}
 use Rattle.ws_session.specs.host_end.HostLeads.{AtHost, HostParts, HostLeads, IsHostPushed}
 use Rattle.ws_session.specs.host_end.HostSide.{HostSide}
+use Rattle.ws_session.specs.Acts.{ways}
 
 -- Behind these bytes others come, one after another: the host end refuses none of their items, writes and tells this,
 -- and then this holds of all bytes, their items, and the side that it has come to.
 abbrev pub HasHostTakenAll : (List ℕ → List (Item AnswerPart) → HostSide → Type 0) → List ℕ → List (Item AnswerPart)
     → HostSide → List ℕ → List ℕ → List HostEvent → Type 0
-HasHostTakenAll Then bytes items side came = HasGone answer_rules element_rules host_manner Then bytes items side
+HasHostTakenAll Then bytes items side came = HasGone (ways answer_rules element_rules host_manner) Then bytes items side
     (all_came {Deed = Order} came)
 
 -- bytes of a piece come to a host end one after another: they lead it to this one, which wrote and told this

@@ -113,14 +113,6 @@ pub record HostWantsItem (bytes : List ℕ) (items : List (Item AnswerPart)) (si
   pub begun : List ℕ
   pub holds : Holds answer_rules bytes (items ++ item ∷ []) so_far begun
 
--- the byte behind these completes no item
-abbrev pub IsHostInside : HostParts → HostParts → List ℕ → List (Item AnswerPart) → HostSide → ℕ → HostStep → Type 0
-IsHostInside old new bytes items side byte step = HostStaysInside old new (bytes ++ byte ∷ []) items side step
-
--- the byte completes an item that the host end takes
-abbrev pub IsHostTaken : HostParts → List ℕ → List (Item AnswerPart) → HostSide → ℕ → HostStep → Type 0
-IsHostTaken new bytes items side byte step = HostTakesItem new (bytes ++ byte ∷ []) items side step
-
 -- the byte completes an item that the host end refuses, for this reason
 abbrev pub IsAnswerRefused : List ℕ → List (Item AnswerPart) → HostSide → ℕ → Reason → Type 0
 IsAnswerRefused bytes items side byte reason = HostRefusesItem (bytes ++ byte ∷ []) items side reason
@@ -133,8 +125,8 @@ IsAnswerWhole bytes items side byte = HostWantsItem (bytes ++ byte ∷ []) items
 -- byte; memory is wanting only where a unit is complete with it, or an answer that isn't refused
 abbrev pub IsHostPushed : HostParts → HostParts → List ℕ → List (Item AnswerPart) → HostSide → ℕ
     → Result HostStep Refusal → Type 0
-IsHostPushed old new bytes items side byte (Ok step) = IsHostInside old new bytes items side byte step
-    ⊎ IsHostTaken new bytes items side byte step
+IsHostPushed old new bytes items side byte (Ok step) = HostStaysInside old new (bytes ++ byte ∷ []) items side step
+    ⊎ HostTakesItem new (bytes ++ byte ∷ []) items side step
 IsHostPushed old new bytes items side byte (Err (At place reason)) =
     (place ≡ length bytes) × (new.screen ≡ old.screen)
     × (IsRefused answer_rules (bytes ++ byte ∷ []) place reason ⊎ IsAnswerRefused bytes items side byte reason)

@@ -15,6 +15,7 @@ use Rattle.ws_session.specs.station.Displays.{DisplayOf, SideOn, RefusesKey}
 use Rattle.ws_session.specs.station.PartsOn.{PartsOn}
 use Rattle.ws_session.specs.station.StationManners.{told_by, key_on, manner_on}
 use Rattle.ws_session.specs.station.Stations.{AtStationOn, LeadsOn, IsPushedOn}
+use Rattle.ws_session.specs.Acts.{ways}
 
 -- the station takes no more
 abbrev pub IsShutOn : {D P : Type 0} → PartsOn D P → Type 0
@@ -25,7 +26,7 @@ module _ {D P U H PlaceV V K R : Type 0} (rules : Rules P U) (d : DisplayOf D U 
   -- and then this holds of all bytes, their items, and the side that it has come to.
   abbrev pub HasTakenAllOn : (List ℕ → List (Item U) → SideOn H → Type 0) → List ℕ → List (Item U)
       → SideOn H → List ℕ → List ℕ → List Applied → Type 0
-  HasTakenAllOn Then bytes items side came = HasGone rules d.out (manner_on d) Then bytes items side
+  HasTakenAllOn Then bytes items side came = HasGone (ways rules d.out (manner_on d)) Then bytes items side
       (all_came {Deed = K} came)
 
   -- bytes of a piece come to a station one after another: they lead it to this one, which wrote and told this
@@ -50,7 +51,7 @@ module _ {D P U H PlaceV V K R : Type 0} (rules : Rules P U) (d : DisplayOf D U 
 
   -- the acts lead from one station to another, which wrote and told this in them
   abbrev pub GoesOnDisplay : PartsOn D P → List (Act K) → List ℕ → List Applied → PartsOn D P → Type 0
-  GoesOnDisplay = Goes rules d.out (manner_on d) (LeadsOn rules d) IsShutOn
+  GoesOnDisplay = Goes (ways rules d.out (manner_on d)) (LeadsOn rules d) IsShutOn
 
   -- The station takes these bytes, writes and tells nothing at them, and refuses the one behind them, as it refuses
   -- that byte alone. Where it is shut, it refuses the first, for that alone.

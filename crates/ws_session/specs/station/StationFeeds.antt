@@ -8,14 +8,7 @@ use Rattle.ws_session.specs.declared.end_step.Applied.{Applied}
 use Rattle.ws_session.specs.declared.refusal.Refusal.{Refusal}
 use Rattle.ws_session.specs.station.StationLeads.{StationParts}
 use Rattle.ws_session.specs.station.StationSide.{StationSide, profile}
-use Rattle.ws_session.specs.station.StationActs.{HasTakenAllOn, HasFedOn, IsSilentOn, HasRefusedOn}
-
--- Behind these bytes others come, one after another: the station refuses none of their items, writes and tells this,
--- and then this holds of all bytes, their items, and the side that it has come to.
-abbrev pub HasTakenAll : (List ℕ → List (Item Element) → StationSide → Type 0) → List ℕ → List (Item Element)
-    → StationSide
-    → List ℕ → List ℕ → List Applied → Type 0
-HasTakenAll = HasTakenAllOn element_rules profile
+use Rattle.ws_session.specs.station.StationActs.{HasFedOn, IsSilentOn, HasRefusedOn}
 
 -- bytes of a piece come to the station one after another: they lead it to this one, which wrote and told this
 abbrev pub HasFed : StationParts → List ℕ → List (Item Element) → StationSide → List ℕ → List ℕ → Bool → Type 0

@@ -12,7 +12,7 @@ use Rattle.ws_session.specs.declared.refusal.Refusal.{Refusal}
 use Rattle.ws_session.specs.declared.station.key_fault.KeyFault.{KeyFault}
 use Rattle.ws_session.specs.station.StationSide.{ProfileParts, StationSide, profile}
 use Rattle.ws_session.specs.station.PartsOn.{PartsOn}
-use Rattle.ws_session.specs.station.Stations.{LeadsOn, AtStationOn, FreshOn, IsItemRefusedOn, IsPushedOn, IsKeyedOn}
+use Rattle.ws_session.specs.station.Stations.{LeadsOn, AtStationOn, FreshOn}
 pub use Rattle.ws_session.specs.station.StationCounts.{is_record, records_in, keeps_body}
 
 -- what the station of the profile keeps
@@ -31,17 +31,3 @@ AtStation = AtStationOn element_rules profile
 -- the station has taken no byte and no key
 abbrev pub IsFresh : StationParts → Type 0
 IsFresh = FreshOn element_rules profile
-
--- the byte completes an item that the station refuses, for this reason
-abbrev pub IsItemRefused : List ℕ → List (Item Element) → StationSide → ℕ → Reason → Type 0
-IsItemRefused = IsItemRefusedOn element_rules profile
-
--- what a byte gives
-abbrev pub IsPushed : StationParts → StationParts → List ℕ → List (Item Element) → StationSide → ℕ
-    → Result (List ℕ) Refusal → Type 0
-IsPushed = IsPushedOn element_rules profile
-
--- what a key gives
-abbrev pub IsKeyed : StationParts → StationParts → List ℕ → List (Item Element) → StationSide → Key
-    → Result (Option Answer) KeyFault → Type 0
-IsKeyed = IsKeyedOn element_rules profile

@@ -91,18 +91,6 @@ module _ {D P U H PlaceV V K R : Type 0} (rules : Rules P U) (d : DisplayOf D U 
     pub holds : Holds rules bytes (items ++ item ∷ []) so_far begun
     pub refuses : takes_on d side item ≡ Refuses reason
 
-  -- the byte behind these completes no item: nothing is written, and the screen is as it was
-  abbrev pub IsInsideOn : PartsOn D P → PartsOn D P → List ℕ → List (Item U) → SideOn H → ℕ → R → Type 0
-  IsInsideOn old new bytes items side byte reply = StaysInsideOn old new (bytes ++ byte ∷ []) items side reply
-
-  -- the byte behind these completes an item that the station takes, with this reply
-  abbrev pub IsTakenOn : PartsOn D P → List ℕ → List (Item U) → SideOn H → ℕ → R → Type 0
-  IsTakenOn new bytes items side byte reply = TakesItemOn new (bytes ++ byte ∷ []) items side reply
-
-  -- the byte behind these completes an item that the station refuses, for this reason
-  abbrev pub IsItemRefusedOn : List ℕ → List (Item U) → SideOn H → ℕ → Reason → Type 0
-  IsItemRefusedOn bytes items side byte reason = RefusesItemOn (bytes ++ byte ∷ []) items side reason
-
   -- what the end of a record gives, whose elements are these: the reply, or the refusal of the record
   abbrev pub IsClosedOn : PartsOn D P → PartsOn D P → SideOn H → Record U → ℕ → Result (StationStep R) Refusal → Type 0
   IsClosedOn old new side r place (Ok step) = (next : SideOn H) × (writes : List (Item V))
@@ -119,11 +107,11 @@ module _ {D P U H PlaceV V K R : Type 0} (rules : Rules P U) (d : DisplayOf D U 
   -- what a byte gives: nothing, the reply to the item that it completes, or a refusal at this byte, of the byte or of
   -- its item
   abbrev pub IsPushedOn : PartsOn D P → PartsOn D P → List ℕ → List (Item U) → SideOn H → ℕ → Result R Refusal → Type 0
-  IsPushedOn old new bytes items side byte (Ok reply) = IsInsideOn old new bytes items side byte reply
-      ⊎ IsTakenOn new bytes items side byte reply
+  IsPushedOn old new bytes items side byte (Ok reply) = StaysInsideOn old new (bytes ++ byte ∷ []) items side reply
+      ⊎ TakesItemOn new (bytes ++ byte ∷ []) items side reply
   IsPushedOn old new bytes items side byte (Err (At place reason)) =
       (place ≡ length bytes) × (new.screen ≡ old.screen)
-      × (IsRefused rules (bytes ++ byte ∷ []) place reason ⊎ IsItemRefusedOn bytes items side byte reason)
+      × (IsRefused rules (bytes ++ byte ∷ []) place reason ⊎ RefusesItemOn (bytes ++ byte ∷ []) items side reason)
       × HasStoppedOn new (length (bytes ++ byte ∷ [])) items side
   IsPushedOn old new bytes items side byte (Err Failed) = ⊥
   IsPushedOn old new bytes items side byte (Err Memory) = ⊥

@@ -27,4 +27,4 @@ HasRunOver terminal moves CrossedDown CrossedUp r = (downs : List Crossing) × (
     × (length (all_read downs) + 1 < 2 ^ 64 → StationIsLed r.station (all_read downs))
     × (length (all_read ups) + 1 < 2 ^ 64 → HostIsLed r.host (all_read ups))
     × (AreFaithful downs → AreFaithful ups
-    → IsReport r.events r.station r.host r.to_station r.to_host (after_moves (new_world terminal) moves))
+    → IsReport r (after_moves (new_world terminal) moves))

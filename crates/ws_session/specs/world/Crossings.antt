@@ -6,7 +6,7 @@ use Rattle.ws_code.specs.declared.fault.Fault.{Fault}
 use Rattle.ws_code.specs.declared.fault.Fault.TheVariants.{Memory}
 use Rattle.ws_code.specs.Device.{Devices}
 use Rattle.ws_session.specs.declared.world.line.Line.{Line}
-use Rattle.ws_session.specs.world.Carrying.{IsCarried, IsCarryFault}
+use Rattle.ws_session.specs.world.Carrying.{Passage, passage, IsCarried, IsCarryFault}
 
 -- a piece of a stream: the bytes that went into the sink, and as many that the source gave next
 pub record Crossing : Type 0 where
@@ -26,7 +26,7 @@ module _ {S R : Type 0} (devices : Devices R S) where
   abbrev pub HaveCrossed : Line S R → List Crossing → Line S R → Type 0
   HaveCrossed from [] to = from ≡ to
   HaveCrossed from (c ∷ crossings) to = (next : Line S R)
-      × IsCarried devices.writer from.sink next.sink devices.reader from.source next.source c.sent c.read
+      × IsCarried (passage devices from next) c.sent c.read
       × HaveCrossed next crossings to
 
   -- some pieces crossed the line, and no further one went into it
@@ -40,20 +40,31 @@ module _ {S R : Type 0} (devices : Devices R S) where
     pub crossed : HaveCrossed from crossings last
     pub bytes : List ℕ
     pub slice : List ℕ
-    pub failed : IsCarryFault devices.writer last.sink to.sink devices.reader last.source to.source bytes slice fault
+    pub failed : IsCarryFault (passage devices last to) bytes slice fault
 
   -- why no more crosses it: memory is wanting, and whatever went into it has crossed; or a piece did not cross
   abbrev pub IsEnded : Line S R → Line S R → Fault → Type 0
   IsEnded from to fault = ((fault ≡ Memory) × HasCrossed from to) ⊎ IsStopped from to fault
 
--- the same of two lines: what went into the other has crossed it
-module _ {S R T Q : Type 0} (devices : Devices R S)
-    (devices' : Devices Q T) where
-  -- why no more crosses either: memory is wanting, and whatever went into them has crossed; or a piece of one did
-  -- not cross, and whatever went into the other has
-  abbrev pub AreEnded : Line S R → Line S R → Line T Q → Line T Q → Fault → Type 0
-  AreEnded from to from' to' fault =
-      ((fault ≡ Memory) × HasCrossed devices from to
-      × HasCrossed devices' from' to')
-      ⊎ ((IsStopped devices from to fault × HasCrossed devices' from' to')
-      ⊎ (HasCrossed devices from to × IsStopped devices' from' to' fault))
+-- both lines of a session, down to its station and up to its host
+pub record Passages (S R T Q : Type 0) : Type 1 where
+  pub down : Passage S R
+  pub up : Passage T Q
+
+-- one line down, and one up
+abbrev pub passages : {S R T Q : Type 0} → Passage S R → Passage T Q → Passages S R T Q
+passages down up = record { down = down; up = up }
+
+-- some pieces crossed this line, and no further one went into it
+abbrev pub IsCrossed : {S R : Type 0} → Passage S R → Type 0
+IsCrossed line = HasCrossed line.devices line.from line.to
+
+-- some pieces crossed this line, and the next one did not, for this fault
+abbrev pub IsStoppedIn : {S R : Type 0} → Passage S R → Fault → Type 0
+IsStoppedIn line fault = IsStopped line.devices line.from line.to fault
+
+-- Why no more crosses either line: memory is wanting, and whatever went into them has crossed; or a piece of one did
+-- not cross, and whatever went into the other has.
+abbrev pub AreEnded : {S R T Q : Type 0} → Passages S R T Q → Fault → Type 0
+AreEnded lines fault = ((fault ≡ Memory) × IsCrossed lines.down × IsCrossed lines.up)
+    ⊎ ((IsStoppedIn lines.down fault × IsCrossed lines.up) ⊎ (IsCrossed lines.down × IsStoppedIn lines.up fault))

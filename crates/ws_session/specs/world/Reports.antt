@@ -7,35 +7,34 @@ use Rattle.ws_record.specs.Arrived.{arrived}
 use Rattle.ws_screen.specs.Formats.{fields}
 use Rattle.ws_stream.specs.AnswerParts.{answer_rules}
 use Rattle.ws_stream.specs.Elements.{element_rules}
-use Rattle.ws_session.specs.declared.world.Event.{Event}
+use Rattle.ws_session.specs.declared.world.Report.{Report}
 use Rattle.ws_session.specs.station.Alarms.{alarm_count, alarms_of}
-use Rattle.ws_session.specs.host_end.HostLeads.{HostParts, HostLeads}
+use Rattle.ws_session.specs.host_end.HostLeads.{HostLeads}
 use Rattle.ws_session.specs.host_end.HostSide.{asked_read}
-use Rattle.ws_session.specs.station.StationLeads.{StationParts, StationLeads}
+use Rattle.ws_session.specs.station.StationLeads.{StationLeads}
 use Rattle.ws_session.specs.station.StationSide.{screen_at}
 use Rattle.ws_session.specs.world.World.{World, down_bytes, up_bytes, to_station, to_host}
 
--- What is reported of a session: its events, both ends, and the bytes in flight to the station and to the host end.
--- It is that of this world of whole items.
-pub record IsReport (told : List Event) (station : StationParts) (host : HostParts) (down up : List ℕ)
-    (w : World) : Type 0 where
-  pub events : told ≡ w.events
-  pub screen : station.screen.screen ≡ screen_at w.station
-  pub alarms : station.screen.alarms ≡ alarm_count (alarms_of w.station.happened)
-  pub station_options : station.options ≡ w.station.options
-  pub host_options : host.options ≡ w.host.options
-  pub fields : host.screen.fields ≡ fields w.host.kept
-  pub asked : host.screen.pending ≡ asked_read w.host
-  pub to_station : down ≡ to_station w
-  pub to_host : up ≡ to_host w
+-- What is reported of a session, its events, both ends, and the bytes in flight to the station and to the host end: it
+-- is that of this world of whole items.
+pub record IsReport (r : Report) (w : World) : Type 0 where
+  pub events : r.events ≡ w.events
+  pub screen : r.station.screen.screen ≡ screen_at w.station
+  pub alarms : r.station.screen.alarms ≡ alarm_count (alarms_of w.station.happened)
+  pub station_options : r.station.options ≡ w.station.options
+  pub host_options : r.host.options ≡ w.host.options
+  pub fields : r.host.screen.fields ≡ fields w.host.kept
+  pub asked : r.host.screen.pending ≡ asked_read w.host
+  pub to_station : r.to_station ≡ to_station w
+  pub to_host : r.to_host ≡ to_host w
   -- each end goes on from there: it has taken the bytes that have arrived, and their items left it on its side
-  pub station_leads : StationLeads station (take w.at_station (down_bytes w))
+  pub station_leads : StationLeads r.station (take w.at_station (down_bytes w))
       (arrived element_rules w.down w.at_station) w.station
-  pub host_leads : HostLeads host (take w.at_host (up_bytes w)) (arrived answer_rules w.up w.at_host) w.host
+  pub host_leads : HostLeads r.host (take w.at_host (up_bytes w)) (arrived answer_rules w.up w.at_host) w.host
 
 -- nothing is in flight, and records are allowed at both ends
-pub record IsOpened (station : StationParts) (host : HostParts) (down up : List ℕ) : Type 0 where
-  pub to_station : down ≡ []
-  pub to_host : up ≡ []
-  pub at_station : station_allows_records station.options ≡ true
-  pub at_host : host_allows_records host.options ≡ true
+pub record IsOpened (r : Report) : Type 0 where
+  pub to_station : r.to_station ≡ []
+  pub to_host : r.to_host ≡ []
+  pub at_station : station_allows_records r.station.options ≡ true
+  pub at_host : host_allows_records r.host.options ≡ true

@@ -8,7 +8,7 @@ ghost use Rattle.ws_stream.specs.Elements.{element_rules};
 ghost use Rattle.ws_session.specs.station.Moments.{Presses, at_moment, outcome, due, later};
 ghost use Rattle.ws_session.specs.attached.Playing.{AtPlayer, HasDone, IsBrought};
 ghost use Rattle.ws_session.specs.station.StationLeads.{AtStation};
-ghost use Rattle.ws_session.specs.attached.StationRun.{IsRunFault};
+ghost use Rattle.ws_session.specs.attached.StationRun.{IsRunFault, outflow};
 
 use crate::attached::writing::{fault_of, press_key};
 use crate::station::station_fed::StationFront;
@@ -87,12 +87,12 @@ impl Player {
         requires { 0 < length piece.now }
         ensures within { IfOk result (λ used. (0 < used) × (used ≤ length piece.now)) }
         ensures come { IfOk result (λ used. AtPlayer S.writer keys.now self.old sink.old
-            (length piece.now) (λ start terminal bytes.
-            IsBrought S.writer terminal keys.now start self.new sink.new
+            (length piece.now) (λ run start bytes.
+            IsBrought run (outflow S.writer start sink.new) self.new
             (bytes ++ take used piece.now))) }
         ensures fault { IfErr result (λ fault.
             AtPlayer S.writer keys.now self.old sink.old (length piece.now)
-            (λ start terminal bytes. IsRunFault terminal keys.now S.writer start sink.new
+            (λ run start bytes. IsRunFault run (outflow S.writer start sink.new)
             (length bytes) (bytes ++ piece.now) fault)) }
     {
         let StationFront { used, step } = self.station.take_front(piece);
@@ -117,12 +117,12 @@ impl Player {
         piece: &[u8],
     ) -> Result<(), Fault>
         ensures come { OnOk result (AtPlayer S.writer keys.now self.old sink.old
-            (length piece.now) (λ start terminal bytes.
-            IsBrought S.writer terminal keys.now start self.new sink.new
+            (length piece.now) (λ run start bytes.
+            IsBrought run (outflow S.writer start sink.new) self.new
             (bytes ++ piece.now))) }
         ensures fault { IfErr result (λ fault.
             AtPlayer S.writer keys.now self.old sink.old (length piece.now)
-            (λ start terminal bytes. IsRunFault terminal keys.now S.writer start sink.new
+            (λ run start bytes. IsRunFault run (outflow S.writer start sink.new)
             (length bytes) (bytes ++ piece.now) fault)) }
     {
         let mut used = 0;

@@ -1,7 +1,9 @@
 ghost use Rattle.std.specs.Prelude.{[]};
 ghost use Rattle.ws_nego.specs.declared.terminal.TerminalType.{TerminalType as ATerminal};
 ghost use Rattle.ws_session.specs.station.StationLeads.{IsFresh, StationLeads};
-ghost use Rattle.ws_session.specs.attached.StationRun.{IsRun};
+ghost use Rattle.ws_code.specs.Device.{on_devices};
+ghost use Rattle.ws_session.specs.attached.StationRun.{IsRun, asked};
+ghost use Rattle.ws_session.specs.world.Carrying.{line_of, passage};
 ghost use Rattle.ws_session.specs.station.StationSide.{new_station_side};
 
 use crate::Station;
@@ -35,8 +37,8 @@ pub fn run_station<R: Source, S: Sink>(
 ) -> Result<Played, Fault>
     requires { IsFresh station }
     ensures { (terminal : ATerminal) → StationLeads station [] [] (new_station_side terminal)
-        → IsRun terminal keys.now R.reader source.old source.new S.writer
-        sink.old sink.new result }
+        → IsRun (asked terminal keys.now) (passage (on_devices S.writer R.reader)
+        (line_of sink.old source.old) (line_of sink.new source.new)) result }
 {
     let mut player = Player {
         station,

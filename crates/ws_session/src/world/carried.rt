@@ -4,7 +4,8 @@ ghost use Rattle.ws_nego.specs.declared.terminal.TerminalType.{TerminalType as A
 ghost use Rattle.ws_session.specs.Conducts.{host_conduct, profile_conduct};
 ghost use Rattle.ws_session.specs.world.BrokenOff.{CutsDelivery, BreaksOff, HasEndedEarly};
 ghost use Rattle.ws_session.specs.world.Carried.{HasRunOver};
-ghost use Rattle.ws_session.specs.world.Crossings.{Crossing, AreFaithful, HaveCrossed, IsEnded, AreEnded};
+ghost use Rattle.ws_session.specs.world.Carrying.{passage};
+ghost use Rattle.ws_session.specs.world.Crossings.{Crossing, AreFaithful, HaveCrossed, IsEnded, AreEnded, passages};
 ghost use Rattle.ws_session.specs.world.Runs.{Runs};
 ghost use Rattle.ws_session.specs.world.TwoLines.{two_ends_of, station_hearing, host_hearing, HasMoved, ComesDown, ComesUp};
 ghost use Rattle.ws_session.specs.world.Wires.{station_telling, host_telling};
@@ -39,12 +40,13 @@ impl World {
         ensures done { IfOk result (HasRunOver terminal moves.now
             (λ downs. HaveCrossed (on_devices S.writer R.reader) down.old downs down.new)
             (λ ups. HaveCrossed (on_devices T.writer Q.reader) up.old ups up.new)) }
-        ensures fault { IfErr result (AreEnded (on_devices S.writer R.reader)
-            (on_devices T.writer Q.reader) down.old down.new up.old up.new) }
+        ensures fault { IfErr result (AreEnded (passages
+            (passage (on_devices S.writer R.reader) down.old down.new)
+            (passage (on_devices T.writer Q.reader) up.old up.new))) }
         // What went into the lines before it is what the session of a front of the moves writes.
-        ensures early { IfErr result (HasEndedEarly (on_devices S.writer R.reader)
-            (on_devices T.writer Q.reader)
-            terminal moves.now down.old down.new up.old up.new) }
+        ensures early { IfErr result (HasEndedEarly (passages
+            (passage (on_devices S.writer R.reader) down.old down.new)
+            (passage (on_devices T.writer Q.reader) up.old up.new)) terminal moves.now) }
     {
         let mut world = World::new(alloc, terminal)?;
         for step in moves {
@@ -65,11 +67,13 @@ impl World {
             × HasMoved (two_ends_of self.old) step.now downs ups (two_ends_of self.new)
             × (AreFaithful downs → AreFaithful ups → (t : ATerminal) (w : AWorld)
             → Runs t self.old w → Runs t self.new (after_move w step.now))) }
-        ensures fault { IfErr result (AreEnded (on_devices S.writer R.reader)
-            (on_devices T.writer Q.reader) down.old down.new up.old up.new) }
-        ensures early { IfErr result (BreaksOff (on_devices S.writer R.reader)
-            (on_devices T.writer Q.reader)
-            (two_ends_of self.old) step.now down.old down.new up.old up.new) }
+        ensures fault { IfErr result (AreEnded (passages
+            (passage (on_devices S.writer R.reader) down.old down.new)
+            (passage (on_devices T.writer Q.reader) up.old up.new))) }
+        ensures early { IfErr result (BreaksOff (passages
+            (passage (on_devices S.writer R.reader) down.old down.new)
+            (passage (on_devices T.writer Q.reader) up.old up.new))
+            (two_ends_of self.old) step.now) }
     {
         match step {
             Move::Send(opcode, body) => self.order(*opcode, body.as_slice()),
@@ -92,9 +96,9 @@ impl World {
             → Runs t self.old w → Runs t self.new (spec.bytes_to_station count w))) }
         ensures fault { IfErr result
             (IsEnded (on_devices S.writer R.reader) line.old line.new) }
-        ensures early { IfErr result (CutsDelivery (on_devices S.writer R.reader)
-            profile_conduct station_telling (station_hearing (two_ends_of self.old)) count
-            line.old line.new) }
+        ensures early { IfErr result (CutsDelivery
+            (passage (on_devices S.writer R.reader) line.old line.new)
+            profile_conduct station_telling (station_hearing (two_ends_of self.old)) count) }
     {
         deliver_over(
             &mut self.station,
@@ -118,9 +122,9 @@ impl World {
             → Runs t self.old w → Runs t self.new (spec.bytes_to_host count w))) }
         ensures fault { IfErr result
             (IsEnded (on_devices S.writer R.reader) line.old line.new) }
-        ensures early { IfErr result (CutsDelivery (on_devices S.writer R.reader)
-            host_conduct host_telling (host_hearing (two_ends_of self.old)) count
-            line.old line.new) }
+        ensures early { IfErr result (CutsDelivery
+            (passage (on_devices S.writer R.reader) line.old line.new)
+            host_conduct host_telling (host_hearing (two_ends_of self.old)) count) }
     {
         deliver_over(
             &mut self.host,

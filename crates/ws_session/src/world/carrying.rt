@@ -1,5 +1,6 @@
 ghost use Rattle.std.specs.Prelude.{◌≡◌, ◌≤◌, Err, length, IfErr, OnOk};
-ghost use Rattle.ws_session.specs.world.Carrying.{IsCarried, IsCarryFault};
+ghost use Rattle.ws_code.specs.Device.{on_devices};
+ghost use Rattle.ws_session.specs.world.Carrying.{IsCarried, IsCarryFault, line_of, passage};
 
 use ws_code::{DeviceFailed, Fault, Sink, Source, write_whole};
 
@@ -21,10 +22,10 @@ pub fn carry<S: Sink, R: Source>(
     requires one_length { length taken.old ≡ length bytes.now }
     requires piece { length bytes.now ≤ 4096 }
     // What crossed, or how far it came; behind a failed write nothing was read.
-    ensures carried { OnOk result (IsCarried S.writer sink.old sink.new
-        R.reader source.old source.new bytes.now taken.new) }
-    ensures fault { IfErr result (IsCarryFault S.writer sink.old sink.new
-        R.reader source.old source.new bytes.now taken.new) }
+    ensures carried { OnOk result (IsCarried (passage (on_devices S.writer R.reader)
+        (line_of sink.old source.old) (line_of sink.new source.new)) bytes.now taken.new) }
+    ensures fault { IfErr result (IsCarryFault (passage (on_devices S.writer R.reader)
+        (line_of sink.old source.old) (line_of sink.new source.new)) bytes.now taken.new) }
     ensures unread { result ≡ Err Fault.Write → taken.new ≡ taken.old }
 {
     write_whole(sink, bytes)?;

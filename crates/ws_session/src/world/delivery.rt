@@ -3,6 +3,7 @@ ghost use Rattle.std.specs.Prelude.{◌≡◌, ◌<◌, ◌≤◌, ◌+◌, ◌+
 ghost use Rattle.ws_code.specs.Device.{on_devices};
 ghost use Rattle.ws_session.specs.Acts.{as_list};
 ghost use Rattle.ws_session.specs.world.BrokenOff.{IsDeliveryCut, CutsDelivery};
+ghost use Rattle.ws_session.specs.world.Carrying.{passage};
 ghost use Rattle.ws_session.specs.world.Crossings.{Crossing, HaveCrossed, IsEnded};
 ghost use Rattle.ws_session.specs.world.TwoLines.{AreDeliveredOver, hearing_of};
 ghost use Rattle.ws_session.specs.world.Wires.{HasCome, HasMemory, AreDelivered, Telling, at_end, host_telling, reported, station_telling};
@@ -102,9 +103,9 @@ pub(crate) fn deliver_over<E: Reported, S: Sink, R: Source>(
         (at_end end.old from.old to.old events.old.items) count crossings
         (at_end end.new from.new to.new events.new.items)) }
     ensures fault { IfErr result (IsEnded (on_devices S.writer R.reader) line.old line.new) }
-    ensures early { IfErr result (CutsDelivery (on_devices S.writer R.reader)
-        E.conduct E.telling (hearing_of (at_end end.old from.old to.old events.old.items))
-        count line.old line.new) }
+    ensures early { IfErr result (CutsDelivery
+        (passage (on_devices S.writer R.reader) line.old line.new) E.conduct E.telling
+        (hearing_of (at_end end.old from.old to.old events.old.items)) count) }
 {
     from.known();
     let mut left = count;

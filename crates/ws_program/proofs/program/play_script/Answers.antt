@@ -25,14 +25,14 @@ pub returns : goal.returns
 returns g c =
     let moves = c.in_ok-moves.moves in
     let printed = c.in_ok-play_painted_to.ensures.printed in
-    let well = printed.3 ∙ session_well moves.items c.as_slice.result.now _ _ _ _ _ c.as_slice.ensures.value
+    let well = printed.3 ∙ session_well moves.items c.as_slice.result.now _ c.as_slice.ensures.value
     c.in_ok-report.ensures.done in
     inr (
       printed.0,
       (
         moves.items,
         c.in_ok-moves.ensures.moves,
-        session_text moves.items c.as_slice.result.now _ _ _ _ _ c.args.paint c.args.screen printed.0
+        session_text moves.items c.as_slice.result.now _ c.args.paint c.args.screen printed.0
             c.as_slice.ensures.value c.in_ok-report.ensures.done printed.1,
         rw well refl,
       ),
@@ -55,7 +55,7 @@ returns-in_err-play_painted_to g c =
           (
             moves.items,
             c.in_ok-moves.ensures.moves,
-            session_text moves.items c.as_slice.result.now _ _ _ _ _ c.args.paint c.args.screen e.1.0
+            session_text moves.items c.as_slice.result.now _ c.args.paint c.args.screen e.1.0
                 c.as_slice.ensures.value c.in_ok-report.ensures.done e.1.1,
             refl,
           ),

@@ -3,13 +3,14 @@ use Rattle.ws_session.proofs.Common.{behind}
 use Rattle.ws_session.proofs.Feedings.{value_at}
 use Rattle.ws_session.proofs.attached.PlaySteps.{no_record, record_comes, keys_fail, reply_fails, refused_as}
 use Rattle.ws_session.proofs.attached.player.Player.take.Goals as goal
+use Rattle.ws_session.specs.attached.StationRun.{asked}
 
 pub returns-in-Err-clause-fault : goal.returns-in-Err-clause-fault
 returns-in-Err-clause-fault g c = λ start t bytes items h few.
     let f = c.take_front-used in
     let piece = c.args.piece.now in
     let m = f.result.used - 1 in
-    let so_far = behind t c.args.keys.now items in
+    let so_far = behind (asked t c.args.keys.now) items in
     let fronted = f.ensures.fronted bytes items so_far.side h.is_behind.leads (omega (arith, few)) in
     let some : 0 < f.result.used = f.ensures.used (λ e. rw e at fronted) in
     let last : suc m ≡ f.result.used = omega (arith, some) in
