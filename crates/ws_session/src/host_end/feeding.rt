@@ -1,9 +1,8 @@
 //! What a host end makes of a piece of bytes.
-ghost use Rattle.std.specs.Prelude.{◌≡◌, ◌<◌, ◌≤◌, ◌+◌, ◌^◌, ◌++◌, ◌∷◌, [], List, ℕ, None, Some, Err, length, take, IsSome, IfOk, IfErr, OnOk, OnErr};
+ghost use Rattle.std.specs.Prelude.{◌≡◌, ◌<◌, ◌≤◌, ◌+◌, ◌++◌, ◌∷◌, List, ℕ, Err, length, take, IsSome, IfOk, IfErr, OnOk, OnErr};
 ghost use Rattle.ws_session.specs.Acts.{all_came, as_list};
-ghost use Rattle.ws_session.specs.Ends.{CountsUpTo};
-ghost use Rattle.ws_session.specs.host_end.HostFeeds.{HasHostFed, IsHostSilent, HostStaysSilent, HostStopsWithin};
-ghost use Rattle.ws_session.specs.host_end.HostLeads.{AtHost};
+ghost use Rattle.ws_session.specs.host_end.HostFeeds.{HostStaysSilent};
+ghost use Rattle.ws_session.specs.host_end.HostTakes.{HostTakesPiece};
 ghost use Rattle.ws_session.specs.Manners.{HostGoes, HostRefuses};
 
 use super::{HostFront, silence};
@@ -13,35 +12,7 @@ impl HostEnd {
     // Takes bytes of the piece up to and with the first at which the host end writes or tells something, or all. One
     // that is refused is the next behind those used.
     pub(crate) fn take_piece(&mut self, piece: &[u8]) -> HostFront
-        // How much of the piece is used: all, unless something comes of it.
-        ensures within { result.used ≤ length piece.now }
-        ensures some { IfOk result.step (λ step. 0 < length piece.now → 0 < result.used) }
-        ensures whole { IfOk result.step (λ step. step.reply ≡ [] → step.event ≡ None
-            → result.used ≡ length piece.now) }
-        // What it brings, and that nothing came before its last byte.
-        ensures fed { IfOk result.step (λ step. AtHost self.old (λ bytes items side.
-            length bytes + length piece.now < 2 ^ 64
-            → HasHostFed self.new bytes items side (take result.used piece.now) step.reply
-            step.event)) }
-        ensures first { IfOk result.step (λ step. AtHost self.old (λ bytes items side.
-            length bytes + length piece.now < 2 ^ 64 → (n : ℕ) → n < result.used
-            → IsHostSilent bytes items side (take n piece.now))) }
-        // Where it stops, and how many bytes were taken.
-        ensures refused { IfErr result.step
-            (HostStopsWithin self.old self.new piece.now result.used) }
-        ensures counted { IfOk result.step (λ step.
-            self.old.receiver.live.taken + result.used < 2 ^ 64
-            → self.new.receiver.live.taken ≡ self.old.receiver.live.taken + result.used) }
-        ensures counted_up { IfErr result.step (λ why.
-            self.old.receiver.live.taken + length piece.now < 2 ^ 64
-            → CountsUpTo why self.old.receiver.live.taken self.new.receiver.live.taken
-            (length piece.now)) }
-        // What a refusal leaves.
-        ensures after { IfErr result.step (λ why. self.new.ended ≡ Some why) }
-        ensures seen { OnErr result.step (self.new.screen ≡ self.old.screen) }
-        // The screen changes with an event alone.
-        ensures quiet { IfOk result.step (λ step. step.event ≡ None
-            → self.new.screen ≡ self.old.screen) }
+        ensures { HostTakesPiece self.old piece.now self.new result }
     {
         let mut used = 0;
         while used < piece.len() {

@@ -1,6 +1,6 @@
-use Rattle.ws_session.proofs.Common.{◌≡◌, ◌+◌, [], refl, ◌∙◌, Option, Some, None, take, sym, arith, length, false}
+use Rattle.ws_session.proofs.Common.{rules, ◌<◌, ◌≡◌, ◌+◌, [], refl, ◌∙◌, Option, Some, None, take, sym, arith, length, false}
 use Rattle.ws_session.proofs.Common.{is_some, ◌-◌, length_rest, left_of, answer_rules, element_rules, host_manner}
-use Rattle.ws_session.proofs.Common.{HostEvent, HostStep, Refusal, HasHostFed, HostLeads}
+use Rattle.ws_session.proofs.Common.{HostEvent, HostStep, Refusal, Failed, HasHostFed, HostLeads}
 use Rattle.ws_session.proofs.Counts.{counted_on, counted_up}
 use Rattle.ws_session.proofs.Feedings.{none_silent, quiet_upto, none_come, quiet_on, value_at, split_on}
 use Rattle.ws_session.proofs.host_end.HostEnd.take_piece.Goals as goal
@@ -19,8 +19,8 @@ loop-used-init c = (
   λ fits. omega arith,
 )
 
-pub returns-in-Err-clause-refused : goal.returns-in-Err-clause-refused
-returns-in-Err-clause-refused c =
+pub returns-in-Err : goal.returns-in-Err
+returns-in-Err c =
     let now = c.loop-used.self in
     let f = c.take_front-more in
     let piece = c.args.piece.now in
@@ -28,47 +28,78 @@ returns-in-Err-clause-refused c =
     let left = left_of piece i in
     let k = f.result.used in
     let why : Refusal = c.in-Err.refusal in
+    let some : (why ≡ Failed → ⊥) → 0 < k = λ other. f.ensures.used (λ e. other (cc (c.in-Err.is, e))) in
     let at = value_at left (k - 1) (omega (arith, f.ensures.within, length_rest piece i, c.loop-used-test.true)) in
     rw c.saturating_sub.ensures (record {
-      byte = at.0;
-      rest = at.1;
-      split = split_on piece i (k - 1) at.0 at.1 at.2;
-      refused = λ bytes items side l fits. host_refused_on bytes items side piece i now
-          (c.loop-used.invariant.2 bytes items side l fits).0 c.args.self.now f.new.self k at.0 why c.loop-used.invariant.1 f.ensures.within
-          at.3 (λ other. f.ensures.used (λ e. other (cc (c.in-Err.is, e)))) (λ b its s m room. rw c.in-Err.is at
-          (f.ensures.fronted b its s m room)) f.ensures.first fits c.loop-used.invariant.0;
+      within = omega (arith, f.ensures.within, length_rest piece i, c.loop-used.invariant.0);
+      some = tt;
+      whole = tt;
+      fed = tt;
+      first = tt;
+      refused = record {
+        byte = at.0;
+        rest = at.1;
+        split = split_on piece i (k - 1) at.0 at.1 at.2;
+        refused = λ bytes items side l fits. host_refused_on bytes items side piece i now
+            (c.loop-used.invariant.2 bytes items side l fits).0 c.args.self.now f.new.self k at.0 why
+            c.loop-used.invariant.1 f.ensures.within at.3 some
+            (λ b its s m room. rw c.in-Err.is at (f.ensures.fronted b its s m room)) f.ensures.first fits
+            c.loop-used.invariant.0;
+      };
+      counted = tt;
+      counted_up = counted_up why _ now.receiver.live.taken _ i _ (length left) _ c.loop-used.invariant.0
+          f.ensures.within (length_rest piece i) c.loop-used.invariant.3 f.ensures.counted some
+          (rw c.in-Err.is at f.ensures.settled.at);
+      after = rw c.in-Err.is at f.ensures.settled.after;
+      seen = (rw c.in-Err.is at f.ensures.settled.seen) ∙ c.loop-used.invariant.1;
+      quiet = tt;
     })
 
-pub returns-in-Err-clause-counted_up : goal.returns-in-Err-clause-counted_up
-returns-in-Err-clause-counted_up c =
-    let now = c.loop-used in
-    let f = c.take_front-more in
-    let why : Refusal = c.in-Err.refusal in
-    counted_up why _ now.self.receiver.live.taken _ now.used _ (length (left_of c.args.piece.now now.used))
-    _ now.invariant.0 f.ensures.within (length_rest c.args.piece.now now.used) now.invariant.3 f.ensures.counted
-    (λ other. f.ensures.used (λ e. other (cc (c.in-Err.is, e)))) (rw c.in-Err.is at f.ensures.settled.at)
-
-pub returns-then-is_some-clause-fed : goal.returns-then-is_some-clause-fed
-returns-then-is_some-clause-fed c = λ bytes items side l fits.
+pub returns-then-is_some : goal.returns-then-is_some
+returns-then-is_some c =
     let now = c.loop-used.self in
     let f = c.take_front-more in
     let piece = c.args.piece.now in
     let i = c.loop-used.used in
     let k = f.result.used in
     let step : HostStep = c.in-Ok.step in
-    host_fed_on bytes items side piece i now (c.loop-used.invariant.2 bytes items side l fits).0 _
-    k step f.ensures.within (f.ensures.used (λ e. cc (c.in-Ok.is, e))) (λ b its s m room. rw c.in-Ok.is at
-    (f.ensures.fronted b its s m room)) f.ensures.first fits c.loop-used.invariant.0
+    let some : 0 < k = f.ensures.used (λ e. cc (c.in-Ok.is, e)) in
+    record {
+      within = omega (arith, f.ensures.within, length_rest piece i, c.loop-used.invariant.0);
+      some = λ any. omega (arith, some);
+      whole = search rules;
+      fed = λ bytes items side l fits. host_fed_on bytes items side piece i now
+          (c.loop-used.invariant.2 bytes items side l fits).0 _ k step f.ensures.within some
+          (λ b its s m room. rw c.in-Ok.is at (f.ensures.fronted b its s m room)) f.ensures.first fits
+          c.loop-used.invariant.0;
+      first = λ bytes items side l fits.
+          let inv = c.loop-used.invariant.2 bytes items side l fits in
+          quiet_on _ _ _ bytes items side _ _ _ inv.0 _ f.ensures.within f.ensures.first inv.1;
+      refused = tt;
+      counted = counted_on c.args.self.now.receiver.live.taken now.receiver.live.taken
+          f.new.self.receiver.live.taken i k c.loop-used.invariant.3 f.ensures.counted;
+      counted_up = tt;
+      after = tt;
+      seen = tt;
+      quiet = λ untold. (rw c.in-Ok.is at f.ensures.settled.quiet) untold ∙ c.loop-used.invariant.1;
+    }
 
-pub returns-then-is_some-clause-first : goal.returns-then-is_some-clause-first
-returns-then-is_some-clause-first c = λ bytes items side l fits.
-    let inv = c.loop-used.invariant.2 bytes items side l fits in
-    quiet_on
-    _ _ _ bytes items side _ _ _ inv.0 _ c.take_front-more.ensures.within c.take_front-more.ensures.first inv.1
-
-pub returns-clause-first : goal.returns-clause-first
-returns-clause-first c = λ bytes items side l fits n lt. (c.loop-used.invariant.2 bytes items side l fits).1 n
-    (omega (arith, lt))
+pub returns : goal.returns
+returns c =
+    let all : c.loop-used.used ≡ length c.args.piece.now = omega (arith, c.loop-used.invariant.0, c.loop-used-test.false) in
+    rw c.silence.ensures (record {
+      within = c.loop-used.invariant.0;
+      some = λ any. omega (arith, all, any);
+      whole = λ unwritten untold. all;
+      fed = λ bytes items side l fits. (c.loop-used.invariant.2 bytes items side l fits).0;
+      first = λ bytes items side l fits n lt. (c.loop-used.invariant.2 bytes items side l fits).1 n (omega (arith, lt));
+      refused = tt;
+      counted = c.loop-used.invariant.3;
+      counted_up = tt;
+      after = tt;
+      seen = tt;
+      quiet = λ untold. c.loop-used.invariant.1;
+    })
 
 pub loop-used-preserved : goal.loop-used-preserved
 loop-used-preserved c =
