@@ -16,6 +16,7 @@ use Rattle.ws_session.specs.station.Stations.{LeadsOn}
 use Rattle.ws_session.proofs.Feedings.{come_weaker, value_at}
 use Rattle.ws_session.proofs.station.StationSteps.{is_led}
 use Rattle.ws_session.specs.Acts.{ways}
+use Rattle.ws_session.specs.station.Displays.{on_display}
 
 -- A piece at an end, as acts: so many of its bytes came.
 
@@ -116,13 +117,13 @@ none_leads ended taken count works counted few (inr all) = omega (arith, counted
 
 module _ {D P U H PlaceV V K R : Type 0} (rules : Rules P U) (d : DisplayOf D U H PlaceV V K R) where
   pub station_count : (station : PartsOn D P) (bytes : List ℕ) (items : List (Item U)) (side : SideOn H)
-      → LeadsOn rules d station bytes items side → station.live.taken ≡ length bytes
+      → LeadsOn (on_display rules d) station bytes items side → station.live.taken ≡ length bytes
   station_count station bytes items side l = (is_led rules d station bytes items side l).count
 
   -- a station that is shut refuses the first byte of a piece
   pub station_shut : (old new : PartsOn D P) (piece : List ℕ) → 0 < length piece → IsShutOn old
       → new.screen ≡ old.screen → (byte : ℕ) × (rest : List ℕ) × (piece ≡ take 0 piece ++ byte ∷ rest)
-      × RefusesOn rules d old (take 0 piece) byte Failed new
+      × RefusesOn (on_display rules d) old (take 0 piece) byte Failed new
   station_shut old new piece some shut same =
       let f = first_of piece some in (
         f.0,
@@ -138,14 +139,14 @@ module _ {D P U H PlaceV V K R : Type 0} (rules : Rules P U) (d : DisplayOf D U 
   -- one that isn't refuses the byte at which it stops
   pub station_stops : (old new : PartsOn D P) (piece part more : List ℕ) → piece ≡ part ++ more → (used : ℕ)
       → used ≤ length part → old.live.taken + length part < 2 ^ 64 → (IsShutOn old → ⊥) → (why : Refusal)
-      → StopsWithinOn rules d old new part used why → (byte : ℕ) × (rest : List ℕ)
-      × (piece ≡ take used piece ++ byte ∷ rest) × RefusesOn rules d old (take used piece) byte why new
+      → StopsWithinOn (on_display rules d) old new part used why → (byte : ℕ) × (rest : List ℕ)
+      × (piece ≡ take used piece ++ byte ∷ rest) × RefusesOn (on_display rules d) old (take used piece) byte why new
   station_stops old new piece part more whole used within fits works why s = (
     s.byte,
     s.rest ++ more,
     front_split piece part more whole used s.byte s.rest within s.split,
     record {
-      led = stops_by rules d.out (manner_on d) (LeadsOn rules d) IsShutOn (λ (z : PartsOn D P). z.live.taken)
+      led = stops_by rules d.out (manner_on d) (LeadsOn (on_display rules d)) IsShutOn (λ (z : PartsOn D P). z.live.taken)
           station_count old piece part more whole used within fits _ s.refused;
       shut = λ shut. absurd (works shut);
     },
@@ -154,11 +155,11 @@ module _ {D P U H PlaceV V K R : Type 0} (rules : Rules P U) (d : DisplayOf D U 
   -- and is silent before the last byte that it takes
   pub station_silent : (old : PartsOn D P) (piece part more : List ℕ) → piece ≡ part ++ more → (used : ℕ)
       → used ≤ length part → old.live.taken + length part < 2 ^ 64 → (IsShutOn old → ⊥)
-      → ((bytes : List ℕ) (items : List (Item U)) (side : SideOn H) → LeadsOn rules d old bytes items side
-      → length bytes + length part < 2 ^ 64 → (n : ℕ) → n < used → IsSilentOn rules d bytes items side (take n part))
-      → (n : ℕ) → n < used → StaysSilentOn rules d old (take n piece)
+      → ((bytes : List ℕ) (items : List (Item U)) (side : SideOn H) → LeadsOn (on_display rules d) old bytes items side
+      → length bytes + length part < 2 ^ 64 → (n : ℕ) → n < used → IsSilentOn (on_display rules d) bytes items side (take n part))
+      → (n : ℕ) → n < used → StaysSilentOn (on_display rules d) old (take n piece)
   station_silent old piece part more whole used within fits works quiet n lt = record {
-    led = silent_by rules d.out (manner_on d) (LeadsOn rules d) IsShutOn (λ (z : PartsOn D P). z.live.taken)
+    led = silent_by rules d.out (manner_on d) (LeadsOn (on_display rules d)) IsShutOn (λ (z : PartsOn D P). z.live.taken)
         station_count old piece part more whole used within fits _ n lt
         (λ bytes items side l room. quiet bytes items side l room n lt);
     shut = λ shut. absurd (works shut);

@@ -13,6 +13,7 @@ use Rattle.ws_session.specs.station.StationManners.{at_item_on, takes_on}
 use Rattle.ws_session.specs.station.StationNews.{StopsWithinOn}
 use Rattle.ws_session.specs.station.Stations.{AtStationOn, LeadsOn, IsPushedOn}
 use Rattle.ws_session.proofs.EndSteps.{gone_none, gone_one, gone_to, alone}
+use Rattle.ws_session.specs.station.Displays.{on_display}
 
 -- A piece of one byte brings what that byte alone does.
 
@@ -24,8 +25,8 @@ module _ {D P U H PlaceV V K R : Type 0} (rules : Rules P U) (d : DisplayOf D U 
 
   pub one_fed : (byte : ℕ) (step : StationStep R) → (step.ends_record ≡ false → new.screen ≡ old.screen)
       → (bytes : List ℕ) (items : List (Item U)) (side : SideOn H)
-      → HasFedOn rules d new bytes items side (byte ∷ []) (d.written new.screen step.reply) step.ends_record
-      → IsPushedOn rules d old new bytes items side byte (Ok step.reply)
+      → HasFedOn (on_display rules d) new bytes items side (byte ∷ []) (d.written new.screen step.reply) step.ends_record
+      → IsPushedOn (on_display rules d) old new bytes items side byte (Ok step.reply)
   one_fed byte step quiet bytes items side fed = elim (gone_one fed) [
     | inl q ↦ inl (record { silent = q.0; same = quiet (untold _ q.1); leads = q.2 })
     | inr q ↦ (let r = gone_to (takes_on d side q.0) q.1 in
@@ -35,19 +36,19 @@ module _ {D P U H PlaceV V K R : Type 0} (rules : Rules P U) (d : DisplayOf D U 
           writes = r.1;
           goes_on = r.2;
           spelled = q.2 ∙ ap (λ z. plain_spelling d.out (at_item_on d side q.0 z).written) r.2;
-          leads = subst (λ z. LeadsOn rules d new (bytes ++ byte ∷ []) (items ++ q.0 ∷ [])
+          leads = subst (λ z. LeadsOn (on_display rules d) new (bytes ++ byte ∷ []) (items ++ q.0 ∷ [])
               (at_item_on d side q.0 z).side)
               r.2 q.4;
         }))
   ]
 
-  pub one_stopped : (byte used : ℕ) (why : Refusal) → StopsWithinOn rules d old new (byte ∷ []) used why
-      → AtStationOn rules d old (λ bytes items side. length bytes + 1 < 2 ^ 64
-      → IsPushedOn rules d old new bytes items side byte (Err why))
+  pub one_stopped : (byte used : ℕ) (why : Refusal) → StopsWithinOn (on_display rules d) old new (byte ∷ []) used why
+      → AtStationOn (on_display rules d) old (λ bytes items side. length bytes + 1 < 2 ^ 64
+      → IsPushedOn (on_display rules d) old new bytes items side byte (Err why))
   one_stopped byte used why s = λ bytes items side l few.
       let at = alone (take used (byte ∷ [])) s.rest byte s.byte s.split in
-      subst (λ (b : ℕ). IsPushedOn rules d old new bytes items side b (Err why)) at.1
-      (gone_none (subst (λ (front : List ℕ). HasTakenAllOn rules d (λ bytes' items' side'. IsPushedOn rules d old
+      subst (λ (b : ℕ). IsPushedOn (on_display rules d) old new bytes items side b (Err why)) at.1
+      (gone_none (subst (λ (front : List ℕ). HasTakenAllOn (on_display rules d) (λ bytes' items' side'. IsPushedOn (on_display rules d) old
       new bytes' items' side' s.byte (Err why)) bytes items side front [] []) at.0
       (s.refused bytes items side l few)))
 

@@ -1,35 +1,33 @@
 -- How an end of a session conducts itself, as whoever attaches it to devices or to a wire sees it.
 
 use Rattle.std.specs.Prelude.{IsSome}
-use Rattle.ws_code.specs.Code.{Rules}
 use Rattle.ws_keys.specs.declared.key.Key.{Key}
-use Rattle.ws_stream.specs.Elements.{element_rules}
 use Rattle.ws_session.specs.declared.end_step.Applied.{Applied}
 use Rattle.ws_session.specs.declared.end_step.Order.{Order}
 use Rattle.ws_session.specs.declared.host_end.host_event.HostEvent.{HostEvent}
 use Rattle.ws_session.specs.Conduct.{Conduct}
-use Rattle.ws_session.specs.station.Displays.{DisplayOf}
 use Rattle.ws_session.specs.host_end.HostFeeds.{HostStaysSilent}
 use Rattle.ws_session.specs.host_end.HostLeads.{HostParts}
 use Rattle.ws_session.specs.Manners.{HostGoes, HostRefuses}
 use Rattle.ws_session.specs.station.PartsOn.{PartsOn}
 use Rattle.ws_session.specs.station.StationActs.{GoesOnDisplay, RefusesOn, StaysSilentOn}
 use Rattle.ws_session.specs.station.StationLeads.{StationParts}
-use Rattle.ws_session.specs.station.StationSide.{profile}
+use Rattle.ws_session.specs.station.Displays.{OnDisplay}
+use Rattle.ws_session.specs.station.StationSide.{on_profile}
 
 -- a station on any display
-abbrev pub station_conduct : {D P U H PlaceV V K R : Type 0} → Rules P U → DisplayOf D U H PlaceV V K R
+abbrev pub station_conduct : {D P U H PlaceV V K R : Type 0} → OnDisplay D P U H PlaceV V K R
     → Conduct (PartsOn D P) K Applied
-station_conduct rules d = record {
-  goes = GoesOnDisplay rules d;
-  refuses = RefusesOn rules d;
-  silent = StaysSilentOn rules d;
+station_conduct on = record {
+  goes = GoesOnDisplay on;
+  refuses = RefusesOn on;
+  silent = StaysSilentOn on;
   over = λ station. IsSome station.ended;
 }
 
 -- a station of the profile
 abbrev pub profile_conduct : Conduct StationParts Key Applied
-profile_conduct = station_conduct element_rules profile
+profile_conduct = station_conduct on_profile
 
 -- a host end
 abbrev pub host_conduct : Conduct HostParts Order HostEvent

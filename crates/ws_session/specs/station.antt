@@ -11,4 +11,5 @@ pub mod StationLeads
 pub mod StationManners
 pub mod StationNews
 pub mod StationSide
+pub mod StationTakes
 pub mod Stations

@@ -11,10 +11,10 @@ use Rattle.std.proofs.lemmas.Bool.{cases_Bool}
 use Rattle.ws_session.specs.station.Moments.{Arrives}
 use Rattle.ws_session.specs.station.StationManners.{goes_on}
 use Rattle.ws_session.specs.station.StationNews.{IsFrontedOn}
-use Rattle.ws_session.specs.station.StationSide.{profile}
 use Rattle.ws_session.specs.station.Stations.{TakesItemOn}
 use Rattle.ws_session.proofs.attached.Plays.{outcome_append, text_append, later_by, none_due, text_of}
 use Rattle.ws_session.specs.attached.StationRun.{asked, outflow}
+use Rattle.ws_session.specs.station.StationSide.{on_profile}
 
 -- What a front of a piece makes of a run's player.
 
@@ -102,7 +102,7 @@ module _ {S : Type 0} (writer : Writer S) (t : TerminalType) (keys : List (ℕ �
   }
 
   module _ (reply : List ℕ)
-      (taken : TakesItemOn element_rules profile old.station longer items so_far.side reply) where
+      (taken : TakesItemOn on_profile old.station longer items so_far.side reply) where
     abbrev more : List (Item Element)
     more = items ++ taken.item ∷ []
 
@@ -186,7 +186,7 @@ module _ {S : Type 0} (writer : Writer S) (t : TerminalType) (keys : List (ℕ �
     room = omega (arith, few, size, within)
 
     module _ (step : StationStep (List ℕ))
-        (fronted : IsFrontedOn element_rules profile before old.station longer items so_far.side (Ok step)) where
+        (fronted : IsFrontedOn on_profile before old.station longer items so_far.side (Ok step)) where
       -- the reply isn't written
       pub reply_fails : (to : S) → FailedWithin writer now to step.reply
           → RunUnwritten (asked t keys) (outflow writer start to) (bytes ++ piece)
@@ -270,7 +270,7 @@ pub refused_as : {S : Type 0} (writer : Writer S) (t : TerminalType) (keys : Lis
     (start now : S) (old : Player) (new : StationParts) (bytes : List ℕ) (items : List (Item Element))
     → HaveBroughtPlayer (asked t keys) (outflow writer start now) old bytes items → (piece front : List ℕ) (byte : ℕ) (rest : List ℕ)
     → piece ≡ front ++ byte ∷ rest → HoldsItems element_rules (bytes ++ front) items → (refusal : Refusal)
-    → IsFrontedOn element_rules profile old.station new (bytes ++ (front ++ byte ∷ [])) items (behind (asked t keys) items).side
+    → IsFrontedOn on_profile old.station new (bytes ++ (front ++ byte ∷ [])) items (behind (asked t keys) items).side
     (Err refusal) → IsRunFault (asked t keys) (outflow writer start now) (length bytes) (bytes ++ piece) (fault_of refusal)
 refused_as writer t keys start now old new bytes items c piece front byte rest split held (At place reason) f =
     let upto : (bytes ++ front) ++ byte ∷ [] ≡ bytes ++ (front ++ byte ∷ []) = append_assoc bytes front (byte ∷ []) in

@@ -21,6 +21,7 @@ use Rattle.ws_session.specs.station.StationNews.{IsFrontedOn, IsAnsweredOn, IsMi
 use Rattle.ws_session.specs.station.Stations.{LeadsOn, IsClosedOn, TakesItemOn, IsKeyedOn}
 use Rattle.ws_session.specs.station.Stations.{HasStoppedOn}
 use Rattle.ws_session.proofs.RecordCounts.{records_append, records_few}
+use Rattle.ws_session.specs.station.Displays.{on_display}
 
 -- What each step of the live decoder makes of a station.
 
@@ -44,7 +45,7 @@ module _ {D P U H PlaceV V K R : Type 0} (rules : Rules P U) (d : DisplayOf D U 
   pub closes : (old : PartsOn D P) (screen : D) (side : SideOn H) (head : Head) (units : List U)
       (place : ℕ) (reply : R) → old.options ≡ side.options → station_allows_records old.options ≡ true
       → IsApplied d screen side (record_of head units) (Ok reply)
-      → IsClosedOn rules d old (record old {
+      → IsClosedOn (on_display rules d) old (record old {
         body_bytes = [];
         screen = screen;
         records = min (old.records + 1)
@@ -69,7 +70,7 @@ module _ {D P U H PlaceV V K R : Type 0} (rules : Rules P U) (d : DisplayOf D U 
       omega (arith, whole, length-append r.bytes h.framed.more, length-drop 10 r.bytes)
 
   module _ (old : PartsOn D P) (bytes : List ℕ) (items : List (Item U)) (side : SideOn H)
-      (l : LeadsOn rules d old bytes items side) where
+      (l : LeadsOn (on_display rules d) old bytes items side) where
     -- the record so far
     abbrev pub so_far : RecordSoFar U
     so_far = record { bytes = l.leads.0; head = l.head; units = l.units }
@@ -87,12 +88,12 @@ module _ {D P U H PlaceV V K R : Type 0} (rules : Rules P U) (d : DisplayOf D U 
       Mid = record old { live = live; body_bytes = kept }
 
       abbrev Fronted : PartsOn D P → Result (StationStep R) Refusal → Type 0
-      Fronted new result = IsFrontedOn rules d old new (bytes ++ front) items side result
+      Fronted new result = IsFrontedOn (on_display rules d) old new (bytes ++ front) items side result
 
       -- no item is complete
       stays : (head : Option Head) (units : List U)
           (n : LeadsWith rules live (bytes ++ front) items head units) → kept ≡ drop 10 n.0 → (new : PartsOn D P)
-          (result : Result (StationStep R) Refusal) → IsMid rules d new result [] × (new ≡ Mid) → Fronted new result
+          (result : Result (StationStep R) Refusal) → IsMid (on_display rules d) new result [] × (new ≡ Mid) → Fronted new result
       stays head units n body new result r = rw r.0.1 (inl (
         record {
           silent = r.0.2;
@@ -113,14 +114,14 @@ module _ {D P U H PlaceV V K R : Type 0} (rules : Rules P U) (d : DisplayOf D U 
 
       -- its last byte is refused
       stopped : (new : PartsOn D P) (why : Option Refusal) → live.taken ≡ length (bytes ++ front)
-          → new ≡ record Mid { ended = why } → HasStoppedOn rules d new (length (bytes ++ front)) items side
+          → new ≡ record Mid { ended = why } → HasStoppedOn (on_display rules d) new (length (bytes ++ front)) items side
       stopped new why count is =
           rw is (record { taken = count; options = l.options; given = l.given; counted = l.counted })
 
       -- a Telnet command is
       answered : (from : Watching P) (token : Telnet) → Leads rules from (bytes ++ front) (items ++ TelnetItem
           token ∷ []) so_far → kept ≡ old.body_bytes → (new : PartsOn D P) (result : Result (StationStep R) Refusal)
-          → IsAnsweredOn rules d (record Mid { live = from }) token new result → Fronted new result
+          → IsAnsweredOn (on_display rules d) (record Mid { live = from }) token new result → Fronted new result
       answered from token n same new result r = rw r.0.1 (inr (
         record {
           item = TelnetItem token;
@@ -148,10 +149,10 @@ module _ {D P U H PlaceV V K R : Type 0} (rules : Rules P U) (d : DisplayOf D U 
           (items ++ RecordItem (record_of head l.units) ∷ []) no_record → length (bytes ++ front) < 2 ^ 64
           → live.taken ≡ length (bytes ++ front) → (place : ℕ) → length (bytes ++ front) ≡ place + 1
           → (new : PartsOn D P) (result : Result (StationStep R) Refusal)
-          → IsClosedOn rules d Mid new side (record_of head l.units) place result → Fronted new result
+          → IsClosedOn (on_display rules d) Mid new side (record_of head l.units) place result → Fronted new result
       closed head n few count place at new (Ok step) c =
           let last : Item U = RecordItem (record_of head l.units) in
-          let taken : TakesItemOn rules d new (bytes ++ front) items side step.reply = record {
+          let taken : TakesItemOn (on_display rules d) new (bytes ++ front) items side step.reply = record {
             item = last;
             next = c.0;
             writes = c.1;
@@ -198,7 +199,7 @@ module _ {D P U H PlaceV V K R : Type 0} (rules : Rules P U) (d : DisplayOf D U 
       pub fronted : (news : News) → IsBodyAdvance news → live.taken ≡ length (bytes ++ front)
           → ((news ≡ told.Failed → ⊥) → 0 < length (bytes ++ front)) → length (bytes ++ front) < 2 ^ 64 →
           (new : PartsOn D P)
-          (result : Result (StationStep R) Refusal) → IsNewsTakenOn rules d Mid news new result → Fronted new result
+          (result : Result (StationStep R) Refusal) → IsNewsTakenOn (on_display rules d) Mid news new result → Fronted new result
       fronted told.More a count some few new result r =
           let on = a.2 in
           let body : kept ≡ drop 10 on.grown = a.3 l.units (drop 10 l.leads.0) (λ _. l.body)
@@ -239,7 +240,7 @@ module _ {D P U H PlaceV V K R : Type 0} (rules : Rules P U) (d : DisplayOf D U 
       → d.written new.screen step.reply ≡ telnet_bytes (station_answer old.options (telnet.Sub sub)).reply
       → step.ends_record ≡ false
       → new ≡ record old { live = live; options = (station_answer old.options (telnet.Sub sub)).after }
-      → IsAnsweredOn rules d (record old { live = record old.live { sub = left } }) (telnet.Sub old.live.sub) new
+      → IsAnsweredOn (on_display rules d) (record old { live = record old.live { sub = left } }) (telnet.Sub old.live.sub) new
       (Ok step)
   sub_answered old live left sub step new kept same reply ends options = (
     (step, refl, reply ∙ ap (λ z. telnet_bytes (station_answer old.options (telnet.Sub z)).reply) same, ends),
@@ -254,7 +255,7 @@ module _ {D P U H PlaceV V K R : Type 0} (rules : Rules P U) (d : DisplayOf D U 
   -- where nothing is complete
   pub none_complete : (old : PartsOn D P) (news : News) (step : StationStep R) → (news ≡ told.More)
       ⊎ ((news ≡ told.Unit) ⊎ ((head : Head) × (news ≡ told.Open head))) → d.written old.screen step.reply ≡ []
-      → step.ends_record ≡ false → IsNewsTakenOn rules d old news old (Ok step)
+      → step.ends_record ≡ false → IsNewsTakenOn (on_display rules d) old news old (Ok step)
   none_complete old news step (inl e) reply ends = rw e ((step, refl, reply, ends), refl)
   none_complete old news step (inr (inl e)) reply ends = rw e ((step, refl, reply, ends), refl)
   none_complete old news step (inr (inr q)) reply ends = rw q.1 ((step, refl, reply, ends), refl)
@@ -279,10 +280,10 @@ as_fault (Err refusal) = Err (Refused refusal)
 
 module _ {D P U H PlaceV V K R : Type 0} (rules : Rules P U) (d : DisplayOf D U H PlaceV V K R) where
   module _ (old : PartsOn D P) (bytes : List ℕ) (items : List (Item U)) (side : SideOn H)
-      (l : LeadsOn rules d old bytes items side) where
+      (l : LeadsOn (on_display rules d) old bytes items side) where
     -- the station behind a key
     led_to : (new : D) (next : SideOn H) → ComesTo d new side next
-        → LeadsOn rules d (record old { screen = new }) bytes items next
+        → LeadsOn (on_display rules d) (record old { screen = new }) bytes items next
     led_to new next c = record {
       head = l.head;
       units = l.units;
@@ -294,7 +295,7 @@ module _ {D P U H PlaceV V K R : Type 0} (rules : Rules P U) (d : DisplayOf D U 
       works = l.works;
     }
 
-    led_on : (new : D) → d.gives side.happened new → LeadsOn rules d (record old { screen = new }) bytes items side
+    led_on : (new : D) → d.gives side.happened new → LeadsOn (on_display rules d) (record old { screen = new }) bytes items side
     led_on new given = led_to new side (record { options = refl; given = given })
 
     -- where it may send, it does as its display
@@ -305,7 +306,7 @@ module _ {D P U H PlaceV V K R : Type 0} (rules : Rules P U) (d : DisplayOf D U 
 
     pub pressed : (key : K) → (d.sends key && not (station_allows_records old.options)) ≡ false → (new : D)
         (result : Result (Option Answer) KeyRefusal) → IsPressedOnDisplay d old.screen new side key result
-        → IsKeyedOn rules d old (record old { screen = new }) bytes items side key (as_fault result)
+        → IsKeyedOn (on_display rules d) old (record old { screen = new }) bytes items side key (as_fault result)
     pressed key may new (Ok None) p = (p.0, reacts key may ∙ p.1, led_to new p.0 p.2)
     pressed key may new (Ok (Some (Read body))) p =
         (p.0, p.1, p.2, reacts key may ∙ p.3, p.4, led_to new p.0 p.5)

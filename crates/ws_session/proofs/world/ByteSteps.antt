@@ -16,7 +16,6 @@ use Rattle.ws_session.specs.Conducts.{host_conduct, profile_conduct}
 use Rattle.ws_session.specs.Manners.{IsHostShut}
 use Rattle.ws_session.specs.host_end.HostFeeds.{HostStaysSilent}
 use Rattle.ws_session.specs.station.StationActs.{IsShutOn, StaysSilentOn}
-use Rattle.ws_session.specs.station.StationSide.{profile}
 use Rattle.ws_session.specs.world.Wires.{host_telling, station_telling}
 use Rattle.ws_session.proofs.Writables.{host_writes_well, answers_writable, WritesWell}
 use Rattle.ws_session.proofs.world.Bytes.{byte_down, byte_up}
@@ -24,6 +23,7 @@ use Rattle.ws_session.proofs.world.OneByOne.{Later, gone_first, delivered, many_
 use Rattle.ws_session.proofs.world.Reached.{station_writes, going_station, host_writes, going_host, is_sound, OfStation}
 use Rattle.ws_session.proofs.world.Reached.{OfHost}
 use Rattle.ws_session.specs.station.Stations.{IsPushedOn}
+use Rattle.ws_session.specs.station.StationSide.{on_profile}
 
 -- A byte comes to the station of a running session.
 
@@ -88,7 +88,7 @@ module _ {S : OfStation} {H : OfHost} {t : TerminalType} {w : World} {old : Worl
           held leads (steps (Some item) o.0 ∙ ap (station_did byte_on) does)
 
     -- no byte is refused
-    pub station_never : (from station : StationParts) (refusal : Refusal) → IsPushedOn element_rules profile from station
+    pub station_never : (from station : StationParts) (refusal : Refusal) → IsPushedOn on_profile from station
         (take w.at_station (down_bytes w)) done w.station byte (Err refusal) → ⊥
     station_never from station (At at reason) p = elim p.2 [
       | inl refused ↦ came.none_refused at reason refused
@@ -198,8 +198,8 @@ station_delivered {t} {w} {old} r {station} {from} {to} {events} {count} d =
     (λ A n up told w' h. (_, _, _, h.station))
     (λ Then x xs v said n up told w' h more is. station_next Then x xs v said h more is)
     (λ A n up told w' h all. none_comes h all) StationLeads IsShutOn StationRefuses
-    (StaysSilentOn element_rules profile) (λ (e : StationParts). IsSome e.ended) (λ place reason. StationRefused place reason)
-    (λ e byte why e' b i s. IsPushedOn element_rules profile e e' b i s byte (Err why))
+    (StaysSilentOn on_profile) (λ (e : StationParts). IsSome e.ended) (λ place reason. StationRefused place reason)
+    (λ e byte why e' b i s. IsPushedOn on_profile e e' b i s byte (Err why))
     (λ e front byte why e' refuses b i s l few. refuses.led b i s l few)
     (λ e byte why e' n up told w' h more is memory. station_never h more byte is e e' why h.station)
     old.station old.at_station old.up old.events w (with_station r station (λ l. l)) station from to old.at_host events

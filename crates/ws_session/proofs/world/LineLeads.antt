@@ -12,9 +12,9 @@ use Rattle.ws_session.specs.Manners.{IsHostShut}
 use Rattle.ws_session.specs.declared.world.Move.TheVariants.{Send}
 use Rattle.ws_session.specs.host_end.HostFeeds.{HostStaysSilent}
 use Rattle.ws_session.specs.station.StationActs.{IsShutOn, StaysSilentOn}
-use Rattle.ws_session.specs.station.StationSide.{profile}
 use Rattle.ws_session.specs.world.Wires.{Telling, host_telling, station_telling}
 use Rattle.ws_session.specs.Acts.{ways}
+use Rattle.ws_session.specs.station.StationSide.{on_profile}
 
 -- What crossed a line leads to its end, or the end has refused a byte of it.
 
@@ -74,11 +74,11 @@ station_moved a b Cancel ds us front p few l = stays StationIsLed a.station b.st
 station_moved a b (ToHost n) ds us front p few l = stays StationIsLed a.station b.station ds front p.0 p.1.1 l
 station_moved a b (ToStation n) ds us front p few l = bytes_led element_rules answer_rules station_manner StationLeads
     StationRefuses
-    (StaysSilentOn element_rules profile) (λ (s : StationParts). IsSome s.ended) station_telling IsShutOn a.station b.station (all_read ds) p.1.0.written p.1.0.told front
+    (StaysSilentOn on_profile) (λ (s : StationParts). IsSome s.ended) station_telling IsShutOn a.station b.station (all_read ds) p.1.0.written p.1.0.told front
     p.1.0.come few l
 station_moved a b (Press key) ds us front p few l = stays StationIsLed b.station b.station ds front p.0 refl
     (act_led element_rules answer_rules station_manner StationLeads StationRefuses
-    (StaysSilentOn element_rules profile) (λ (s : StationParts). IsSome s.ended) station_telling
+    (StaysSilentOn on_profile) (λ (s : StationParts). IsSome s.ended) station_telling
     IsShutOn a.station b.station key p.2.0 [] front p.2.2.led (λ o. (p.2.2.stays (inl o)).0) (omega (arith, few)) l)
 
 host_moved : (a b : TwoEnds) (move : Move) (ds us : List Crossing) (front : List ℕ) → HasMoved a move ds us b → length

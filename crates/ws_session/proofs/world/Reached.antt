@@ -17,8 +17,8 @@ use Rattle.ws_keys.specs.declared.answer.Answer.{Answer}
 use Rattle.ws_keys.proofs.WholeLaws.{answer_whole, answer_short}
 use Rattle.ws_session.proofs.world.Betweens.{Sound}
 use Rattle.ws_session.proofs.world.Worlds.{sound}
-use Rattle.ws_session.specs.station.StationSide.{profile}
 use Rattle.ws_session.specs.station.Stations.{IsKeyedOn}
+use Rattle.ws_session.specs.station.StationSide.{on_profile}
 
 -- A running session is a world that its moves lead to.
 
@@ -192,7 +192,7 @@ module _ {t : TerminalType} {w : World} {old : WorldParts} (r : Runs t old w) (k
   module _ (few : length old.down + 1 < 2 ^ 64) (station : StationParts) where
     abbrev Keys : Result (Option Answer) KeyFault → Type 0
     Keys result = AtStation old.station (λ bytes items side. length bytes + 1 < 2 ^ 64
-        → IsKeyedOn element_rules profile old.station station bytes items side key result)
+        → IsKeyedOn on_profile old.station station bytes items side key result)
 
     pub key_silent : Keys (Ok None) → Runs t (record old { station = station }) (after_press w key)
     key_silent p =

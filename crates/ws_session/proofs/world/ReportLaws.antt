@@ -4,8 +4,8 @@ use C.{◌^◌, inl, inr, length, length-drop, if◌then◌else◌, Bool, true, 
 use C.{append-nil, drop_all, Rules, Telnet, Exchange, TablesAgree, NothingInFlight, MoveDown, MoveUp, exchange_after}
 use C.{after_all_to_station, after_all_to_host, after_three_deliveries, host_allows_records, station_allows_records}
 use C.{TerminalType, agrees, settled_quiet, settled_station, settled_host, plain_spelling, Item, answer_rules}
-use C.{element_rules, AnswerPart, Field, ReadKind, HostAnswer, Refuses, GoesOn, Reaction, telnets, Event, Move}
-use C.{HostParts, HostSide, HostOutput, answers_in, items_coming, is_answer, answers_coming, StationParts, StationSide}
+use C.{element_rules, AnswerPart, Field, ReadKind, HostAnswer, Refuses, GoesOn, Reaction, telnets, Move}
+use C.{HostSide, HostOutput, answers_in, items_coming, is_answer, answers_coming, StationSide}
 use C.{delivery, three_deliveries, refusals_in, Report, IsReport, IsOpened, World, new_world, after_moves, IsQuiet, down_bytes}
 use C.{station_did, byte_to_station, up_bytes, host_did, byte_to_host, bytes_to_station, bytes_to_host}
 use Rattle.ws_nego.proofs.Exchanges.{x_few}

@@ -18,9 +18,10 @@ use Rattle.ws_session.specs.declared.attached.run.Played.{Played}
 use Rattle.ws_session.specs.Acts.{HoldsItems}
 use Rattle.ws_session.specs.station.Moments.{Outcome, outcome, AreTaken, moments}
 use Rattle.ws_session.specs.station.StationLeads.{StationParts, StationLeads}
-use Rattle.ws_session.specs.station.StationSide.{new_station_side, profile}
+use Rattle.ws_session.specs.station.StationSide.{new_station_side}
 use Rattle.ws_session.specs.station.Stations.{RefusesItemOn}
 use Rattle.ws_session.specs.world.Carrying.{Passage}
+use Rattle.ws_session.specs.station.StationSide.{on_profile}
 
 -- the count of refused keys stops at the greatest number of 32 bits
 abbrev pub refusal_count : ℕ → ℕ
@@ -95,7 +96,7 @@ module _ (run : Asked) where
       pub is_behind : IsBehind before items station
       pub inside : HoldsItems element_rules (before ++ front) items
       pub why : IsRefused element_rules ((before ++ front) ++ byte ∷ []) at.0 at.1
-          ⊎ RefusesItemOn element_rules profile ((before ++ front) ++ byte ∷ []) items (behind items).side at.1
+          ⊎ RefusesItemOn on_profile ((before ++ front) ++ byte ∷ []) items (behind items).side at.1
       pub wrote : HasWrittenAll items
 
     -- A write failed, in what was to be written behind items of these bytes.

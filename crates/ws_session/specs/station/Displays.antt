@@ -52,6 +52,16 @@ pub record DisplayOf (D U H PlaceV V K R : Type 0) : Type 1 where
   pub answer : ScreenParts → ReadKind → ℕ → Item V
   pub written : D → R → List ℕ
 
+-- what a station stands on: the rules of what comes to it, and its display
+pub record OnDisplay (D P U H PlaceV V K R : Type 0) : Type 1 where
+  pub rules : Rules P U
+  pub does : DisplayOf D U H PlaceV V K R
+
+-- it stands on a display, by these rules
+abbrev pub on_display : {D P U H PlaceV V K R : Type 0} → Rules P U → DisplayOf D U H PlaceV V K R
+    → OnDisplay D P U H PlaceV V K R
+on_display rules does = record { rules = rules; does = does }
+
 module _ {D U H PlaceV V K R : Type 0} (d : DisplayOf D U H PlaceV V K R) where
   -- what a record gives a display: the display that it comes to and what is written; or the reason for which the record
   -- is refused

@@ -2,24 +2,23 @@
 
 use Rattle.std.specs.Prelude.{ℕ, Bool, List}
 use Rattle.ws_record.specs.declared.record.Item.{Item}
-use Rattle.ws_stream.specs.Elements.{element_rules}
 use Rattle.ws_stream.specs.declared.element.Element.{Element}
-use Rattle.ws_session.specs.declared.end_step.Applied.{Applied}
 use Rattle.ws_session.specs.declared.refusal.Refusal.{Refusal}
 use Rattle.ws_session.specs.station.StationLeads.{StationParts}
-use Rattle.ws_session.specs.station.StationSide.{StationSide, profile}
+use Rattle.ws_session.specs.station.StationSide.{StationSide}
 use Rattle.ws_session.specs.station.StationActs.{HasFedOn, IsSilentOn, HasRefusedOn}
+use Rattle.ws_session.specs.station.StationSide.{on_profile}
 
 -- bytes of a piece come to the station one after another: they lead it to this one, which wrote and told this
 abbrev pub HasFed : StationParts → List ℕ → List (Item Element) → StationSide → List ℕ → List ℕ → Bool → Type 0
-HasFed = HasFedOn element_rules profile
+HasFed = HasFedOn on_profile
 
 -- at these bytes of a piece the station writes and tells nothing
 abbrev pub IsSilent : List ℕ → List (Item Element) → StationSide → List ℕ → Type 0
-IsSilent = IsSilentOn element_rules profile
+IsSilent = IsSilentOn on_profile
 
 -- the station refuses a byte of the piece, as it refuses that byte alone, and writes and tells nothing at those before
 -- it
 abbrev pub HasRefused : StationParts → StationParts → List ℕ → List (Item Element) → StationSide → List ℕ → Refusal
     → Type 0
-HasRefused = HasRefusedOn element_rules profile
+HasRefused = HasRefusedOn on_profile

@@ -2,7 +2,7 @@
 
 use Rattle.std.specs.Prelude.{◌≡◌, ℕ, ◌+◌, ◌-◌, ◌^◌, ◌<◌, ◌++◌, ◌∷◌, false, List, take}
 use Rattle.std.specs.Prelude.{[], ◌⊎◌, Some, length, Result, Ok, Err}
-use Rattle.ws_code.specs.Code.{Rules, IsChain, spelling_of}
+use Rattle.ws_code.specs.Code.{IsChain, spelling_of}
 use Rattle.ws_telnet.specs.declared.token.Sub.{Sub as ASub}
 use Rattle.ws_telnet.specs.declared.token.Telnet.{Telnet}
 use Rattle.ws_telnet.specs.declared.token.Telnet.TheVariants as telnet
@@ -17,22 +17,23 @@ use Rattle.ws_session.specs.declared.refusal.Refusal.{Refusal}
 use Rattle.ws_session.specs.declared.refusal.Refusal.TheVariants.{At, Failed, Memory}
 use Rattle.ws_session.specs.declared.station.StationStep.{StationStep}
 use Rattle.ws_session.specs.Ends.{HasSettled}
-use Rattle.ws_session.specs.station.Displays.{DisplayOf, SideOn}
+use Rattle.ws_session.specs.station.Displays.{SideOn}
 use Rattle.ws_session.specs.station.StationCounts.{is_record}
 use Rattle.ws_session.specs.station.PartsOn.{PartsOn}
 use Rattle.ws_session.specs.station.Stations.{StaysInsideOn, TakesItemOn, RefusesItemOn, IsClosedOn, HasStoppedOn, AtStationOn}
 use Rattle.ws_session.specs.station.Stations.{IsPushedOn}
 use Rattle.ws_session.specs.station.StationActs.{HasTakenAllOn}
+use Rattle.ws_session.specs.station.Displays.{OnDisplay}
 
 -- how a station stands with the last byte taken: its display changes with a record's end alone
 abbrev pub HasSettledOn : {D P R : Type 0} → PartsOn D P → PartsOn D P → ℕ → Result (StationStep R) Refusal → Type 0
 HasSettledOn {R = R} old new place result =
     HasSettled (λ (step : StationStep R). step.ends_record ≡ false) place new.ended (new.screen ≡ old.screen) result
 
-module _ {D P U H PlaceV V K R : Type 0} (rules : Rules P U) (d : DisplayOf D U H PlaceV V K R) where
+module _ {D P U H PlaceV V K R : Type 0} (on : OnDisplay D P U H PlaceV V K R) where
   -- what a station answers where these bytes are written, and no record ends
   abbrev pub IsMid : PartsOn D P → Result (StationStep R) Refusal → List ℕ → Type 0
-  IsMid new result bytes = (step : StationStep R) × (result ≡ Ok step) × (d.written new.screen step.reply ≡ bytes)
+  IsMid new result bytes = (step : StationStep R) × (result ≡ Ok step) × (on.does.written new.screen step.reply ≡ bytes)
       × (step.ends_record ≡ false)
 
   -- what a station makes of a Telnet command: it answers it
@@ -46,9 +47,9 @@ module _ {D P U H PlaceV V K R : Type 0} (rules : Rules P U) (d : DisplayOf D U 
   IsNewsTakenOn old news.Unit new result = IsMid new result [] × (new ≡ old)
   IsNewsTakenOn old (news.Open head) new result = IsMid new result [] × (new ≡ old)
   IsNewsTakenOn old (news.Close head) new result = (side : SideOn H) (units : List U)
-      → IsChain rules rules.first units → old.body_bytes ≡ spelling_of rules units
-      → old.options ≡ side.options → d.gives side.happened old.screen
-      → IsClosedOn rules d old new side (record_of head units) (old.live.taken - 1) result
+      → IsChain on.rules on.rules.first units → old.body_bytes ≡ spelling_of on.rules units
+      → old.options ≡ side.options → on.does.gives side.happened old.screen
+      → IsClosedOn on old new side (record_of head units) (old.live.taken - 1) result
   IsNewsTakenOn old (news.Command code) new result = IsAnsweredOn old (telnet.Command code) new result
   IsNewsTakenOn old (news.Option verb option) new result = IsAnsweredOn old (telnet.Option verb option) new result
   IsNewsTakenOn old news.Sub new result = old.live.begun ≡ [] → (left : ASub)
@@ -64,18 +65,18 @@ module _ {D P U H PlaceV V K R : Type 0} (rules : Rules P U) (d : DisplayOf D U 
     pub byte : ℕ
     pub rest : List ℕ
     pub split : piece ≡ take used piece ++ byte ∷ rest
-    pub refused : AtStationOn rules d old (λ bytes items side. length bytes + length piece < 2 ^ 64
-        → HasTakenAllOn rules d (λ bytes' items' side'. IsPushedOn rules d old new bytes' items' side' byte (Err why))
+    pub refused : AtStationOn on old (λ bytes items side. length bytes + length piece < 2 ^ 64
+        → HasTakenAllOn on (λ bytes' items' side'. IsPushedOn on old new bytes' items' side' byte (Err why))
         bytes items side (take used piece) [] [])
 
   -- what the last of these bytes gives, where no item is complete before it
   abbrev pub IsFrontedOn : PartsOn D P → PartsOn D P → List ℕ → List (Item U) → SideOn H
       → Result (StationStep R) Refusal → Type 0
   IsFrontedOn old new bytes items side (Ok step) =
-      (StaysInsideOn rules d old new bytes items side step.reply × (step.ends_record ≡ false))
-      ⊎ ((taken : TakesItemOn rules d new bytes items side step.reply) × (step.ends_record ≡ is_record taken.item))
+      (StaysInsideOn on old new bytes items side step.reply × (step.ends_record ≡ false))
+      ⊎ ((taken : TakesItemOn on new bytes items side step.reply) × (step.ends_record ≡ is_record taken.item))
   IsFrontedOn old new bytes items side (Err (At place reason)) = (length bytes ≡ place + 1)
-      × (new.screen ≡ old.screen) × (IsRefused rules bytes place reason ⊎ RefusesItemOn rules d bytes items side reason)
-      × HasStoppedOn rules d new (length bytes) items side
+      × (new.screen ≡ old.screen) × (IsRefused on.rules bytes place reason ⊎ RefusesItemOn on bytes items side reason)
+      × HasStoppedOn on new (length bytes) items side
   IsFrontedOn old new bytes items side (Err Failed) = ⊥
   IsFrontedOn old new bytes items side (Err Memory) = ⊥

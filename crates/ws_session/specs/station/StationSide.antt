@@ -31,6 +31,9 @@ use Rattle.ws_session.specs.station.StationManners.{takes_on, key_on}
 use Rattle.ws_stream.specs.AnswerParts.{answer_rules}
 use Rattle.ws_screen.specs.Given.{Gives}
 use Rattle.ws_session.specs.declared.station.answer.TheConstants.{ATN, SRQ}
+use Rattle.ws_session.specs.station.Displays.{OnDisplay, on_display}
+use Rattle.ws_stream.specs.Elements.{element_rules}
+use Rattle.ws_stream.specs.declared.place.Place.{Place}
 
 -- what a station has become: its options, and the events of its screen
 abbrev pub StationSide : Type 0
@@ -140,3 +143,7 @@ station_takes = takes_on profile
 -- what the station makes of a key: until records are allowed it refuses one that sends
 abbrev pub station_key : StationSide → Key → KeyReaction
 station_key = key_on profile
+
+-- what a station of the profile stands on
+abbrev pub on_profile : OnDisplay ProfileParts Place Element History AnswerPlace AnswerPart Key (List ℕ)
+on_profile = on_display element_rules profile

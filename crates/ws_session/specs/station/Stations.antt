@@ -2,7 +2,7 @@
 
 use Rattle.std.specs.Prelude.{◌≡◌, ℕ, ◌+◌, ◌-◌, ◌^◌, min, true, List}
 use Rattle.std.specs.Prelude.{[], ◌∷◌, ◌++◌, ◌⊎◌, Option, Some, None, length, drop, Result, Ok, Err}
-use Rattle.ws_code.specs.Code.{Rules, IsChain, spelling_of}
+use Rattle.ws_code.specs.Code.{IsChain, spelling_of}
 use Rattle.ws_code.specs.declared.reason.Reason.{Reason}
 use Rattle.ws_nego.specs.declared.terminal.TerminalType.{TerminalType}
 use Rattle.ws_record.specs.declared.record.Head.{Head}
@@ -24,21 +24,22 @@ use Rattle.ws_session.specs.declared.station.StationStep.{StationStep}
 use Rattle.ws_session.specs.declared.station.key_fault.KeyFault.{KeyFault}
 use Rattle.ws_session.specs.declared.station.answer.TheConstants.{ATN, SRQ}
 use Rattle.ws_session.specs.Reaction.{Refuses, GoesOn}
-use Rattle.ws_session.specs.station.Displays.{DisplayOf, SideOn, RefusesKey, Silent, Answers, Signals}
+use Rattle.ws_session.specs.station.Displays.{SideOn, RefusesKey, Silent, Answers, Signals}
 use Rattle.ws_session.specs.station.StationCounts.{records_in}
 use Rattle.ws_session.specs.station.PartsOn.{PartsOn}
 use Rattle.ws_session.specs.station.StationManners.{new_side_on, takes_on, key_on}
+use Rattle.ws_session.specs.station.Displays.{OnDisplay}
 
-module _ {D P U H PlaceV V K R : Type 0} (rules : Rules P U) (d : DisplayOf D U H PlaceV V K R) where
+module _ {D P U H PlaceV V K R : Type 0} (on : OnDisplay D P U H PlaceV V K R) where
   -- The bytes lead to the station: they hold these items, none of them is refused, and what the station did at them and
   -- at the keys between them left it on this side.
   pub record LeadsOn (station : PartsOn D P) (bytes : List ℕ) (items : List (Item U)) (side : SideOn H) : Type 0 where
     pub head : Option Head
     pub units : List U
-    pub leads : LeadsWith rules station.live bytes items head units
+    pub leads : LeadsWith on.rules station.live bytes items head units
     pub body : station.body_bytes ≡ drop 10 leads.0
     pub options : station.options ≡ side.options
-    pub given : d.gives side.happened station.screen
+    pub given : on.does.gives side.happened station.screen
     pub counted : station.records ≡ records_in items
     pub works : station.ended ≡ None
 
@@ -49,19 +50,19 @@ module _ {D P U H PlaceV V K R : Type 0} (rules : Rules P U) (d : DisplayOf D U 
 
   -- this holds of whatever the open record of the station has so far: the side on which it came, and its units
   abbrev pub AtOpenRecord : PartsOn D P → (SideOn H → List U → Type 0) → Type 0
-  AtOpenRecord station Holds = (side : SideOn H) (units : List U) → IsChain rules rules.first units
-      → station.body_bytes ≡ spelling_of rules units → station.options ≡ side.options
-      → d.gives side.happened station.screen → Holds side units
+  AtOpenRecord station Holds = (side : SideOn H) (units : List U) → IsChain on.rules on.rules.first units
+      → station.body_bytes ≡ spelling_of on.rules units → station.options ≡ side.options
+      → on.does.gives side.happened station.screen → Holds side units
 
   -- the station has taken no byte and no key
   pub record FreshOn (station : PartsOn D P) : Type 0 where
     pub terminal : TerminalType
-    pub leads : LeadsOn station [] [] (new_side_on d terminal)
+    pub leads : LeadsOn station [] [] (new_side_on on.does terminal)
 
   -- the last of these bytes completes no item: nothing is written, and the screen is as it was
   pub record StaysInsideOn (old new : PartsOn D P) (bytes : List ℕ) (items : List (Item U)) (side : SideOn H)
       (reply : R) : Type 0 where
-    pub silent : d.written new.screen reply ≡ []
+    pub silent : on.does.written new.screen reply ≡ []
     pub same : new.screen ≡ old.screen
     pub leads : LeadsOn new bytes items side
 
@@ -71,8 +72,8 @@ module _ {D P U H PlaceV V K R : Type 0} (rules : Rules P U) (d : DisplayOf D U 
     pub item : Item U
     pub next : SideOn H
     pub writes : List (Item V)
-    pub goes_on : takes_on d side item ≡ GoesOn next writes
-    pub spelled : d.written new.screen reply ≡ plain_spelling d.out writes
+    pub goes_on : takes_on on.does side item ≡ GoesOn next writes
+    pub spelled : on.does.written new.screen reply ≡ plain_spelling on.does.out writes
     pub leads : LeadsOn new bytes (items ++ item ∷ []) next
 
   -- behind a refused byte: the station has taken so many bytes, that one too, and its options, its screen and its count
@@ -80,7 +81,7 @@ module _ {D P U H PlaceV V K R : Type 0} (rules : Rules P U) (d : DisplayOf D U 
   pub record HasStoppedOn (station : PartsOn D P) (count : ℕ) (items : List (Item U)) (side : SideOn H) : Type 0 where
     pub taken : station.live.taken ≡ count
     pub options : station.options ≡ side.options
-    pub given : d.gives side.happened station.screen
+    pub given : on.does.gives side.happened station.screen
     pub counted : station.records ≡ records_in items
 
   -- the last of these bytes completes an item that the station refuses for this reason
@@ -88,18 +89,18 @@ module _ {D P U H PlaceV V K R : Type 0} (rules : Rules P U) (d : DisplayOf D U 
     pub item : Item U
     pub so_far : List ℕ
     pub begun : List ℕ
-    pub holds : Holds rules bytes (items ++ item ∷ []) so_far begun
-    pub refuses : takes_on d side item ≡ Refuses reason
+    pub holds : Holds on.rules bytes (items ++ item ∷ []) so_far begun
+    pub refuses : takes_on on.does side item ≡ Refuses reason
 
   -- what the end of a record gives, whose elements are these: the reply, or the refusal of the record
   abbrev pub IsClosedOn : PartsOn D P → PartsOn D P → SideOn H → Record U → ℕ → Result (StationStep R) Refusal → Type 0
   IsClosedOn old new side r place (Ok step) = (next : SideOn H) × (writes : List (Item V))
-      × (takes_on d side (RecordItem r) ≡ GoesOn next writes)
-      × (d.written new.screen step.reply ≡ plain_spelling d.out writes) × (step.ends_record ≡ true)
+      × (takes_on on.does side (RecordItem r) ≡ GoesOn next writes)
+      × (on.does.written new.screen step.reply ≡ plain_spelling on.does.out writes) × (step.ends_record ≡ true)
       × (new ≡ record old { body_bytes = []; screen = new.screen; records = min (old.records + 1) (2 ^ 64 - 1) })
       × (old.options ≡ next.options)
-      × d.gives next.happened new.screen
-  IsClosedOn old new side r place (Err (At p reason)) = (p ≡ place) × (takes_on d side (RecordItem r) ≡ Refuses reason)
+      × on.does.gives next.happened new.screen
+  IsClosedOn old new side r place (Err (At p reason)) = (p ≡ place) × (takes_on on.does side (RecordItem r) ≡ Refuses reason)
       × (new ≡ record old { ended = Some (At p reason) })
   IsClosedOn old new side r place (Err Failed) = ⊥
   IsClosedOn old new side r place (Err Memory) = ⊥
@@ -111,7 +112,7 @@ module _ {D P U H PlaceV V K R : Type 0} (rules : Rules P U) (d : DisplayOf D U 
       ⊎ TakesItemOn new (bytes ++ byte ∷ []) items side reply
   IsPushedOn old new bytes items side byte (Err (At place reason)) =
       (place ≡ length bytes) × (new.screen ≡ old.screen)
-      × (IsRefused rules (bytes ++ byte ∷ []) place reason ⊎ RefusesItemOn (bytes ++ byte ∷ []) items side reason)
+      × (IsRefused on.rules (bytes ++ byte ∷ []) place reason ⊎ RefusesItemOn (bytes ++ byte ∷ []) items side reason)
       × HasStoppedOn new (length (bytes ++ byte ∷ [])) items side
   IsPushedOn old new bytes items side byte (Err Failed) = ⊥
   IsPushedOn old new bytes items side byte (Err Memory) = ⊥
@@ -120,13 +121,13 @@ module _ {D P U H PlaceV V K R : Type 0} (rules : Rules P U) (d : DisplayOf D U 
   -- System Request
   abbrev pub IsKeyedOn : PartsOn D P → PartsOn D P → List ℕ → List (Item U) → SideOn H → K
       → Result (Option Answer) KeyFault → Type 0
-  IsKeyedOn old new bytes items side key (Err fault) = (key_on d side key ≡ RefusesKey fault) × (new ≡ old)
-  IsKeyedOn old new bytes items side key (Ok None) = (next : SideOn H) × (key_on d side key ≡ Silent next)
+  IsKeyedOn old new bytes items side key (Err fault) = (key_on on.does side key ≡ RefusesKey fault) × (new ≡ old)
+  IsKeyedOn old new bytes items side key (Ok None) = (next : SideOn H) × (key_on on.does side key ≡ Silent next)
       × LeadsOn new bytes items next
   IsKeyedOn old new bytes items side key (Ok (Some (Read body))) = (next : SideOn H) × (kind : ReadKind) × (aid : ℕ)
-      × (key_on d side key ≡ Answers next kind aid)
-      × (body ≡ answer_bytes kind (d.shows side.happened) aid) × LeadsOn new bytes items next
-  IsKeyedOn old new bytes items side key (Ok (Some Attention)) = (key_on d side key ≡ Signals NoOperation ATN)
+      × (key_on on.does side key ≡ Answers next kind aid)
+      × (body ≡ answer_bytes kind (on.does.shows side.happened) aid) × LeadsOn new bytes items next
+  IsKeyedOn old new bytes items side key (Ok (Some Attention)) = (key_on on.does side key ≡ Signals NoOperation ATN)
       × LeadsOn new bytes items side
-  IsKeyedOn old new bytes items side key (Ok (Some SystemRequest)) = (key_on d side key ≡ Signals NoOperation SRQ)
+  IsKeyedOn old new bytes items side key (Ok (Some SystemRequest)) = (key_on on.does side key ≡ Signals NoOperation SRQ)
       × LeadsOn new bytes items side

@@ -1,6 +1,6 @@
 -- Reports of a session.
 
-use Rattle.std.specs.Prelude.{◌≡◌, ℕ, List, [], take, true}
+use Rattle.std.specs.Prelude.{◌≡◌, [], take, true}
 use Rattle.ws_nego.specs.Host.{host_allows_records}
 use Rattle.ws_nego.specs.Station.{station_allows_records}
 use Rattle.ws_record.specs.Arrived.{arrived}

@@ -5,6 +5,7 @@ use Rattle.ws_session.specs.station.StationActs.{IsKeyTakenOn}
 use Rattle.ws_session.proofs.EndDeeds.{unmoved}
 use Rattle.ws_session.proofs.attached.Attached+StationOn+D+S+K.press.Goals as goal
 use Rattle.ws_session.proofs.attached.Attachings.{has_led, has_led_unwritten}
+use Rattle.ws_session.specs.station.Displays.{on_display}
 
 pub returns-in-Ok-clause-pressed : goal.returns-in-Ok-clause-pressed
 returns-in-Ok-clause-pressed g c =
@@ -19,7 +20,7 @@ returns-in-Ok-clause-told g c = rw (← c.self.view_is) c.in-Ok.ensures.told
 
 pub returns-in-Ok-clause-taken : goal.returns-in-Ok-clause-taken
 returns-in-Ok-clause-taken g c = subst (λ (z : AttachedParts (PartsOn _ _) _ _). IfNone c.in-Ok.refused
-    (IsKeyTakenOn g.D.Commands.Code.rules g.D.StationDisplay.does z.end c.args.key))
+    (IsKeyTakenOn (on_display g.D.Commands.Code.rules g.D.StationDisplay.does) z.end c.args.key))
     c.self.view_is c.in-Ok.ensures.taken
 
 pub returns-in-Err-clause-fault : goal.returns-in-Err-clause-fault

@@ -1,6 +1,5 @@
-use Rattle.ws_session.proofs.Common.{rules, ◌+◌, List, ◌++◌, refl, ℕ, ◌<◌, take, length, Result, Vec, Global, Item}
-use Rattle.ws_session.proofs.Common.{answer_rules, AnswerPart, HoldsItems, HostStep, Refusal, IsHostFronted, HostLeads}
-use Rattle.ws_session.proofs.Common.{HostParts, HostSide}
+use Rattle.ws_session.proofs.Common.{rules, refl, Vec, Global}
+use Rattle.ws_session.proofs.Common.{AnswerPart}
 use Rattle.ws_session.specs.contracts.host_end.HostEnd.{the_view}
 use Rattle.ws_session.proofs.HostSteps.{host_so_far, host_fronted}
 use Rattle.ws_session.proofs.host_end.HostEnd.take_front.Goals as goal

@@ -7,6 +7,7 @@ use Rattle.ws_session.specs.station.Stations.{LeadsOn}
 use Rattle.ws_session.proofs.EndFeeds.{if_ok_on, if_err_on, has_room, goes_by, station_count, station_shut}
 use Rattle.ws_session.proofs.EndFeeds.{station_stops, station_silent}
 use Rattle.ws_session.proofs.station.StationOn.take_countable.Goals as goal
+use Rattle.ws_session.specs.station.Displays.{on_display}
 
 pub returns-then-is_some-clause-refused : goal.returns-then-is_some-clause-refused
 returns-then-is_some-clause-refused g c = station_shut _ _ c.args.self.now _ c.args.piece.now c.requires
@@ -37,7 +38,7 @@ returns-clause-gone g c =
     let piece = c.args.piece.now in
     let room : ℕ = c.min-count.result in
     let to = c.take_piece.new.self in
-    if_ok_on _ _ c.take_piece.result.step (λ step fed. goes_by rules does.out (manner_on does) (LeadsOn rules does)
+    if_ok_on _ _ c.take_piece.result.step (λ step fed. goes_by rules does.out (manner_on does) (LeadsOn (on_display rules does))
     IsShutOn (λ (z : PartsOn _ _). z.live.taken) (station_count rules does) now piece (take room piece)
     (drop room piece) (sym (take-append-drop room piece)) c.take_piece.result.used c.take_piece.ensures.within
     (fits now.live.taken c.taken-room.result (length piece) room (length (take room piece)) c.taken-room.type_inv

@@ -1,9 +1,10 @@
+use Rattle.ws_session.proofs.Common as C
 use Rattle.ws_session.specs.contracts.station.StationOn.{the_view}
 use Rattle.ws_session.proofs.station.StationOn.take_front.Goals as goal
 use Rattle.ws_session.proofs.station.StationSteps.{front_count, fronted, so_far, is_led}
 
-pub returns-clause-fronted : goal.returns-clause-fronted
-returns-clause-fronted g c =
+pub returns : goal.returns
+returns g c =
     let s = c.self.inside in
     let d = g.D.StationDisplay.does in
     let rules = g.D.Commands.Code.rules in
@@ -11,17 +12,19 @@ returns-clause-fronted g c =
     g.row.D-Commands-Place g.D.StationDisplay g.D.Commands.Code c.self.inside in
     let piece = c.args.piece.now in
     let a = c.advance-used in
-    rw (← c.self.view_is) (λ bytes items side l fits.
-    let led = is_led rules d old bytes items side l in
-    let n = front_count bytes piece _ s.live.taken a.new.self.taken led.count a.ensures.within fits a.ensures.counted in
-    fronted rules d old bytes items side l _ a.new.self a.new.keep _ (a.ensures.advance bytes items (so_far rules d
-    old bytes items side l) led fits) n.0 (λ works. n.2 (a.ensures.used works)) n.1 _ _ c.react-step.ensures.reacted)
-
-pub returns-clause-first : goal.returns-clause-first
-returns-clause-first g c =
-    let rules = g.D.Commands.Code.rules in
-    let d = g.D.StationDisplay.does in
-    let old = the_view g.row.D g.row.D-Commands g.row.D-Key g.row.D-Reply g.row.D-Commands-Unit
-    g.row.D-Commands-Place g.D.StationDisplay g.D.Commands.Code c.self.inside in
-    rw (← c.self.view_is) (λ bytes items side l. c.advance-used.ensures.first bytes items
-    (so_far rules d old bytes items side l) (is_led rules d old bytes items side l))
+    rw (← c.self.view_is) (record {
+      within = search C.rules;
+      used = search C.rules;
+      fronted = λ bytes items side l fits.
+          let led = is_led rules d old bytes items side l in
+          let n = front_count bytes piece _ s.live.taken a.new.self.taken led.count a.ensures.within fits
+          a.ensures.counted in
+          fronted rules d old bytes items side l _ a.new.self a.new.keep _
+          (a.ensures.advance bytes items (so_far rules d old bytes items side l) led fits) n.0
+          (λ works. n.2 (a.ensures.used works)) n.1 _ _ c.react-step.ensures.reacted;
+      first = λ bytes items side l. a.ensures.first bytes items (so_far rules d old bytes items side l)
+          (is_led rules d old bytes items side l);
+      counted = search C.rules;
+      full = search C.rules;
+      settled = search C.rules;
+    })

@@ -1,5 +1,5 @@
-use Rattle.ws_session.proofs.Common.{◌+◌, [], refl, ◌∙◌, take, ap, arith, length, false, ◌-◌, length_rest, left_of}
-use Rattle.ws_session.proofs.Common.{Refusal, StationStep}
+use Rattle.ws_session.proofs.Common.{rules, ◌≡◌, ◌<◌, ◌+◌, [], refl, ◌∙◌, take, ap, arith, length, false, ◌-◌, length_rest, left_of}
+use Rattle.ws_session.proofs.Common.{Refusal, Failed, StationStep}
 use Rattle.ws_session.specs.station.PartsOn.{PartsOn}
 use Rattle.ws_session.specs.station.StationActs.{HasFedOn}
 use Rattle.ws_session.specs.station.StationManners.{manner_on}
@@ -8,6 +8,7 @@ use Rattle.ws_session.proofs.Counts.{counted_on, counted_up}
 use Rattle.ws_session.proofs.Feedings.{none_silent, quiet_upto, none_come, quiet_on, value_at, split_on}
 use Rattle.ws_session.proofs.station.StationFeedings.{refused_on, no_reply, fed_on}
 use Rattle.ws_session.proofs.station.StationOn.take_piece.Goals as goal
+use Rattle.ws_session.specs.station.Displays.{on_display}
 
 pub loop-used-init : goal.loop-used-init
 loop-used-init g c = (
@@ -17,8 +18,8 @@ loop-used-init g c = (
   λ fits. omega arith,
 )
 
-pub returns-in-Err-clause-refused : goal.returns-in-Err-clause-refused
-returns-in-Err-clause-refused g c =
+pub returns-in-Err : goal.returns-in-Err
+returns-in-Err g c =
     let now = c.loop-used.self in
     let f = c.take_front-more in
     let piece = c.args.piece.now in
@@ -26,48 +27,80 @@ returns-in-Err-clause-refused g c =
     let left = left_of piece i in
     let k = f.result.used in
     let why : Refusal = c.in-Err.refusal in
+    let some : (why ≡ Failed → ⊥) → 0 < k = λ other. f.ensures.used (λ e. other (cc (c.in-Err.is, e))) in
     let at = value_at left (k - 1) (omega (arith, f.ensures.within, length_rest piece i, c.loop-used-test.true)) in
     rw c.saturating_sub.ensures (record {
-      byte = at.0;
-      rest = at.1;
-      split = split_on piece i (k - 1) at.0 at.1 at.2;
-      refused = λ bytes items side l fits. refused_on g.D.Commands.Code.rules g.D.StationDisplay.does bytes items side piece i now
-          (c.loop-used.invariant.2 bytes items side l fits).0 c.args.self.now f.new.self k at.0 why c.loop-used.invariant.1 f.ensures.within
-          at.3 (λ other. f.ensures.used (λ e. other (cc (c.in-Err.is, e)))) (λ b its s m room. rw c.in-Err.is at
-          (f.ensures.fronted b its s m room)) f.ensures.first fits c.loop-used.invariant.0;
+      within = omega (arith, f.ensures.within, length_rest piece i, c.loop-used.invariant.0);
+      some = tt;
+      whole = tt;
+      fed = tt;
+      first = tt;
+      refused = record {
+        byte = at.0;
+        rest = at.1;
+        split = split_on piece i (k - 1) at.0 at.1 at.2;
+        refused = λ bytes items side l fits. refused_on g.D.Commands.Code.rules g.D.StationDisplay.does bytes items
+            side piece i now (c.loop-used.invariant.2 bytes items side l fits).0 c.args.self.now f.new.self k at.0
+            why c.loop-used.invariant.1 f.ensures.within at.3 some
+            (λ b its s m room. rw c.in-Err.is at (f.ensures.fronted b its s m room)) f.ensures.first fits
+            c.loop-used.invariant.0;
+      };
+      counted = tt;
+      counted_up = counted_up why _ now.live.taken _ i _ (length left) _ c.loop-used.invariant.0 f.ensures.within
+          (length_rest piece i) c.loop-used.invariant.3 f.ensures.counted some
+          (rw c.in-Err.is at f.ensures.settled.at);
+      after = rw c.in-Err.is at f.ensures.settled.after;
+      seen = (rw c.in-Err.is at f.ensures.settled.seen) ∙ c.loop-used.invariant.1;
+      quiet = tt;
     })
 
-pub returns-in-Err-clause-counted_up : goal.returns-in-Err-clause-counted_up
-returns-in-Err-clause-counted_up g c =
-    let now = c.loop-used in
-    let f = c.take_front-more in
-    let why : Refusal = c.in-Err.refusal in
-    counted_up why _ now.self.live.taken _ now.used _ (length (left_of c.args.piece.now now.used))
-    _ now.invariant.0 f.ensures.within (length_rest c.args.piece.now now.used) now.invariant.3 f.ensures.counted
-    (λ other. f.ensures.used (λ e. other (cc (c.in-Err.is, e)))) (rw c.in-Err.is at f.ensures.settled.at)
-
-pub returns-then-step-clause-fed : goal.returns-then-step-clause-fed
-returns-then-step-clause-fed g c = λ bytes items side l fits.
+pub returns-then-step : goal.returns-then-step
+returns-then-step g c =
     let now = c.loop-used.self in
     let f = c.take_front-more in
     let piece = c.args.piece.now in
     let i = c.loop-used.used in
     let k = f.result.used in
     let step : StationStep _ = c.in-Ok.step in
-    fed_on g.D.Commands.Code.rules g.D.StationDisplay.does bytes items side piece i now
-    (c.loop-used.invariant.2 bytes items side l fits).0 _ k step f.ensures.within
-    (f.ensures.used (λ e. cc (c.in-Ok.is, e))) (λ b its s m room. rw c.in-Ok.is at
-    (f.ensures.fronted b its s m room)) f.ensures.first fits c.loop-used.invariant.0
+    let some : 0 < k = f.ensures.used (λ e. cc (c.in-Ok.is, e)) in
+    record {
+      within = omega (arith, f.ensures.within, length_rest piece i, c.loop-used.invariant.0);
+      some = λ any. omega (arith, some);
+      whole = search rules;
+      fed = λ bytes items side l fits. fed_on g.D.Commands.Code.rules g.D.StationDisplay.does bytes items side piece
+          i now (c.loop-used.invariant.2 bytes items side l fits).0 _ k step f.ensures.within some
+          (λ b its s m room. rw c.in-Ok.is at (f.ensures.fronted b its s m room)) f.ensures.first fits
+          c.loop-used.invariant.0;
+      first = λ bytes items side l fits.
+          let inv = c.loop-used.invariant.2 bytes items side l fits in
+          quiet_on _ _ _ bytes items side _ _ _ inv.0 _ f.ensures.within f.ensures.first inv.1;
+      refused = tt;
+      counted = counted_on c.args.self.now.live.taken now.live.taken f.new.self.live.taken i k
+          c.loop-used.invariant.3 f.ensures.counted;
+      counted_up = tt;
+      after = tt;
+      seen = tt;
+      quiet = λ inside. (rw c.in-Ok.is at f.ensures.settled.quiet) inside ∙ c.loop-used.invariant.1;
+    }
 
-pub returns-then-step-clause-first : goal.returns-then-step-clause-first
-returns-then-step-clause-first g c = λ bytes items side l fits.
-    let inv = c.loop-used.invariant.2 bytes items side l fits in
-    quiet_on
-    _ _ _ bytes items side _ _ _ inv.0 _ c.take_front-more.ensures.within c.take_front-more.ensures.first inv.1
-
-pub returns-clause-first : goal.returns-clause-first
-returns-clause-first g c = λ bytes items side l fits n lt. (c.loop-used.invariant.2 bytes items side l fits).1 n
-    (omega (arith, lt))
+pub returns : goal.returns
+returns g c =
+    let all : c.loop-used.used ≡ length c.args.piece.now = omega (arith, c.loop-used.invariant.0, c.loop-used-test.false) in
+    let silent = c.silence.ensures in
+    record {
+      within = c.loop-used.invariant.0;
+      some = λ any. omega (arith, all, any);
+      whole = λ unwritten inside. all;
+      fed = λ bytes items side l fits. rw (silent.reply c.loop-used.self.screen, silent.ends)
+          (c.loop-used.invariant.2 bytes items side l fits).0;
+      first = λ bytes items side l fits n lt. (c.loop-used.invariant.2 bytes items side l fits).1 n (omega (arith, lt));
+      refused = tt;
+      counted = c.loop-used.invariant.3;
+      counted_up = tt;
+      after = tt;
+      seen = tt;
+      quiet = λ inside. c.loop-used.invariant.1;
+    }
 
 pub loop-used-preserved : goal.loop-used-preserved
 loop-used-preserved g c = (
@@ -89,7 +122,7 @@ loop-used-preserved g c = (
       step f.ensures.within
       (f.ensures.used (λ e. cc (c.in-Ok.is, e))) (λ b its s m room. rw c.in-Ok.is at
       (f.ensures.fronted b its s m room)) f.ensures.first fits c.loop-used.invariant.0 in
-      let still : HasFedOn g.D.Commands.Code.rules g.D.StationDisplay.does f.new.self bytes items side
+      let still : HasFedOn (on_display g.D.Commands.Code.rules g.D.StationDisplay.does) f.new.self bytes items side
       (take (i + k) piece) [] false = rw (
         no_reply (g.D.StationDisplay.does.written f.new.self.screen step.reply) _
             (c.bytes.ensures.written ∙ ap (λ (z : PartsOn _ _). g.D.StationDisplay.does.written z.screen step.reply)
@@ -99,8 +132,8 @@ loop-used-preserved g c = (
         still,
         quiet_upto g.D.Commands.Code.rules g.D.StationDisplay.does.out (manner_on g.D.StationDisplay.does) bytes items
             side piece i
-            (LeadsOn g.D.Commands.Code.rules g.D.StationDisplay.does now) inv.0
-            (LeadsOn g.D.Commands.Code.rules g.D.StationDisplay.does f.new.self) k still
+            (LeadsOn (on_display g.D.Commands.Code.rules g.D.StationDisplay.does) now) inv.0
+            (LeadsOn (on_display g.D.Commands.Code.rules g.D.StationDisplay.does) f.new.self) k still
             (quiet_on _ _ _ bytes items side piece i _ inv.0 k f.ensures.within f.ensures.first inv.1),
       )),
   counted_on c.args.self.now.live.taken c.loop-used.self.live.taken c.take_front-more.new.self.live.taken
