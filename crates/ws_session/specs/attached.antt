@@ -1,4 +1,5 @@
 pub mod Attachments
+pub mod Deeds
 pub mod Playing
 pub mod StationRun
 pub mod Written
