@@ -1,12 +1,13 @@
 //! What a station makes of a piece of bytes.
-ghost use Rattle.std.specs.Prelude.{◌≡◌, ◌<◌, ◌≤◌, ◌+◌, ◌++◌, ◌∷◌, List, ℕ, Err, length, take, IsSome, IfOk, IfErr, OnOk, OnErr};
-ghost use Rattle.ws_session.specs.station.StationActs.{GoesOnDisplay, RefusesOn, StaysSilentOn};
+ghost use Rattle.std.specs.Prelude.{◌≡◌, ◌<◌, ◌+◌, Err, length};
+ghost use Rattle.ws_session.specs.Conduct.{TakesSome};
+ghost use Rattle.ws_session.specs.Conducts.{station_conduct};
 ghost use Rattle.ws_session.specs.station.StationManners.{told_by};
-ghost use Rattle.ws_session.specs.Acts.{all_came, as_list};
 ghost use Rattle.ws_session.specs.station.Displays.{on_display};
 ghost use Rattle.ws_session.specs.station.StationTakes.{TakesPieceOn};
 
 use super::{StationStep, silence};
+use crate::end_step::{Applied, EndFed, refuses, takes};
 use crate::station::station_fed::StationFront;
 use crate::{Refusal, StationDisplay, StationOn};
 
@@ -44,41 +45,31 @@ impl<D: StationDisplay> StationOn<D> {
     }
 
     // Takes bytes as `take_piece` does, as many as can be counted. Where it takes no more, the first is refused.
-    pub(crate) fn take_countable(&mut self, piece: &[u8]) -> StationFront<D::Reply>
+    pub(crate) fn take_countable(&mut self, piece: &[u8]) -> EndFed<Applied, D::Reply>
         requires { 0 < length piece.now }
-        // How much of the piece is used.
-        ensures within { result.used ≤ length piece.now }
-        ensures some { OnOk result.step (0 < result.used) }
-        // What it brings, and that nothing came before its last byte.
-        ensures gone { IfOk result.step (λ step.
-            GoesOnDisplay (on_display D.Commands.rules D.does) self.old (all_came (take result.used piece.now))
-            (D.does.written self.new.screen step.reply) (as_list (told_by step.ends_record))
-            self.new) }
-        ensures first { IfOk result.step (λ step. (n : ℕ) → n < result.used
-            → StaysSilentOn (on_display D.Commands.rules D.does) self.old (take n piece.now)) }
-        // At which byte it is refused; an end that is over takes none.
-        ensures refused { IfErr result.step (λ why. (byte : ℕ) × (rest : List ℕ)
-            × (piece.now ≡ take result.used piece.now ++ byte ∷ rest)
-            × RefusesOn (on_display D.Commands.rules D.does) self.old
-            (take result.used piece.now) byte why self.new) }
-        ensures over { IsSome self.old.ended → (result.step ≡ Err Refusal.Failed)
-            × (result.used ≡ 0) × (self.new ≡ self.old) }
-        ensures after { OnErr result.step (IsSome self.new.ended) }
+        ensures { TakesSome (station_conduct (on_display D.Commands.rules D.does))
+            (λ station reply. D.does.written station.screen reply)
+            self.old piece.now self.new result }
     {
         if self.ended.is_some() {
-            return StationFront {
-                used: 0,
-                step: Err(Refusal::Failed),
-            };
+            return refuses(0, Refusal::Failed);
         }
         let room = u64::MAX - self.live.taken();
         if room == 0 {
-            return StationFront {
-                used: 0,
-                step: self.end(Refusal::Failed),
-            };
+            self.ended = Some(Refusal::Failed);
+            return refuses(0, Refusal::Failed);
         }
         let count = room.min(piece.len() as u64) as usize;
-        self.take_piece(&piece[..count])
+        let StationFront { used, step } = self.take_piece(&piece[..count]);
+        match step {
+            Ok(StationStep { reply, ends_record }) => takes(used, reply, told(ends_record)),
+            Err(refusal) => refuses(used, refusal),
+        }
     }
+}
+
+fn told(ends_record: bool) -> Option<Applied>
+    ensures { result ≡ told_by ends_record }
+{
+    if ends_record { Some(Applied) } else { None }
 }
