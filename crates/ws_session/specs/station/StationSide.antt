@@ -1,6 +1,7 @@
 -- The station: what it does at each item that arrives and at each key (RFC 1205, sections 3 and 4)
 
 use Rattle.std.specs.Prelude.{◌≡◌, ℕ, List, [], ◌∷◌, ◌++◌, Bool, true, false, Option, Some, None}
+use Rattle.ws_code.specs.Code.{IsChain, spelling_of}
 use Rattle.ws_code.specs.declared.reason.Reason.{Reason}
 use Rattle.ws_nego.specs.declared.terminal.TerminalType.{TerminalType}
 use Rattle.ws_nego.specs.Station.{new_station}
@@ -147,3 +148,8 @@ station_key = key_on profile
 -- what a station of the profile stands on
 abbrev pub on_profile : OnDisplay ProfileParts Place Element History AnswerPlace AnswerPart Key (List ℕ)
 on_profile = on_display element_rules profile
+
+-- this holds of the body that these bytes spell
+abbrev pub OfBody : List ℕ → (List Element → Type 0) → Type 0
+OfBody bytes Holds = (body : List Element) → IsChain element_rules element_rules.first body
+    → bytes ≡ spelling_of element_rules body → Holds body

@@ -1,5 +1,5 @@
-ghost use Rattle.std.specs.Prelude.{◌≡◌, ◌++◌, List, None, OnOk, OnErr, IfOk};
-ghost use Rattle.ws_code.specs.Code.{IsChain, spelling_of};
+ghost use Rattle.std.specs.Prelude.{◌≡◌, ◌++◌, None, OnOk, OnErr, IfOk};
+ghost use Rattle.ws_code.specs.Code.{IsChain};
 ghost use Rattle.ws_stream.specs.declared.element.Element.{Element};
 ghost use Rattle.ws_stream.specs.AnswerParts.{answer_rules};
 ghost use Rattle.ws_stream.specs.Elements.{element_rules};
@@ -8,6 +8,7 @@ ghost use Rattle.ws_screen.specs.Bodies.{after_elements, body_fault};
 ghost use Rattle.ws_screen.specs.Events.{History};
 ghost use Rattle.ws_screen.specs.Faults.{refusal};
 ghost use Rattle.ws_screen.specs.Given.{Gives};
+ghost use Rattle.ws_session.specs.station.StationSide.{OfBody};
 ghost use Rattle.ws_session.specs.station.Alarms.{alarm_count, alarms_in};
 ghost use Rattle.ws_session.specs.station.StationSide as spec;
 ghost use Rattle.ws_session.specs.station.StationSide.{opcode_events, after_record, opcode_answer};
@@ -61,18 +62,12 @@ pub fn apply_record(screen: &mut Screen, record_: &Record<Element>) -> Result<()
 /// sound the alarm.
 pub fn apply_spelled(screen: &mut Screen, bytes: &[u8]) -> Result<u64, Reason>
     requires closed { screen.old.writing ≡ None }
-    ensures fault { (h : History) (body : List Element)
-        → IsChain element_rules element_rules.first body
-        → bytes.now ≡ spelling_of element_rules body → Gives h screen.old
-        → refusal result ≡ body_fault h body }
-    ensures after { OnOk result ((h : History) (body : List Element)
-        → IsChain element_rules element_rules.first body
-        → bytes.now ≡ spelling_of element_rules body → Gives h screen.old
-        → Gives (after_elements h body) screen.new) }
-    ensures alarms { IfOk result (λ sounded. (body : List Element)
-        → IsChain element_rules element_rules.first body
-        → bytes.now ≡ spelling_of element_rules body
-        → sounded ≡ alarm_count (alarms_in body)) }
+    ensures fault { (h : History) → OfBody bytes.now (λ body. Gives h screen.old
+        → refusal result ≡ body_fault h body) }
+    ensures after { OnOk result ((h : History) → OfBody bytes.now (λ body. Gives h screen.old
+        → Gives (after_elements h body) screen.new)) }
+    ensures alarms { IfOk result (λ sounded. OfBody bytes.now (λ body.
+        sounded ≡ alarm_count (alarms_in body))) }
 {
     let place = Commands::first();
     let mut machine = Commands::start(place);
@@ -121,18 +116,12 @@ pub(crate) fn apply_kept(
 ) -> Result<u64, Reason>
     requires closed { screen.old.writing ≡ None }
     // Of the body that is spelled: whether it is refused, the screen behind it, its alarms.
-    ensures fault { (h : History) (body : List Element)
-        → IsChain element_rules element_rules.first body
-        → kept.now ≡ spelling_of element_rules body → Gives h screen.old
-        → refusal result ≡ body_fault h body }
-    ensures after { OnOk result ((h : History) (body : List Element)
-        → IsChain element_rules element_rules.first body
-        → kept.now ≡ spelling_of element_rules body → Gives h screen.old
-        → Gives (after_record h (sent_record opcode body)) screen.new) }
-    ensures alarms { IfOk result (λ sounded. (body : List Element)
-        → IsChain element_rules element_rules.first body
-        → kept.now ≡ spelling_of element_rules body
-        → sounded ≡ alarm_count (alarms_in body)) }
+    ensures fault { (h : History) → OfBody kept.now (λ body. Gives h screen.old
+        → refusal result ≡ body_fault h body) }
+    ensures after { OnOk result ((h : History) → OfBody kept.now (λ body. Gives h screen.old
+        → Gives (after_record h (sent_record opcode body)) screen.new)) }
+    ensures alarms { IfOk result (λ sounded. OfBody kept.now (λ body.
+        sounded ≡ alarm_count (alarms_in body))) }
     // No write stays open, and a refused record leaves nothing.
     ensures closed { OnOk result (screen.new.writing ≡ None) }
     ensures same { OnErr result (screen.new ≡ screen.old) }
