@@ -11,8 +11,9 @@ use Rattle.std.specs.List.{AllByRecursion}
 use Rattle.ws_code.specs.Device.{Devices}
 use Rattle.ws_session.specs.Conduct.{Conduct}
 use Rattle.ws_session.specs.declared.world.line.Line.{Line}
-use Rattle.ws_session.specs.world.BrokenOff.{AreNext, IsDeliveryCut}
-use Rattle.ws_session.specs.world.Carrying.{passage}
+use Rattle.ws_session.specs.declared.world.Move.TheVariants.{ToStation, ToHost}
+use Rattle.ws_session.specs.world.BrokenOff.{AreNext, IsDeliveryCut, CutsDelivery, WantsMemory, BreaksOff, BreaksAt, HasEndedEarly, later_on}
+use Rattle.ws_session.specs.world.Carrying.{Passage, passage}
 use Rattle.ws_session.specs.world.Crossings.{Passages, passages}
 use Rattle.ws_session.specs.world.Wires.{Telling}
 use Rattle.ws_session.proofs.world.Arriving.{come_on, none_comes}
@@ -225,10 +226,6 @@ module _ {S R : Type 0} (devices : Devices R S) where
     failed = q.failed;
   }
 
-  pub stopped_behind : (a b c : Line S R) (cs : List Crossing) (fault : Fault) → HaveCrossed devices a cs b → IsEnded devices b c fault → IsEnded devices a c fault
-  stopped_behind a b c cs fault p (inl m) = inl (m.0, crossed_behind a b c cs p m.1)
-  stopped_behind a b c cs fault p (inr k) = inr (stop_behind a b c cs fault p k)
-
 -- one of two lines stops
 module _ {S R T Q : Type 0} (devices : Devices R S) (devices' : Devices Q T) where
   -- both lines were this, and are that
@@ -245,15 +242,48 @@ module _ {S R T Q : Type 0} (devices : Devices R S) (devices' : Devices Q T) whe
   either_behind a b c cs a' b' c' cs' fault p p' (inr (inr k)) =
       inr (inr (crossed_behind devices a b c cs p k.0, stop_behind _ a' b' c' cs' fault p' k.1))
 
-  pub first_stops : (a c : Line S R) (a' : Line T Q) (fault : Fault) → IsEnded devices a c fault
-      → AreEnded (both a c a' a') fault
-  first_stops a c a' fault (inl m) = inl (m.0, m.1, ([], refl))
-  first_stops a c a' fault (inr k) = inr (inl (k, ([], refl)))
+-- what cuts a delivery ends its line
+cut_ends : {S R E Deed Told : Type 0} (line : Passage S R) (conduct : Conduct E Deed Told) (telling : Telling Told)
+    (old : Hearing E) (count : ℕ) (fault : Fault) → CutsDelivery line conduct telling old count fault
+    → IsEnded line.devices line.from line.to fault
+cut_ends line conduct telling old count fault c = elim c.cut [
+  | inl m ↦ inl (m.0, crossed_behind line.devices line.from c.last line.to c.crossings c.crossed (m.1 ∷ [], m.3))
+  | inr k ↦ inr (record {
+    crossings = c.crossings;
+    last = c.last;
+    crossed = c.crossed;
+    bytes = k.0;
+    slice = k.1;
+    failed = k.3;
+  })
+]
 
-  pub second_stops : (a : Line S R) (a' c' : Line T Q) (fault : Fault) → IsEnded devices' a' c' fault
-      → AreEnded (both a a a' c') fault
-  second_stops a a' c' fault (inl m) = inl (m.0, ([], refl), m.1)
-  second_stops a a' c' fault (inr k) = inr (inr (([], refl), k))
+-- so what ends a session early ends both of its lines
+module _ {S R T Q : Type 0} (lines : Passages S R T Q) where
+  want_ends : (fault : Fault) → WantsMemory lines fault → AreEnded lines fault
+  want_ends fault m = inl (m.0, ([], sym m.1), ([], sym m.2))
+
+  break_ends : (old : TwoEnds) (move : Move) (fault : Fault) → BreaksOff lines old move fault → AreEnded lines fault
+  break_ends old (ToStation count) fault (cut, stays) = elim (cut_ends lines.down _ _ _ count fault cut) [
+    | inl m ↦ inl (m.0, m.1, ([], sym stays))
+    | inr k ↦ inr (inl (k, ([], sym stays)))
+  ]
+  break_ends old (ToHost count) fault (cut, stays) = elim (cut_ends lines.up _ _ _ count fault cut) [
+    | inl m ↦ inl (m.0, ([], sym stays), m.1)
+    | inr k ↦ inr (inr (([], sym stays), k))
+  ]
+  break_ends old move fault m = want_ends fault m
+
+  moves_end : (now : TwoEnds) (moves : List Move) (fault : Fault) → BreaksAt lines now moves fault → AreEnded lines fault
+  moves_end now [] fault m = want_ends fault m
+  moves_end now (move ∷ moves) fault b = break_ends now move fault b
+
+pub early_ends : {S R T Q : Type 0} (lines : Passages S R T Q) (terminal : TerminalType) (moves : List Move)
+    (fault : Fault) → HasEndedEarly lines terminal moves fault → AreEnded lines fault
+early_ends lines terminal moves fault (inl m) = want_ends lines fault m
+early_ends lines terminal moves fault (inr b) = either_behind lines.down.devices lines.up.devices lines.down.from
+    b.last_down lines.down.to b.downs lines.up.from b.last_up lines.up.to b.ups fault b.crossed_down b.crossed_up
+    (moves_end (later_on lines b.last_down b.last_up) b.now b.left fault b.breaks)
 
 pub faithful_front : (cs ds : List Crossing) → AreFaithful (cs ++ ds) → AreFaithful cs
 faithful_front [] ds f = tt

@@ -5,7 +5,7 @@ ghost use Rattle.ws_session.specs.Conducts.{host_conduct, profile_conduct};
 ghost use Rattle.ws_session.specs.world.BrokenOff.{CutsDelivery, BreaksOff, HasEndedEarly};
 ghost use Rattle.ws_session.specs.world.Carried.{HasRunOver};
 ghost use Rattle.ws_session.specs.world.Carrying.{passage};
-ghost use Rattle.ws_session.specs.world.Crossings.{Crossing, AreFaithful, HaveCrossed, IsEnded, AreEnded, passages};
+ghost use Rattle.ws_session.specs.world.Crossings.{Crossing, AreFaithful, HaveCrossed, AreEnded, passages};
 ghost use Rattle.ws_session.specs.world.Runs.{Runs};
 ghost use Rattle.ws_session.specs.world.TwoLines.{two_ends_of, station_hearing, host_hearing, HasMoved, ComesDown, ComesUp};
 ghost use Rattle.ws_session.specs.world.Wires.{station_telling, host_telling};
@@ -67,9 +67,6 @@ impl World {
             × HasMoved (two_ends_of self.old) step.now downs ups (two_ends_of self.new)
             × (AreFaithful downs → AreFaithful ups → (t : ATerminal) (w : AWorld)
             → Runs t self.old w → Runs t self.new (after_move w step.now))) }
-        ensures fault { IfErr result (AreEnded (passages
-            (passage (on_devices S.writer R.reader) down.old down.new)
-            (passage (on_devices T.writer Q.reader) up.old up.new))) }
         ensures early { IfErr result (BreaksOff (passages
             (passage (on_devices S.writer R.reader) down.old down.new)
             (passage (on_devices T.writer Q.reader) up.old up.new))
@@ -94,8 +91,6 @@ impl World {
             × ComesDown (two_ends_of self.old) count crossings (two_ends_of self.new)
             × (AreFaithful crossings → (t : ATerminal) (w : AWorld)
             → Runs t self.old w → Runs t self.new (spec.bytes_to_station count w))) }
-        ensures fault { IfErr result
-            (IsEnded (on_devices S.writer R.reader) line.old line.new) }
         ensures early { IfErr result (CutsDelivery
             (passage (on_devices S.writer R.reader) line.old line.new)
             profile_conduct station_telling (station_hearing (two_ends_of self.old)) count) }
@@ -120,8 +115,6 @@ impl World {
             × ComesUp (two_ends_of self.old) count crossings (two_ends_of self.new)
             × (AreFaithful crossings → (t : ATerminal) (w : AWorld)
             → Runs t self.old w → Runs t self.new (spec.bytes_to_host count w))) }
-        ensures fault { IfErr result
-            (IsEnded (on_devices S.writer R.reader) line.old line.new) }
         ensures early { IfErr result (CutsDelivery
             (passage (on_devices S.writer R.reader) line.old line.new)
             host_conduct host_telling (host_hearing (two_ends_of self.old)) count) }

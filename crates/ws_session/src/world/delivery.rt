@@ -4,7 +4,7 @@ ghost use Rattle.ws_code.specs.Device.{on_devices};
 ghost use Rattle.ws_session.specs.Acts.{as_list};
 ghost use Rattle.ws_session.specs.world.BrokenOff.{IsDeliveryCut, CutsDelivery};
 ghost use Rattle.ws_session.specs.world.Carrying.{passage};
-ghost use Rattle.ws_session.specs.world.Crossings.{Crossing, HaveCrossed, IsEnded};
+ghost use Rattle.ws_session.specs.world.Crossings.{Crossing, HaveCrossed};
 ghost use Rattle.ws_session.specs.world.TwoLines.{AreDeliveredOver, hearing_of};
 ghost use Rattle.ws_session.specs.world.Wires.{HasCome, HasMemory, AreDelivered, Telling, at_end, host_telling, reported, station_telling};
 ghost use Rattle.ws_session.specs.declared.world.Event.TheVariants.{Host as HostEventOf};
@@ -102,7 +102,6 @@ pub(crate) fn deliver_over<E: Reported, S: Sink, R: Source>(
         × AreDeliveredOver E.conduct E.telling
         (at_end end.old from.old to.old events.old.items) count crossings
         (at_end end.new from.new to.new events.new.items)) }
-    ensures fault { IfErr result (IsEnded (on_devices S.writer R.reader) line.old line.new) }
     ensures early { IfErr result (CutsDelivery
         (passage (on_devices S.writer R.reader) line.old line.new) E.conduct E.telling
         (hearing_of (at_end end.old from.old to.old events.old.items)) count) }
@@ -138,7 +137,6 @@ fn deliver_piece<E: Reported, S: Sink, R: Source>(
         × AreDeliveredOver E.conduct E.telling
         (at_end end.old from.old to.old events.old.items) piece (crossing ∷ [])
         (at_end end.new from.new to.new events.new.items)) }
-    ensures fault { IfErr result (IsEnded (on_devices S.writer R.reader) line.old line.new) }
     ensures early { IfErr result (IsDeliveryCut (on_devices S.writer R.reader)
         (take piece (drop from.old.at from.old.bytes)) line.old line.new) }
 {

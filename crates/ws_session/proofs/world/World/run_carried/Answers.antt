@@ -3,9 +3,13 @@ use Rattle.ws_session.proofs.Common.{◌^◌, inl, inr, length, append_assoc, ap
 use Rattle.ws_session.proofs.Common.{IfErr-weaker, longer_by, two_ends_of, TwoEnds, all_read, StationIsLed, HostIsLed}
 use Rattle.ws_session.proofs.Common.{new_world, after_moves}
 use Rattle.ws_session.proofs.world.LineLeads.{station_is_led, host_is_led}
-use Rattle.ws_session.proofs.world.LineMoves.{both_if_ok, begun, moved_on, crossed_on, either_behind, faithful_front}
+use Rattle.ws_session.proofs.world.LineMoves.{both_if_ok, begun, moved_on, crossed_on, early_ends, faithful_front}
 use Rattle.ws_session.proofs.world.LineMoves.{faithful_back}
 use Rattle.ws_session.proofs.world.Reached.{more_moves, weaker_ok}
+use Rattle.ws_code.specs.Device.{on_devices}
+use Rattle.ws_session.specs.world.BrokenOff.{HasEndedEarly}
+use Rattle.ws_session.specs.world.Carrying.{passage}
+use Rattle.ws_session.specs.world.Crossings.{AreEnded, passages}
 use Rattle.ws_session.proofs.world.World.run_carried.Goals as goal
 
 pub loop-step-init : goal.loop-step-init
@@ -36,13 +40,6 @@ loop-step-preserved g c =
           (after_moves (new_world t) (take n moves)) (i.runs (faithful_front _ q.0 f) (faithful_front i.ups q.1 h)));
     }
 
-pub returns-in_err-take_carried-clause-fault : goal.returns-in_err-take_carried-clause-fault
-returns-in_err-take_carried-clause-fault g c =
-    let i = c.loop-step.invariant in
-    let p =
-    err_from_is_err_and c.from_residual-in_err-take_carried.result c.from_residual-in_err-take_carried.ensures.1 in
-    rw (p.1, p.2) (either_behind _ _ _ c.loop-step.down _ i.downs _ c.loop-step.up _ i.ups _ i.went_down i.went_up c.in_err-take_carried.ensures.fault)
-
 pub returns-clause-done : goal.returns-clause-done
 returns-clause-done g c =
     let t = c.args.terminal in
@@ -62,15 +59,6 @@ returns-clause-done g c =
           (host_is_led t moves i.downs i.ups (two_ends_of c.loop-step.world) ran),
       (λ f h. q.0 t (after_moves (new_world t) moves) (rw all at (i.runs f h))),
     )) (both_if_ok c.report.result _ _ c.report.ensures.reported c.report.ensures.ends)
-
-pub returns-clause-fault : goal.returns-clause-fault
-returns-clause-fault g c = IfErr-weaker c.report.result _ _ (λ fault m. let i = c.loop-step.invariant in
-    inl (m, (i.downs, i.went_down), (i.ups, i.went_up))) c.report.ensures.fault
-
-pub returns-in_err-world-clause-fault : goal.returns-in_err-world-clause-fault
-returns-in_err-world-clause-fault g c =
-    let p = err_from_is_err_and c.from_residual.result c.from_residual.ensures.1 in
-    rw (p.1, p.2) (inl (c.in_err-world.ensures.fault, ([], refl), ([], refl)))
 
 pub returns-in_err-take_carried-clause-early : goal.returns-in_err-take_carried-clause-early
 returns-in_err-take_carried-clause-early g c =
@@ -121,3 +109,28 @@ pub returns-in_err-world-clause-early : goal.returns-in_err-world-clause-early
 returns-in_err-world-clause-early g c =
     let p = err_from_is_err_and c.from_residual.result c.from_residual.ensures.1 in
     rw (p.1, p.2) (inl (c.in_err-world.ensures.fault, refl, refl))
+
+-- What ended the session early ended its lines.
+
+pub returns-in_err-take_carried-clause-fault : goal.returns-in_err-take_carried-clause-fault
+returns-in_err-take_carried-clause-fault g c =
+    let lines = passages
+    (passage (on_devices g.S.Sink.writer g.R.Source.reader) c.args.down.now c.take_carried.new.down)
+    (passage (on_devices g.T.Sink.writer g.Q.Source.reader) c.args.up.now c.take_carried.new.up) in
+    IfErr-weaker c.from_residual-in_err-take_carried.result (HasEndedEarly lines c.args.terminal c.args.moves.now)
+    (AreEnded lines) (early_ends lines c.args.terminal c.args.moves.now)
+    (returns-in_err-take_carried-clause-early g c)
+
+pub returns-clause-fault : goal.returns-clause-fault
+returns-clause-fault g c =
+    let lines = passages (passage (on_devices g.S.Sink.writer g.R.Source.reader) c.args.down.now c.loop-step.down)
+    (passage (on_devices g.T.Sink.writer g.Q.Source.reader) c.args.up.now c.loop-step.up) in
+    IfErr-weaker c.report.result (HasEndedEarly lines c.args.terminal c.args.moves.now) (AreEnded lines)
+    (early_ends lines c.args.terminal c.args.moves.now) (returns-clause-early g c)
+
+pub returns-in_err-world-clause-fault : goal.returns-in_err-world-clause-fault
+returns-in_err-world-clause-fault g c =
+    let lines = passages (passage (on_devices g.S.Sink.writer g.R.Source.reader) c.args.down.now c.args.down.now)
+    (passage (on_devices g.T.Sink.writer g.Q.Source.reader) c.args.up.now c.args.up.now) in
+    IfErr-weaker c.from_residual.result (HasEndedEarly lines c.args.terminal c.args.moves.now) (AreEnded lines)
+    (early_ends lines c.args.terminal c.args.moves.now) (returns-in_err-world-clause-early g c)

@@ -2,7 +2,7 @@ use Rattle.ws_session.proofs.Common.{◌≡◌, ◌+◌, ◌≤◌, [], ◌∷�
 use Rattle.ws_session.proofs.Common.{err_from_is_err_and, hearing_of, at_end}
 use Rattle.ws_code.specs.Device.{on_devices}
 use Rattle.ws_session.proofs.world.Arriving.{none_delivered, more_delivered, all_delivered}
-use Rattle.ws_session.proofs.world.LineMoves.{none_come, more_come, all_have_come, crossed_on, stopped_behind}
+use Rattle.ws_session.proofs.world.LineMoves.{none_come, more_come, all_have_come, crossed_on}
 use Rattle.ws_session.proofs.world.LineMoves.{faithful_front, faithful_back, cut_of_more}
 use Rattle.ws_session.proofs.world.delivery.deliver_over.Goals as goal
 
@@ -61,13 +61,6 @@ returns-then-piece-eq0-clause-came g c =
         (λ f. all_delivered _ _ old now i.gone (i.over.1 f) c.args.count (omega (arith, i.all)) all),
       ),
     )
-
-pub returns-in_err-deliver_piece-clause-fault : goal.returns-in_err-deliver_piece-clause-fault
-returns-in_err-deliver_piece-clause-fault g c =
-    let i = c.loop-left.invariant in
-    let p = err_from_is_err_and c.from_residual.result c.from_residual.ensures.1 in
-    rw (p.1, p.2) (stopped_behind _ _
-    c.loop-left.line _ i.crossings _ i.crossed c.in_err-deliver_piece.ensures.fault)
 
 pub returns-clause-came : goal.returns-clause-came
 returns-clause-came g c =

@@ -1,20 +1,8 @@
-use Rattle.ws_session.proofs.Common.{◌≡◌, ◌≤◌, List, [], ◌∷◌, refl, ◌∙◌, ℕ, take, drop, ap, sym, arith, inl, inr}
+use Rattle.ws_session.proofs.Common.{◌≡◌, ◌≤◌, List, [], refl, ◌∙◌, ℕ, take, drop, ap, sym, arith, inl, inr}
 use Rattle.ws_session.proofs.Common.{length, length-drop, length-take-le, append-nil, err_from_is_err_and, on_ok_weaker}
 use Rattle.ws_session.proofs.Common.{IfErr-weaker, with_piece_at, WireParts, at_end}
 use Rattle.ws_session.proofs.world.LineMoves.{piece_comes, written_back}
 use Rattle.ws_session.proofs.world.delivery.deliver_piece.Goals as goal
-
-pub returns-in_err-carry-clause-fault : goal.returns-in_err-carry-clause-fault
-returns-in_err-carry-clause-fault g c =
-    let p = err_from_is_err_and c.from_residual.result c.from_residual.ensures.1 in
-    rw (p.1, p.2) (inr (record {
-      crossings = [];
-      last = c.args.line.now;
-      crossed = refl;
-      bytes = _;
-      slice = _;
-      failed = c.in_err-carry.ensures.fault;
-    }))
 
 pub returns-clause-came : goal.returns-clause-came
 returns-clause-came g c =
@@ -42,15 +30,6 @@ returns-clause-came g c =
             rw kept at d),
       ),
     )) c.deliver.ensures.come
-
-pub returns-clause-fault : goal.returns-clause-fault
-returns-clause-fault g c = IfErr-weaker c.deliver.result _ _ (λ fault m. inl (
-  m,
-  (
-    record { sent = take c.args.piece c.waiting.result.now; read = c.carry.new.taken } ∷ [],
-    (record { sink = c.carry.new.sink; source = c.carry.new.source }, c.in_ok-carry.ensures.carried, refl),
-  ),
-)) c.deliver.ensures.fault
 
 pub returns-in_err-carry-clause-early : goal.returns-in_err-carry-clause-early
 returns-in_err-carry-clause-early g c =
