@@ -1,6 +1,7 @@
 ghost use Rattle.std.specs.Prelude.{◌≡◌, ◌≢◌, ◌<◌, ◌≤◌, [], List, ℕ, true, false, length, take};
 ghost use Rattle.ws_code.specs.Code.{Rules, IsUnfinished, IsPrefixFree, AreBytes};
-ghost use Rattle.ws_code.specs.Run.{IsAt, IsRunOfValues};
+ghost use Rattle.ws_code.specs.Keep.{with_keep};
+ghost use Rattle.ws_code.specs.Run.{IsAt, IsRunOfValues, intake};
 ghost use Rattle.ws_code.specs.Step.{IsStep};
 ghost use Rattle.ws_code.specs.declared.run.End.{End as AnEnd};
 
@@ -71,11 +72,11 @@ pub trait Code: Drop {
             (record { place = place self.old; begun = unfinished self.old }) at.old }
         ensures used { result.used ≤ length values.now }
         ensures whole { result.end ≡ AnEnd.More → result.used ≡ length values.now }
-        ensures run { IsRunOfValues rules K.holds K.may_answer
-            (record { place = place self.old; begun = unfinished self.old }) keep.old
+        ensures run { IsRunOfValues (intake rules K.keeper)
+            (with_keep (record { place = place self.old; begun = unfinished self.old }) keep.old)
             (take result.used values.now)
-            (record { place = place self.new; begun = unfinished self.new }) at.new keep.new
-            result.end }
+            (with_keep (record { place = place self.new; begun = unfinished self.new }) keep.new)
+            at.new result.end }
     {
         // A code that is read fast writes its own: its units go to the keep without an answer each.
         for (index, value) in values.iter().enumerate() {
