@@ -3,8 +3,8 @@ use Rattle.std.proofs.Common.{append_assoc}
 use Rattle.std.proofs.lemmas.Grind.{flat_map-append}
 use Rattle.std.proofs.lemmas.List.{append-nil}
 use Rattle.ws_code.specs.Code.{Rules, Stands, IsSpelled, IsUnfinished, place_after, spelling_of}
-use Rattle.ws_code.specs.Keep.{Keeper, Keeps, with_keep}
-use Rattle.ws_code.specs.Run.{Reading, IsAt, HasReadValues, RunsOn, StopsAtLast, intake}
+use Rattle.ws_code.specs.Keep.{Keeper, Keeps}
+use Rattle.ws_code.specs.Run.{Reading, IsAt, HasReadValues, RunsOn, StopsAtLast, intake, with_keep}
 use Rattle.ws_code.specs.declared.keep.Kept.TheVariants.{GoOn}
 use Rattle.ws_code.specs.declared.run.Standing.{Standing}
 use Rattle.ws_code.proofs.CodeLaws.{chain_more, place_after_more}

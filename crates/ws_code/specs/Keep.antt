@@ -11,15 +11,6 @@ pub record Keeper (U K : Type 0) : Type 1 where
   -- it may answer so
   pub may_answer : Kept → Type 0
 
--- what is read, and the keep that its units go to
-pub record WithKeep (R K : Type 0) : Type 0 where
-  pub read : R
-  pub keep : K
-
--- this one beside this keep
-abbrev pub with_keep : {R K : Type 0} → R → K → WithKeep R K
-with_keep read keep = record { read = read; keep = keep }
-
 module _ {U K : Type 0} where
   -- whatever the one keep held, the other holds with these units behind it
   abbrev pub Keeps : Keeper U K → K → K → List U → Type 0

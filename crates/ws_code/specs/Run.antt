@@ -2,7 +2,7 @@
 
 use Rattle.std.specs.Prelude.{◌≡◌, ◌≢◌, ℕ, true, false, List, [], ◌∷◌, ◌++◌, ◌⊎◌}
 use Rattle.ws_code.specs.Code.{Rules, IsChain, IsSpelled, IsPrefix, IsUnfinished, place_after, spelling_of}
-use Rattle.ws_code.specs.Keep.{Keeper, Keeps, WithKeep}
+use Rattle.ws_code.specs.Keep.{Keeper, Keeps}
 use Rattle.ws_code.specs.declared.keep.Kept.TheVariants as answer
 use Rattle.ws_code.specs.declared.run.Standing.{Standing}
 use Rattle.ws_code.specs.declared.run.End.{End}
@@ -12,6 +12,15 @@ use Rattle.ws_code.specs.declared.run.End.TheVariants.{More, Enough, NoMemory, B
 pub record Reading (Place : Type 0) : Type 0 where
   pub place : Place
   pub begun : List ℕ
+
+-- what is read, and the keep that its units go to
+pub record WithKeep (R K : Type 0) : Type 0 where
+  pub read : R
+  pub keep : K
+
+-- the one beside the other
+abbrev pub with_keep : {R K : Type 0} → R → K → WithKeep R K
+with_keep read keep = record { read = read; keep = keep }
 
 -- an intake of units: the rules of the code that they are read by, and what the keep does that they go to
 pub record Intake (Place U K : Type 0) : Type 1 where

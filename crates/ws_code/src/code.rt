@@ -1,7 +1,6 @@
 ghost use Rattle.std.specs.Prelude.{◌≡◌, ◌≢◌, ◌<◌, ◌≤◌, [], List, ℕ, true, false, length, take};
 ghost use Rattle.ws_code.specs.Code.{Rules, IsUnfinished, IsPrefixFree, AreBytes};
-ghost use Rattle.ws_code.specs.Keep.{with_keep};
-ghost use Rattle.ws_code.specs.Run.{IsAt, IsRunOfValues, intake};
+ghost use Rattle.ws_code.specs.Run.{IsAt, IsRunOfValues, intake, with_keep};
 ghost use Rattle.ws_code.specs.Step.{IsStep};
 ghost use Rattle.ws_code.specs.declared.run.End.{End as AnEnd};
 

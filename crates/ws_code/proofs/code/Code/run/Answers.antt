@@ -2,8 +2,7 @@ use Rattle.std.proofs.Common.{◌≡◌, ◌++◌, ◌∷◌, [], List, ℕ, ref
 use Rattle.std.proofs.Common.{arith}
 use Rattle.std.proofs.lemmas.List.{take_more}
 use Rattle.ws_code.specs.Code.{IsUnfinished}
-use Rattle.ws_code.specs.Keep.{with_keep}
-use Rattle.ws_code.specs.Run.{Reading, RunsOn, intake}
+use Rattle.ws_code.specs.Run.{Reading, RunsOn, intake, with_keep}
 use Rattle.ws_code.proofs.RunLaws.{runs_none, runs_more, runs_unit, stops, keeps_none, is_inside, is_between}
 use Rattle.ws_code.proofs.RunLaws.{same_reading}
 use Rattle.ws_code.proofs.code.Code.run.Goals as goal

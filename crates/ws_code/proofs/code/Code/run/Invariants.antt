@@ -1,6 +1,5 @@
 use Rattle.std.proofs.Common.{take}
-use Rattle.ws_code.specs.Keep.{with_keep}
-use Rattle.ws_code.specs.Run.{Reading, IsAt, RunsOn, intake}
+use Rattle.ws_code.specs.Run.{Reading, IsAt, RunsOn, intake, with_keep}
 use Rattle.ws_code.proofs.code.Code.run.Given as goal
 
 abbrev pub invariant-loop-index : goal.invariant-loop-index
