@@ -13,6 +13,10 @@ pub record Reading (Place : Type 0) : Type 0 where
   pub place : Place
   pub begun : List ℕ
 
+-- at this place, with these bytes so far
+abbrev pub reading : {Place : Type 0} → Place → List ℕ → Reading Place
+reading place begun = record { place = place; begun = begun }
+
 -- what is read, and the keep that its units go to
 pub record WithKeep (R K : Type 0) : Type 0 where
   pub read : R
@@ -40,7 +44,8 @@ module _ {Place U : Type 0} where
     pub between : standing.is_inside ≡ false → reading.begun ≡ []
 
   -- from the one reading the values complete these units, and lead to the other reading
-  pub record HasReadValues (rules : Rules Place U) (from : Reading Place) (values : List ℕ) (to : Reading Place) : Type 0 where
+  pub record HasReadValues (rules : Rules Place U) (from : Reading Place) (values : List ℕ) (to : Reading Place)
+      : Type 0 where
     pub units : List U
     pub chain : IsChain rules from.place units
     pub behind : to.place ≡ place_after rules from.place units
