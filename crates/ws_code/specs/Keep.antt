@@ -29,6 +29,15 @@ abbrev pub holds_last : {U : Type 0} → Option U → List U → Type 0
 holds_last None units = units ≡ []
 holds_last {U} (Some unit) units = (before : List U) × (units ≡ before ++ unit ∷ [])
 
+-- what is seen as a list keeps all units
+abbrev pub list_keeper : {U K : Type 0} → (K → List U) → Keeper U K
+list_keeper list_of =
+    record { holds = λ keep units told. list_of keep ≡ units; may_answer = λ answer. answer ≡ Enough → ⊥ }
+
 -- a slot keeps the last unit, and has enough with each
 abbrev pub slot_keeper : {U : Type 0} → Keeper U (Option U)
 slot_keeper = record { holds = λ slot units told. holds_last slot units; may_answer = λ answer. answer ≡ Enough }
+
+-- nothing is kept, and no memory wanted
+abbrev pub nothing_keeper : {U K : Type 0} → Keeper U K
+nothing_keeper = record { holds = λ keep units told. Unit {0}; may_answer = λ answer. answer ≡ GoOn }

@@ -1,6 +1,5 @@
-ghost use Rattle.std.specs.Prelude.{◌≡◌, ◌++◌, ◌∷◌, [], List, ℕ};
-ghost use Rattle.ws_code.specs.declared.keep.Kept.{Kept};
-ghost use Rattle.ws_code.specs.Keep.{Keeper, KeepsOne, slot_keeper};
+ghost use Rattle.std.specs.Prelude.{◌++◌, List, ℕ};
+ghost use Rattle.ws_code.specs.Keep.{Keeper, KeepsOne, list_keeper, nothing_keeper, slot_keeper};
 
 /// What became of a unit.
 #[derive(Clone, Copy)]
@@ -37,10 +36,7 @@ const FIRST_UNITS: usize = 8;
 
 /// A list keeps all units.
 impl<U: Drop> Keep<U> for Vec<U> {
-    ghost keeper = { record {
-      holds = λ vec units told. vec.items ≡ units;
-      may_answer = λ kept. kept ≡ Kept.Enough → ⊥;
-    } };
+    ghost keeper = { list_keeper (λ vec. vec.items) };
 
     fn keep(&mut self, unit: U) -> Kept {
         if self.capacity() == 0 && self.reserve(FIRST_UNITS).is_err() {
@@ -72,10 +68,7 @@ impl<U: Drop> Keep<U> for Option<U> {
 pub struct Nothing;
 
 impl<U: Drop> Keep<U> for Nothing {
-    ghost keeper = { record {
-      holds = λ nothing units told. Unit {0};
-      may_answer = λ kept. kept ≡ Kept.GoOn;
-    } };
+    ghost keeper = { nothing_keeper };
 
     fn keep(&mut self, _unit: U) -> Kept {
         Kept::GoOn

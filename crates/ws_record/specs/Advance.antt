@@ -1,11 +1,10 @@
 -- What a front of a piece makes of a live decoder and of a keep (RFC 854, 885, 1205).
 
-use Rattle.std.specs.Prelude.{◌≡◌, ℕ, ◌+◌, Bool, true, false, List, [], ◌∷◌, ◌++◌, Option, Some, None, length, drop}
+use Rattle.std.specs.Prelude.{◌≡◌, ℕ, ◌+◌, Bool, true, false, List, [], ◌∷◌, ◌++◌, Some, None, length, drop}
 use Rattle.ws_code.specs.Code.{Rules}
 use Rattle.ws_code.specs.Run.{Intake, WithKeep}
 use Rattle.ws_code.specs.declared.keep.Kept.TheVariants as answer
 use Rattle.ws_telnet.specs.declared.token.Telnet.TheVariants as telnet
-use Rattle.ws_record.specs.declared.record.Head.{Head}
 use Rattle.ws_record.specs.declared.record.Item.TheVariants.{Record as RecordItem, Telnet as TelnetItem}
 use Rattle.ws_record.specs.declared.news.News.{News}
 use Rattle.ws_record.specs.declared.news.News.TheVariants.{More, Unit as Whole, Open, Close, Command}
@@ -37,7 +36,7 @@ module _ {Place U : Type 0} where
       (others : List U) × (unit : U) × (told : List ℕ)
       × Onward intake.rules after.read (with_bytes before.read front) (others ++ unit ∷ []) told
       × KeepsTold intake.keeper before.keep after.keep (others ++ unit ∷ []) told × OnlyIfOn intake.keeper others
-      × (after.read.begun ≡ []) × intake.keeper.may_answer answer.Enough
+      × (after.read.reader.begun ≡ []) × intake.keeper.may_answer answer.Enough
   IsAdvance intake before front after (Open head) =
       (before.read.so_far.head ≡ None)
       × ((grown : List ℕ)
