@@ -4,7 +4,7 @@ use Rattle.std.specs.Prelude.{◌≡◌, ℕ, List, [], ◌∷◌, ◌++◌, Opt
 use Rattle.ws_code.specs.declared.keep.Kept.{Kept}
 use Rattle.ws_code.specs.declared.keep.Kept.TheVariants.{GoOn, Enough, NoMemory}
 
--- what a keep does: which units it holds, and what it answers to one
+-- what a keep does: which units it holds, and what it may answer to one
 pub record Keeper (U K : Type 0) : Type 1 where
   -- it holds these units, and was told of these values
   pub holds : K → List U → List ℕ → Type 0

@@ -13,7 +13,7 @@ pub record Reading (Place : Type 0) : Type 0 where
   pub place : Place
   pub begun : List ℕ
 
--- at this place, with these bytes so far
+-- the reading at this place, with this spelling so far
 abbrev pub reading : {Place : Type 0} → Place → List ℕ → Reading Place
 reading place begun = record { place = place; begun = begun }
 
@@ -22,16 +22,16 @@ pub record WithKeep (R K : Type 0) : Type 0 where
   pub read : R
   pub keep : K
 
--- the one beside the other
+-- the two as one
 abbrev pub with_keep : {R K : Type 0} → R → K → WithKeep R K
 with_keep read keep = record { read = read; keep = keep }
 
--- an intake of units: the rules of the code that they are read by, and what the keep does that they go to
+-- an intake of units: the rules that they are read by, and what the keep does that they go to
 pub record Intake (Place U K : Type 0) : Type 1 where
   pub rules : Rules Place U
   pub keeper : Keeper U K
 
--- a code with these rules that is read into this keep
+-- the intake by these rules, into a keep that does so
 abbrev pub intake : {Place U K : Type 0} → Rules Place U → Keeper U K → Intake Place U K
 intake rules keeper = record { rules = rules; keeper = keeper }
 

@@ -16,7 +16,7 @@ pub enum Kept {
 // and with none kept no memory is asked for.
 /// Where the units go that a machine reads, and the values that they were read from.
 pub trait Keep<U>: Drop {
-    // Which units it holds, and what it answers to one.
+    // Which units it holds, and what it may answer to one.
     ghost keeper: { Keeper U Self };
 
     /// Takes a unit. With `NoMemory` it holds what it held.

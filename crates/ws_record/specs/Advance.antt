@@ -16,7 +16,7 @@ use Rattle.ws_record.specs.Taking.{KeepsTold, OnlyIfOn, EndIn}
 use Rattle.ws_record.specs.Live.{Watching, StreamSoFar, with_bytes, Leads, CompletesUnit}
 
 module _ {Place U : Type 0} where
-  -- The stream leads to the decoder, but that its open record has these units and these body bytes more.
+  -- The stream leads to the decoder, but for these units and these body bytes more of its open record.
   pub record Onward (rules : Rules Place U) (live : Watching Place) (stream : StreamSoFar U) (more : List U)
       (told : List ℕ) : Type 0 where
     pub grown : List ℕ
@@ -24,8 +24,8 @@ module _ {Place U : Type 0} where
         (record { bytes = grown; head = stream.so_far.head; units = stream.so_far.units ++ more })
     pub body : drop 10 grown ≡ drop 10 stream.so_far.bytes ++ told
 
-  -- What a front of a piece makes of the decoder, of which the stream so far comes before it, and of its keep, by what
-  -- is complete with the front's last byte.
+  -- What a front of a piece makes of the decoder to which the stream so far leads, and of its keep, by what is complete
+  -- with the front's last byte.
   abbrev pub IsAdvance : {K : Type 0} → Intake Place U K → WithKeep (StreamSoFar U) K → List ℕ
       → WithKeep (Watching Place) K → News → Type 0
   IsAdvance intake before front after More =
