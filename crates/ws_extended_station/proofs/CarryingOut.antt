@@ -5,9 +5,7 @@ use Rattle.std.proofs.Common.{◌≡◌, ℕ, List, [], ◌∷◌, ◌++◌, Opt
 use Rattle.std.proofs.Common.{length, take-append-drop, append_assoc, arith}
 use Rattle.std.proofs.lemmas.List.{append-nil, take_all}
 use Rattle.ws_code.specs.Code.{IsChain, Stands, spelling_of}
-use Rattle.ws_code.specs.Run.{Reading, IsRunOfValues, intake, with_keep, reading}
-use Rattle.ws_code.specs.declared.keep.Kept.{Kept}
-use Rattle.ws_code.specs.declared.keep.Kept.TheVariants as kept
+use Rattle.ws_code.specs.Run.{Reading, IsRunOfValues, intake, with_keep}
 use Rattle.ws_code.specs.declared.reason.Reason.{Reason}
 use Rattle.ws_code.specs.declared.run.End.{End}
 use Rattle.ws_code.specs.declared.run.End.TheVariants.{More, Enough, NoMemory, Bad}
