@@ -22,7 +22,7 @@ pub record WithKeep (R K : Type 0) : Type 0 where
   pub read : R
   pub keep : K
 
--- the two as one
+-- what is read, beside its keep
 abbrev pub with_keep : {R K : Type 0} → R → K → WithKeep R K
 with_keep read keep = record { read = read; keep = keep }
 
@@ -31,7 +31,7 @@ pub record Intake (Place U K : Type 0) : Type 1 where
   pub rules : Rules Place U
   pub keeper : Keeper U K
 
--- the intake by these rules, into a keep that does so
+-- the intake of units by these rules, into a keep that does so
 abbrev pub intake : {Place U K : Type 0} → Rules Place U → Keeper U K → Intake Place U K
 intake rules keeper = record { rules = rules; keeper = keeper }
 
