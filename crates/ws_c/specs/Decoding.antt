@@ -8,7 +8,7 @@ use Rattle.ws_code.specs.declared.fault.Fault.{Fault}
 use Rattle.ws_code.specs.declared.fault.Fault.TheVariants.{Truncated as IsTruncatedAt, Failed as FaultFailed}
 use Rattle.ws_telnet.specs.Token.{telnet_spelling}
 use Rattle.ws_record.specs.Grammar.{opcode_byte, IsInGrammar}
-use Rattle.ws_record.specs.Live.{Watching, Leads, IsLiveStep, OnEnd}
+use Rattle.ws_record.specs.Live.{Watching, Leads, IsLiveStep, OnEnd, stream}
 use Rattle.ws_record.specs.OpenRecord.{RecordSoFar, no_record}
 use Rattle.ws_record.specs.Refusal.{IsTruncated}
 use Rattle.ws_record.specs.declared.record.Item.{Item}
@@ -65,7 +65,7 @@ module _ {P U : Type 0} (rules : Rules P U) where
   pub record DecoderPushedOn (old new : Watching P) (byte : ℕ) (step : Step U) : Type 0 where
     pub pushed : (bytes : List ℕ) (items : List (Item U)) (so_far : RecordSoFar U)
         → Leads rules old bytes items so_far → length bytes + 1 < 2 ^ 64
-        → IsLiveStep rules new bytes items so_far byte step
+        → IsLiveStep rules new (stream bytes items so_far) byte step
     pub full : old.taken + 1 ≡ 2 ^ 64 → step ≡ StepFailed
     pub failed : old.failed ≡ true → step ≡ StepFailed
     pub after : OnEnd step (new.failed ≡ true)

@@ -3,9 +3,8 @@ use Rattle.std.proofs.Common.{append_assoc}
 use Rattle.std.proofs.lemmas.Grind.{flat_map-append}
 use Rattle.std.proofs.lemmas.List.{append-nil}
 use Rattle.ws_code.specs.Code.{Rules, Stands, IsSpelled, IsUnfinished, place_after, spelling_of}
-use Rattle.ws_code.specs.Keep.{Keeps}
-use Rattle.ws_code.specs.Run.{Reading, IsAt, HasReadValues, RunsOn, StopsAtLast}
-use Rattle.ws_code.specs.declared.keep.Kept.{Kept}
+use Rattle.ws_code.specs.Keep.{Keeper, Keeps}
+use Rattle.ws_code.specs.Run.{Reading, IsAt, HasReadValues, RunsOn, StopsAtLast, intake, with_keep}
 use Rattle.ws_code.specs.declared.keep.Kept.TheVariants.{GoOn}
 use Rattle.ws_code.specs.declared.run.Standing.{Standing}
 use Rattle.ws_code.proofs.CodeLaws.{chain_more, place_after_more}
@@ -56,24 +55,25 @@ from_first {Place} {U} rules from to values run ep eb = (
 
 module _ {Place U K : Type 0} where
   -- no value
-  pub runs_none : (rules : Rules Place U) (holds : K → List U → List ℕ → Type 0) (may_answer : Kept → Type 0)
+  pub runs_none : (rules : Rules Place U) (keeper : Keeper U K)
       (from : Reading Place) (keep : K) → IsUnfinished rules from.place from.begun
-      → RunsOn rules holds may_answer from keep [] from keep
-  runs_none rules holds may_answer from keep u = record {
+      → RunsOn (intake rules keeper) (with_keep from keep) [] (with_keep from keep)
+  runs_none rules keeper from keep u = record {
     run = record { units = []; chain = tt; behind = refl; unfinished = u; spelled = sym (append-nil from.begun) };
-    kept = λ units told h. subst (λ us. holds keep us told) (sym (append-nil units)) h;
+    kept = λ units told h. subst (λ us. keeper.holds keep us told) (sym (append-nil units)) h;
     on = inl refl;
   }
 
   -- a value more with which the unit is still unfinished
-  pub runs_more : (rules : Rules Place U) (holds : K → List U → List ℕ → Type 0) (may_answer : Kept → Type 0)
+  pub runs_more : (rules : Rules Place U) (keeper : Keeper U K)
       (from : Reading Place) (old : K) (values values' : List ℕ) (to to' : Reading Place) (new new' : K) (b : ℕ)
-      → RunsOn rules holds may_answer from old values to new → IsUnfinished rules to.place (to.begun ++ b ∷ [])
+      → RunsOn (intake rules keeper) (with_keep from old) values (with_keep to new)
+      → IsUnfinished rules to.place (to.begun ++ b ∷ [])
       → values' ≡ values ++ b ∷ [] → to' ≡ record { place = to.place; begun = to.begun ++ b ∷ [] } → new' ≡ new
-      → RunsOn rules holds may_answer from old values' to' new'
-  runs_more rules holds may_answer from old values values' to to' new new' b on u ev et ek =
-      let base : RunsOn rules holds may_answer from old (values ++ b ∷ [])
-      (record { place = to.place; begun = to.begun ++ b ∷ [] }) new = record {
+      → RunsOn (intake rules keeper) (with_keep from old) values' (with_keep to' new')
+  runs_more rules keeper from old values values' to to' new new' b on u ev et ek =
+      let base : RunsOn (intake rules keeper) (with_keep from old) (values ++ b ∷ [])
+      (with_keep (record { place = to.place; begun = to.begun ++ b ∷ [] }) new) = record {
         run = record {
           units = on.run.units;
           chain = on.run.chain;
@@ -85,20 +85,22 @@ module _ {Place U K : Type 0} where
         kept = on.kept;
         on = on.on;
       } in
-      let at_new = subst (λ (k : K). RunsOn rules holds may_answer from old (values ++ b ∷ [])
-      (record { place = to.place; begun = to.begun ++ b ∷ [] }) k) (sym ek) base in
-      let at_to = subst (λ (t : Reading Place). RunsOn rules holds may_answer from old (values ++ b ∷ []) t new')
+      let at_new = subst (λ (k : K). RunsOn (intake rules keeper) (with_keep from old) (values ++ b ∷ [])
+      (with_keep (record { place = to.place; begun = to.begun ++ b ∷ [] }) k)) (sym ek) base in
+      let at_to = subst (λ (t : Reading Place). RunsOn (intake rules keeper) (with_keep from old) (values ++ b ∷ [])
+      (with_keep t new'))
       (sym et) at_new in
-      subst (λ (v : List ℕ). RunsOn rules holds may_answer from old v to' new') (sym ev) at_to
+      subst (λ (v : List ℕ). RunsOn (intake rules keeper) (with_keep from old) v (with_keep to' new')) (sym ev) at_to
 
   -- a value more, which completes a unit that is kept
-  pub runs_unit : (rules : Rules Place U) (holds : K → List U → List ℕ → Type 0) (may_answer : Kept → Type 0)
+  pub runs_unit : (rules : Rules Place U) (keeper : Keeper U K)
       (from : Reading Place) (old : K) (values values' : List ℕ) (to to' : Reading Place) (new new' : K) (b : ℕ)
-      (unit : U) → RunsOn rules holds may_answer from old values to new
-      → IsSpelled rules to.place (to.begun ++ b ∷ []) unit → Keeps holds new new' (unit ∷ []) → may_answer GoOn
+      (unit : U) → RunsOn (intake rules keeper) (with_keep from old) values (with_keep to new)
+      → IsSpelled rules to.place (to.begun ++ b ∷ []) unit → Keeps keeper new new' (unit ∷ []) → keeper.may_answer GoOn
       → ((place : Place) → IsUnfinished rules place []) → values' ≡ values ++ b ∷ []
-      → to' ≡ record { place = rules.after unit; begun = [] } → RunsOn rules holds may_answer from old values' to' new'
-  runs_unit rules holds may_answer from old values values' to to' new new' b unit on spelled keeps may begins ev et =
+      → to' ≡ record { place = rules.after unit; begun = [] }
+      → RunsOn (intake rules keeper) (with_keep from old) values' (with_keep to' new')
+  runs_unit rules keeper from old values values' to to' new new' b unit on spelled keeps may begins ev et =
       let stands : Stands rules (place_after rules from.place on.run.units) unit =
       subst (λ p. Stands rules p unit) on.run.behind spelled.stands in
       let one : spelling_of rules (unit ∷ []) ≡ to.begun ++ b ∷ [] = append-nil (rules.spelling unit)
@@ -107,8 +109,8 @@ module _ {Place U K : Type 0} where
       flat_map-append rules.spelling on.run.units (unit ∷ []) ∙ ap (λ x. spelling_of rules on.run.units ++ x) one
       ∙ sym (append_assoc (spelling_of rules on.run.units) to.begun (b ∷ [])) ∙ ap (λ x. x ++ b ∷ []) on.run.spelled
       ∙ append_assoc from.begun values (b ∷ []) in
-      let base : RunsOn rules holds may_answer from old (values ++ b ∷ [])
-      (record { place = rules.after unit; begun = [] }) new' = record {
+      let base : RunsOn (intake rules keeper) (with_keep from old) (values ++ b ∷ [])
+      (with_keep (record { place = rules.after unit; begun = [] }) new') = record {
         run = record {
           units = on.run.units ++ unit ∷ [];
           chain = chain_more rules from.place on.run.units unit on.run.chain stands;
@@ -118,27 +120,28 @@ module _ {Place U K : Type 0} where
           spelled =
               append-nil (spelling_of rules (on.run.units ++ unit ∷ [])) ∙ all;
         };
-        kept = λ units told h. subst (λ us. holds new' us told) (append_assoc units on.run.units (unit ∷ []))
+        kept = λ units told h. subst (λ us. keeper.holds new' us told) (append_assoc units on.run.units (unit ∷ []))
             (keeps (units ++ on.run.units) told (on.kept units told h));
         on = inr may;
       } in
-      let at_to = subst (λ (t : Reading Place). RunsOn rules holds may_answer from old (values ++ b ∷ []) t new')
+      let at_to = subst (λ (t : Reading Place). RunsOn (intake rules keeper) (with_keep from old) (values ++ b ∷ [])
+      (with_keep t new'))
       (sym et) base in
-      subst (λ (v : List ℕ). RunsOn rules holds may_answer from old v to' new') (sym ev) at_to
+      subst (λ (v : List ℕ). RunsOn (intake rules keeper) (with_keep from old) v (with_keep to' new')) (sym ev) at_to
 
   -- a value more, at which the run stops
-  abbrev pub stops : (rules : Rules Place U) (holds : K → List U → List ℕ → Type 0) (may_answer : Kept → Type 0)
+  abbrev pub stops : (rules : Rules Place U) (keeper : Keeper U K)
       (from : Reading Place) (old : K) (values values' : List ℕ) (to : Reading Place) (new : K) (b : ℕ)
-      → RunsOn rules holds may_answer from old values to new → values' ≡ values ++ b ∷ []
-      → StopsAtLast rules holds may_answer from old values'
-  stops rules holds may_answer from old values values' to new b on ev =
-      record { front = values; last = b; split = ev; before = to; keep = new; on = on }
+      → RunsOn (intake rules keeper) (with_keep from old) values (with_keep to new) → values' ≡ values ++ b ∷ []
+      → StopsAtLast (intake rules keeper) (with_keep from old) values'
+  stops rules keeper from old values values' to new b on ev =
+      record { front = values; last = b; split = ev; before = with_keep to new; on = on }
 
 module _ {U K : Type 0} where
   -- a keep that is as it was holds what it held
-  pub keeps_none : (holds : K → List U → List ℕ → Type 0) (old new : K) → new ≡ old → Keeps holds old new []
-  keeps_none holds old new e units told h =
-      subst (λ us. holds new us told) (sym (append-nil units)) (subst (λ k. holds k units told) (sym e) h)
+  pub keeps_none : (keeper : Keeper U K) (old new : K) → new ≡ old → Keeps keeper old new []
+  keeps_none keeper old new e units told h =
+      subst (λ us. keeper.holds new us told) (sym (append-nil units)) (subst (λ k. keeper.holds k units told) (sym e) h)
 
 -- a list with a value behind it isn't empty
 pub has_last : (xs : List ℕ) (b : ℕ) → xs ++ b ∷ [] ≢ []

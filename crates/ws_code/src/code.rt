@@ -1,6 +1,6 @@
 ghost use Rattle.std.specs.Prelude.{◌≡◌, ◌≢◌, ◌<◌, ◌≤◌, [], List, ℕ, true, false, length, take};
 ghost use Rattle.ws_code.specs.Code.{Rules, IsUnfinished, IsPrefixFree, AreBytes};
-ghost use Rattle.ws_code.specs.Run.{IsAt, IsRunOfValues};
+ghost use Rattle.ws_code.specs.Run.{IsAt, IsRunOfValues, intake, reading, with_keep};
 ghost use Rattle.ws_code.specs.Step.{IsStep};
 ghost use Rattle.ws_code.specs.declared.run.End.{End as AnEnd};
 
@@ -56,8 +56,8 @@ pub trait Code: Drop {
     /// Takes a byte. After `Unit` or `Bad` a new machine is started, or this one is started anew.
     fn push(&mut self, byte: u8) -> Push<Self::Unit>
         requires { IsUnfinished rules (place self.old) (unfinished self.old) }
-        ensures { IsStep rules (place self.old) (unfinished self.old) byte
-            (place self.new) (unfinished self.new) result };
+        ensures { IsStep rules (reading (place self.old) (unfinished self.old)) byte
+            (reading (place self.new) (unfinished self.new)) result };
 
     /// Takes values up to one that is refused, or with which the keep has enough or wants memory. It hands each unit
     /// that is complete to the keep, and begins anew behind it.
@@ -67,14 +67,13 @@ pub trait Code: Drop {
         values: &[u8],
         keep: &mut K,
     ) -> Run
-        requires { IsAt rules
-            (record { place = place self.old; begun = unfinished self.old }) at.old }
+        requires { IsAt rules (reading (place self.old) (unfinished self.old)) at.old }
         ensures used { result.used ≤ length values.now }
         ensures whole { result.end ≡ AnEnd.More → result.used ≡ length values.now }
-        ensures run { IsRunOfValues rules K.holds K.may_answer
-            (record { place = place self.old; begun = unfinished self.old }) keep.old
+        ensures run { IsRunOfValues (intake rules K.keeper)
+            (with_keep (reading (place self.old) (unfinished self.old)) keep.old)
             (take result.used values.now)
-            (record { place = place self.new; begun = unfinished self.new }) at.new keep.new
+            (with_keep (reading (place self.new) (unfinished self.new)) keep.new) at.new
             result.end }
     {
         // A code that is read fast writes its own: its units go to the keep without an answer each.

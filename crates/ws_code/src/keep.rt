@@ -1,6 +1,5 @@
-ghost use Rattle.std.specs.Prelude.{◌≡◌, ◌++◌, ◌∷◌, [], List, ℕ};
-ghost use Rattle.ws_code.specs.declared.keep.Kept.{Kept};
-ghost use Rattle.ws_code.specs.Keep.{KeepsOne, holds_last};
+ghost use Rattle.std.specs.Prelude.{◌++◌, List, ℕ};
+ghost use Rattle.ws_code.specs.Keep.{Keeper, KeepsOne, list_keeper, nothing_keeper, slot_keeper};
 
 /// What became of a unit.
 #[derive(Clone, Copy)]
@@ -17,22 +16,19 @@ pub enum Kept {
 // and with none kept no memory is asked for.
 /// Where the units go that a machine reads, and the values that they were read from.
 pub trait Keep<U>: Drop {
-    // It holds these units, and was told of these values.
-    ghost holds: { Self → List U → List ℕ → Type 0 };
-
-    // It may answer so.
-    ghost may_answer: { Kept → Type 0 };
+    // Which units it holds, and what it may answer to one.
+    ghost keeper: { Keeper U Self };
 
     /// Takes a unit. With `NoMemory` it holds what it held.
     fn keep(&mut self, unit: U) -> Kept
-        ensures kept { KeepsOne holds self.old self.new unit result }
-        ensures answer { may_answer result };
+        ensures kept { KeepsOne keeper self.old self.new unit result }
+        ensures answer { keeper.may_answer result };
 
     /// Is told of the values that a body has taken, behind the units that are complete with them. A keep of units alone
     /// has no use for them.
     fn took(&mut self, values: &[u8])
-        ensures { (units : List U) (told : List ℕ) → holds self.old units told
-            → holds self.new units (told ++ values.now) };
+        ensures { (units : List U) (told : List ℕ) → keeper.holds self.old units told
+            → keeper.holds self.new units (told ++ values.now) };
 }
 
 // Room for so many units comes with the first one, so that short records don't grow their list unit by unit.
@@ -40,9 +36,7 @@ const FIRST_UNITS: usize = 8;
 
 /// A list keeps all units.
 impl<U: Drop> Keep<U> for Vec<U> {
-    ghost holds = { λ vec units told. vec.items ≡ units };
-
-    ghost may_answer = { λ kept. kept ≡ Kept.Enough → ⊥ };
+    ghost keeper = { list_keeper (λ vec. vec.items) };
 
     fn keep(&mut self, unit: U) -> Kept {
         if self.capacity() == 0 && self.reserve(FIRST_UNITS).is_err() {
@@ -59,9 +53,7 @@ impl<U: Drop> Keep<U> for Vec<U> {
 
 /// A slot keeps the last unit, and has enough with each.
 impl<U: Drop> Keep<U> for Option<U> {
-    ghost holds = { λ slot units told. holds_last slot units };
-
-    ghost may_answer = { λ kept. kept ≡ Kept.Enough };
+    ghost keeper = { slot_keeper };
 
     fn keep(&mut self, unit: U) -> Kept {
         *self = Some(unit);
@@ -76,9 +68,7 @@ impl<U: Drop> Keep<U> for Option<U> {
 pub struct Nothing;
 
 impl<U: Drop> Keep<U> for Nothing {
-    ghost holds = { λ nothing units told. Unit {0} };
-
-    ghost may_answer = { λ kept. kept ≡ Kept.GoOn };
+    ghost keeper = { nothing_keeper };
 
     fn keep(&mut self, _unit: U) -> Kept {
         Kept::GoOn

@@ -6,6 +6,7 @@ use Rattle.std.proofs.lemmas.List.{get_or_default}
 use borrow.Author.Tests.{ltb-true}
 use Rattle.ws_code.specs.Address.{IsRowAndColumn, place_of}
 use Rattle.ws_code.specs.Code.{IsPrefix, IsUnfinished, Stands}
+use Rattle.ws_code.specs.Run.{reading}
 use Rattle.ws_code.specs.Step.{IsStep}
 use Rattle.ws_code.specs.declared.code.Push.{Push}
 use Rattle.ws_code.specs.declared.code.Push.TheVariants.{More}
@@ -32,10 +33,11 @@ use Rattle.ws_extended.specs.declared.extended_place.ExtendedPlace.{ExtendedPlac
 pub part_more : (begun : List ℕ) (b : ℕ) (place : ExtendedAnswerPlace) (waits waits' : Waits) (at : ExtendedPlace)
     (bytes : List ℕ) (result : Push ExtendedAnswerPart) → result ≡ More → waits' ≡ waits → waits_at waits at ≡ place
     → waits_behind waits bytes ≡ begun ++ b ∷ [] → IsUnfinished extended_answer_rules place (begun ++ b ∷ [])
-    → IsStep extended_answer_rules place begun b (waits_at waits' at) (waits_behind waits' bytes) result
+    → IsStep extended_answer_rules (reading place begun) b (reading (waits_at waits' at) (waits_behind waits' bytes))
+    result
 part_more begun b place waits waits' at bytes result is now same has goes_on =
-    subst (λ (r : Push ExtendedAnswerPart). IsStep extended_answer_rules place begun b (waits_at waits' at)
-    (waits_behind waits' bytes) r) (sym is) (
+    subst (λ (r : Push ExtendedAnswerPart). IsStep extended_answer_rules (reading place begun) b
+    (reading (waits_at waits' at) (waits_behind waits' bytes)) r) (sym is) (
       ap (λ (w : Waits). waits_at w at) now ∙ same,
       ap (λ (w : Waits). waits_behind w bytes) now ∙ has,
       goes_on,

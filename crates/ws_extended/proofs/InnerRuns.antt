@@ -1,11 +1,11 @@
 -- A run of bytes that the profile's machine takes into an empty slot, told of a live host's elements.
-use Rattle.std.proofs.Common.{◌≡◌, ◌≢◌, ℕ, List, [], ◌∷◌, ◌++◌, Bool, true, false, Option, Some, None, refl, sym, ap}
+use Rattle.std.proofs.Common.{◌≡◌, ◌≢◌, ℕ, List, [], ◌∷◌, ◌++◌, Bool, true, false, Option, None, refl, sym, ap}
 use Rattle.std.proofs.Common.{◌∙◌, subst, append_assoc, ◌==◌, if◌then◌else◌, inl, ◌<◌, zero, suc, length, take, arith}
 use Rattle.std.proofs.lemmas.List.{take_all}
 use borrow.Author.Tests.{eqb-true, ne_eqb}
-use Rattle.ws_code.specs.Code.{IsPrefix, IsSpelled, IsUnfinished}
-use Rattle.ws_code.specs.Keep.{KeepsOne}
-use Rattle.ws_code.specs.Run.{Reading, IsAt, IsRunOfValues, RunsOn, StopsAtLast}
+use Rattle.ws_code.specs.Code.{IsSpelled, IsUnfinished}
+use Rattle.ws_code.specs.Keep.{KeepsOne, Keeper, slot_keeper}
+use Rattle.ws_code.specs.Run.{Reading, IsAt, IsRunOfValues, RunsOn, StopsAtLast, intake, with_keep}
 use Rattle.ws_code.specs.declared.keep.Kept.{Kept}
 use Rattle.ws_code.specs.declared.reason.Reason.{Reason}
 use Rattle.ws_code.specs.declared.run.End.{End}
@@ -22,7 +22,6 @@ use Rattle.ws_stream.specs.declared.command_code.TheConstants.{ESCAPE}
 use Rattle.ws_stream.specs.declared.element.Element.{Element}
 use Rattle.ws_stream.specs.declared.element.Element.TheVariants.{ClearUnit}
 use Rattle.ws_stream.specs.declared.place.Place.{Place}
-use Rattle.ws_stream.specs.declared.place.Place.TheVariants.{Anything}
 use Rattle.ws_extended.specs.ExtendedElements.{extended_rules}
 use Rattle.ws_extended.specs.ExtendedLaws.{extended_begins}
 use Rattle.ws_extended.specs.ExtendedMachine.{element_begun_in, inner_place}
@@ -36,7 +35,7 @@ use Rattle.ws_extended.specs.declared.extended_place.ExtendedPlace.TheVariants.{
 use Rattle.ws_extended.proofs.Lifting.{prefix_down, unfinished_down}
 use Rattle.ws_extended.proofs.MachineLaws.{escape_begun, inside_reasons, same_place}
 use Rattle.ws_extended.proofs.Running.{run_both, run_unit}
-use Rattle.ws_extended.proofs.SlotRuns.{HasEnough, InSlot, IsSlotRun, IsWhole, SlotStop, not_whole, runs_on}
+use Rattle.ws_extended.proofs.SlotRuns.{IsSlotRun, IsWhole, SlotStop, not_whole, runs_on}
 
 -- where an element of the profile is read, and where a machine stands
 abbrev pub up : Reading Place → Reading ExtendedPlace
@@ -92,11 +91,11 @@ alike place (c ∷ []) b h = go (c == ESCAPE) (command_reason b) _
     go false x y = refl
 alike place (c ∷ code ∷ begun) b h = inside_reasons (InProfile place) (c ∷ code ∷ begun) b h
 
-module _ {K : Type 0} (holds : K → List ExtendedElement → List ℕ → Type 0) (may : Kept → Type 0)
+module _ {K : Type 0} (keeper : Keeper ExtendedElement K)
     (from : Reading Place) (old : K) where
   quiet : (xs : List ℕ) (to : Reading Place) (slot : Option Element)
-      → RunsOn element_rules InSlot HasEnough from None xs to slot
-      → RunsOn extended_rules holds may (up from) old xs (up to) old
+      → RunsOn (intake element_rules slot_keeper) (with_keep from None) xs (with_keep to slot)
+      → RunsOn (intake extended_rules keeper) (with_keep (up from) old) xs (with_keep (up to) old)
   quiet xs to slot on =
       let same = runs_on element_rules from xs to slot on in
       record {
@@ -107,25 +106,25 @@ module _ {K : Type 0} (holds : K → List ExtendedElement → List ℕ → Type 
           unfinished = begun_there to.place to.begun on.run.unfinished;
           spelled = same.1;
         };
-        kept = keeps_none holds old old refl;
+        kept = keeps_none keeper old old refl;
         on = inl refl;
       }
 
   abbrev quiet_stop : (values : List ℕ) → SlotStop element_rules from values
-      → StopsAtLast extended_rules holds may (up from) old values
+      → StopsAtLast (intake extended_rules keeper) (with_keep (up from) old) values
   quiet_stop values s = record {
     front = s.front;
     last = s.last;
     split = s.split;
-    before = up s.before;
-    keep = old;
-    on = quiet s.front s.before s.keep s.on;
+    before = with_keep (up s.before.read) old;
+    on = quiet s.front s.before.read s.before.keep s.on;
   }
 
   -- no element is whole with the values, and they lead on
   pub inner_more : (values : List ℕ) (to : Reading Place) (standing : Standing Place) (slot : Option Element)
       → IsSlotRun element_rules from values to standing slot More
-      → IsRunOfValues extended_rules holds may (up from) old values (up to) (stands_up standing) old More
+      → IsRunOfValues (intake extended_rules keeper) (with_keep (up from) old) values (with_keep (up to) old)
+      (stands_up standing) More
   inner_more values to standing slot run = (quiet values to slot run.0, at_up to standing run.1)
 
   -- or the last one is refused
@@ -133,15 +132,15 @@ module _ {K : Type 0} (holds : K → List ExtendedElement → List ℕ → Type 
       (end : End) → IsSlotRun element_rules from values to standing slot end → slot ≡ None → (end ≡ More → ⊥)
       → is_inner (InProfile from.place) (from.begun ++ (values ++ rest)) ≡ true
       → (to' : Reading ExtendedPlace) (standing' : Standing ExtendedPlace)
-      → IsRunOfValues extended_rules holds may (up from) old values to' standing' old end
+      → IsRunOfValues (intake extended_rules keeper) (with_keep (up from) old) values (with_keep to' old) standing' end
   inner_bad values rest to standing slot More run none stops inner to' standing' = absurd (stops refl)
   inner_bad values rest to standing slot Enough run none stops inner to' standing' =
       absurd (not_whole element_rules from values to standing slot none run)
   inner_bad values rest to standing slot NoMemory run none stops inner to' standing' = absurd (let e = run.4 in cc)
   inner_bad values rest to standing slot (Bad reason) run none stops inner to' standing' =
       let stop = run.0 in
-      let before = stop.before in
-      let same = runs_on element_rules from stop.front before stop.keep stop.on in
+      let before = stop.before.read in
+      let same = runs_on element_rules from stop.front before stop.before.keep stop.on in
       let bytes : List ℕ = before.begun ++ stop.last ∷ [] in
       let split : from.begun ++ (values ++ rest) ≡ bytes ++ rest =
       ap (λ (v : List ℕ). from.begun ++ (v ++ rest)) stop.split
@@ -161,23 +160,24 @@ module _ {K : Type 0} (holds : K → List ExtendedElement → List ℕ → Type 
         quiet_stop values stop,
         λ front. run.1 (prefix_down (InProfile before.place) bytes there front),
         run.2 ∙ alike before.place before.begun stop.last there,
-        keeps_none holds old old refl,
+        keeps_none keeper old old refl,
       )
 
   -- or it completes an element, which the keep is given
   pub inner_whole : (values : List ℕ) (to : Reading Place) (standing : Standing Place) (e : Element)
       → IsWhole element_rules from values to standing e → (new : K) (answer : Kept)
-      → KeepsOne holds old new (Profile e) answer → may answer
-      → IsRunOfValues extended_rules holds may (up from) old values (up to) (stands_up standing) new (kept_end answer)
+      → KeepsOne keeper old new (Profile e) answer → keeper.may_answer answer
+      → IsRunOfValues (intake extended_rules keeper) (with_keep (up from) old) values (with_keep (up to) new)
+      (stands_up standing) (kept_end answer)
   inner_whole values to standing e whole new answer keeps answers =
       let stop = whole.stop in
-      let before = stop.before in
-      let on = quiet stop.front before stop.keep stop.on in
-      subst (λ (v : List ℕ). IsRunOfValues extended_rules holds may (up from) old v (up to) (stands_up standing) new
-      (kept_end answer)) (sym stop.split)
-      (run_both extended_rules holds may (up from) (up before) old old stop.front on (stop.last ∷ []) (up to)
+      let before = stop.before.read in
+      let on = quiet stop.front before stop.before.keep stop.on in
+      subst (λ (v : List ℕ). IsRunOfValues (intake extended_rules keeper) (with_keep (up from) old) v
+      (with_keep (up to) new) (stands_up standing) (kept_end answer)) (sym stop.split)
+      (run_both extended_rules keeper (up from) (up before) old old stop.front on (stop.last ∷ []) (up to)
       (stands_up standing) new (kept_end answer)
-      (run_unit extended_rules extended_begins holds may (up before) (up to) old new stop.last (stands_up standing) answer
+      (run_unit extended_rules extended_begins keeper (up before) (up to) old new stop.last (stands_up standing) answer
       (Profile e) on.run.unfinished
       (spelled_there before.place (before.begun ++ stop.last ∷ []) e whole.spelled) keeps answers (ap up whole.behind)
       (at_up to standing whole.is_at)))
@@ -244,9 +244,9 @@ module _ (m : ExtendedCommands) (values : List ℕ) (inside : GoesInside m value
       subst (λ (p : Place). is_inner (InProfile p) to.begun ≡ true) (sym (run.1.at_place ∙ on.0))
       (subst (λ (l : List ℕ). is_inner (InProfile (reading_of m.inner).place) l ≡ true) (sym bytes) only_inner)
 
-module _ {K : Type 0} (holds : K → List ExtendedElement → List ℕ → Type 0) (may : Kept → Type 0)
+module _ {K : Type 0} (keeper : Keeper ExtendedElement K)
     (from from' to to' : Reading ExtendedPlace) (same : from ≡ from') (behind : to ≡ to') (old new : K)
     (values : List ℕ) (standing : Standing ExtendedPlace) (end : End) where
-  pub run_at : IsRunOfValues extended_rules holds may from old values to standing new end
-      → IsRunOfValues extended_rules holds may from' old values to' standing new end
+  pub run_at : IsRunOfValues (intake extended_rules keeper) (with_keep from old) values (with_keep to new) standing end
+      → IsRunOfValues (intake extended_rules keeper) (with_keep from' old) values (with_keep to' new) standing end
   run_at run = rw (← same, ← behind) run

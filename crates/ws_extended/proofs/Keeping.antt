@@ -2,7 +2,7 @@
 use Rattle.std.specs.List.{flat_map}
 use Rattle.std.specs.Prelude.{OnErr, OnOk, Result, Ok, Err}
 use Rattle.std.proofs.Common.{ℕ, List, [], ◌∷◌, ◌++◌, map, subst, append_assoc}
-use Rattle.ws_code.specs.Keep.{Keeps}
+use Rattle.ws_code.specs.Keep.{Keeps, Keeper}
 use Rattle.ws_stream.specs.declared.element.Element.{Element}
 use Rattle.ws_stream.specs.declared.element.Element.TheVariants.{ClearUnit, Write, Soh, Sba, Mc, Put}
 use Rattle.ws_screen.specs.ScreenParts.{ScreenParts}
@@ -16,17 +16,19 @@ pub on_err : {X E P : Type 0} (r : Result X E) → P → OnErr r P
 on_err (Ok x) p = tt
 on_err (Err e) p = p
 
-module _ {K : Type 0} (holds : K → List Element → List ℕ → Type 0) where
-  then : (a b c : K) (xs ys : List Element) → Keeps holds a b xs → Keeps holds b c ys → Keeps holds a c (xs ++ ys)
+module _ {K : Type 0} (keeper : Keeper Element K) where
+  then : (a b c : K) (xs ys : List Element) → Keeps keeper a b xs → Keeps keeper b c ys → Keeps keeper a c (xs ++ ys)
   then a b c xs ys p q units told h =
-      subst (λ (us : List Element). holds c us told) (append_assoc units xs ys) (q (units ++ xs) told (p units told h))
+      subst (λ (us : List Element). keeper.holds c us told) (append_assoc units xs ys)
+      (q (units ++ xs) told (p units told h))
 
   pub all_kept : (row : ℕ) (s : ScreenParts) (k0 k1 k2 k3 k4 k5 k6 k7 k8 k9 : K)
-      → Keeps holds k0 k1 (ClearUnit ∷ []) → Keeps holds k1 k2 (Write 0 (lights s) ∷ [])
-      → Keeps holds k2 k3 (Soh (start_of_header_bytes row s.switches) ∷ []) → Keeps holds k3 k4 (flat_map field_image s.fields)
-      → Keeps holds k4 k5 (home_image s.home_set) → Keeps holds k5 k6 (Sba 0 ∷ [])
-      → Keeps holds k6 k7 (map Put s.cells) → Keeps holds k7 k8 (Mc s.cursor ∷ [])
-      → Keeps holds k8 k9 (read_image s.pending) → Keeps holds k0 k9 (image row s)
+      → Keeps keeper k0 k1 (ClearUnit ∷ []) → Keeps keeper k1 k2 (Write 0 (lights s) ∷ [])
+      → Keeps keeper k2 k3 (Soh (start_of_header_bytes row s.switches) ∷ [])
+      → Keeps keeper k3 k4 (flat_map field_image s.fields)
+      → Keeps keeper k4 k5 (home_image s.home_set) → Keeps keeper k5 k6 (Sba 0 ∷ [])
+      → Keeps keeper k6 k7 (map Put s.cells) → Keeps keeper k7 k8 (Mc s.cursor ∷ [])
+      → Keeps keeper k8 k9 (read_image s.pending) → Keeps keeper k0 k9 (image row s)
   all_kept row s k0 k1 k2 k3 k4 k5 k6 k7 k8 k9 a b c d e f g h i =
       let moved : List Element = Mc s.cursor ∷ read_image s.pending in
       let put : List Element = Sba 0 ∷ (map Put s.cells ++ moved) in

@@ -4,6 +4,7 @@ use Rattle.std.proofs.Common.{if◌then◌else◌}
 use Rattle.std.proofs.lemmas.Bool.{false≢true}
 use Rattle.std.proofs.lemmas.List.{append-nil}
 use Rattle.ws_code.specs.Code.{IsPrefix, IsSpelled, IsUnfinished, Stands}
+use Rattle.ws_code.specs.Run.{reading}
 use Rattle.ws_code.specs.Step.{IsStep}
 use Rattle.ws_code.specs.declared.code.Push.{Push}
 use Rattle.ws_code.specs.declared.code.Push.TheVariants as answer
@@ -176,7 +177,8 @@ prefix_down place bytes h front =
 
 -- after an escape the profile's machine goes on
 pub escape_goes_on : (place : Place) (place' : Place) (begun' : List ℕ) (push : Push Element)
-    → IsStep element_rules place [] ESCAPE place' begun' push → (place' ≡ place) × (begun' ≡ ESCAPE ∷ [])
+    → IsStep element_rules (reading place []) ESCAPE (reading place' begun') push
+    → (place' ≡ place) × (begun' ≡ ESCAPE ∷ [])
 escape_goes_on place place' begun' answer.More step = (step.0, step.1)
 escape_goes_on place place' begun' (answer.Unit e) step = not_alone e step.stands.is_unit step.spelled
   where

@@ -6,6 +6,7 @@ use Rattle.std.proofs.lemmas.List.{append_cancel_left, append-nil, get_or_defaul
 use borrow.Author.Tests.{eqb-true}
 use Rattle.ws_code.specs.Code.{IsPrefix, IsUnfinished, Stands}
 use Rattle.ws_code.specs.DataByte.{is_order}
+use Rattle.ws_code.specs.Run.{reading}
 use Rattle.ws_code.specs.Step.{IsStep}
 use Rattle.ws_code.specs.declared.code.Push.{Push}
 use Rattle.ws_stream.specs.ElementLaws.{first, second}
@@ -98,12 +99,12 @@ query_begun place = record {
 }
 
 pub escape_taken : (place : Place) (bytes : List ℕ) (b : ℕ) (place' : Place) (begun' : List ℕ) (push : Push Element)
-    → bytes ≡ [] → b ≡ ESCAPE → IsStep element_rules place bytes b place' begun' push
+    → bytes ≡ [] → b ≡ ESCAPE → IsStep element_rules (reading place bytes) b (reading place' begun') push
     → (place' ≡ place) × (begun' ≡ ESCAPE ∷ [])
 escape_taken place bytes b place' begun' push none is step =
     escape_goes_on place place' begun' push
-    (subst (λ (n : ℕ). IsStep element_rules place [] n place' begun' push) is
-    (subst (λ (l : List ℕ). IsStep element_rules place l b place' begun' push) none step))
+    (subst (λ (n : ℕ). IsStep element_rules (reading place []) n (reading place' begun') push) is
+    (subst (λ (l : List ℕ). IsStep element_rules (reading place l) b (reading place' begun') push) none step))
 
 -- REASONS
 

@@ -2,8 +2,8 @@
 use Rattle.std.proofs.Common.{◌≡◌, true, ℕ, List, [], ◌∷◌, ◌++◌, inl, inr, refl, sym, ap, ◌∙◌, subst, append_assoc}
 use Rattle.std.proofs.lemmas.Grind.{flat_map-append}
 use Rattle.ws_code.specs.Code.{Rules, IsChain, IsPrefix, IsSpelled, IsUnfinished, place_after, spelling_of}
-use Rattle.ws_code.specs.Keep.{KeepsOne}
-use Rattle.ws_code.specs.Run.{Reading, IsAt, IsRunOfValues, RunsOn, StopsAtLast}
+use Rattle.ws_code.specs.Keep.{KeepsOne, Keeper}
+use Rattle.ws_code.specs.Run.{Reading, IsAt, IsRunOfValues, RunsOn, StopsAtLast, intake, with_keep}
 use Rattle.ws_code.specs.declared.keep.Kept.{Kept}
 use Rattle.ws_code.specs.declared.keep.Kept.TheVariants.{GoOn, Enough as EnoughKept, NoMemory as NoMemoryKept}
 use Rattle.ws_code.specs.declared.reason.Reason.{Reason}
@@ -14,11 +14,12 @@ use Rattle.ws_code.proofs.CodeLaws.{Begins, chain_append, place_after-append}
 use Rattle.ws_code.proofs.RunLaws.{is_inside, keeps_none, runs_more, runs_none, runs_unit, stops}
 use Rattle.ws_extended.specs.ExtendedRuns.{kept_end}
 
-module _ {Place U K : Type 0} (rules : Rules Place U) (holds : K → List U → List ℕ → Type 0) (may : Kept → Type 0)
+module _ {Place U K : Type 0} (rules : Rules Place U) (keeper : Keeper U K)
     (from mid : Reading Place) (old between : K) (xs : List ℕ)
-    (a : RunsOn rules holds may from old xs mid between) where
-  runs_both : (ys : List ℕ) (to : Reading Place) (new : K) → RunsOn rules holds may mid between ys to new
-      → RunsOn rules holds may from old (xs ++ ys) to new
+    (a : RunsOn (intake rules keeper) (with_keep from old) xs (with_keep mid between)) where
+  runs_both : (ys : List ℕ) (to : Reading Place) (new : K)
+      → RunsOn (intake rules keeper) (with_keep mid between) ys (with_keep to new)
+      → RunsOn (intake rules keeper) (with_keep from old) (xs ++ ys) (with_keep to new)
   runs_both ys to new b =
       let us = a.run.units in
       let vs = b.run.units in
@@ -41,7 +42,7 @@ module _ {Place U K : Type 0} (rules : Rules Place U) (holds : K → List U → 
           unfinished = b.run.unfinished;
           spelled = spelled;
         };
-        kept = λ units told h. subst (λ (zs : List U). holds new zs told) (append_assoc units us vs)
+        kept = λ units told h. subst (λ (zs : List U). keeper.holds new zs told) (append_assoc units us vs)
             (b.kept (units ++ us) told (a.kept units told h));
         on = elim b.on [
           | inl e ↦ elim a.on [ inl f ↦ inl (ap (λ (zs : List U). zs ++ vs) f ∙ e) | inr m ↦ inr m ]
@@ -49,41 +50,43 @@ module _ {Place U K : Type 0} (rules : Rules Place U) (holds : K → List U → 
         ];
       }
 
-  abbrev stops_both : (ys : List ℕ) → StopsAtLast rules holds may mid between ys
-      → StopsAtLast rules holds may from old (xs ++ ys)
+  abbrev stops_both : (ys : List ℕ) → StopsAtLast (intake rules keeper) (with_keep mid between) ys
+      → StopsAtLast (intake rules keeper) (with_keep from old) (xs ++ ys)
   stops_both ys s = record {
     front = xs ++ s.front;
     last = s.last;
     split = ap (λ (z : List ℕ). xs ++ z) s.split ∙ sym (append_assoc xs s.front (s.last ∷ []));
     before = s.before;
-    keep = s.keep;
-    on = runs_both s.front s.before s.keep s.on;
+    on = runs_both s.front s.before.read s.before.keep s.on;
   }
 
   pub run_both : (ys : List ℕ) (to : Reading Place) (standing : Standing Place) (new : K) (end : End)
-      → IsRunOfValues rules holds may mid between ys to standing new end
-      → IsRunOfValues rules holds may from old (xs ++ ys) to standing new end
+      → IsRunOfValues (intake rules keeper) (with_keep mid between) ys (with_keep to new) standing end
+      → IsRunOfValues (intake rules keeper) (with_keep from old) (xs ++ ys) (with_keep to new) standing end
   run_both ys to standing new More run = (runs_both ys to new run.0, run.1)
   run_both ys to standing new Enough run =
       (stops_both ys run.0, run.1, run.2, run.3, run.4, run.5, run.6)
   run_both ys to standing new NoMemory run = (stops_both ys run.0, run.1, run.2, run.3, run.4)
   run_both ys to standing new (Bad reason) run = (stops_both ys run.0, run.1, run.2, run.3)
 
-module _ {Place U K : Type 0} (rules : Rules Place U) (begins : Begins rules) (holds : K → List U → List ℕ → Type 0)
-    (may : Kept → Type 0) (from to : Reading Place) (old new : K) (b : ℕ) (standing : Standing Place) where
-  none_yet : IsUnfinished rules from.place from.begun → RunsOn rules holds may from old [] from old
-  none_yet u = runs_none rules holds may from old u
+module _ {Place U K : Type 0} (rules : Rules Place U) (begins : Begins rules) (keeper : Keeper U K)
+    (from to : Reading Place) (old new : K) (b : ℕ) (standing : Standing Place) where
+  none_yet : IsUnfinished rules from.place from.begun
+      → RunsOn (intake rules keeper) (with_keep from old) [] (with_keep from old)
+  none_yet u = runs_none rules keeper from old u
 
-  abbrev stops_here : IsUnfinished rules from.place from.begun → StopsAtLast rules holds may from old (b ∷ [])
-  stops_here u = stops rules holds may from old [] (b ∷ []) from old b (none_yet u) refl
+  abbrev stops_here : IsUnfinished rules from.place from.begun
+      → StopsAtLast (intake rules keeper) (with_keep from old) (b ∷ [])
+  stops_here u = stops rules keeper from old [] (b ∷ []) from old b (none_yet u) refl
 
   -- a byte that completes a unit
   pub run_unit : (answer : Kept) (unit : U) → IsUnfinished rules from.place from.begun
-      → IsSpelled rules from.place (from.begun ++ b ∷ []) unit → KeepsOne holds old new unit answer → may answer
+      → IsSpelled rules from.place (from.begun ++ b ∷ []) unit → KeepsOne keeper old new unit answer
+      → keeper.may_answer answer
       → to ≡ record { place = rules.after unit; begun = [] } → IsAt rules to standing
-      → IsRunOfValues rules holds may from old (b ∷ []) to standing new (kept_end answer)
+      → IsRunOfValues (intake rules keeper) (with_keep from old) (b ∷ []) (with_keep to new) standing (kept_end answer)
   run_unit GoOn unit u spelled keeps answers behind at = (
-    runs_unit rules holds may from old [] (b ∷ []) from to old new b unit (none_yet u) spelled keeps answers begins refl
+    runs_unit rules keeper from old [] (b ∷ []) from to old new b unit (none_yet u) spelled keeps answers begins refl
         behind,
     at,
   )
@@ -94,9 +97,10 @@ module _ {Place U K : Type 0} (rules : Rules Place U) (begins : Begins rules) (h
   -- a byte more of one
   pub run_more : IsUnfinished rules from.place from.begun → IsUnfinished rules from.place (from.begun ++ b ∷ [])
       → to ≡ record { place = from.place; begun = from.begun ++ b ∷ [] } → new ≡ old → standing.place ≡ to.place
-      → standing.is_inside ≡ true → IsRunOfValues rules holds may from old (b ∷ []) to standing new More
+      → standing.is_inside ≡ true → IsRunOfValues (intake rules keeper) (with_keep from old) (b ∷ []) (with_keep to new)
+      standing More
   run_more u more behind same at inside = (
-    runs_more rules holds may from old [] (b ∷ []) from to old new b (none_yet u) more refl behind same,
+    runs_more rules keeper from old [] (b ∷ []) from to old new b (none_yet u) more refl behind same,
     is_inside rules to standing from.begun b
         (subst (λ (r : Reading Place). IsUnfinished rules r.place r.begun) (sym behind) more) at inside
         (ap (λ (r : Reading Place). r.begun) behind),
@@ -105,5 +109,6 @@ module _ {Place U K : Type 0} (rules : Rules Place U) (begins : Begins rules) (h
   -- one that is refused
   pub run_bad : IsUnfinished rules from.place from.begun → (reason : Reason)
       → (IsPrefix rules from.place (from.begun ++ b ∷ []) → ⊥) → reason ≡ rules.reason from.place from.begun b
-      → new ≡ old → IsRunOfValues rules holds may from old (b ∷ []) to standing new (Bad reason)
-  run_bad u reason bad is same = (stops_here u, bad, is, keeps_none holds old new same)
+      → new ≡ old → IsRunOfValues (intake rules keeper) (with_keep from old) (b ∷ []) (with_keep to new) standing
+      (Bad reason)
+  run_bad u reason bad is same = (stops_here u, bad, is, keeps_none keeper old new same)

@@ -1,22 +1,13 @@
 -- A run of bytes into an empty slot: it stops at the first whole unit.
 use Rattle.std.proofs.Common.{◌≡◌, ℕ, List, [], ◌∷◌, ◌++◌, Option, Some, None, refl, ap, ◌∙◌, sym}
 use Rattle.ws_code.specs.Code.{Rules, IsSpelled, place_after, spelling_of}
-use Rattle.ws_code.specs.Keep.{holds_last}
-use Rattle.ws_code.specs.Run.{Reading, IsAt, IsRunOfValues, RunsOn, StopsAtLast}
-use Rattle.ws_code.specs.declared.keep.Kept.{Kept}
-use Rattle.ws_code.specs.declared.keep.Kept.TheVariants as kept
+use Rattle.ws_code.specs.Keep.{holds_last, Keeps, slot_keeper}
+use Rattle.ws_code.specs.Run.{Reading, IsAt, IsRunOfValues, RunsOn, StopsAtLast, intake, with_keep}
 use Rattle.ws_code.specs.declared.run.End.{End}
 use Rattle.ws_code.specs.declared.run.End.TheVariants.{More, Enough, NoMemory, Bad}
 use Rattle.ws_code.specs.declared.run.Standing.{Standing}
 use Rattle.ws_code.proofs.CodeLaws.{no_end}
 use Rattle.ws_code.proofs.Slots.{only_enough, slot_is}
-
--- what a slot holds, and what it answers
-abbrev pub InSlot : {U : Type 0} → Option U → List U → List ℕ → Type 0
-InSlot slot units told = holds_last slot units
-
-abbrev pub HasEnough : Kept → Type 0
-HasEnough answer = answer ≡ kept.Enough
 
 pub slot_none : {U : Type 0} (slot : Option U) → holds_last slot [] → slot ≡ None
 slot_none None h = refl
@@ -24,14 +15,15 @@ slot_none (Some unit) h = absurd (no_end h.0 unit [] h.1)
 
 module _ {Place U : Type 0} (rules : Rules Place U) (reading : Reading Place) where
   abbrev pub IsSlotRun : List ℕ → Reading Place → Standing Place → Option U → End → Type 0
-  IsSlotRun values to standing slot end = IsRunOfValues rules InSlot HasEnough reading None values to standing slot end
+  IsSlotRun values to standing slot end =
+      IsRunOfValues (intake rules slot_keeper) (with_keep reading None) values (with_keep to slot) standing end
 
   abbrev pub SlotStop : List ℕ → Type 0
-  SlotStop values = StopsAtLast rules InSlot HasEnough reading None values
+  SlotStop values = StopsAtLast (intake rules slot_keeper) (with_keep reading None) values
 
   -- no unit is whole with these bytes
   pub runs_on : (values : List ℕ) (to : Reading Place) (slot : Option U)
-      → RunsOn rules InSlot HasEnough reading None values to slot
+      → RunsOn (intake rules slot_keeper) (with_keep reading None) values (with_keep to slot)
       → (to.place ≡ reading.place) × (to.begun ≡ reading.begun ++ values) × (slot ≡ None)
   runs_on values to slot on =
       let none : on.run.units ≡ [] = only_enough on.run.units on.on in (
@@ -41,16 +33,16 @@ module _ {Place U : Type 0} (rules : Rules Place U) (reading : Reading Place) wh
       )
 
   keeps_alone : (values : List ℕ) (slot : Option U) (stop : SlotStop values) (more : List U)
-      → ((us : List U) (told : List ℕ) → InSlot stop.keep us told → InSlot slot (us ++ more) told)
+      → Keeps slot_keeper stop.before.keep slot more
       → holds_last slot more
   keeps_alone values slot stop more keeps =
-      let none = (runs_on stop.front stop.before stop.keep stop.on).2 in
+      let none = (runs_on stop.front stop.before.read stop.before.keep stop.on).2 in
       keeps [] [] (rw none refl)
 
   -- the last value completes this unit
   pub record IsWhole (values : List ℕ) (to : Reading Place) (standing : Standing Place) (unit : U) : Type 0 where
     pub stop : SlotStop values
-    pub spelled : IsSpelled rules stop.before.place (stop.before.begun ++ stop.last ∷ []) unit
+    pub spelled : IsSpelled rules stop.before.read.place (stop.before.read.begun ++ stop.last ∷ []) unit
     pub behind : to ≡ record { place = rules.after unit; begun = [] }
     pub is_at : IsAt rules to standing
 

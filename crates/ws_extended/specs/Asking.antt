@@ -2,9 +2,12 @@
 -- refused by the reason of its second command that asks (own choice).
 use Rattle.std.specs.Prelude.{◌≡◌, List, [], ◌∷◌, Option, Some, None}
 use Rattle.std.specs.List.{flat_map}
+use Rattle.ws_code.specs.Keep.{Keeper}
+use Rattle.ws_code.specs.declared.keep.Kept.TheVariants.{GoOn}
 use Rattle.ws_code.specs.declared.reason.Reason.{Reason}
 use Rattle.ws_extended.specs.ExtendedReasons.{ask_reason}
 use Rattle.ws_extended.specs.declared.ask.Ask.{Ask}
+use Rattle.ws_extended.specs.declared.asked.Asked.{Asked}
 use Rattle.ws_extended.specs.declared.extended_element.ExtendedElement.{ExtendedElement}
 use Rattle.ws_extended.specs.declared.extended_element.ExtendedElement.TheVariants.{Profile, Text, RestoreScreen}
 use Rattle.ws_extended.specs.declared.extended_element.ExtendedElement.TheVariants.{WriteError, Asks}
@@ -35,3 +38,10 @@ second_reason (ask ∷ again ∷ asks) = Some (ask_reason again)
 -- what a record asks: this is the first command that asks, and this the reason of the second
 abbrev pub HasAsked : List Ask → Option Ask → Option Reason → Type 0
 HasAsked asks ask refused = (ask ≡ first_ask asks) × (refused ≡ second_reason asks)
+
+-- what elements ask is kept, and no memory wanted
+abbrev pub asked_keeper : Keeper ExtendedElement Asked
+asked_keeper = record {
+  holds = λ asked units told. HasAsked (asks_in units) asked.ask asked.refused;
+  may_answer = λ answer. answer ≡ GoOn;
+}

@@ -1,5 +1,6 @@
 -- What the machine of `ExtendedAnswers` keeps of an unfinished part.
 use Rattle.std.specs.Prelude.{ℕ, List, [], ◌∷◌, Bool, true, ◌&&◌, ◌||◌, nat_le, nat_lt, take, if◌then◌else◌}
+use Rattle.ws_code.specs.Run.{Reading}
 use Rattle.ws_code.specs.declared.address.TheConstants.{ROWS}
 use Rattle.ws_stream.specs.Elements.{row_and_column}
 use Rattle.ws_stream.specs.UnfinishedElement.{unfinished_of}
@@ -52,6 +53,11 @@ waits_behind InElement bytes = bytes
 -- the bytes of an element so far
 abbrev pub element_begun : ExtendedCommands → List ℕ
 element_begun m = element_begun_in m.phase (unfinished_of m.inner)
+
+-- where the part stands that is read, and its bytes so far
+abbrev pub part_reading : Waits → ExtendedCommands → Reading ExtendedAnswerPlace
+part_reading waits elements =
+    record { place = waits_at waits elements.place; begun = waits_behind waits (element_begun elements) }
 
 -- where an element of a saved screen is read, where one is
 abbrev pub element_place : ExtendedAnswerPlace → ExtendedPlace

@@ -39,13 +39,9 @@ impl Asked {
 }
 
 impl Keep<ExtendedElement> for Asked {
-    ghost use Rattle.std.specs.Prelude.{◌≡◌};
-    ghost use Rattle.ws_code.specs.declared.keep.Kept.{Kept};
-    ghost use Rattle.ws_extended.specs.Asking.{HasAsked, asks_in};
+    ghost use Rattle.ws_extended.specs.Asking.{asked_keeper};
 
-    ghost holds = { λ asked units told. HasAsked (asks_in units) asked.ask asked.refused };
-
-    ghost may_answer = { λ answer. answer ≡ Kept.GoOn };
+    ghost keeper = { asked_keeper };
 
     fn keep(&mut self, unit: ExtendedElement) -> Kept {
         if let ExtendedElement::Asks(ask) = unit {

@@ -5,9 +5,7 @@ use Rattle.std.proofs.Common.{◌≡◌, ℕ, List, [], ◌∷◌, ◌++◌, Opt
 use Rattle.std.proofs.Common.{length, take-append-drop, append_assoc, arith}
 use Rattle.std.proofs.lemmas.List.{append-nil, take_all}
 use Rattle.ws_code.specs.Code.{IsChain, Stands, spelling_of}
-use Rattle.ws_code.specs.Run.{Reading, IsRunOfValues}
-use Rattle.ws_code.specs.declared.keep.Kept.{Kept}
-use Rattle.ws_code.specs.declared.keep.Kept.TheVariants as kept
+use Rattle.ws_code.specs.Run.{Reading, IsRunOfValues, intake, with_keep}
 use Rattle.ws_code.specs.declared.reason.Reason.{Reason}
 use Rattle.ws_code.specs.declared.run.End.{End}
 use Rattle.ws_code.specs.declared.run.End.TheVariants.{More, Enough, NoMemory, Bad}
@@ -17,7 +15,7 @@ use Rattle.ws_stream.specs.Elements.{element_rules}
 use Rattle.ws_stream.specs.declared.element.Element.{Element}
 use Rattle.ws_stream.specs.declared.place.Place.{Place}
 use Rattle.ws_screen.proofs.Within.{both_none}
-use Rattle.ws_extended.specs.Asking.{HasAsked, asks_in}
+use Rattle.ws_extended.specs.Asking.{HasAsked, asks_in, asked_keeper}
 use Rattle.ws_extended.specs.ExtendedElements.{extended_rules, place_behind}
 use Rattle.ws_extended.specs.ExtendedLaws.{extended_begins, extended_prefix_free}
 use Rattle.ws_extended.specs.ExtendedStates.{ExtendedState, state_after, state_after_all, state_fault}
@@ -125,19 +123,14 @@ module _ (state : ExtendedState) (body : List ExtendedElement) (now : ExtendedPa
 
 -- WHAT A BODY ASKS
 
-abbrev AskedHolds : Asked → List ExtendedElement → List ℕ → Type 0
-AskedHolds asked units told = HasAsked (asks_in units) asked.ask asked.refused
-
-abbrev GoesOn : Kept → Type 0
-GoesOn answer = answer ≡ kept.GoOn
-
 module _ (reading to : Reading ExtendedPlace) (old new : Asked) (bytes : List ℕ) (used : ℕ)
     (standing : Standing ExtendedPlace) (first : reading ≡ beginning) (none : HasAsked [] old.ask old.refused)
     (body : List ExtendedElement) (chain : IsChain extended_rules extended_rules.first body)
     (same : bytes ≡ spelling_of extended_rules body) where
   -- a run over all bytes of a body notes all that it asks
   pub all_asked : (end : End) → (end ≡ More → used ≡ length bytes)
-      → IsRunOfValues extended_rules AskedHolds GoesOn reading old (take used bytes) to standing new end
+      → IsRunOfValues (intake extended_rules asked_keeper) (with_keep reading old) (take used bytes) (with_keep to new)
+      standing end
       → HasAsked (asks_in body) new.ask new.refused
   all_asked More whole run =
       let read = read_run extended_rules reading to (take used bytes) run.0.run first in
@@ -150,9 +143,9 @@ module _ (reading to : Reading ExtendedPlace) (old new : Asked) (bytes : List �
   all_asked NoMemory whole run = absurd (let e = run.4 in cc)
   all_asked (Bad reason) whole run =
       let stop = run.0 in
-      let read = read_run extended_rules reading stop.before stop.front stop.on.run first in
+      let read = read_run extended_rules reading stop.before.read stop.front stop.on.run first in
       let split : stop.front ++ stop.last ∷ drop used bytes ≡ spelling_of extended_rules body =
       sym (append_assoc stop.front (stop.last ∷ []) (drop used bytes))
       ∙ ap (λ (z : List ℕ). z ++ drop used bytes) (sym stop.split) ∙ take-append-drop used bytes ∙ same in
-      absurd (never_bad extended_rules stop.front stop.on.run.units stop.before read extended_prefix_free
+      absurd (never_bad extended_rules stop.front stop.on.run.units stop.before.read read extended_prefix_free
       extended_begins body chain stop.last (drop used bytes) split run.1)

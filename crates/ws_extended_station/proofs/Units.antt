@@ -48,9 +48,9 @@ module _ {Place U : Type 0} (rules : Rules Place U) (reading : Reading Place) (b
   Taken = take used bytes
 
   -- the bytes that were taken up to the last
-  to_last : (stop : SlotStop rules reading Taken) → stop.before.begun ++ stop.last ∷ [] ≡ Taken
+  to_last : (stop : SlotStop rules reading Taken) → stop.before.read.begun ++ stop.last ∷ [] ≡ Taken
   to_last stop = ap (λ (b : List ℕ). b ++ stop.last ∷ [])
-      ((runs_on rules reading stop.front stop.before stop.keep stop.on).1
+      ((runs_on rules reading stop.front stop.before.read stop.before.keep stop.on).1
       ∙ ap (λ (b : List ℕ). b ++ stop.front) fresh) ∙ sym stop.split
 
   -- the slot has the unit with which the bytes begin
@@ -60,7 +60,7 @@ module _ {Place U : Type 0} (rules : Rules Place U) (reading : Reading Place) (b
   reads_one end run unit some =
       let whole = is_whole rules reading Taken to standing slot end run unit some in
       let stop = whole.stop in
-      let on = runs_on rules reading stop.front stop.before stop.keep stop.on in (
+      let on = runs_on rules reading stop.front stop.before.read stop.before.keep stop.on in (
         subst (λ (p : Place). Stands rules p unit) on.0 whole.spelled.stands,
         sym (take-append-drop used bytes)
             ∙ ap (λ (b : List ℕ). b ++ drop used bytes) (sym (whole.spelled.spelled ∙ to_last stop)),
@@ -85,8 +85,8 @@ module _ {Place U : Type 0} (rules : Rules Place U) (reading : Reading Place) (b
   reads_none free begins NoMemory run none whole units chain same = absurd (let e = run.4 in cc)
   reads_none free begins (Bad reason) run none whole units chain same =
       let stop = run.0 in
-      let before = stop.before in
-      let on = runs_on rules reading stop.front before stop.keep stop.on in
+      let before = stop.before.read in
+      let on = runs_on rules reading stop.front before stop.before.keep stop.on in
       absurd (cut_bad rules free begins reading.place [] units before.begun stop.last (drop used bytes) tt chain
       (subst (λ (p : Place). IsUnfinished rules p before.begun) on.0 stop.on.run.unfinished)
       (subst (λ (p : Place). IsPrefix rules p (before.begun ++ stop.last ∷ []) → ⊥) on.0 run.1)

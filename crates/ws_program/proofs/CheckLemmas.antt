@@ -3,6 +3,8 @@ use Rattle.std.proofs.Common.{ap, ◌∙◌, subst, arith, length-append, append
 use Rattle.std.proofs.Math.Seq.{take-add}
 use Rattle.std.proofs.lemmas.List.{take-append-drop}
 use Rattle.ws_code.specs.Code.{Rules}
+use Rattle.ws_code.specs.Keep.{nothing_keeper}
+use Rattle.ws_code.specs.Run.{intake, with_keep}
 use Rattle.ws_code.specs.declared.keep.Kept.TheVariants as answer
 use Rattle.ws_code.specs.declared.reason.Reason.{Reason}
 use Rattle.ws_code.proofs.Lists.{same_front}
@@ -10,7 +12,7 @@ use Rattle.ws_telnet.specs.declared.token.Telnet.{Telnet}
 use Rattle.ws_telnet.specs.declared.token.Telnet.TheVariants as telnet
 use Rattle.ws_record.specs.Advance.{IsAdvance}
 use Rattle.ws_record.specs.DataStep.{record_of}
-use Rattle.ws_record.specs.Live.{Watching, Leads}
+use Rattle.ws_record.specs.Live.{Watching, Leads, stream}
 use Rattle.ws_record.specs.OpenRecord.{RecordSoFar, no_record}
 use Rattle.ws_record.specs.Refusal.{IsRefused}
 use Rattle.ws_record.specs.declared.news.News.{News}
@@ -39,7 +41,7 @@ module _ {Place U : Type 0} (rules : Rules Place U) where
   abbrev pub IsBareAdvance : {K : Type 0} → List ℕ → List (Item U) → RecordSoFar U → K → List ℕ → Watching Place → K
       → News → Type 0
   IsBareAdvance bytes items so_far old front live new news =
-      IsAdvance rules (λ keep units told. Unit {0}) (λ kept. kept ≡ answer.GoOn) bytes items so_far old front live new
+      IsAdvance (intake rules nothing_keeper) (with_keep (stream bytes items so_far) old) front (with_keep live new)
       news
 
   module _ {K : Type 0} (old new : Watching Place) (tally : Tally) (bytes front : List ℕ) (keep left : K)

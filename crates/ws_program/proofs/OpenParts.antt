@@ -4,6 +4,8 @@ use Rattle.std.proofs.Common.{ap, ◌∙◌, subst, append_assoc}
 use Rattle.std.proofs.lemmas.Grind.{flat_map-append}
 use Rattle.std.proofs.lemmas.List.{append-nil}
 use Rattle.ws_code.specs.Code.{Rules, IsPrefix, IsCut, IsSpelled, IsUnfinished, spelling_of}
+use Rattle.ws_code.specs.Keep.{list_keeper}
+use Rattle.ws_code.specs.Run.{intake, with_keep}
 use Rattle.ws_code.specs.declared.keep.Kept.TheVariants as answer
 use Rattle.ws_code.proofs.CodeLaws.{chain_more, cut_bad, cut_more, cut_unit, one_cut}
 use Rattle.ws_telnet.specs.Streams.{HasNoEor, carried, joined}
@@ -15,7 +17,7 @@ use Rattle.ws_telnet.specs.declared.token.Token.TheVariants.{Data, Eor, Telnet a
 use Rattle.ws_record.specs.Advance.{IsAdvance, OnLastNews}
 use Rattle.ws_record.specs.DataStep.{record_of}
 use Rattle.ws_record.specs.Grammar.{Holds, header}
-use Rattle.ws_record.specs.Live.{Watching, Leads, HoldsPart}
+use Rattle.ws_record.specs.Live.{Watching, Leads, HoldsPart, stream}
 use Rattle.ws_record.specs.OpenRecord.{RecordSoFar, no_record, IsHead}
 use Rattle.ws_record.specs.declared.news.News.{News}
 use Rattle.ws_record.specs.declared.news.News.TheVariants as told
@@ -45,8 +47,8 @@ module _ {Place U K : Type 0} (rules : Rules Place U) (list_of : K → List U) w
   -- what a front makes of a decoder whose keep is a list
   abbrev pub IsListAdvance : List ℕ → List (Item U) → RecordSoFar U → K → List ℕ → Watching Place → K → News → Type 0
   IsListAdvance bytes items so_far old front live new news =
-      IsAdvance rules (λ (keep : K) units told. list_of keep ≡ units) (λ kept. kept ≡ answer.Enough → ⊥) bytes items
-      so_far old front live new news
+      IsAdvance (intake rules (list_keeper list_of)) (with_keep (stream bytes items so_far) old) front
+      (with_keep live new) news
 
   -- of the record that is open behind a front more
   pub follows_front : (live new : Watching Place) (head : Option Head) (old kept : K) (bytes front : List ℕ)

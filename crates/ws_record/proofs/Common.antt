@@ -22,8 +22,8 @@ pub use Rattle.std.proofs.lemmas.Result.{on_ok_weaker, IfErr-weaker, MatchResult
 pub use Rattle.ws_code.specs.Code.{Rules, IsSpelled, IsPrefix, IsPrefixFree, IsChain, IsUnfinished, place_after}
 pub use Rattle.ws_code.specs.Code.{spelling_of, AreBytes, IsCut}
 pub use Rattle.ws_code.specs.Device.{most_reads, list_reader, GaveAll, Reader, Gave, WentOut, Held}
-pub use Rattle.ws_code.specs.Keep.{holds_last}
-pub use Rattle.ws_code.specs.Run.{Reading, HasReadValues, StopsAtLast, IsRunOfValues}
+pub use Rattle.ws_code.specs.Keep.{Keeper, holds_last}
+pub use Rattle.ws_code.specs.Run.{Reading, HasReadValues, StopsAtLast, IsRunOfValues, WithKeep, intake, with_keep}
 pub use Rattle.ws_code.specs.declared.fault.Fault.{Fault}
 pub use Rattle.ws_code.specs.declared.fault.Fault.TheVariants.{Refused, Truncated, Memory, Read}
 pub use Rattle.ws_code.specs.declared.keep.Kept.{Kept}
@@ -68,6 +68,7 @@ pub use Rattle.ws_record.specs.Grammar.{IsInGrammar, IsRecord, Holds, record_byt
 pub use Rattle.ws_record.specs.Grammar.{IsBodyBytes, IsStretch, Spells, commands}
 pub use Rattle.ws_record.specs.HeaderSoFar.{HeaderSoFar, declared, head_in}
 pub use Rattle.ws_record.specs.Live.{Watching, Leads, LeadsWith, IsFrontStep, IsLiveStep, CompletesUnit, HoldsPart}
+pub use Rattle.ws_record.specs.Live.{stream}
 pub use Rattle.ws_record.specs.OpenPrefix.{BeginsList, IsOpenPrefix, IsFirstClosedTo, AreOpenBelow, IsRefusedByPrefix}
 pub use Rattle.ws_record.specs.OpenPrefix.{IsTruncatedByPrefix}
 pub use Rattle.ws_record.specs.OpenRecord.{CanBeFramed, RecordSoFar, no_record, Keeping, HasRead, IsHead, IsDataRefused}

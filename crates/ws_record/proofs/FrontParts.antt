@@ -1,9 +1,10 @@
 use Rattle.ws_record.proofs.Common as C
 use C.{◌≡◌, ℕ, List, [], ◌∷◌, ◌++◌, take, drop, refl, sym, ap, ◌∙◌, append_assoc, ◌<◌, length, ◌≤◌, inl, inr, arith}
 use C.{length-append, Option, Some, None, cases_lt, flat_map-append, common_steps, append-nil, take-append-drop}
-use C.{length-take-le, drop-append-le, append_cancel_left, Rules, IsChain, place_after, spelling_of, IsCut, Kept}
+use C.{length-take-le, drop-append-le, append_cancel_left, Rules, IsChain, place_after, spelling_of, IsCut}
 use C.{Begins, no_end, chain_append, place_after-append, cut_at, all_but_last, IAC, Holds, Watching, Leads, RecordSoFar}
-use C.{Keeping, HasRead, IsHead, IsTaken, grown, OnlyIfOn, News, More, Whole, Open, NoMemory, Head, Item}
+use C.{Keeper, intake, with_keep, Keeping, HasRead, IsHead, IsTaken, grown, OnlyIfOn, News, More, Whole, Open, NoMemory}
+use C.{Head, Item}
 use Rattle.std.proofs.lemmas.List.{length-drop, take-take}
 use Rattle.ws_code.proofs.CodeLaws.{chain_more}
 use Rattle.ws_code.proofs.Cuts.{CutAt}
@@ -12,7 +13,7 @@ use Rattle.ws_record.proofs.Lives.{holds_iac, IsPart}
 
 -- What is complete in a front of the values that a record takes.
 
-module _ {Place U : Type 0} (rules : Rules Place U) (begins : Begins rules) (may_answer : Kept → Type 0) where
+module _ {Place U K : Type 0} (rules : Rules Place U) (begins : Begins rules) (keeper : Keeper U K) where
   filled : (z : List ℕ) → (z ≡ [] → ⊥) → 0 < length z
   filled [] some = absurd (some refl)
   filled (b ∷ z) some = omega arith
@@ -25,8 +26,8 @@ module _ {Place U : Type 0} (rules : Rules Place U) (begins : Begins rules) (may
 
   -- of units of which the last one is whole with the last byte only, or with all of which the keep goes on
   part_at : (place : Place) (us : List U) (u : U) (x z : List ℕ) → IsChain rules place (us ++ u ∷ [])
-      → OnlyIfOn may_answer us → spelling_of rules (us ++ u ∷ []) ≡ x ++ z → (z ≡ [] → ⊥)
-      → (cut : CutAt rules place x) × OnlyIfOn may_answer cut.units
+      → OnlyIfOn keeper us → spelling_of rules (us ++ u ∷ []) ≡ x ++ z → (z ≡ [] → ⊥)
+      → (cut : CutAt rules place x) × OnlyIfOn keeper cut.units
   part_at place us u x [] c only e some = absurd (some refl)
   part_at place us u x (next ∷ z) c (inr on) e some = (cut_at rules begins place (us ++ u ∷ []) x _ c e, inr on)
   part_at place us u x (next ∷ z) c (inl none) e some = (
@@ -50,7 +51,7 @@ module _ {Place U : Type 0} (rules : Rules Place U) (begins : Begins rules) (may
   pub record ReadPart (so_far : RecordSoFar U) (front : List ℕ) : Type 0 where
     pub more : List U
     pub unfinished : List ℕ
-    pub only : OnlyIfOn may_answer more
+    pub only : OnlyIfOn keeper more
     pub is_head : IsHead so_far.head (so_far.bytes ++ front)
     pub cut : IsCut rules (drop 10 (so_far.bytes ++ front)) (so_far.units ++ more) unfinished
 
@@ -68,7 +69,7 @@ module _ {Place U : Type 0} (rules : Rules Place U) (begins : Begins rules) (may
 
     -- of a body
     body_part : (head : Head) → so_far.head ≡ Some head → (us : List U) (u : U) (x z : List ℕ)
-        → IsChain rules rules.first (so_far.units ++ (us ++ u ∷ [])) → OnlyIfOn may_answer us
+        → IsChain rules rules.first (so_far.units ++ (us ++ u ∷ [])) → OnlyIfOn keeper us
         → spelling_of rules (so_far.units ++ (us ++ u ∷ [])) ≡ drop 10 so_far.bytes ++ (x ++ z) → (z ≡ [] → ⊥)
         → ReadPart so_far x
     body_part head some us u x z c only e more =
@@ -99,7 +100,7 @@ module _ {Place U : Type 0} (rules : Rules Place U) (begins : Begins rules) (may
 
     -- of values with all of which the record has no unit more than these, nor a header more
     grown_part : {to : Keeping Place} (w x z : List ℕ) (more : List U) → HasRead rules to (grown so_far w more)
-        → OnlyIfOn may_answer more → w ≡ x ++ z → ReadPart so_far x
+        → OnlyIfOn keeper more → w ≡ x ++ z → ReadPart so_far x
     grown_part {to} w x z more g only split = by_head so_far.head refl where
       by_head : (head : Option Head) → so_far.head ≡ head → ReadPart so_far x
       by_head None none =
@@ -129,7 +130,7 @@ module _ {Place U : Type 0} (rules : Rules Place U) (begins : Begins rules) (may
 
     -- of values of which the last one completes a unit
     whole_part : {to : Keeping Place} (w x z : List ℕ) (before : List U) (unit : U)
-        → HasRead rules to (grown so_far w (before ++ unit ∷ [])) → to.begun ≡ [] → OnlyIfOn may_answer before
+        → HasRead rules to (grown so_far w (before ++ unit ∷ [])) → to.begun ≡ [] → OnlyIfOn keeper before
         → w ≡ x ++ z → (z ≡ [] → ⊥) → ReadPart so_far x
     whole_part {to} w x z before unit g between only split more = by_head so_far.head refl where
       by_head : (head : Option Head) → so_far.head ≡ head → ReadPart so_far x
@@ -149,11 +150,12 @@ module _ {Place U : Type 0} (rules : Rules Place U) (begins : Begins rules) (may
           (sym (append-nil all) ∙ ap (λ b. all ++ b) (sym between) ∙ g.cut.spelled
           ∙ drop-append-le 10 so_far.bytes w long ∙ ap (λ b. drop 10 so_far.bytes ++ b) split) more
 
-  module _ {K : Type 0} (holds : K → List U → List ℕ → Type 0) (to : Keeping Place) {reader : Keeping Place}
+  module _ (to : Keeping Place) {reader : Keeping Place}
       {so_far : RecordSoFar U} (r : HasRead rules reader so_far) (old new : K) (v x z : List ℕ)
       (split : v ≡ x ++ z) (some : z ≡ [] → ⊥) where
     -- of values that are taken, before the last one
-    pub taken_part : (news : News) → IsTaken rules holds may_answer so_far old v to new news → ReadPart so_far x
+    pub taken_part : (news : News) → IsTaken (intake rules keeper) (with_keep so_far old) v (with_keep to new) news
+        → ReadPart so_far x
     taken_part More t = grown_part r v x z t.0 t.2 t.5 split
     taken_part Whole t = whole_part r v x z t.0 t.1 t.3 t.7 t.6 split some
     taken_part (Open head) t = header_part r x t.0 (omega (
@@ -172,12 +174,12 @@ module _ {Place U : Type 0} (rules : Rules Place U) (begins : Begins rules) (may
         whole_part r (t.0 ++ t.1 ∷ []) x z t.3.1 t.3.2 t.3.3 t.3.4 t.3.6 (sym t.2 ∙ split) some
     taken_part news t = absurd t
 
-module _ {Place U : Type 0} (rules : Rules Place U) (may_answer : Kept → Type 0) where
+module _ {Place U K : Type 0} (rules : Rules Place U) (keeper : Keeper U K) where
   module _ {live : Watching Place} {bytes : List ℕ} {items : List (Item U)} {so_far : RecordSoFar U}
       (l : Leads rules live bytes items so_far) where
     -- behind bytes that no part of the open record follows
     part_still : (front begun : List ℕ) → Holds rules (bytes ++ front) items so_far.bytes begun
-        → IsPart rules may_answer items so_far (bytes ++ front)
+        → IsPart rules keeper items so_far (bytes ++ front)
     part_still front begun h = (
       [],
       inl refl,
@@ -191,13 +193,13 @@ module _ {Place U : Type 0} (rules : Rules Place U) (may_answer : Kept → Type 
       }),
     )
 
-    pub part_at_none : (piece : List ℕ) (n : ℕ) → n < 1 → IsPart rules may_answer items so_far (bytes ++ take n piece)
+    pub part_at_none : (piece : List ℕ) (n : ℕ) → n < 1 → IsPart rules keeper items so_far (bytes ++ take n piece)
     part_at_none piece n lt =
         let zero : n ≡ 0 = omega (arith, lt) in
         rw zero (part_still [] live.begun (rw (append-nil bytes) l.holds))
 
     pub part_at_one : (piece : List ℕ) → live.begun ≡ [] → take 1 piece ≡ IAC ∷ [] → (n : ℕ) → n < 2
-        → IsPart rules may_answer items so_far (bytes ++ take n piece)
+        → IsPart rules keeper items so_far (bytes ++ take n piece)
     part_at_one piece fresh one n lt = elim (cases_lt n 1) [
       | inl k ↦ part_at_none piece n k
       | inr k ↦ (let first : n ≡ 1 = omega (arith, k, lt) in
@@ -205,17 +207,17 @@ module _ {Place U : Type 0} (rules : Rules Place U) (may_answer : Kept → Type 
     ]
 
     -- behind values of the open record, before the last one that it takes
-    pub part_in_values : {K : Type 0} (holds : K → List U → List ℕ → Type 0) (begins : Begins rules)
+    pub part_in_values : (begins : Begins rules)
         (to : Keeping Place) (old new : K) (news : News) (piece : List ℕ) (used n : ℕ) → n < used
         → used ≤ length piece
-        → IsTaken rules holds may_answer so_far old (take used piece) to new news
+        → IsTaken (intake rules keeper) (with_keep so_far old) (take used piece) (with_keep to new) news
         → Holds rules (bytes ++ take n piece) items (so_far.bytes ++ take n piece) []
-        → IsPart rules may_answer items so_far (bytes ++ take n piece)
-    part_in_values holds begins to old new news piece used n lt within t h =
+        → IsPart rules keeper items so_far (bytes ++ take n piece)
+    part_in_values begins to old new news piece used n lt within t h =
         let front : take n (take used piece) ≡ take n piece = take-take n used piece (omega (arith, lt)) in
         let rest : List ℕ = drop n (take used piece) in
-        let part : ReadPart rules begins may_answer so_far (take n piece) =
-        taken_part rules begins may_answer holds to l.reads old new (take used piece) (take n piece) rest
+        let part : ReadPart rules begins keeper so_far (take n piece) =
+        taken_part rules begins keeper to l.reads old new (take used piece) (take n piece) rest
         (sym (take-append-drop n (take used piece)) ∙ ap (λ x. x ++ rest) front) (λ e. absurd (omega (
           arith,
           ap length e,

@@ -1,13 +1,13 @@
 use Rattle.ws_record.proofs.Common as C
 use C.{true, ◌≡◌, ℕ, List, [], ◌∷◌, ◌++◌, take, refl, sym, ap, ◌∙◌, append_assoc, ◌<◌, ◌⊎◌, length, ◌≤◌, inl, false}
 use C.{arith, ◌+◌, ◌^◌, length-append, ◌≢◌, Option, None, common_steps, append-nil, length-take-le, Rules, IsSpelled}
-use C.{IsUnfinished, AreBytes, holds_last, Kept, SpellsBytes, AreBytes-front, CanEnd, length_rest, AllByRecursion-front}
+use C.{IsUnfinished, AreBytes, SpellsBytes, AreBytes-front, CanEnd, length_rest, AllByRecursion-front}
 use C.{AllByRecursion-last, one_last, same_last, bytes_on, each_on, left_of, room_on, upto, unfinished_token, sub_of}
 use C.{token_rules, IAC, Telnet, Data, Eor, TelnetToken, plain_byte, IsAdvance, OnLastNews, Onward, Holds, Watching}
 use C.{Leads, LeadsWith, IsFrontStep, IsLiveStep, HoldsPart, RecordSoFar, Keeping, HasRead, IsStepOf, ArePlain}
 use C.{KeepsTold, IsTaken, IsRecordEnd, IsWordTaken, OnlyIfOn, Advance, News, More, Whole, Open, Close, NoMemory, Head}
-use C.{Item, TelnetItem}
-use Rattle.ws_code.specs.declared.keep.Kept.TheVariants as answer
+use C.{Item, TelnetItem, WithKeep, intake, with_keep, stream}
+use Rattle.ws_code.specs.Keep.{Keeper, slot_keeper}
 use Rattle.ws_code.proofs.Slots.{only_enough, slot_is}
 use Rattle.ws_telnet.specs.Words.{IsWord}
 use Rattle.ws_telnet.specs.declared.token.Sub.{Sub as ASub}
@@ -21,6 +21,13 @@ use Rattle.ws_record.specs.declared.news.News.TheVariants as told
 use Rattle.ws_record.specs.declared.news.News.TheVariants.{Refused, Failed}
 use Rattle.ws_record.proofs.Encodings.{holds_more, holds_data, holds_command, holds_record}
 use Rattle.ws_record.proofs.Refusals.{all_open, refuse_token, refuse_data, refuse_end}
+
+-- what is the same with a keep is the same, and so is the keep
+same_read : {R K : Type 0} {a b : WithKeep R K} → a ≡ b → a.read ≡ b.read
+same_read {R} {K} e = ap (λ (w : WithKeep R K). w.read) e
+
+same_keep : {R K : Type 0} {a b : WithKeep R K} → a ≡ b → a.keep ≡ b.keep
+same_keep {R} {K} e = ap (λ (w : WithKeep R K). w.keep) e
 
 -- a decoder that has taken these bytes, and works
 abbrev pub working : {Place : Type 0} → Tokens → Keeping Place → List ℕ → Watching Place
@@ -69,8 +76,8 @@ module _ {Place U : Type 0} (rules : Rules Place U) where
   part_held part = (part.so_far, part.begun, part.holds)
 
   -- more than that only units with which a keep goes on
-  abbrev pub IsPart : (Kept → Type 0) → List (Item U) → RecordSoFar U → List ℕ → Type 0
-  IsPart may_answer items so_far bytes = (more : List U) × OnlyIfOn may_answer more
+  abbrev pub IsPart : {K : Type 0} → Keeper U K → List (Item U) → RecordSoFar U → List ℕ → Type 0
+  IsPart keeper items so_far bytes = (more : List U) × OnlyIfOn keeper more
       × HoldsPart rules bytes items so_far.head (so_far.units ++ more)
 
   -- before the first byte of a front
@@ -119,17 +126,17 @@ module _ {Place U : Type 0} (rules : Rules Place U) where
         (f, b, begun, refl, rw (ap (λ x. so_far ++ x) ends.0 ∙ append-nil so_far) h, rw ends.1 spelled);
   }
 
-module _ {Place U K : Type 0} (rules : Rules Place U) (holds : K → List U → List ℕ → Type 0) (old new : K)
+module _ {Place U K : Type 0} (rules : Rules Place U) (keeper : Keeper U K) (old new : K)
     (items : List (Item U)) (so_far : RecordSoFar U) where
   -- the keep holds the units that are complete in the bytes
   abbrev pub KeepsPart : List ℕ → Type 0
-  KeepsPart bytes = (more : List U) × (told : List ℕ) × KeepsTold holds old new more told
+  KeepsPart bytes = (more : List U) × (told : List ℕ) × KeepsTold keeper old new more told
       × HoldsPart rules bytes items so_far.head (so_far.units ++ more)
 
-  module _ (may_answer : Kept → Type 0) (bytes : List ℕ) (to : Keeping Place) (f : List ℕ) (b : ℕ) where
+  module _ (bytes : List ℕ) (to : Keeping Place) (f : List ℕ) (b : ℕ) where
     -- of values that the record takes, before the last one
     pub values_kept : (front values : List ℕ) (news : News) → Carries rules bytes items so_far.bytes front values
-        → IsTaken rules holds may_answer so_far old values to new news → front ≡ f ++ b ∷ []
+        → IsTaken (intake rules keeper) (with_keep so_far old) values (with_keep to new) news → front ≡ f ++ b ∷ []
         → OnLastNews news (KeepsPart (bytes ++ f))
     values_kept front values (Refused reason) c t e =
         let at = c.at_last t.0 t.1 t.2 in
@@ -189,7 +196,7 @@ module _ {Place U K : Type 0} (rules : Rules Place U) (holds : K → List U → 
 
       -- of a word
       pub word_kept : (machine : Tokens) (w : Word) (news : News) → IsWord begun b machine w
-          → IsWordTaken rules holds may_answer so_far reader old w to new news
+          → IsWordTaken (intake rules keeper) so_far (with_keep reader old) w (with_keep to new) news
           → OnLastNews news (KeepsPart (bytes ++ f))
       word_kept machine word.More news i t = rw t.0 tt
       word_kept machine word.Data news i t =
@@ -212,22 +219,24 @@ module _ {Place U : Type 0} (rules : Rules Place U) (can : CanEnd rules) (law : 
     opened = all_open _ can law holds reads.framed reads.cut;
   }
 
-  module _ {K : Type 0} (holds : K → List U → List ℕ → Type 0) (may_answer : Kept → Type 0) (old new : K)
+  module _ {K : Type 0} (keeper : Keeper U K) (old new : K)
       (bytes : List ℕ) (items : List (Item U)) (so_far : RecordSoFar U) (machine : Tokens) (to : Keeping Place) where
     -- what a front makes of the decoder and of the keep
     abbrev Advances : List ℕ → News → Type 0
     Advances front news =
-        IsAdvance rules holds may_answer bytes items so_far old front (working machine to (bytes ++ front)) new news
+        IsAdvance (intake rules keeper) (with_keep (stream bytes items so_far) old) front
+        (with_keep (working machine to (bytes ++ front)) new) news
 
     -- the open record takes values
     pub advance_values : (front values : List ℕ) (news : News) → Carries rules bytes items so_far.bytes front values
-        → unfinished_token machine ≡ [] → IsTaken rules holds may_answer so_far old values to new news
+        → unfinished_token machine ≡ [] → IsTaken (intake rules keeper) (with_keep so_far old) values (with_keep to new)
+        news
         → Advances front news
     advance_values front values More c fresh t =
         (t.0, t.1, record { grown = _; leads = leads refl (rw fresh c.whole) t.2 refl; body = t.3 }, t.4, t.5)
     advance_values front values Whole c fresh t =
         let now = bytes ++ front in
-        let on : Onward rules (working machine to now) now items so_far so_far.head (t.0 ++ t.1 ∷ []) t.2 =
+        let on : Onward rules (working machine to now) (stream now items so_far) (t.0 ++ t.1 ∷ []) t.2 =
         record { grown = _; leads = leads refl (rw fresh c.whole) t.3 refl; body = t.4 } in
         (t.0, t.1, t.2, on, t.5, t.6, t.7, t.8)
     advance_values front values (Open head) c fresh t = (t.0, (_, leads refl (rw fresh c.whole) t.1 refl, t.3), t.2)
@@ -301,54 +310,59 @@ module _ {Place U : Type 0} (rules : Rules Place U) (can : CanEnd rules) (law : 
 
       -- a word, and what the record has made of it
       pub word_advance : (w : Word) (news : News) → IsWord begun b machine w
-          → IsWordTaken rules holds may_answer so_far reader old w to new news → Advances (f ++ b ∷ []) news
-      word_advance word.More news i t = rw t.0 (more_advance i.1 i.0 t.1 t.2)
+          → IsWordTaken (intake rules keeper) so_far (with_keep reader old) w (with_keep to new) news
+          → Advances (f ++ b ∷ []) news
+      word_advance word.More news i t =
+          rw t.0 (more_advance i.1 i.0 (same_read t.1) (same_keep t.1))
       word_advance word.Data news i t = advance_values _ _ _ (carries_one _ _ _ _ f _ b _ h i.0) i.1 t
       word_advance word.Eor news i t = end_advance _ i.0 i.1 t.0 t.1
-      word_advance (word.Command code) news i t = rw t.0 (command_advance _ i.0 i.1 t.1, t.2)
-      word_advance (word.Option verb option) news i t = rw t.0 (command_advance _ i.0 i.1 t.1, t.2)
-      word_advance word.Sub news i t = rw t.0 (command_advance _ i.0 i.1 t.1, i.1, t.2)
+      word_advance (word.Command code) news i t = rw t.0 (command_advance _ i.0 i.1 (same_read t.1), same_keep t.1)
+      word_advance (word.Option verb option) news i t =
+          rw t.0 (command_advance _ i.0 i.1 (same_read t.1), same_keep t.1)
+      word_advance word.Sub news i t = rw t.0 (command_advance _ i.0 i.1 (same_read t.1), i.1, same_keep t.1)
       word_advance (word.Bad reason) news i t = rw (t.0, ← append_assoc bytes f (b ∷ []))
           (refuse_token _ can law h reads.framed reads.cut b i.0 i.1)
 
     -- the bytes are counted, and what has failed doesn't matter
     pub recount : (front : List ℕ) (now : Watching Place) (news : News)
         → (OnLastNews news ⊥ → now ≡ working machine to (bytes ++ front)) → Advances front news
-        → IsAdvance rules holds may_answer bytes items so_far old front now new news
+        → IsAdvance (intake rules keeper) (with_keep (stream bytes items so_far) old) front (with_keep now new) news
     recount front now (Refused reason) e a = a
     recount front now NoMemory e a = a
     recount front now Failed e a = a
     recount front now news e a = rw (e tt) a
 
-module _ {Place U K : Type 0} (rules : Rules Place U) (holds : K → List U → List ℕ → Type 0)
-    (may_answer : Kept → Type 0) (bytes : List ℕ) (items : List (Item U)) (so_far : RecordSoFar U) (old : K)
+module _ {Place U K : Type 0} (rules : Rules Place U) (keeper : Keeper U K) (bytes : List ℕ) (items : List (Item U))
+    (so_far : RecordSoFar U) (old : K)
     (live : Watching Place) (new : K) (news : News) where
   -- what a front behind the bytes made, and that its bytes are counted
   pub record Made (front : List ℕ) : Type 0 where
-    pub advance : IsAdvance rules holds may_answer bytes items so_far old front live new news
+    pub advance : IsAdvance (intake rules keeper) (with_keep (stream bytes items so_far) old) front (with_keep live new)
+        news
     pub count : live.taken ≡ length (bytes ++ front)
 
 module _ {Place U : Type 0} (rules : Rules Place U) where
   -- what `Live::advance` says of a piece
-  abbrev pub Advanced : {K : Type 0} → (K → List U → List ℕ → Type 0) → (Kept → Type 0) → Watching Place → K → List ℕ
-      → Advance → Watching Place → K → Type 0
-  Advanced holds may_answer was old piece result live new = record {
+  abbrev pub Advanced : {K : Type 0} → Keeper U K → Watching Place → K → List ℕ → Advance → Watching Place → K → Type 0
+  Advanced keeper was old piece result live new = record {
     within : result.used ≤ length piece;
     used : (result.news ≡ Failed → ⊥) → 0 < result.used;
     counted : was.taken + result.used < 2 ^ 64 → live.taken ≡ was.taken + result.used;
     advance : (bytes : List ℕ) (items : List (Item U)) (so_far : RecordSoFar U) → Leads rules was bytes items so_far
         → length bytes + length piece < 2 ^ 64
-        → IsAdvance rules holds may_answer bytes items so_far old (take result.used piece) live new result.news;
+        → IsAdvance (intake rules keeper) (with_keep (stream bytes items so_far) old) (take result.used piece)
+        (with_keep live new) result.news;
     near_full : (bytes : List ℕ) (items : List (Item U)) (so_far : RecordSoFar U) → Leads rules was bytes items so_far
         → length bytes + 1 < 2 ^ 64 → length bytes + result.used < 2 ^ 64
-        → IsAdvance rules holds may_answer bytes items so_far old (take result.used piece) live new result.news;
+        → IsAdvance (intake rules keeper) (with_keep (stream bytes items so_far) old) (take result.used piece)
+        (with_keep live new) result.news;
     first : (bytes : List ℕ) (items : List (Item U)) (so_far : RecordSoFar U) → Leads rules was bytes items so_far
         → (n : ℕ) → n < result.used → IsHeld rules items (bytes ++ take n piece);
     before : (bytes : List ℕ) (items : List (Item U)) (so_far : RecordSoFar U) → Leads rules was bytes items so_far
-        → (n : ℕ) → n < result.used → IsPart rules may_answer items so_far (bytes ++ take n piece);
+        → (n : ℕ) → n < result.used → IsPart rules keeper items so_far (bytes ++ take n piece);
     kept : (bytes : List ℕ) (items : List (Item U)) (so_far : RecordSoFar U) → Leads rules was bytes items so_far
         → (n : ℕ) → n + 1 ≡ result.used
-        → OnLastNews result.news (KeepsPart rules holds old new items so_far (bytes ++ take n piece));
+        → OnLastNews result.news (KeepsPart rules keeper old new items so_far (bytes ++ take n piece));
     full : was.taken + 1 ≡ 2 ^ 64 → result.news ≡ Failed;
     failed : was.failed ≡ true → result.news ≡ Failed;
     idle : (was.failed ≡ true) ⊎ (was.taken + 1 ≡ 2 ^ 64) → (result.used ≡ 0) × (new ≡ old);
@@ -358,11 +372,11 @@ module _ {Place U : Type 0} (rules : Rules Place U) where
   }
 
   -- what a piece of one byte made
-  pub made_one : {K : Type 0} {holds : K → List U → List ℕ → Type 0} {may_answer : Kept → Type 0} {bytes : List ℕ}
+  pub made_one : {K : Type 0} {keeper : Keeper U K} {bytes : List ℕ}
       {items : List (Item U)} {so_far : RecordSoFar U} {was live : Watching Place} {old new : K} {result : Advance}
-      (byte : ℕ) → Advanced holds may_answer was old (byte ∷ []) result live new → Leads rules was bytes items so_far
+      (byte : ℕ) → Advanced keeper was old (byte ∷ []) result live new → Leads rules was bytes items so_far
       → length bytes + 1 < 2 ^ 64
-      → Made rules holds may_answer bytes items so_far old live new result.news (byte ∷ [])
+      → Made rules keeper bytes items so_far old live new result.news (byte ∷ [])
   made_one {bytes = bytes} {result = result} byte e l fits =
       let a = e.advance _ _ _ l fits in
       let one : result.used ≡ 1 = omega (arith, e.within, e.used (λ f. rw f at a)) in
@@ -381,7 +395,7 @@ module _ {Place U : Type 0} (rules : Rules Place U) where
   -- what a front makes of a decoder and a slot
   abbrev pub MadeInSlot : List ℕ → List (Item U) → RecordSoFar U → List ℕ → Watching Place → Option U → News → Type 0
   MadeInSlot bytes items so_far front live slot news =
-      Made rules (λ (s : Option U) units told. holds_last s units) (λ kept. kept ≡ answer.Enough) bytes items so_far
+      Made rules slot_keeper bytes items so_far
       None live slot news front
 
   module _ {bytes : List ℕ} {items : List (Item U)} {so_far : RecordSoFar U} {front : List ℕ} {live : Watching Place}
@@ -389,7 +403,7 @@ module _ {Place U : Type 0} (rules : Rules Place U) where
     -- the step out of news that came with a slot
     pub front_step : (new : Watching Place) (news : News) (step : Step U)
         → MadeInSlot bytes items so_far front live slot news → IsStepOf live news slot new step
-        → IsFrontStep rules new (bytes ++ front) items so_far step
+        → IsFrontStep rules new (stream (bytes ++ front) items so_far) step
     front_step new More step m s = let a = m.advance in
         rw (s.0, s.1) (a.2.grown, rw (only_enough _ a.4, append-nil so_far.units) at a.2.leads)
     front_step new Whole step m s =
@@ -406,20 +420,20 @@ module _ {Place U : Type 0} (rules : Rules Place U) where
 
   -- of one byte
   pub live_step : (bytes : List ℕ) (items : List (Item U)) (so_far : RecordSoFar U) (byte : ℕ) (new : Watching Place)
-      (step : Step U) → IsFrontStep rules new (bytes ++ byte ∷ []) items so_far step
-      → IsLiveStep rules new bytes items so_far byte step
+      (step : Step U) → IsFrontStep rules new (stream (bytes ++ byte ∷ []) items so_far) step
+      → IsLiveStep rules new (stream bytes items so_far) byte step
   live_step bytes items so_far byte new (steps.Refused place reason) f =
       (omega (arith, f.0, length-append bytes (byte ∷ [])), f.1)
   live_step bytes items so_far byte new step f = f
 
 module _ {Place U : Type 0} (rules : Rules Place U) where
   -- what a front of what is left of a piece made, whose bytes can be counted
-  pub front_counted : {K : Type 0} {holds : K → List U → List ℕ → Type 0} {may_answer : Kept → Type 0}
+  pub front_counted : {K : Type 0} {keeper : Keeper U K}
       {was live : Watching Place} {old new : K} {result : Advance} {items : List (Item U)} {so_far : RecordSoFar U}
-      (piece : List ℕ) (i : ℕ) → Advanced rules holds may_answer was old (left_of piece i) result live new
+      (piece : List ℕ) (i : ℕ) → Advanced rules keeper was old (left_of piece i) result live new
       → (bytes : List ℕ) → Leads rules was (bytes ++ take i piece) items so_far → i ≤ length piece
       → length bytes + (i + result.used) + 1 < 2 ^ 64
-      → Made rules holds may_answer (bytes ++ take i piece) items so_far old live new result.news
+      → Made rules keeper (bytes ++ take i piece) items so_far old live new result.news
       (take result.used (left_of piece i))
   front_counted {result = result} piece i e bytes l within fits =
       let long : length (bytes ++ take i piece) ≡ length bytes + i =
@@ -429,12 +443,12 @@ module _ {Place U : Type 0} (rules : Rules Place U) where
         count = grind (arith, common_steps);
       }
 
-  pub front_made : {K : Type 0} {holds : K → List U → List ℕ → Type 0} {may_answer : Kept → Type 0}
+  pub front_made : {K : Type 0} {keeper : Keeper U K}
       {was live : Watching Place} {old new : K} {result : Advance} {items : List (Item U)} {so_far : RecordSoFar U}
-      (piece : List ℕ) (i : ℕ) → Advanced rules holds may_answer was old (left_of piece i) result live new
+      (piece : List ℕ) (i : ℕ) → Advanced rules keeper was old (left_of piece i) result live new
       → (bytes : List ℕ) → Leads rules was (bytes ++ take i piece) items so_far
       → length bytes + length piece + 1 < 2 ^ 64
-      → Made rules holds may_answer (bytes ++ take i piece) items so_far old live new result.news
+      → Made rules keeper (bytes ++ take i piece) items so_far old live new result.news
       (take result.used (left_of piece i))
   front_made {result = result} piece i e bytes l fits =
       let room = room_on bytes piece i fits in
@@ -443,7 +457,7 @@ module _ {Place U : Type 0} (rules : Rules Place U) where
   -- what a decoder and a slot make of a piece
   abbrev pub AdvancedInSlot : Watching Place → List ℕ → Advance → Watching Place → Option U → Type 0
   AdvancedInSlot was piece result live slot =
-      Advanced rules (λ (s : Option U) units told. holds_last s units) (λ kept. kept ≡ answer.Enough) was None piece
+      Advanced rules slot_keeper was None piece
       result live slot
 
   -- a front of the piece leads to the decoder, and nothing is complete with its bytes
@@ -459,7 +473,7 @@ module _ {Place U : Type 0} (rules : Rules Place U) where
   pub part_on : {was : Watching Place} (piece : List ℕ) (i used : ℕ) (bytes : List ℕ) (items : List (Item U))
       (so_far : RecordSoFar U)
       → ((bytes : List ℕ) (items : List (Item U)) (so_far : RecordSoFar U) → Leads rules was bytes items so_far
-      → (n : ℕ) → n < used → IsPart rules (λ kept. kept ≡ answer.Enough) items so_far
+      → (n : ℕ) → n < used → IsPart rules slot_keeper items so_far
       (bytes ++ take n (left_of piece i)))
       → LeadsWith rules was (bytes ++ take i piece) items so_far.head so_far.units
       → ((n : ℕ) → n ≤ i → HoldsPart rules (bytes ++ take n piece) items so_far.head so_far.units)

@@ -3,11 +3,12 @@ use C.{IfSome, slice_index, true, ◌≡◌, ℕ, List, [], ◌∷◌, ◌++◌,
 use C.{length, ◌*◌, ◌≤◌, inl, inr, arith, ◌+◌, get_or, ◌-◌, length-append, Option, Some, None, length-take}
 use C.{drop_of_length-le, common_steps, append-nil, take-append-drop, length-take-le, take-append-le, drop-append-le}
 use C.{take_all, Rules, IsSpelled, IsPrefix, IsPrefixFree, place_after, spelling_of, AreBytes, Reading, HasReadValues}
-use C.{StopsAtLast, IsRunOfValues, Kept, Reason, byte_at, front_bytes, Begins, one_cut, cut_bad, AreBytes-front}
+use C.{StopsAtLast, IsRunOfValues, Reason, byte_at, front_bytes, Begins, one_cut, cut_bad, AreBytes-front}
 use C.{AreBytes-append, chain_append, place_after-append, AllByRecursion-front, AllByRecursion-last, same_front}
 use C.{empty_take, take_short, run_unit, Data, IsWholeRecord, opcode_byte, IsFramed, HeaderSoFar, declared, head_in}
 use C.{CanBeFramed, RecordSoFar, no_record, Keeping, HasRead, IsHead, IsDataRefused, IsEndRefused, header_reason}
-use C.{ArePlain, IsTaken, grown, IsHeaderStep, News, More, Whole, Open, NoMemory, Opcode, Head}
+use C.{Keeper, intake, with_keep, ArePlain, IsTaken, grown, IsHeaderStep, News, More, Whole, Open, NoMemory, Opcode}
+use C.{Head}
 use Rattle.ws_code.specs.declared.reason.Reason.TheVariants.{TooLong, EndedInside, UnknownOpcode}
 use Rattle.ws_code.specs.declared.run.End.{End}
 use Rattle.ws_code.specs.declared.run.End.TheVariants as end
@@ -252,43 +253,44 @@ news_of end.Enough = Whole
 news_of end.NoMemory = NoMemory
 news_of (end.Bad reason) = Refused reason
 
-module _ {Place U K : Type 0} (rules : Rules Place U) (holds : K → List U → List ℕ → Type 0)
-    (may_answer : Kept → Type 0) (reader : Keeping Place) (so_far : RecordSoFar U) (old : K) (v : List ℕ) (used : ℕ)
-    (y : Ready rules reader so_far v used) (free : IsPrefixFree rules) (begins : Begins rules) where
+module _ {Place U K : Type 0} (rules : Rules Place U) (keeper : Keeper U K) (reader : Keeping Place)
+    (so_far : RecordSoFar U) (old : K) (v : List ℕ) (used : ℕ) (y : Ready rules reader so_far v used)
+    (free : IsPrefixFree rules) (begins : Begins rules) where
   -- the record behind a run over the values
   ran : {to : Reading Place} (run : HasReadValues rules (reading_of reader) v to)
       → HasRead rules (moved reader used to) (grown so_far v run.units)
   ran run = rw y.long at (body_run rules y.reads y.ten _ v y.are (omega (arith, y.long, y.room)) run)
 
   -- with a unit at which the run stops
-  unit_read : (stop : StopsAtLast rules holds may_answer (reading_of reader) old v) (unit : U) (to : Reading Place)
-      → IsSpelled rules stop.before.place (stop.before.begun ++ stop.last ∷ []) unit
+  unit_read : (stop : StopsAtLast (intake rules keeper) (with_keep (reading_of reader) old) v) (unit : U)
+      (to : Reading Place)
+      → IsSpelled rules stop.before.read.place (stop.before.read.begun ++ stop.last ∷ []) unit
       → to ≡ record { place = rules.after unit; begun = [] }
       → HasRead rules (moved reader used to) (grown so_far v (stop.on.run.units ++ unit ∷ []))
   unit_read stop unit to spelled stands =
-      let whole = run_unit rules (reading_of reader) stop.front v stop.before to stop.last unit stop.on.run spelled
+      let whole = run_unit rules (reading_of reader) stop.front v stop.before.read to stop.last unit stop.on.run spelled
       begins stop.split stands in
       rw whole.1 at (ran whole.0)
 
   -- before the value at which it stops
-  module _ (stop : StopsAtLast rules holds may_answer (reading_of reader) old v) where
+  module _ (stop : StopsAtLast (intake rules keeper) (with_keep (reading_of reader) old) v) where
     all_are : AreBytes (stop.front ++ stop.last ∷ [])
     all_are = rw stop.split at y.are
 
     shorter : length stop.front + 1 ≤ reader.left
     shorter = omega (arith, ap length stop.split, length-append stop.front (stop.last ∷ []), y.long, y.room)
 
-    read_before : HasRead rules (moved reader (length stop.front) stop.before) (grown so_far stop.front
+    read_before : HasRead rules (moved reader (length stop.front) stop.before.read) (grown so_far stop.front
         stop.on.run.units)
-    read_before = body_run rules y.reads y.ten stop.before stop.front
+    read_before = body_run rules y.reads y.ten stop.before.read stop.front
         (AreBytes-front stop.front (stop.last ∷ []) all_are) (omega (arith, shorter)) stop.on.run
 
   -- What a run over the values makes of the record. Behind a value that is refused, or a unit that isn't kept, no
   -- matter how the reader and the keep stand.
   pub taken : (end : End) (to : Reading Place) (standing : Standing Place) (kept new : K)
-      → IsRunOfValues rules holds may_answer (reading_of reader) old v to standing kept end
-      → ((units : List U) (told : List ℕ) → holds kept units told → holds new units (told ++ v))
-      → IsTaken rules holds may_answer so_far old v (moved reader used to) new (news_of end)
+      → IsRunOfValues (intake rules keeper) (with_keep (reading_of reader) old) v (with_keep to kept) standing end
+      → ((units : List U) (told : List ℕ) → keeper.holds kept units told → keeper.holds new units (told ++ v))
+      → IsTaken (intake rules keeper) (with_keep so_far old) v (with_keep (moved reader used to) new) (news_of end)
   taken end.More to standing kept new run took = (
     run.0.run.units,
     v,
@@ -333,7 +335,7 @@ module _ {Place U K : Type 0} (rules : Rules Place U) (holds : K → List U → 
         stop.last,
         stop.split,
         (
-          moved reader (length stop.front) stop.before,
+          moved reader (length stop.front) stop.before.read,
           stop.on.run.units,
           read_before stop,
           body_bad _ (read_before stop) y.ten free begins _ _ (AllByRecursion-last (λ b. b < 256) stop.front stop.last
@@ -343,13 +345,13 @@ module _ {Place U K : Type 0} (rules : Rules Place U) (holds : K → List U → 
         ),
       )
 
-module _ {Place U K : Type 0} (rules : Rules Place U) (holds : K → List U → List ℕ → Type 0)
-    (may_answer : Kept → Type 0) (so_far : RecordSoFar U) (keep : K) (v : List ℕ) where
+module _ {Place U K : Type 0} (rules : Rules Place U) (keeper : Keeper U K) (so_far : RecordSoFar U) (keep : K)
+    (v : List ℕ) where
   -- a value of a header behind others: it is whole with it, or the value is refused
   pub header_step : (before to : Keeping Place) (front : List ℕ) (b : ℕ) (news : News)
       → HasRead rules before (record so_far { bytes = so_far.bytes ++ front }) → v ≡ front ++ b ∷ []
       → IsHeaderStep rules to (record so_far { bytes = so_far.bytes ++ front }) b news → (news ≡ More → ⊥)
-      → IsTaken rules holds may_answer so_far keep v to keep news
+      → IsTaken (intake rules keeper) (with_keep so_far keep) v (with_keep to keep) news
   header_step before to front b More r e s other = absurd (other refl)
   header_step before to front b (Open head) r e s other =
       let same : (so_far.bytes ++ front) ++ b ∷ [] ≡ so_far.bytes ++ v = rw (e, append_assoc) in

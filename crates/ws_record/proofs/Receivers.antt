@@ -4,9 +4,9 @@ use Rattle.ws_record.proofs.Common.{length-append, Some, None, Vec, Global, comm
 use Rattle.ws_record.proofs.Common.{length-take-le, Rules, Fault, Reason, length_rest, one_last, bytes_on, left_of}
 use Rattle.ws_record.proofs.Common.{left_joined, IsAdvance, awaits_more, Watching, Leads, CompletesUnit, RecordSoFar}
 use Rattle.ws_record.proofs.Common.{Receiving, HasReceived, IsTakeFault, IsFeedFault, NoneBefore, given, IsRefused}
-use Rattle.ws_record.proofs.Common.{IsItemOf, IsFedOf, EndIn, News, Item}
+use Rattle.ws_record.proofs.Common.{IsItemOf, IsFedOf, EndIn, News, Item, intake, with_keep, stream}
 use Rattle.ws_code.specs.declared.fault.Fault.TheVariants as faults
-use Rattle.ws_code.specs.declared.keep.Kept.TheVariants as answer
+use Rattle.ws_code.specs.Keep.{list_keeper}
 use Rattle.ws_record.specs.declared.news.News.TheVariants as told
 use Rattle.ws_record.specs.declared.receiver.Fed.{Fed}
 use Rattle.ws_record.proofs.Lives.{fetched, Made, IsHeld}
@@ -32,8 +32,8 @@ module _ {Place U : Type 0} (rules : Rules Place U) where
     abbrev pub IsListAdvance : List ℕ → List (Item U) → RecordSoFar U → K → List ℕ → Watching Place → K → News
         → Type 0
     IsListAdvance bytes items so_far old front live new news =
-        IsAdvance rules (λ (keep : K) units told. list_of keep ≡ units) (λ kept. kept ≡ answer.Enough → ⊥) bytes items
-        so_far old front live new news
+        IsAdvance (intake rules (list_keeper list_of)) (with_keep (stream bytes items so_far) old) front
+        (with_keep live new) news
 
     -- the units of a front are kept
     pub received_on : (bytes : List ℕ) (items : List (Item U)) (so_far : RecordSoFar U) (old : K) (front : List ℕ)
@@ -49,7 +49,7 @@ module _ {Place U : Type 0} (rules : Rules Place U) where
   -- what it made of one that keeps the units in a vector, with the bytes that are taken then
   abbrev MadeInVec : List ℕ → List (Item U) → RecordSoFar U → Vec U Global → Watching Place → Vec U Global → News
       → List ℕ → Type 0
-  MadeInVec = Made rules (λ (keep : Vec U Global) units told. keep.items ≡ units) (λ kept. kept ≡ answer.Enough → ⊥)
+  MadeInVec = Made rules (list_keeper (λ (keep : Vec U Global). keep.items))
 
   pub receives : {bytes : List ℕ} {items : List (Item U)} {so_far : RecordSoFar U} {old new : Vec U Global}
       {front : List ℕ} {live : Watching Place} (news : News) → old.items ≡ so_far.units → awaits_more news ≡ true

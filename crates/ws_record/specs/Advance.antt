@@ -1,64 +1,70 @@
 -- What a front of a piece makes of a live decoder and of a keep (RFC 854, 885, 1205).
 
-use Rattle.std.specs.Prelude.{◌≡◌, ℕ, ◌+◌, Bool, true, false, List, [], ◌∷◌, ◌++◌, Option, Some, None, length, drop}
+use Rattle.std.specs.Prelude.{◌≡◌, ℕ, ◌+◌, Bool, true, false, List, [], ◌∷◌, ◌++◌, Some, None, length, drop}
 use Rattle.ws_code.specs.Code.{Rules}
-use Rattle.ws_code.specs.declared.keep.Kept.{Kept}
+use Rattle.ws_code.specs.Run.{Intake, WithKeep}
 use Rattle.ws_code.specs.declared.keep.Kept.TheVariants as answer
 use Rattle.ws_telnet.specs.declared.token.Telnet.TheVariants as telnet
-use Rattle.ws_record.specs.declared.record.Head.{Head}
-use Rattle.ws_record.specs.declared.record.Item.{Item}
 use Rattle.ws_record.specs.declared.record.Item.TheVariants.{Record as RecordItem, Telnet as TelnetItem}
 use Rattle.ws_record.specs.declared.news.News.{News}
 use Rattle.ws_record.specs.declared.news.News.TheVariants.{More, Unit as Whole, Open, Close, Command}
 use Rattle.ws_record.specs.declared.news.News.TheVariants.{Option as Negotiate, Sub, Refused, NoMemory, Failed}
 use Rattle.ws_record.specs.Refusal.{IsRefused}
-use Rattle.ws_record.specs.OpenRecord.{RecordSoFar, no_record}
+use Rattle.ws_record.specs.OpenRecord.{no_record}
 use Rattle.ws_record.specs.DataStep.{IsWholeRecord, record_of}
 use Rattle.ws_record.specs.Taking.{KeepsTold, OnlyIfOn, EndIn}
-use Rattle.ws_record.specs.Live.{Watching, Leads, CompletesUnit}
+use Rattle.ws_record.specs.Live.{Watching, StreamSoFar, with_bytes, Leads, CompletesUnit}
 
 module _ {Place U : Type 0} where
-  -- The bytes lead to the decoder with these items, and the open record has this head, these units and body bytes more.
-  pub record Onward (rules : Rules Place U) (live : Watching Place) (bytes : List ℕ) (items : List (Item U))
-      (so_far : RecordSoFar U) (head : Option Head) (more : List U) (told : List ℕ) : Type 0 where
+  -- The stream leads to the decoder, but for these units and these body bytes more of its open record.
+  pub record Onward (rules : Rules Place U) (live : Watching Place) (stream : StreamSoFar U) (more : List U)
+      (told : List ℕ) : Type 0 where
     pub grown : List ℕ
-    pub leads : Leads rules live bytes items (record { bytes = grown; head = head; units = so_far.units ++ more })
-    pub body : drop 10 grown ≡ drop 10 so_far.bytes ++ told
+    pub leads : Leads rules live stream.bytes stream.items
+        (record { bytes = grown; head = stream.so_far.head; units = stream.so_far.units ++ more })
+    pub body : drop 10 grown ≡ drop 10 stream.so_far.bytes ++ told
 
-  module _ {K : Type 0} (rules : Rules Place U) (holds : K → List U → List ℕ → Type 0) (may_answer : Kept → Type 0)
-      (bytes : List ℕ) (items : List (Item U)) (so_far : RecordSoFar U) (old : K) (front : List ℕ)
-      (live : Watching Place) (new : K) where
-    -- What a front of a piece, behind these bytes, makes of the decoder and of its keep, by what is complete with the
-    -- front's last byte.
-    abbrev pub IsAdvance : News → Type 0
-    IsAdvance More =
-        (more : List U) × (told : List ℕ) × Onward rules live (bytes ++ front) items so_far so_far.head more told
-        × KeepsTold holds old new more told × OnlyIfOn may_answer more
-    IsAdvance Whole =
-        (before : List U) × (unit : U) × (told : List ℕ)
-        × Onward rules live (bytes ++ front) items so_far so_far.head (before ++ unit ∷ []) told
-        × KeepsTold holds old new (before ++ unit ∷ []) told × OnlyIfOn may_answer before × (live.reader.begun ≡ [])
-        × may_answer answer.Enough
-    IsAdvance (Open head) =
-        (so_far.head ≡ None)
-        × ((grown : List ℕ)
-        × Leads rules live (bytes ++ front) items (record so_far { bytes = grown; head = Some head })
-        × (drop 10 grown ≡ [])) × (new ≡ old)
-    IsAdvance (Close head) = IsWholeRecord rules so_far head
-        × Leads rules live (bytes ++ front) (items ++ RecordItem (record_of head so_far.units) ∷ []) no_record
-        × (new ≡ old)
-    IsAdvance (Command code) =
-        Leads rules live (bytes ++ front) (items ++ TelnetItem (telnet.Command code) ∷ []) so_far × (new ≡ old)
-    IsAdvance (Negotiate verb option) =
-        Leads rules live (bytes ++ front) (items ++ TelnetItem (telnet.Option verb option) ∷ []) so_far × (new ≡ old)
-    IsAdvance Sub =
-        Leads rules live (bytes ++ front) (items ++ TelnetItem (telnet.Sub live.sub) ∷ []) so_far
-        × (live.begun ≡ []) × (new ≡ old)
-    IsAdvance (Refused reason) =
-        (place : ℕ) × (length (bytes ++ front) ≡ place + 1) × IsRefused rules (bytes ++ front) place reason
-    IsAdvance NoMemory =
-        EndIn front (λ before last. CompletesUnit rules (bytes ++ before) items last) × may_answer answer.NoMemory
-    IsAdvance Failed = ⊥
+  -- What a front of a piece makes of the decoder to which the stream so far leads, and of its keep, by what is complete
+  -- with the front's last byte.
+  abbrev pub IsAdvance : {K : Type 0} → Intake Place U K → WithKeep (StreamSoFar U) K → List ℕ
+      → WithKeep (Watching Place) K → News → Type 0
+  IsAdvance intake before front after More =
+      (more : List U) × (told : List ℕ)
+      × Onward intake.rules after.read (with_bytes before.read front) more told
+      × KeepsTold intake.keeper before.keep after.keep more told × OnlyIfOn intake.keeper more
+  IsAdvance intake before front after Whole =
+      (others : List U) × (unit : U) × (told : List ℕ)
+      × Onward intake.rules after.read (with_bytes before.read front) (others ++ unit ∷ []) told
+      × KeepsTold intake.keeper before.keep after.keep (others ++ unit ∷ []) told × OnlyIfOn intake.keeper others
+      × (after.read.reader.begun ≡ []) × intake.keeper.may_answer answer.Enough
+  IsAdvance intake before front after (Open head) =
+      (before.read.so_far.head ≡ None)
+      × ((grown : List ℕ)
+      × Leads intake.rules after.read (before.read.bytes ++ front) before.read.items
+      (record before.read.so_far { bytes = grown; head = Some head })
+      × (drop 10 grown ≡ [])) × (after.keep ≡ before.keep)
+  IsAdvance intake before front after (Close head) = IsWholeRecord intake.rules before.read.so_far head
+      × Leads intake.rules after.read (before.read.bytes ++ front)
+      (before.read.items ++ RecordItem (record_of head before.read.so_far.units) ∷ []) no_record
+      × (after.keep ≡ before.keep)
+  IsAdvance intake before front after (Command code) =
+      Leads intake.rules after.read (before.read.bytes ++ front)
+      (before.read.items ++ TelnetItem (telnet.Command code) ∷ []) before.read.so_far × (after.keep ≡ before.keep)
+  IsAdvance intake before front after (Negotiate verb option) =
+      Leads intake.rules after.read (before.read.bytes ++ front)
+      (before.read.items ++ TelnetItem (telnet.Option verb option) ∷ []) before.read.so_far
+      × (after.keep ≡ before.keep)
+  IsAdvance intake before front after Sub =
+      Leads intake.rules after.read (before.read.bytes ++ front)
+      (before.read.items ++ TelnetItem (telnet.Sub after.read.sub) ∷ []) before.read.so_far
+      × (after.read.begun ≡ []) × (after.keep ≡ before.keep)
+  IsAdvance intake before front after (Refused reason) =
+      (place : ℕ) × (length (before.read.bytes ++ front) ≡ place + 1)
+      × IsRefused intake.rules (before.read.bytes ++ front) place reason
+  IsAdvance intake before front after NoMemory =
+      EndIn front (λ first last. CompletesUnit intake.rules (before.read.bytes ++ first) before.read.items last)
+      × intake.keeper.may_answer answer.NoMemory
+  IsAdvance intake before front after Failed = ⊥
 
 -- the news is such that no item is complete with it, and more may follow
 abbrev pub awaits_more : News → Bool

@@ -25,6 +25,20 @@ pub record Watching (Place : Type 0) : Type 0 where
   pub reader : Keeping Place
   pub failed : Bool
 
+-- What bytes of a stream have come to: the items in them, and the open record behind these.
+pub record StreamSoFar (U : Type 0) : Type 0 where
+  pub bytes : List ℕ
+  pub items : List (Item U)
+  pub so_far : RecordSoFar U
+
+-- the stream of these bytes, with these items and this open record
+abbrev pub stream : {U : Type 0} → List ℕ → List (Item U) → RecordSoFar U → StreamSoFar U
+stream bytes items so_far = record { bytes = bytes; items = items; so_far = so_far }
+
+-- the stream with these bytes more, in which nothing is complete
+abbrev pub with_bytes : {U : Type 0} → StreamSoFar U → List ℕ → StreamSoFar U
+with_bytes stream more = record stream { bytes = stream.bytes ++ more }
+
 module _ {Place U : Type 0} where
   -- The bytes lead to the decoder: they hold these items and this open record, and none of them is refused.
   pub record Leads (rules : Rules Place U) (live : Watching Place) (bytes : List ℕ) (items : List (Item U))
@@ -64,27 +78,29 @@ module _ {Place U : Type 0} where
     pub cut : IsCut rules (drop 10 (so_far ++ value ∷ [])) (units ++ unit ∷ []) []
     pub opened : (layer : Layer) → IsOpen rules layer (bytes ++ byte ∷ [])
 
-  module _ (rules : Rules Place U) (new : Watching Place) (bytes : List ℕ) (items : List (Item U))
-      (so_far : RecordSoFar U) where
-    -- What the last of these bytes gives, where nothing was complete with those before it: its step says what.
-    abbrev pub IsFrontStep : Step U → Type 0
-    IsFrontStep More = LeadsWith rules new bytes items so_far.head so_far.units
-    IsFrontStep (Open head) = (so_far.head ≡ None) × LeadsWith rules new bytes items (Some head) so_far.units
-    IsFrontStep (Whole unit) = LeadsWith rules new bytes items so_far.head (so_far.units ++ unit ∷ [])
-    IsFrontStep Close = (head : Head) × (so_far.head ≡ Some head)
-        × Leads rules new bytes (items ++ RecordItem (record_of head so_far.units) ∷ []) no_record
-    IsFrontStep (Command telnet) = Leads rules new bytes (items ++ TelnetItem telnet ∷ []) so_far
-    IsFrontStep (Refused place reason) = (length bytes ≡ place + 1) × IsRefused rules bytes place reason
-    IsFrontStep Failed = ⊥
+  -- What the last byte of the stream gives, where nothing was complete with those before it: its step says what.
+  abbrev pub IsFrontStep : Rules Place U → Watching Place → StreamSoFar U → Step U → Type 0
+  IsFrontStep rules new stream More =
+      LeadsWith rules new stream.bytes stream.items stream.so_far.head stream.so_far.units
+  IsFrontStep rules new stream (Open head) = (stream.so_far.head ≡ None)
+      × LeadsWith rules new stream.bytes stream.items (Some head) stream.so_far.units
+  IsFrontStep rules new stream (Whole unit) =
+      LeadsWith rules new stream.bytes stream.items stream.so_far.head (stream.so_far.units ++ unit ∷ [])
+  IsFrontStep rules new stream Close = (head : Head) × (stream.so_far.head ≡ Some head)
+      × Leads rules new stream.bytes (stream.items ++ RecordItem (record_of head stream.so_far.units) ∷ []) no_record
+  IsFrontStep rules new stream (Command telnet) =
+      Leads rules new stream.bytes (stream.items ++ TelnetItem telnet ∷ []) stream.so_far
+  IsFrontStep rules new stream (Refused place reason) =
+      (length stream.bytes ≡ place + 1) × IsRefused rules stream.bytes place reason
+  IsFrontStep rules new stream Failed = ⊥
 
   -- What one byte more gives: its step says what is complete with it, and a refusal is at this byte.
   --
   -- This is of a stream over any body; what a station does at a byte is IsPushedOn of ws_session.
-  abbrev pub IsLiveStep : Rules Place U → Watching Place → List ℕ → List (Item U) → RecordSoFar U → ℕ → Step U
-      → Type 0
-  IsLiveStep rules new bytes items so_far byte (Refused place reason) = (place ≡ length bytes)
-      × IsRefused rules (bytes ++ byte ∷ []) place reason
-  IsLiveStep rules new bytes items so_far byte step = IsFrontStep rules new (bytes ++ byte ∷ []) items so_far step
+  abbrev pub IsLiveStep : Rules Place U → Watching Place → StreamSoFar U → ℕ → Step U → Type 0
+  IsLiveStep rules new stream byte (Refused place reason) = (place ≡ length stream.bytes)
+      × IsRefused rules (stream.bytes ++ byte ∷ []) place reason
+  IsLiveStep rules new stream byte step = IsFrontStep rules new (with_bytes stream (byte ∷ [])) step
 
 -- a fact where the step is such that nothing follows it
 abbrev pub OnEnd : {U : Type 0} → Step U → Type 0 → Type 0

@@ -3,7 +3,8 @@
 use Rattle.std.specs.Prelude.{◌≡◌, ◌≢◌, ℕ, List, [], ◌∷◌, ◌++◌, ◌⊎◌, Some, None, drop}
 use Rattle.std.specs.List.{AllByRecursion}
 use Rattle.ws_code.specs.Code.{Rules}
-use Rattle.ws_code.specs.declared.keep.Kept.{Kept}
+use Rattle.ws_code.specs.Keep.{Keeper}
+use Rattle.ws_code.specs.Run.{Intake, WithKeep, with_keep}
 use Rattle.ws_code.specs.declared.keep.Kept.TheVariants as answer
 use Rattle.ws_telnet.specs.declared.codes.TheConstants.{IAC}
 use Rattle.ws_telnet.specs.declared.word.Word.{Word}
@@ -20,13 +21,14 @@ ArePlain bytes = AllByRecursion (λ b. b ≢ IAC) bytes
 
 module _ {U K : Type 0} where
   -- whatever the one keep held, the other holds with these units behind it, and was told of these values
-  abbrev pub KeepsTold : (K → List U → List ℕ → Type 0) → K → K → List U → List ℕ → Type 0
-  KeepsTold holds old new more values =
-      (units : List U) (told : List ℕ) → holds old units told → holds new (units ++ more) (told ++ values)
+  abbrev pub KeepsTold : Keeper U K → K → K → List U → List ℕ → Type 0
+  KeepsTold keeper old new more values =
+      (units : List U) (told : List ℕ) → keeper.holds old units told
+      → keeper.holds new (units ++ more) (told ++ values)
 
--- there are units only if the keep goes on with each
-abbrev pub OnlyIfOn : {U : Type 0} → (Kept → Type 0) → List U → Type 0
-OnlyIfOn may_answer units = (units ≡ []) ⊎ may_answer answer.GoOn
+  -- there are units only if the keep goes on with each
+  abbrev pub OnlyIfOn : Keeper U K → List U → Type 0
+  OnlyIfOn keeper units = (units ≡ []) ⊎ keeper.may_answer answer.GoOn
 
 -- the values end with one that is so, behind the others
 abbrev pub EndIn : List ℕ → (List ℕ → ℕ → Type 0) → Type 0
@@ -50,36 +52,36 @@ module _ {Place U : Type 0} where
   IsHeaderStep rules new so_far byte (Refused reason) = IsDataRefused rules so_far.bytes byte reason
   IsHeaderStep rules new so_far byte news = ⊥
 
-  module _ {K : Type 0} (rules : Rules Place U) (holds : K → List U → List ℕ → Type 0) (may_answer : Kept → Type 0)
-      (so_far : RecordSoFar U) (old : K) (values : List ℕ) (reader : Keeping Place) (new : K) where
-    -- What values make of a record: its body grows, up to a unit with which the keep has enough; or its header is
-    -- whole, and no byte of its body is there; or the last value is refused, or completes a unit that isn't kept.
-    abbrev pub IsTaken : News → Type 0
-    IsTaken More =
-        (more : List U) × (told : List ℕ) × HasRead rules reader (grown so_far values more)
-        × (drop 10 (so_far.bytes ++ values) ≡ drop 10 so_far.bytes ++ told) × KeepsTold holds old new more told
-        × OnlyIfOn may_answer more
-    IsTaken Whole =
-        (before : List U) × (unit : U) × (told : List ℕ)
-        × HasRead rules reader (grown so_far values (before ++ unit ∷ []))
-        × (drop 10 (so_far.bytes ++ values) ≡ drop 10 so_far.bytes ++ told)
-        × KeepsTold holds old new (before ++ unit ∷ []) told × OnlyIfOn may_answer before × (reader.begun ≡ [])
-        × may_answer answer.Enough
-    IsTaken (Open head) = (so_far.head ≡ None)
-        × HasRead rules reader (record so_far { bytes = so_far.bytes ++ values; head = Some head })
-        × (new ≡ old)
-        × (drop 10 (so_far.bytes ++ values) ≡ [])
-    IsTaken (Refused reason) =
-        EndIn values (λ front last. (before : Keeping Place) × (more : List U)
-        × HasRead rules before (grown so_far front more) × IsDataRefused rules (so_far.bytes ++ front) last reason
-        × OnlyIfOn may_answer more × ((told : List ℕ) × KeepsTold holds old new more told))
-    IsTaken NoMemory =
-        EndIn values (λ front last. (after : Keeping Place) × (more : List U) × (unit : U)
-        × HasRead rules after (grown so_far (front ++ last ∷ []) (more ++ unit ∷ [])) × (after.begun ≡ [])
-        × may_answer answer.NoMemory × OnlyIfOn may_answer more
-        × ((before : Keeping Place) × HasRead rules before (grown so_far front more))
-        × ((told : List ℕ) × KeepsTold holds old new more told))
-    IsTaken news = ⊥
+  -- What values make of a record: its body grows, up to a unit with which the keep has enough; or its header is whole,
+  -- and no byte of its body is there; or the last value is refused, or completes a unit that isn't kept.
+  abbrev pub IsTaken : {K : Type 0} → Intake Place U K → WithKeep (RecordSoFar U) K → List ℕ
+      → WithKeep (Keeping Place) K → News → Type 0
+  IsTaken intake before values after More =
+      (more : List U) × (told : List ℕ) × HasRead intake.rules after.read (grown before.read values more)
+      × (drop 10 (before.read.bytes ++ values) ≡ drop 10 before.read.bytes ++ told)
+      × KeepsTold intake.keeper before.keep after.keep more told × OnlyIfOn intake.keeper more
+  IsTaken intake before values after Whole =
+      (others : List U) × (unit : U) × (told : List ℕ)
+      × HasRead intake.rules after.read (grown before.read values (others ++ unit ∷ []))
+      × (drop 10 (before.read.bytes ++ values) ≡ drop 10 before.read.bytes ++ told)
+      × KeepsTold intake.keeper before.keep after.keep (others ++ unit ∷ []) told × OnlyIfOn intake.keeper others
+      × (after.read.begun ≡ []) × intake.keeper.may_answer answer.Enough
+  IsTaken intake before values after (Open head) = (before.read.head ≡ None)
+      × HasRead intake.rules after.read (record before.read { bytes = before.read.bytes ++ values; head = Some head })
+      × (after.keep ≡ before.keep)
+      × (drop 10 (before.read.bytes ++ values) ≡ [])
+  IsTaken intake before values after (Refused reason) =
+      EndIn values (λ front last. (reader : Keeping Place) × (more : List U)
+      × HasRead intake.rules reader (grown before.read front more)
+      × IsDataRefused intake.rules (before.read.bytes ++ front) last reason × OnlyIfOn intake.keeper more
+      × ((told : List ℕ) × KeepsTold intake.keeper before.keep after.keep more told))
+  IsTaken intake before values after NoMemory =
+      EndIn values (λ front last. (reader : Keeping Place) × (more : List U) × (unit : U)
+      × HasRead intake.rules reader (grown before.read (front ++ last ∷ []) (more ++ unit ∷ []))
+      × (reader.begun ≡ []) × intake.keeper.may_answer answer.NoMemory × OnlyIfOn intake.keeper more
+      × ((at_front : Keeping Place) × HasRead intake.rules at_front (grown before.read front more))
+      × ((told : List ℕ) × KeepsTold intake.keeper before.keep after.keep more told))
+  IsTaken intake before values after news = ⊥
 
   -- what the end of a record makes of it: it is whole, and no other is open; or it can't end here
   abbrev pub IsRecordEnd : Rules Place U → RecordSoFar U → Keeping Place → News → Type 0
@@ -88,19 +90,16 @@ module _ {Place U : Type 0} where
   IsRecordEnd rules so_far reader news = ⊥
 
   -- what a word makes of it: the value FF is taken, an EOR ends it, and any other word leaves it alone
-  abbrev pub IsWordTaken : {K : Type 0} → Rules Place U → (K → List U → List ℕ → Type 0) → (Kept → Type 0)
-      → RecordSoFar U → Keeping Place → K → Word → Keeping Place → K → News → Type 0
-  IsWordTaken rules holds may_answer so_far reader old word.More reader' new news =
-      (news ≡ More) × (reader' ≡ reader) × (new ≡ old)
-  IsWordTaken rules holds may_answer so_far reader old word.Data reader' new news =
-      IsTaken rules holds may_answer so_far old (IAC ∷ []) reader' new news
-  IsWordTaken rules holds may_answer so_far reader old word.Eor reader' new news =
-      IsRecordEnd rules so_far reader' news × (new ≡ old)
-  IsWordTaken rules holds may_answer so_far reader old (word.Command code) reader' new news =
-      (news ≡ Command code) × (reader' ≡ reader) × (new ≡ old)
-  IsWordTaken rules holds may_answer so_far reader old (word.Option verb option) reader' new news =
-      (news ≡ Option verb option) × (reader' ≡ reader) × (new ≡ old)
-  IsWordTaken rules holds may_answer so_far reader old word.Sub reader' new news =
-      (news ≡ Sub) × (reader' ≡ reader) × (new ≡ old)
-  IsWordTaken rules holds may_answer so_far reader old (word.Bad reason) reader' new news =
-      (news ≡ Refused reason) × (new ≡ old)
+  abbrev pub IsWordTaken : {K : Type 0} → Intake Place U K → RecordSoFar U → WithKeep (Keeping Place) K → Word
+      → WithKeep (Keeping Place) K → News → Type 0
+  IsWordTaken intake so_far before word.More after news = (news ≡ More) × (after ≡ before)
+  IsWordTaken intake so_far before word.Data after news =
+      IsTaken intake (with_keep so_far before.keep) (IAC ∷ []) after news
+  IsWordTaken intake so_far before word.Eor after news =
+      IsRecordEnd intake.rules so_far after.read news × (after.keep ≡ before.keep)
+  IsWordTaken intake so_far before (word.Command code) after news = (news ≡ Command code) × (after ≡ before)
+  IsWordTaken intake so_far before (word.Option verb option) after news =
+      (news ≡ Option verb option) × (after ≡ before)
+  IsWordTaken intake so_far before word.Sub after news = (news ≡ Sub) × (after ≡ before)
+  IsWordTaken intake so_far before (word.Bad reason) after news =
+      (news ≡ Refused reason) × (after.keep ≡ before.keep)

@@ -1,5 +1,5 @@
 ghost use Rattle.std.specs.Prelude.{◌≡◌, ◌≢◌, ◌++◌, ◌∷◌, ◌+◌, ◌*◌, ◌<◌, ◌≤◌, [], List, ℕ, Option, Some, None, true, false, length, take, slice_index, IfSome, IfNone};
-ghost use Rattle.ws_code.specs.Run.{IsAt};
+ghost use Rattle.ws_code.specs.Run.{IsAt, intake, with_keep};
 ghost use Rattle.ws_telnet.specs.declared.token.Token.TheVariants.{Data};
 ghost use Rattle.ws_record.specs.Grammar.{IsFramed};
 ghost use Rattle.ws_record.specs.Refusal.{header_reason};
@@ -130,8 +130,8 @@ impl<B: Body> OpenRecord<B> {
         ensures used { 0 < result.used }
         ensures plain { ArePlain (take result.used piece.now) }
         ensures taken { (so_far : RecordSoFar B.Unit) → HasRead B.rules self.old so_far
-            → IsTaken B.rules K.holds K.may_answer so_far keep.old (take result.used piece.now)
-            self.new keep.new result.news }
+            → IsTaken (intake B.rules K.keeper) (with_keep so_far keep.old)
+            (take result.used piece.now) (with_keep self.new keep.new) result.news }
     {
         if self.left > 0 {
             let most = usize::from(self.left);
@@ -147,8 +147,8 @@ impl<B: Body> OpenRecord<B> {
     #[inline(never)]
     fn take_value<K: Keep<B::Unit>>(&mut self, value: u8, keep: &mut K) -> News
         ensures { (so_far : RecordSoFar B.Unit) → HasRead B.rules self.old so_far
-            → IsTaken B.rules K.holds K.may_answer so_far keep.old (value ∷ [])
-            self.new keep.new result }
+            → IsTaken (intake B.rules K.keeper) (with_keep so_far keep.old)
+            (value ∷ []) (with_keep self.new keep.new) result }
     {
         if self.left > 0 {
             self.take_body(&[value], keep).news
@@ -167,8 +167,8 @@ impl<B: Body> OpenRecord<B> {
         ensures within { result.used ≤ length values.now }
         ensures used { 0 < result.used }
         ensures taken { (so_far : RecordSoFar B.Unit) → HasRead B.rules self.old so_far
-            → IsTaken B.rules K.holds K.may_answer so_far keep.old (take result.used values.now)
-            self.new keep.new result.news }
+            → IsTaken (intake B.rules K.keeper) (with_keep so_far keep.old)
+            (take result.used values.now) (with_keep self.new keep.new) result.news }
     {
         let Run { used, end } = self.machine.run(&mut self.at, values, keep);
         self.left -= used as u16;
@@ -209,8 +209,8 @@ impl<B: Body> OpenRecord<B> {
         ensures within { result.used ≤ length values.now }
         ensures used { 0 < result.used }
         ensures taken { (so_far : RecordSoFar B.Unit) → HasRead B.rules self.old so_far
-            → IsTaken B.rules K.holds K.may_answer so_far _keep.old (take result.used values.now)
-            self.new _keep.new result.news }
+            → IsTaken (intake B.rules K.keeper) (with_keep so_far _keep.old)
+            (take result.used values.now) (with_keep self.new _keep.new) result.news }
     {
         for (index, value) in values.iter().enumerate() {
             match self.take_header_byte(*value) {
@@ -294,8 +294,8 @@ impl<B: Body> OpenRecord<B> {
     #[inline(always)]
     pub fn complete<K: Keep<B::Unit>>(&mut self, word: Word, keep: &mut K) -> News
         ensures { (so_far : RecordSoFar B.Unit) → HasRead B.rules self.old so_far
-            → IsWordTaken B.rules K.holds K.may_answer so_far self.old keep.old word
-            self.new keep.new result }
+            → IsWordTaken (intake B.rules K.keeper) so_far (with_keep self.old keep.old) word
+            (with_keep self.new keep.new) result }
     {
         match word {
             Word::More => News::More,

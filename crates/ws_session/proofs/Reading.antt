@@ -3,23 +3,14 @@ use Rattle.std.proofs.Common.{◌≡◌, ℕ, List, [], ◌∷◌, ◌++◌, Opt
 use Rattle.std.proofs.lemmas.List.{append-nil}
 use Rattle.ws_code.specs.Code.{Rules, Stands, IsChain, IsCut, IsPrefix, IsPrefixFree, IsSpelled, IsUnfinished}
 use Rattle.ws_code.specs.Code.{place_after, spelling_of}
-use Rattle.ws_code.specs.Keep.{holds_last}
-use Rattle.ws_code.specs.Run.{Reading, HasReadValues, IsAt, IsRunOfValues, RunsOn, StopsAtLast}
-use Rattle.ws_code.specs.declared.keep.Kept.{Kept}
-use Rattle.ws_code.specs.declared.keep.Kept.TheVariants as kept
+use Rattle.ws_code.specs.Keep.{holds_last, Keeps, slot_keeper}
+use Rattle.ws_code.specs.Run.{Reading, HasReadValues, IsAt, IsRunOfValues, RunsOn, StopsAtLast, intake, with_keep}
 use Rattle.ws_code.specs.declared.reason.Reason.{Reason}
 use Rattle.ws_code.specs.declared.run.End.{End}
 use Rattle.ws_code.specs.declared.run.End.TheVariants.{More, Enough, NoMemory, Bad}
 use Rattle.ws_code.specs.declared.run.Standing.{Standing}
 use Rattle.ws_code.proofs.CodeLaws.{Begins, cut_bad, cut_begins, cut_unit, no_end, one_cut, place_after_more}
 use Rattle.ws_code.proofs.Slots.{only_enough, slot_is}
-
--- what a slot holds, and what it answers
-abbrev pub InSlot : {U : Type 0} → Option U → List U → List ℕ → Type 0
-InSlot slot units told = holds_last slot units
-
-abbrev pub HasEnough : Kept → Type 0
-HasEnough answer = answer ≡ kept.Enough
 
 slot_none : {U : Type 0} (slot : Option U) → holds_last slot [] → slot ≡ None
 slot_none None h = refl
@@ -55,11 +46,11 @@ module _ {Place U : Type 0} (rules : Rules Place U) where
 
   abbrev pub IsSlotRun : Reading Place → List ℕ → Reading Place → Standing Place → Option U → End → Type 0
   IsSlotRun reading values to standing slot end =
-      IsRunOfValues rules InSlot HasEnough reading None values to standing slot end
+      IsRunOfValues (intake rules slot_keeper) (with_keep reading None) values (with_keep to slot) standing end
 
   -- no unit is whole with these bytes
   runs_on : (reading : Reading Place) (values : List ℕ) (to : Reading Place) (slot : Option U)
-      → RunsOn rules InSlot HasEnough reading None values to slot
+      → RunsOn (intake rules slot_keeper) (with_keep reading None) values (with_keep to slot)
       → (to.place ≡ reading.place) × (to.begun ≡ reading.begun ++ values) × (slot ≡ None)
   runs_on reading values to slot on =
       let none : on.run.units ≡ [] = only_enough on.run.units on.on in (
@@ -75,7 +66,8 @@ module _ {Place U : Type 0} (rules : Rules Place U) (bytes : List ℕ) (units : 
   ready = rw read.at_place read.cut.more
 
   read_on : (front : List ℕ) (to : Reading Place) (slot : Option U)
-      → RunsOn rules InSlot HasEnough reading None front to slot → HasRead rules (bytes ++ front) units to
+      → RunsOn (intake rules slot_keeper) (with_keep reading None) front (with_keep to slot)
+      → HasRead rules (bytes ++ front) units to
   read_on front to slot on =
       let same = runs_on rules reading front to slot on in
       record {
@@ -126,13 +118,13 @@ module _ {Place U : Type 0} (rules : Rules Place U) (bytes : List ℕ) (units : 
     (read : HasRead rules bytes units reading) (values : List ℕ) (to : Reading Place) (standing : Standing Place)
     (slot : Option U) where
   abbrev Stops : Type 0
-  Stops = StopsAtLast rules InSlot HasEnough reading None values
+  Stops = StopsAtLast (intake rules slot_keeper) (with_keep reading None) values
 
   keeps_alone : (stop : Stops) (more : List U)
-      → ((us : List U) (told : List ℕ) → InSlot stop.keep us told → InSlot slot (us ++ more) told)
+      → Keeps slot_keeper stop.before.keep slot more
       → holds_last slot more
   keeps_alone stop more keeps =
-      let none = (runs_on rules reading stop.front stop.before stop.keep stop.on).2 in
+      let none = (runs_on rules reading stop.front stop.before.read stop.before.keep stop.on).2 in
       keeps [] [] (rw none refl)
 
   -- the bytes up to the run's end, and those behind them
@@ -160,11 +152,12 @@ module _ {Place U : Type 0} (rules : Rules Place U) (bytes : List ℕ) (units : 
       let stop = run.0 in
       let found = slot_is slot run.1 (keeps_alone stop (run.1 ∷ []) run.3) in
       let same : run.1 ≡ unit = cc in
-      let front = read_on rules bytes units reading read stop.front stop.before stop.keep stop.on in
-      let place = (runs_on rules reading stop.front stop.before stop.keep stop.on).0 in
-      let spelled = subst (λ (p : Place). IsSpelled rules p (stop.before.begun ++ stop.last ∷ []) run.1)
+      let front = read_on rules bytes units reading read stop.front stop.before.read stop.before.keep stop.on in
+      let place = (runs_on rules reading stop.front stop.before.read stop.before.keep stop.on).0 in
+      let spelled = subst (λ (p : Place). IsSpelled rules p (stop.before.read.begun ++ stop.last ∷ []) run.1)
       front.at_place run.2 in
-      let cut = cut_unit rules begins (bytes ++ stop.front) units stop.before.begun stop.last run.1 front.cut spelled in
+      let cut = cut_unit rules begins (bytes ++ stop.front) units stop.before.read.begun stop.last run.1 front.cut
+      spelled in
       let all : (bytes ++ stop.front) ++ stop.last ∷ [] ≡ bytes ++ values =
       behind_last stop [] ∙ append-nil (bytes ++ values) in
       rw (← same) (record {
@@ -188,6 +181,7 @@ module _ {Place U : Type 0} (rules : Rules Place U) (bytes : List ℕ) (units : 
       → (bytes ++ values) ++ more ≡ spelling_of rules body → ⊥
   ran_bad free begins body chain reason run more same =
       let stop = run.0 in
-      never_bad rules (bytes ++ stop.front) units stop.before
-      (read_on rules bytes units reading read stop.front stop.before stop.keep stop.on) free begins body chain stop.last
+      never_bad rules (bytes ++ stop.front) units stop.before.read
+      (read_on rules bytes units reading read stop.front stop.before.read stop.before.keep stop.on) free begins body
+      chain stop.last
       more (behind_last stop more ∙ same) run.1

@@ -1,10 +1,8 @@
 use Rattle.std.specs.Prelude.{◌≡◌, ◌≢◌, ◌⊎◌, ℕ, List, [], ◌∷◌, ◌++◌, true, false, Option, Some, None, refl}
 use Rattle.std.proofs.Common.{inl, inr, sym, ap, subst}
 use Rattle.ws_code.specs.Code.{IsSpelled, IsUnfinished}
-use Rattle.ws_code.specs.Keep.{holds_last}
-use Rattle.ws_code.specs.Run.{Reading, IsAt, RunsOn, IsRunOfValues}
-use Rattle.ws_code.specs.declared.keep.Kept.{Kept}
-use Rattle.ws_code.specs.declared.keep.Kept.TheVariants as kept
+use Rattle.ws_code.specs.Keep.{Keeper, holds_last, slot_keeper}
+use Rattle.ws_code.specs.Run.{Reading, IsAt, RunsOn, IsRunOfValues, intake, reading, with_keep}
 use Rattle.ws_code.specs.declared.run.End.{End}
 use Rattle.ws_code.specs.declared.run.End.TheVariants.{More, Enough, NoMemory, Bad}
 use Rattle.ws_code.proofs.RunLaws.{runs_more, runs_unit, stops, keeps_none, same_reading}
@@ -43,29 +41,30 @@ stands_so m u = record {
 
 module _ {K : Type 0} where
   -- a byte more with which the machine goes on
-  pub takes_more : {holds : K → List Element → List ℕ → Type 0} {may_answer : Kept → Type 0} {from : Reading Place}
+  pub takes_more : {keeper : Keeper Element K} {from : Reading Place}
       {old : K} {values : List ℕ} {mid : K} (m : Commands) (values' : List ℕ) (b : ℕ) (m' : Commands) (new : K)
-      → RunsOn element_rules holds may_answer from old values (reading_of m) mid
-      → Takes holds may_answer m.place (unfinished_of m) mid b m' new More → values' ≡ values ++ b ∷ []
-      → RunsOn element_rules holds may_answer from old values' (reading_of m') new
-  takes_more {holds} {may_answer} {from} {old} {values} {mid} m values' b m' new on takes more = elim takes [
+      → RunsOn (intake element_rules keeper) (with_keep from old) values (with_keep (reading_of m) mid)
+      → Takes keeper (with_keep (reading_of m) mid) b (with_keep m' new) More → values' ≡ values ++ b ∷ []
+      → RunsOn (intake element_rules keeper) (with_keep from old) values' (with_keep (reading_of m') new)
+  takes_more {keeper} {from} {old} {values} {mid} m values' b m' new on takes more = elim takes [
     | inl h ↦
-        runs_more element_rules holds may_answer from old values values' _ _ mid new b on h.0.2 more
+        runs_more element_rules keeper from old values values' _ _ mid new b on h.0.2 more
         (same_reading _ _ _ _ h.0.0 h.0.1) h.1
     | inr h ↦
-        runs_unit element_rules holds may_answer from old values values' _ _ mid new b h.0 on h.1 h.2.keeps
+        runs_unit element_rules keeper from old values values' _ _ mid new b h.0 on h.1 h.2.keeps
         h.2.answer element_begins more h.2.behind
   ]
 
   -- a byte more at which it stops
-  pub takes_last : {holds : K → List Element → List ℕ → Type 0} {may_answer : Kept → Type 0} {from : Reading Place}
+  pub takes_last : {keeper : Keeper Element K} {from : Reading Place}
       {old : K} {values : List ℕ} {mid : K} (m : Commands) (values' : List ℕ) (b : ℕ) (m' : Commands) (new : K)
-      (end : End) → RunsOn element_rules holds may_answer from old values (reading_of m) mid
-      → Takes holds may_answer m.place (unfinished_of m) mid b m' new end → values' ≡ values ++ b ∷ []
+      (end : End) → RunsOn (intake element_rules keeper) (with_keep from old) values (with_keep (reading_of m) mid)
+      → Takes keeper (with_keep (reading_of m) mid) b (with_keep m' new) end → values' ≡ values ++ b ∷ []
       → (end ≡ More → ⊥)
-      → IsRunOfValues element_rules holds may_answer from old values' (reading_of m') (standing_of m') new end
+      → IsRunOfValues (intake element_rules keeper) (with_keep from old) values' (with_keep (reading_of m') new)
+      (standing_of m') end
   takes_last m values' b m' new More on takes more ne = absurd (ne refl)
-  takes_last {holds} {may_answer} {from} {old} {values} {mid} m values' b m' new Enough on takes more ne =
+  takes_last {keeper} {from} {old} {values} {mid} m values' b m' new Enough on takes more ne =
       elim takes [
         | inl h ↦ absurd h.0
         | inr h ↦
@@ -73,7 +72,7 @@ module _ {K : Type 0} where
             let begun = ap (λ (r : Reading Place). r.begun) h.2.behind in
             let unfinished = subst (λ (x : List ℕ). IsUnfinished element_rules m'.place x) (sym begun)
             (element_begins m'.place) in (
-              stops element_rules holds may_answer from old values values' _ mid b on more,
+              stops element_rules keeper from old values values' _ mid b on more,
               h.0,
               h.1,
               h.2.keeps,
@@ -82,42 +81,36 @@ module _ {K : Type 0} where
               stands_so m' unfinished,
             )
       ]
-  takes_last {holds} {may_answer} {from} {old} {values} {mid} m values' b m' new NoMemory on takes more ne =
+  takes_last {keeper} {from} {old} {values} {mid} m values' b m' new NoMemory on takes more ne =
       elim takes [
         | inl h ↦ absurd h.0
         | inr h ↦ (
-          stops element_rules holds may_answer from old values values' _ mid b on more,
+          stops element_rules keeper from old values values' _ mid b on more,
           h.0,
           h.1,
           h.2.keeps,
           h.2.answer,
         )
       ]
-  takes_last {holds} {may_answer} {from} {old} {values} {mid} m values' b m' new (Bad reason) on takes more ne =
+  takes_last {keeper} {from} {old} {values} {mid} m values' b m' new (Bad reason) on takes more ne =
       elim takes [
         | inl h ↦ (
-          stops element_rules holds may_answer from old values values' _ mid b on more,
+          stops element_rules keeper from old values values' _ mid b on more,
           h.0.0,
           h.0.1,
-          keeps_none holds mid new h.1,
+          keeps_none keeper mid new h.1,
         )
         | inr h ↦ absurd h.2
       ]
-
--- A slot that has a unit has the one that the byte completes.
-abbrev pub InSlot : Option Element → List Element → List ℕ → Type 0
-InSlot slot units told = holds_last slot units
-
-abbrev pub HasEnough : Kept → Type 0
-HasEnough answer = answer ≡ kept.Enough
 
 last_one : (before : List Element) (unit element : Element) → element ∷ [] ≡ before ++ unit ∷ [] → element ≡ unit
 last_one [] unit element e = cc
 last_one (x ∷ []) unit element e = cc
 last_one (x ∷ y ∷ before) unit element e = cc
 
+-- a slot that has a unit has the one that the byte completes
 pub slot_full : (place : Place) (begun : List ℕ) (b : ℕ) (m : Commands) (slot : Option Element) (unit : Element)
-    (end : End) → Takes InSlot HasEnough place begun None b m slot end → slot ≡ Some unit
+    (end : End) → Takes slot_keeper (with_keep (reading place begun) None) b (with_keep m slot) end → slot ≡ Some unit
     → IsSpelled element_rules place (begun ++ b ∷ []) unit
 slot_full place begun b m slot unit More takes full = elim takes [
   | inl h ↦ let e = h.1 in absurd (cc)
@@ -141,7 +134,8 @@ slot_full place begun b m slot unit (Bad reason) takes full = elim takes [
 
 -- and one that has none went on, or was refused
 pub slot_empty : (place : Place) (begun : List ℕ) (b : ℕ) (m : Commands) (slot : Option Element) (end : End)
-    → Takes InSlot HasEnough place begun None b m slot end → (end ≡ Enough) ⊎ (end ≡ NoMemory) → slot ≡ None → ⊥
+    → Takes slot_keeper (with_keep (reading place begun) None) b (with_keep m slot) end
+    → (end ≡ Enough) ⊎ (end ≡ NoMemory) → slot ≡ None → ⊥
 slot_empty place begun b m slot More takes is none = elim is [ inl e ↦ cc | inr e ↦ cc ]
 slot_empty place begun b m slot Enough takes is none = elim takes [
   | inl h ↦ h.0

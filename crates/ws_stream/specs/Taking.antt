@@ -2,8 +2,8 @@
 
 use Rattle.std.specs.Prelude.{◌≡◌, ℕ, List, [], ◌∷◌, ◌++◌, ◌⊎◌, Bool, true, false}
 use Rattle.ws_code.specs.Code.{IsSpelled}
-use Rattle.ws_code.specs.Keep.{KeepsOne}
-use Rattle.ws_code.specs.Run.{Reading}
+use Rattle.ws_code.specs.Keep.{Keeper, KeepsOne}
+use Rattle.ws_code.specs.Run.{Reading, WithKeep, reading}
 use Rattle.ws_code.specs.Step.{IsStep}
 use Rattle.ws_code.specs.declared.code.Push.TheVariants as answer
 use Rattle.ws_code.specs.declared.keep.Kept.{Kept}
@@ -41,32 +41,30 @@ pub record IsWaiting (old : Commands) (phase : Phase) (new : Commands) (end : En
 
 -- Behind the bytes of an element that has begun at the place, the byte goes on with it, or is refused.
 abbrev pub GoesOnWithElement : Place → List ℕ → ℕ → Commands → End → Type 0
-GoesOnWithElement place begun b machine More = IsStep element_rules place begun b machine.place (unfinished_of machine) answer.More
+GoesOnWithElement place begun b machine More =
+    IsStep element_rules (reading place begun) b (reading_of machine) answer.More
 GoesOnWithElement place begun b machine (Bad reason) =
-    IsStep element_rules place begun b machine.place (unfinished_of machine) (answer.Bad reason)
+    IsStep element_rules (reading place begun) b (reading_of machine) (answer.Bad reason)
 GoesOnWithElement place begun b machine _ = ⊥
 
 module _ {K : Type 0} where
   -- the keep has answered so to the element, and the machine stands behind it
-  pub record HasKept (holds : K → List Element → List ℕ → Type 0) (may_answer : Kept → Type 0) (old : K)
-      (element : Element) (machine : Commands) (new : K) (kept : Kept) : Type 0 where
-    pub keeps : KeepsOne holds old new element kept
-    pub answer : may_answer kept
-    pub behind : reading_of machine ≡ record { place = element_rules.after element; begun = [] }
+  pub record HasKept (keeper : Keeper Element K) (old : K) (element : Element) (after : WithKeep Commands K)
+      (kept : Kept) : Type 0 where
+    pub keeps : KeepsOne keeper old after.keep element kept
+    pub answer : keeper.may_answer kept
+    pub behind : reading_of after.read ≡ record { place = element_rules.after element; begun = [] }
 
   -- what becomes of an element that the keep is given
-  abbrev pub IsKept : (K → List Element → List ℕ → Type 0) → (Kept → Type 0) → K → Element → Commands → K → End
-      → Type 0
-  IsKept holds may_answer old element machine new More = HasKept holds may_answer old element machine new kept.GoOn
-  IsKept holds may_answer old element machine new Enough = HasKept holds may_answer old element machine new kept.Enough
-  IsKept holds may_answer old element machine new NoMemory =
-      HasKept holds may_answer old element machine new kept.NoMemory
-  IsKept holds may_answer old element machine new (Bad reason) = ⊥
+  abbrev pub IsKept : Keeper Element K → K → Element → WithKeep Commands K → End → Type 0
+  IsKept keeper old element after More = HasKept keeper old element after kept.GoOn
+  IsKept keeper old element after Enough = HasKept keeper old element after kept.Enough
+  IsKept keeper old element after NoMemory = HasKept keeper old element after kept.NoMemory
+  IsKept keeper old element after (Bad reason) = ⊥
 
   -- The byte goes on with the element or is refused, and the keep is as it was; or it completes one, for the keep.
-  abbrev pub Takes : (K → List Element → List ℕ → Type 0) → (Kept → Type 0) → Place → List ℕ → K → ℕ → Commands → K
-      → End → Type 0
-  Takes holds may_answer place begun old b machine new end =
-      (GoesOnWithElement place begun b machine end × (new ≡ old))
-      ⊎ ((element : Element) × IsSpelled element_rules place (begun ++ b ∷ []) element
-      × IsKept holds may_answer old element machine new end)
+  abbrev pub Takes : Keeper Element K → WithKeep (Reading Place) K → ℕ → WithKeep Commands K → End → Type 0
+  Takes keeper before b after end =
+      (GoesOnWithElement before.read.place before.read.begun b after.read end × (after.keep ≡ before.keep))
+      ⊎ ((element : Element) × IsSpelled element_rules before.read.place (before.read.begun ++ b ∷ []) element
+      × IsKept keeper before.keep element after end)

@@ -1,5 +1,6 @@
 ghost use Rattle.std.specs.Prelude.{◌≡◌, ◌++◌, ◌∷◌, [], true, false, take};
 ghost use Rattle.ws_code.specs.Code.{IsUnfinished};
+ghost use Rattle.ws_code.specs.Run.{reading};
 ghost use Rattle.ws_code.specs.Step.{IsStep};
 ghost use Rattle.ws_stream.specs.Elements.{row_and_column};
 ghost use Rattle.ws_stream.specs.declared.command_code.TheConstants as codes;
@@ -7,7 +8,7 @@ ghost use Rattle.ws_stream.specs.declared.order_code.TheConstants as orders;
 ghost use Rattle.ws_extended.specs.ExtendedAnswers as Spec;
 ghost use Rattle.ws_extended.specs.ExtendedAnswers.{extended_answer_rules};
 ghost use Rattle.ws_extended.specs.ExtendedAnswerMachine as Machine;
-ghost use Rattle.ws_extended.specs.ExtendedAnswerMachine.{element_begun, is_waiting, reply_place, waits_at, waits_behind};
+ghost use Rattle.ws_extended.specs.ExtendedAnswerMachine.{element_begun, is_waiting, part_reading, reply_place, waits_at, waits_behind};
 ghost use Rattle.ws_extended.specs.ExtendedElements.{extended_rules};
 ghost use Rattle.ws_extended.specs.QueryReply.{reply_head};
 ghost use Rattle.ws_extended.specs.declared.extended_answer_place.ExtendedAnswerPlace.TheVariants.{Beginning, Fields, InReply, InSaved};
@@ -84,9 +85,8 @@ impl ExtendedAnswers {
 
     // The first byte of a body.
     fn head_row(&mut self, byte: u8) -> Push<ExtendedAnswerPart>
-        ensures { IsStep extended_answer_rules Beginning [] byte
-            (waits_at self.new.waits self.new.elements.place)
-            (waits_behind self.new.waits (element_begun self.new.elements)) result }
+        ensures { IsStep extended_answer_rules (reading Beginning []) byte
+            (part_reading self.new.waits self.new.elements) result }
     {
         if byte == 0 {
             return self.wait_for(Waits::Front {
@@ -102,9 +102,8 @@ impl ExtendedAnswers {
 
     fn head_column(&mut self, row: u8, byte: u8) -> Push<ExtendedAnswerPart>
         requires { is_waiting (Waits.HeadColumn row) ≡ true }
-        ensures { IsStep extended_answer_rules Beginning (row ∷ []) byte
-            (waits_at self.new.waits self.new.elements.place)
-            (waits_behind self.new.waits (element_begun self.new.elements)) result }
+        ensures { IsStep extended_answer_rules (reading Beginning (row ∷ [])) byte
+            (part_reading self.new.waits self.new.elements) result }
     {
         match Address::new(row, byte) {
             Some(cursor) => self.wait_for(Waits::HeadLast(cursor)),
@@ -114,9 +113,8 @@ impl ExtendedAnswers {
 
     // The third byte, which tells an answer to a read from what is told at once.
     fn head_last(&mut self, cursor: Address, byte: u8) -> Push<ExtendedAnswerPart>
-        ensures { IsStep extended_answer_rules Beginning (row_and_column cursor) byte
-            (waits_at self.new.waits self.new.elements.place)
-            (waits_behind self.new.waits (element_begun self.new.elements)) result }
+        ensures { IsStep extended_answer_rules (reading Beginning (row_and_column cursor)) byte
+            (part_reading self.new.waits self.new.elements) result }
     {
         if byte == NO_KEY {
             return Push::Unit(ExtendedAnswerPart::AtOnce(cursor));
@@ -133,9 +131,8 @@ impl ExtendedAnswers {
     // A byte of a reply's front, behind so many.
     fn front(&mut self, again: bool, count: u8, byte: u8) -> Push<ExtendedAnswerPart>
         requires { is_waiting (Waits.Front again count) ≡ true }
-        ensures { IsStep extended_answer_rules (reply_place again) (take count reply_head) byte
-            (waits_at self.new.waits self.new.elements.place)
-            (waits_behind self.new.waits (element_begun self.new.elements)) result }
+        ensures { IsStep extended_answer_rules (reading (reply_place again) (take count reply_head))
+            byte (part_reading self.new.waits self.new.elements) result }
     {
         if byte != HEAD[usize::from(count)] {
             return Push::Bad(Reason::StructuredField);
@@ -150,10 +147,9 @@ impl ExtendedAnswers {
     }
 
     fn saved_code(&mut self, byte: u8) -> Push<ExtendedAnswerPart>
-        ensures { IsStep extended_answer_rules Beginning
-            (codes.ESCAPE ∷ codes.RESTORE_SCREEN ∷ codes.ESCAPE ∷ []) byte
-            (waits_at self.new.waits self.new.elements.place)
-            (waits_behind self.new.waits (element_begun self.new.elements)) result }
+        ensures { IsStep extended_answer_rules
+            (reading Beginning (codes.ESCAPE ∷ codes.RESTORE_SCREEN ∷ codes.ESCAPE ∷ [])) byte
+            (part_reading self.new.waits self.new.elements) result }
     {
         if byte == CLEAR_UNIT {
             Push::Unit(ExtendedAnswerPart::Saved)
@@ -163,9 +159,8 @@ impl ExtendedAnswers {
     }
 
     fn part(&mut self, byte: u8) -> Push<ExtendedAnswerPart>
-        ensures { IsStep extended_answer_rules Fields [] byte
-            (waits_at self.new.waits self.new.elements.place)
-            (waits_behind self.new.waits (element_begun self.new.elements)) result }
+        ensures { IsStep extended_answer_rules (reading Fields []) byte
+            (part_reading self.new.waits self.new.elements) result }
     {
         if byte == SET_BUFFER_ADDRESS {
             return self.wait_for(Waits::AtRow);
@@ -177,9 +172,8 @@ impl ExtendedAnswers {
     }
 
     fn at_row(&mut self, byte: u8) -> Push<ExtendedAnswerPart>
-        ensures { IsStep extended_answer_rules Fields (orders.SET_BUFFER_ADDRESS ∷ []) byte
-            (waits_at self.new.waits self.new.elements.place)
-            (waits_behind self.new.waits (element_begun self.new.elements)) result }
+        ensures { IsStep extended_answer_rules (reading Fields (orders.SET_BUFFER_ADDRESS ∷ []))
+            byte (part_reading self.new.waits self.new.elements) result }
     {
         if byte < 1 || byte > ROWS {
             return Push::Bad(Reason::BadAddress);
@@ -188,9 +182,9 @@ impl ExtendedAnswers {
     }
 
     fn at_column(&mut self, row: u8, byte: u8) -> Push<ExtendedAnswerPart>
-        ensures { IsStep extended_answer_rules Fields (orders.SET_BUFFER_ADDRESS ∷ row ∷ []) byte
-            (waits_at self.new.waits self.new.elements.place)
-            (waits_behind self.new.waits (element_begun self.new.elements)) result }
+        ensures { IsStep extended_answer_rules
+            (reading Fields (orders.SET_BUFFER_ADDRESS ∷ row ∷ [])) byte
+            (part_reading self.new.waits self.new.elements) result }
     {
         match Address::new(row, byte) {
             Some(place) => Push::Unit(ExtendedAnswerPart::Profile(AnswerPart::At(place))),
@@ -203,10 +197,9 @@ impl ExtendedAnswers {
         requires waits { self.old.waits ≡ Waits.InElement }
         requires more { IsUnfinished extended_rules self.old.elements.place
             (element_begun self.old.elements) }
-        ensures { IsStep extended_answer_rules (InSaved self.old.elements.place)
-            (element_begun self.old.elements) byte
-            (waits_at self.new.waits self.new.elements.place)
-            (waits_behind self.new.waits (element_begun self.new.elements)) result }
+        ensures { IsStep extended_answer_rules
+            (reading (InSaved self.old.elements.place) (element_begun self.old.elements)) byte
+            (part_reading self.new.waits self.new.elements) result }
     {
         match self.elements.push(byte) {
             Push::More => Push::More,
@@ -220,11 +213,8 @@ impl ExtendedAnswers {
         requires { IsUnfinished extended_answer_rules
             (waits_at self.old.waits self.old.elements.place)
             (waits_behind self.old.waits (element_begun self.old.elements)) }
-        ensures { IsStep extended_answer_rules
-            (waits_at self.old.waits self.old.elements.place)
-            (waits_behind self.old.waits (element_begun self.old.elements)) byte
-            (waits_at self.new.waits self.new.elements.place)
-            (waits_behind self.new.waits (element_begun self.new.elements)) result }
+        ensures { IsStep extended_answer_rules (part_reading self.old.waits self.old.elements) byte
+            (part_reading self.new.waits self.new.elements) result }
     {
         match std::mem::replace(&mut self.waits, Waits::InElement) {
             Waits::HeadRow => self.head_row(byte),

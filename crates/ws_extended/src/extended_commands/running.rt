@@ -2,7 +2,7 @@
 ghost use Rattle.std.specs.Prelude.{◌≡◌, ◌<◌, ◌≤◌, ◌∷◌, [], true, Some, IfSome, length, take};
 ghost use Rattle.ws_code.specs.Code.{IsSpelled};
 ghost use Rattle.ws_code.specs.Keep.{KeepsOne};
-ghost use Rattle.ws_code.specs.Run.{IsAt, IsRunOfValues};
+ghost use Rattle.ws_code.specs.Run.{IsAt, IsRunOfValues, intake, with_keep};
 ghost use Rattle.ws_code.specs.declared.keep.Kept.{Kept as AKept};
 ghost use Rattle.ws_extended.specs.ExtendedElements.{extended_rules};
 ghost use Rattle.ws_extended.specs.ExtendedRuns.{GoesInside, kept_end, reading_by};
@@ -18,7 +18,7 @@ use ws_stream::Element;
 #[inline(always)]
 fn hand_over<K: Keep<ExtendedElement>>(keep: &mut K, element: ExtendedElement) -> End
     ensures { (answer : AKept) × (result ≡ kept_end answer)
-        × KeepsOne K.holds keep.old keep.new element answer × K.may_answer answer }
+        × KeepsOne K.keeper keep.old keep.new element answer × K.keeper.may_answer answer }
 {
     match keep.keep(element) {
         Kept::GoOn => End::More,
@@ -50,8 +50,9 @@ impl ExtendedCommands {
         byte: u8,
     ) -> End
         requires { IsAt extended_rules (reading_by self.old) at.old }
-        ensures { IsRunOfValues extended_rules K.holds K.may_answer (reading_by self.old) keep.old
-            (byte ∷ []) (reading_by self.new) at.new keep.new result }
+        ensures { IsRunOfValues (intake extended_rules K.keeper)
+            (with_keep (reading_by self.old) keep.old) (byte ∷ [])
+            (with_keep (reading_by self.new) keep.new) at.new result }
     {
         match self.push(byte) {
             Push::More => {
@@ -103,9 +104,9 @@ impl ExtendedCommands {
         // How many are used, and the run that they make.
         ensures some { 0 < result.used }
         ensures used { result.used ≤ length values.now }
-        ensures run { IsRunOfValues extended_rules K.holds K.may_answer
-            (reading_by self.old) keep.old
-            (take result.used values.now) (reading_by self.new) at.new keep.new result.end }
+        ensures run { IsRunOfValues (intake extended_rules K.keeper)
+            (with_keep (reading_by self.old) keep.old) (take result.used values.now)
+            (with_keep (reading_by self.new) keep.new) at.new result.end }
     {
         let mut standing = Standing {
             place: place_inside(self.place),
@@ -153,9 +154,9 @@ impl ExtendedCommands {
         // How many are used, and the run that they make.
         ensures some { 0 < result.used }
         ensures used { result.used ≤ length values.now }
-        ensures run { IsRunOfValues extended_rules K.holds K.may_answer
-            (reading_by self.old) keep.old
-            (take result.used values.now) (reading_by self.new) at.new keep.new result.end }
+        ensures run { IsRunOfValues (intake extended_rules K.keeper)
+            (with_keep (reading_by self.old) keep.old) (take result.used values.now)
+            (with_keep (reading_by self.new) keep.new) at.new result.end }
     {
         if self.is_of_profile(values) {
             return self.run_inside(at, keep, values);
@@ -176,9 +177,9 @@ impl ExtendedCommands {
         requires at { IsAt extended_rules (reading_by self.old) at.old }
         ensures some { 0 < result.used }
         ensures used { result.used ≤ length values.now }
-        ensures run { IsRunOfValues extended_rules K.holds K.may_answer
-            (reading_by self.old) keep.old
-            (take result.used values.now) (reading_by self.new) at.new keep.new result.end }
+        ensures run { IsRunOfValues (intake extended_rules K.keeper)
+            (with_keep (reading_by self.old) keep.old) (take result.used values.now)
+            (with_keep (reading_by self.new) keep.new) at.new result.end }
     {
         if let Some(element) = self.data_here(values[0]) {
             let end = hand_over(keep, element);

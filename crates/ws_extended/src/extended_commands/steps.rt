@@ -2,6 +2,7 @@ ghost use Rattle.std.specs.Prelude.{◌≡◌, ◌≢◌, ◌<◌, ◌++◌, ◌
 ghost use Rattle.ws_code.specs.Code.{IsPrefix, IsSpelled, IsUnfinished};
 ghost use Rattle.ws_code.specs.declared.reason.Reason.{Reason as AReason};
 ghost use Rattle.ws_code.specs.declared.code.Push.{Push as APush};
+ghost use Rattle.ws_code.specs.Run.{reading};
 ghost use Rattle.ws_code.specs.Step.{IsStep};
 ghost use Rattle.ws_stream.specs.Elements.{element_rules};
 ghost use Rattle.ws_stream.specs.Reasons.{element_reason};
@@ -13,6 +14,7 @@ ghost use Rattle.ws_extended.specs.declared.extended_element.ExtendedElement.{Ex
 ghost use Rattle.ws_extended.specs.declared.extended_place.ExtendedPlace.TheVariants.{InProfile};
 ghost use Rattle.ws_extended.specs.ExtendedElements.{extended_rules, query_field};
 ghost use Rattle.ws_extended.specs.ExtendedMachine.{element_begun_in, inner_place, lift};
+ghost use Rattle.ws_extended.specs.ExtendedRuns.{reading_by};
 ghost use Rattle.ws_extended.specs.ExtendedReasons.{begin_reason, extended_reason, is_inner, takes_command, takes_first};
 
 use super::ExtendedCommands;
@@ -91,8 +93,8 @@ fn hand_down(place: ExtendedPlace, inner: &mut Commands, byte: u8) -> Push<Exten
         → element_reason (inner_place place) (unfinished_of inner.old) byte
         ≡ extended_reason place (unfinished_of inner.old) byte }
     // The step is one of these commands, and where it goes on, it does so inside.
-    ensures step { IsStep extended_rules place (unfinished_of inner.old) byte
-        place (unfinished_of inner.new) result }
+    ensures step { IsStep extended_rules (reading place (unfinished_of inner.old)) byte
+        (reading place (unfinished_of inner.new)) result }
     ensures stays { result ≡ Push.More → (reading_of inner.new).place ≡ inner_place place }
     ensures inside { result ≡ Push.More → is_inner place (unfinished_of inner.new) ≡ true }
 {
@@ -138,7 +140,7 @@ pub(super) fn begins_profile(values: &[u8]) -> bool
 // The answer to a byte behind an escape, but where the profile's machine is asked or a query begins.
 fn behind_escape(place: ExtendedPlace, code: u8) -> Option<Push<ExtendedElement>>
     ensures answered { (push : APush AnElement) → result ≡ Some push → (begun : List ℕ)
-        → IsStep extended_rules place (ESCAPE ∷ []) code place begun push }
+        → IsStep extended_rules (reading place (ESCAPE ∷ [])) code (reading place begun) push }
     ensures left { result ≡ None → code ≢ WRITE_STRUCTURED_FIELD → takes_command place code ≡ true }
 {
     match code {
@@ -177,8 +179,8 @@ impl ExtendedCommands {
             → element_reason (inner_place self.old.place) (unfinished_of self.old.inner) byte
             ≡ extended_reason self.old.place (unfinished_of self.old.inner) byte }
         // The step is one of these commands.
-        ensures { IsStep extended_rules self.old.place (unfinished_of self.old.inner) byte
-            self.new.place (element_begun_in self.new.phase (unfinished_of self.new.inner)) result }
+        ensures { IsStep extended_rules (reading self.old.place (unfinished_of self.old.inner)) byte
+            (reading_by self.new) result }
     {
         let place = self.place;
         match hand_down(place, &mut self.inner, byte) {
@@ -203,8 +205,8 @@ impl ExtendedCommands {
     #[inline(always)]
     fn begin(&mut self, byte: u8) -> Push<ExtendedElement>
         requires { self.old.phase ≡ Phase.Begin }
-        ensures { IsStep extended_rules self.old.place [] byte
-            self.new.place (element_begun_in self.new.phase (unfinished_of self.new.inner)) result }
+        ensures { IsStep extended_rules (reading self.old.place []) byte
+            (reading_by self.new) result }
     {
         // Most bytes of a long body are data.
         if let Some(unit) = data_element(self.place, byte) {
@@ -224,8 +226,8 @@ impl ExtendedCommands {
     // The byte behind an escape.
     fn escaped(&mut self, byte: u8) -> Push<ExtendedElement>
         requires { self.old.phase ≡ Phase.Escaped }
-        ensures { IsStep extended_rules self.old.place (ESCAPE ∷ []) byte
-            self.new.place (element_begun_in self.new.phase (unfinished_of self.new.inner)) result }
+        ensures { IsStep extended_rules (reading self.old.place (ESCAPE ∷ [])) byte
+            (reading_by self.new) result }
     {
         if byte == command_code::WRITE_STRUCTURED_FIELD {
             self.phase = Phase::InQuery(0);
@@ -240,9 +242,9 @@ impl ExtendedCommands {
     // A byte of a query's structured field, behind so many.
     fn in_query(&mut self, count: u8, byte: u8) -> Push<ExtendedElement>
         requires { count < 5 }
-        ensures { IsStep extended_rules self.old.place
-            (ESCAPE ∷ WRITE_STRUCTURED_FIELD ∷ take count query_field) byte
-            self.new.place (element_begun_in self.new.phase (unfinished_of self.new.inner)) result }
+        ensures { IsStep extended_rules
+            (reading self.old.place (ESCAPE ∷ WRITE_STRUCTURED_FIELD ∷ take count query_field)) byte
+            (reading_by self.new) result }
     {
         if byte != QUERY_FIELD[usize::from(count)] {
             return Push::Bad(Reason::StructuredField);
@@ -259,9 +261,7 @@ impl ExtendedCommands {
     pub(super) fn step(&mut self, byte: u8) -> Push<ExtendedElement>
         requires { IsUnfinished extended_rules self.old.place
             (element_begun_in self.old.phase (unfinished_of self.old.inner)) }
-        ensures { IsStep extended_rules self.old.place
-            (element_begun_in self.old.phase (unfinished_of self.old.inner)) byte
-            self.new.place (element_begun_in self.new.phase (unfinished_of self.new.inner)) result }
+        ensures { IsStep extended_rules (reading_by self.old) byte (reading_by self.new) result }
     {
         match self.phase {
             Phase::Begin => self.begin(byte),

@@ -50,9 +50,10 @@ impl Keep<Element> for SavedBytes {
     ghost use Rattle.ws_code.specs.declared.keep.Kept.{Kept};
     ghost use Rattle.ws_extended.specs.Saving.{IsSaving};
 
-    ghost holds = { λ saved units told. IsSaving units saved };
-
-    ghost may_answer = { λ answer. answer ≡ Kept.GoOn };
+    ghost keeper = { record {
+      holds = λ saved units told. IsSaving units saved;
+      may_answer = λ answer. answer ≡ Kept.GoOn;
+    } };
 
     fn keep(&mut self, unit: Element) -> Kept {
         let mut spelling = ArrayVec::new();

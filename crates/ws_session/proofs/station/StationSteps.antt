@@ -1,3 +1,5 @@
+use Rattle.ws_code.specs.Run.{intake, with_keep}
+use Rattle.ws_record.specs.Live.{stream}
 use Rattle.ws_session.proofs.Common as C
 use C.{◌&&◌, not, ◌≡◌, ◌+◌, ◌≤◌, List, [], ◌∷◌, ◌++◌, refl, subst, ◌∙◌, ℕ, ◌<◌, Option, Some, None, take, drop, ap, sym}
 use C.{arith, ◌^◌, min, inl, inr, length, length-append, length-drop, if◌then◌else◌, ◌⊎◌, Bool, true, false, map, ◌-◌}
@@ -81,8 +83,10 @@ module _ {D P U H PlaceV V K R : Type 0} (rules : Rules P U) (d : DisplayOf D U 
     module _ (front : List ℕ) (live : Watching P) (kept : List ℕ) where
       -- what a front makes of the decoder and of the bytes kept
       abbrev pub IsBodyAdvance : News → Type 0
-      IsBodyAdvance news = IsAdvance rules (λ (k : List ℕ) (units : List U) (told : List ℕ).
-          keeps_body k told) (λ (a : Kept). a ≡ answer.GoOn) bytes items so_far old.body_bytes front live kept news
+      IsBodyAdvance news = IsAdvance (intake rules (record {
+        holds = λ (k : List ℕ) (units : List U) (told : List ℕ). keeps_body k told;
+        may_answer = λ (a : Kept). a ≡ answer.GoOn;
+      })) (with_keep (stream bytes items so_far) old.body_bytes) front (with_keep live kept) news
 
       abbrev Mid : PartsOn D P
       Mid = record old { live = live; body_bytes = kept }

@@ -49,9 +49,10 @@ impl<U: Drop> Keep<U> for BodyBytes {
     ghost use Rattle.ws_code.specs.declared.keep.Kept.{Kept};
     ghost use Rattle.ws_session.specs.station.StationCounts.{keeps_body};
 
-    ghost holds = { λ kept units told. keeps_body kept told };
-
-    ghost may_answer = { λ answer. answer ≡ Kept.GoOn };
+    ghost keeper = { record {
+      holds = λ kept units told. keeps_body kept told;
+      may_answer = λ answer. answer ≡ Kept.GoOn;
+    } };
 
     fn keep(&mut self, _unit: U) -> Kept {
         Kept::GoOn

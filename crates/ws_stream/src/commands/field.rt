@@ -1,5 +1,6 @@
 ghost use Rattle.std.specs.Prelude.{◌≡◌, ◌∷◌, ◌++◌, [], ℕ, true, nat_le};
 ghost use Rattle.ws_code.specs.Code.{IsUnfinished};
+ghost use Rattle.ws_code.specs.Run.{reading, with_keep};
 ghost use Rattle.ws_stream.specs.Elements.{element_rules};
 ghost use Rattle.ws_stream.specs.FieldOrder.{is_attribute};
 ghost use Rattle.ws_stream.specs.Machine.{words_bytes, front_bytes, are_words, is_front};
@@ -107,10 +108,9 @@ impl Commands {
         requires attribute { is_attribute attribute ≡ true }
         requires begun { IsUnfinished element_rules self.old.place
             (START_OF_FIELD ∷ front_bytes format self.old.controls ++ attribute ∷ high ∷ []) }
-        ensures { Takes K.holds K.may_answer self.old.place
-            (START_OF_FIELD ∷ front_bytes format self.old.controls ++ attribute ∷ high ∷ [])
-            keep.old byte
-            self.new keep.new result }
+        ensures { Takes K.keeper (with_keep (reading self.old.place
+            (START_OF_FIELD ∷ front_bytes format self.old.controls ++ attribute ∷ high ∷ []))
+            keep.old) byte (with_keep self.new keep.new) result }
     {
         let controls = match format {
             Some(_) => std::mem::replace(&mut self.controls, ShortList::new()),

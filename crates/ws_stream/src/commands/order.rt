@@ -1,5 +1,6 @@
 ghost use Rattle.std.specs.Prelude.{◌≡◌, ◌∷◌, ◌++◌, ◌+◌, [], ℕ, length};
 ghost use Rattle.ws_code.specs.Code.{IsUnfinished};
+ghost use Rattle.ws_code.specs.Run.{reading, with_keep};
 ghost use Rattle.ws_stream.specs.Elements.{element_rules, row_and_column};
 ghost use Rattle.ws_stream.specs.Machine.{order_byte};
 ghost use Rattle.ws_stream.specs.Taking.{GoesOnWithElement, Takes};
@@ -14,8 +15,8 @@ impl Commands {
     #[inline(always)]
     pub(super) fn soh_length<K: Keep<Element>>(&mut self, keep: &mut K, byte: u8) -> End
         requires { IsUnfinished element_rules self.old.place (START_OF_HEADER ∷ []) }
-        ensures { Takes K.holds K.may_answer self.old.place (START_OF_HEADER ∷ []) keep.old byte
-            self.new keep.new result }
+        ensures { Takes K.keeper (with_keep (reading self.old.place (START_OF_HEADER ∷ []))
+            keep.old) byte (with_keep self.new keep.new) result }
     {
         if byte > 7 {
             return End::Bad(Reason::BadSohLength);
@@ -32,9 +33,9 @@ impl Commands {
         requires phase { self.old.phase ≡ Phase.SohByte count }
         requires begun { IsUnfinished element_rules self.old.place
             (START_OF_HEADER ∷ count ∷ self.old.bytes) }
-        ensures { Takes K.holds K.may_answer self.old.place
-            (START_OF_HEADER ∷ count ∷ self.old.bytes) keep.old byte
-            self.new keep.new result }
+        ensures { Takes K.keeper
+            (with_keep (reading self.old.place (START_OF_HEADER ∷ count ∷ self.old.bytes)) keep.old)
+            byte (with_keep self.new keep.new) result }
     {
         if self.bytes.len() == 2 && byte != 0 {
             return End::Bad(Reason::Resequencing);
@@ -67,9 +68,9 @@ impl Commands {
         byte: u8,
     ) -> End
         requires { IsUnfinished element_rules self.old.place (order_byte order ∷ row ∷ []) }
-        ensures { Takes K.holds K.may_answer self.old.place
-            (order_byte order ∷ row ∷ []) keep.old byte
-            self.new keep.new result }
+        ensures { Takes K.keeper
+            (with_keep (reading self.old.place (order_byte order ∷ row ∷ [])) keep.old) byte
+            (with_keep self.new keep.new) result }
     {
         let to = match Address::new(row, byte) {
             Some(to) => to,
@@ -93,9 +94,9 @@ impl Commands {
     ) -> End
         requires { IsUnfinished element_rules self.old.place
             (REPEAT_TO_ADDRESS ∷ row_and_column to) }
-        ensures { Takes K.holds K.may_answer self.old.place
-            (REPEAT_TO_ADDRESS ∷ row_and_column to) keep.old byte
-            self.new keep.new result }
+        ensures { Takes K.keeper
+            (with_keep (reading self.old.place (REPEAT_TO_ADDRESS ∷ row_and_column to)) keep.old)
+            byte (with_keep self.new keep.new) result }
     {
         match DataByte::new(byte) {
             Some(byte) => self.complete(keep, Element::Ra { to, byte }),
@@ -128,9 +129,9 @@ impl Commands {
         requires phase { self.old.phase ≡ Phase.EraseKind to count }
         requires begun { IsUnfinished element_rules self.old.place
             (ERASE_TO_ADDRESS ∷ row_and_column to ++ (count + 1) ∷ self.old.kinds) }
-        ensures { Takes K.holds K.may_answer self.old.place
-            (ERASE_TO_ADDRESS ∷ row_and_column to ++ (count + 1) ∷ self.old.kinds) keep.old byte
-            self.new keep.new result }
+        ensures { Takes K.keeper (with_keep (reading self.old.place
+            (ERASE_TO_ADDRESS ∷ row_and_column to ++ (count + 1) ∷ self.old.kinds)) keep.old)
+            byte (with_keep self.new keep.new) result }
     {
         if byte != 0 && byte != 0xff {
             return End::Bad(Reason::BadEraseList);

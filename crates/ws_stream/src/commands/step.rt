@@ -1,6 +1,6 @@
 ghost use Rattle.std.specs.Prelude.{◌≡◌, ◌≤◌, [], true, length, take};
 ghost use Rattle.ws_code.specs.Code.{IsUnfinished};
-ghost use Rattle.ws_code.specs.Run.{IsRunOfValues};
+ghost use Rattle.ws_code.specs.Run.{IsRunOfValues, intake, with_keep};
 ghost use Rattle.ws_code.specs.declared.run.End.{End as AnEnd};
 ghost use Rattle.ws_stream.specs.Elements.{element_rules};
 ghost use Rattle.ws_stream.specs.Machine.{is_sound};
@@ -17,7 +17,7 @@ use ws_code::{Code, End, Keep, Kept, Run, Standing};
 pub(super) fn hand_over<K: Keep<Element>>(keep: &mut K, element: Element) -> End
     ensures { (machine : Commands)
         → reading_of machine ≡ record { place = element_rules.after element; begun = [] }
-        → IsKept K.holds K.may_answer keep.old element machine keep.new result }
+        → IsKept K.keeper keep.old element (with_keep machine keep.new) result }
 {
     // Straight into the keep, so that no layer hands an element on by value.
     match keep.keep(element) {
@@ -41,7 +41,7 @@ impl Commands {
     // The element is complete, and the machine begins anew behind it.
     #[inline(always)]
     pub(super) fn complete<K: Keep<Element>>(&mut self, keep: &mut K, element: Element) -> End
-        ensures { IsKept K.holds K.may_answer keep.old element self.new keep.new result }
+        ensures { IsKept K.keeper keep.old element (with_keep self.new keep.new) result }
     {
         self.phase = Phase::Begin;
         self.place = Commands::after(&element);
@@ -52,8 +52,8 @@ impl Commands {
     #[inline(always)]
     pub(super) fn step<K: Keep<Element>>(&mut self, keep: &mut K, byte: u8) -> End
         requires { IsUnfinished element_rules self.old.place (unfinished_of self.old) }
-        ensures { Takes K.holds K.may_answer self.old.place (unfinished_of self.old) keep.old byte
-            self.new keep.new result }
+        ensures { Takes K.keeper (with_keep (reading_of self.old) keep.old) byte
+            (with_keep self.new keep.new) result }
     {
         let phase = self.phase;
         match phase {
@@ -83,8 +83,8 @@ impl Commands {
     #[inline(always)]
     fn take<K: Keep<Element>>(&mut self, keep: &mut K, byte: u8) -> End
         requires { IsUnfinished element_rules self.old.place (unfinished_of self.old) }
-        ensures { Takes K.holds K.may_answer self.old.place (unfinished_of self.old) keep.old byte
-            self.new keep.new result }
+        ensures { Takes K.keeper (with_keep (reading_of self.old) keep.old) byte
+            (with_keep self.new keep.new) result }
     {
         if let Phase::Begin = self.phase {
             return self.begin(keep, byte);
@@ -109,10 +109,9 @@ impl Commands {
         requires { IsUnfinished element_rules self.old.place (unfinished_of self.old) }
         ensures used { result.used ≤ length values.now }
         ensures whole { result.end ≡ AnEnd.More → result.used ≡ length values.now }
-        ensures run { IsRunOfValues element_rules K.holds K.may_answer
-            (reading_of self.old) keep.old
-            (take result.used values.now) (reading_of self.new)
-            (standing_of self.new) keep.new result.end }
+        ensures run { IsRunOfValues (intake element_rules K.keeper)
+            (with_keep (reading_of self.old) keep.old) (take result.used values.now)
+            (with_keep (reading_of self.new) keep.new) (standing_of self.new) result.end }
     {
         for (index, value) in values.iter().enumerate() {
             match self.take(keep, *value) {

@@ -1,4 +1,3 @@
-use Rattle.std.proofs.Common.{List, ℕ}
 use Rattle.ws_code.proofs.DeviceLaws.{list_gave, list_gave_all, list_no_fault}
 use Rattle.ws_code.proofs.memory_device.slices_are_given_whole.Goals as goal
 

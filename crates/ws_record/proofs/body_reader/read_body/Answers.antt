@@ -81,6 +81,6 @@ returns-in-Bad-clause-fault g c = λ body is.
     c.start-machine.ensures.fresh in
     let whole = take-append-drop c.run-run.result.used c.args.bytes.now in
     cut_bad rules g.met.B.Code.prefix_free g.met.B.Code.begins rules.first run.0.on.run.units body
-    run.0.before.begun run.0.last (drop c.run-run.result.used c.args.bytes.now) cut.0.chain is.whole.chain
+    run.0.before.read.begun run.0.last (drop c.run-run.result.used c.args.bytes.now) cut.0.chain is.whole.chain
     cut.0.more (rw cut.1 at run.1)
     (is.spelled ∙ sym whole ∙ rw (run.0.split, ← cut.0.spelled, append_assoc, append_assoc))

@@ -1,4 +1,4 @@
-use Rattle.ws_record.proofs.Common.{◌∙◌, Held, held_went_out, plain_spelling}
+use Rattle.ws_record.proofs.Common.{◌∙◌, held_went_out, plain_spelling}
 use Rattle.ws_record.proofs.Encodings.{spelling_accepted}
 use Rattle.ws_record.proofs.encoder.encode.Goals as goal
 

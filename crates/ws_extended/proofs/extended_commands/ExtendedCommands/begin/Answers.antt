@@ -1,5 +1,6 @@
 use Rattle.std.proofs.Common.{[], ◌∷◌, ◌++◌, List, ℕ, refl, sym, subst, ap, ◌∙◌, ◌≡◌, true}
 use Rattle.ws_code.specs.Code.{IsUnfinished, IsPrefix}
+use Rattle.ws_code.specs.Run.{reading}
 use Rattle.ws_code.specs.Step.{IsStep}
 use Rattle.ws_stream.specs.ElementLaws.{element_begins}
 use Rattle.ws_stream.specs.Elements.{allows_orders, element_rules}
@@ -7,8 +8,9 @@ use Rattle.ws_stream.specs.Reasons.{element_reason}
 use Rattle.ws_stream.specs.Taking.{reading_of}
 use Rattle.ws_stream.specs.UnfinishedElement.{unfinished_of}
 use Rattle.ws_extended.specs.ExtendedElements.{extended_rules}
-use Rattle.ws_extended.specs.ExtendedMachine.{element_begun_in, inner_place, fits_phase}
+use Rattle.ws_extended.specs.ExtendedMachine.{inner_place, fits_phase}
 use Rattle.ws_extended.specs.ExtendedReasons.{extended_reason}
+use Rattle.ws_extended.specs.ExtendedRuns.{reading_by}
 use Rattle.ws_extended.specs.declared.extended_commands.ExtendedCommands.{ExtendedCommands}
 use Rattle.ws_extended.specs.declared.extended_commands.phase.Phase.TheVariants.{Begin, Escaped}
 use Rattle.ws_extended.proofs.MachineLaws.{escape_more, escape_taken, first_reasons, fresh, none_begins}
@@ -67,5 +69,5 @@ pub returns-in-None : goal.returns-in-None
 returns-in-None c =
     let m = c.args.self.now in
     let n = c.go_on.new.self in
-    subst (λ (l : List ℕ). IsStep extended_rules m.place l c.args.byte n.place
-    (element_begun_in n.phase (unfinished_of n.inner)) c.go_on.result) (none_yet m c.requires) c.go_on.ensures
+    subst (λ (l : List ℕ). IsStep extended_rules (reading m.place l) c.args.byte (reading_by n) c.go_on.result)
+    (none_yet m c.requires) c.go_on.ensures

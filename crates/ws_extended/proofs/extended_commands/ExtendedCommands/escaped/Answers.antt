@@ -1,13 +1,15 @@
 use Rattle.std.proofs.Common.{[], ◌∷◌, ◌++◌, List, ℕ, refl, sym, subst, ap, ◌≡◌}
 use Rattle.ws_code.specs.Code.{IsUnfinished, IsPrefix}
+use Rattle.ws_code.specs.Run.{reading}
 use Rattle.ws_code.specs.Step.{IsStep}
 use Rattle.ws_stream.specs.Elements.{element_rules}
 use Rattle.ws_stream.specs.Reasons.{element_reason}
 use Rattle.ws_stream.specs.UnfinishedElement.{unfinished_of}
 use Rattle.ws_stream.specs.declared.command_code.TheConstants.{ESCAPE}
 use Rattle.ws_extended.specs.ExtendedElements.{extended_rules}
-use Rattle.ws_extended.specs.ExtendedMachine.{element_begun_in, inner_place}
+use Rattle.ws_extended.specs.ExtendedMachine.{inner_place}
 use Rattle.ws_extended.specs.ExtendedReasons.{extended_reason}
+use Rattle.ws_extended.specs.ExtendedRuns.{reading_by}
 use Rattle.ws_extended.specs.declared.extended_commands.ExtendedCommands.{ExtendedCommands}
 use Rattle.ws_extended.specs.declared.extended_commands.phase.Phase.TheVariants.{Escaped}
 use Rattle.ws_extended.proofs.MachineLaws.{command_reasons, escape_begun, has_escape, query_begun}
@@ -44,5 +46,5 @@ pub returns-in-None : goal.returns-in-None
 returns-in-None c =
     let m = c.args.self.now in
     let n = c.go_on.new.self in
-    subst (λ (l : List ℕ). IsStep extended_rules m.place l c.args.byte n.place
-    (element_begun_in n.phase (unfinished_of n.inner)) c.go_on.result) (escape_there m c.requires) c.go_on.ensures
+    subst (λ (l : List ℕ). IsStep extended_rules (reading m.place l) c.args.byte (reading_by n) c.go_on.result)
+    (escape_there m c.requires) c.go_on.ensures

@@ -1,10 +1,9 @@
-use Rattle.std.proofs.Common.{◌≡◌, ◌++◌, ◌∙◌, List, ℕ, Bool, true, refl, sym, ap, subst}
+use Rattle.std.proofs.Common.{◌≡◌, ◌++◌, ◌∙◌, List, ℕ, true, sym, ap, subst}
 use Rattle.ws_stream.specs.UnfinishedElement.{unfinished_of}
 use Rattle.ws_extended.specs.ExtendedMachine.{element_begun_in, fits_phase}
 use Rattle.ws_extended.specs.ExtendedReasons.{is_inner}
 use Rattle.ws_extended.specs.declared.extended_commands.phase.Phase.{Phase}
 use Rattle.ws_extended.specs.declared.extended_place.ExtendedPlace.{ExtendedPlace}
-use Rattle.ws_extended.specs.declared.extended_place.ExtendedPlace.TheVariants.{InProfile}
 use Rattle.ws_extended.proofs.Lifting.{inner_grows}
 use Rattle.ws_extended.proofs.MachineLaws.{fresh}
 use Rattle.ws_extended.proofs.extended_commands.ExtendedCommands.is_of_profile.Goals as goal

@@ -1,5 +1,5 @@
 use Rattle.std.proofs.Common.{◌≡◌, ℕ, List, [], ◌++◌, take, drop, true, refl, sym, ap, subst, take-append-drop}
-use Rattle.ws_code.specs.Run.{IsRunOfValues, Reading}
+use Rattle.ws_code.specs.Run.{IsRunOfValues, Reading, intake, with_keep}
 use Rattle.ws_code.specs.declared.run.End.{End}
 use Rattle.ws_code.specs.declared.run.End.TheVariants.{More}
 use Rattle.ws_code.proofs.RunLaws.{same_reading}
@@ -55,11 +55,12 @@ returns-in-Some-clause-run g c =
     let handed = c.hand_over-end.ensures in
     let there : up to ≡ behind = same_reading (InProfile to.place) (InProfile run.new.at.place) to.begun []
     (ap InProfile (sym whole.is_at.at_place)) (ap (λ (r : Reading Place). r.begun) whole.behind) in
-    subst (λ (end : End). IsRunOfValues extended_rules g.K.Keep.holds g.K.Keep.may_answer (reading_by m) c.args.keep.now values
-    behind (stands_up run.new.at) c.hand_over-end.new.keep end) (sym handed.1)
-    (run_at g.K.Keep.holds g.K.Keep.may_answer (up (reading_of m.inner)) (reading_by m) (up to) behind
+    subst (λ (end : End). IsRunOfValues (intake extended_rules g.K.Keep.keeper)
+    (with_keep (reading_by m) c.args.keep.now) values (with_keep behind c.hand_over-end.new.keep) (stands_up run.new.at)
+    end) (sym handed.1)
+    (run_at g.K.Keep.keeper (up (reading_of m.inner)) (reading_by m) (up to) behind
     (both_read m c.args.values.now c.requires.inside) there c.args.keep.now c.hand_over-end.new.keep values
-    (stands_up run.new.at) _ (inner_whole g.K.Keep.holds g.K.Keep.may_answer (reading_of m.inner) c.args.keep.now values
+    (stands_up run.new.at) _ (inner_whole g.K.Keep.keeper (reading_of m.inner) c.args.keep.now values
     to run.new.at c.in-Some.element whole c.hand_over-end.new.keep handed.0 handed.2 handed.3))
 
 pub returns-in-More-clause-run : goal.returns-in-More-clause-run
@@ -72,12 +73,13 @@ returns-in-More-clause-run g c =
     let more = rw c.in-More.is at run.ensures.run in
     let there : up to ≡ behind = same_reading (InProfile to.place) (InProfile run.new.at.place) to.begun to.begun
     (ap InProfile (sym more.1.at_place)) refl in
-    subst (λ (end : End). IsRunOfValues extended_rules g.K.Keep.holds g.K.Keep.may_answer (reading_by m) c.args.keep.now values
-    behind (stands_up run.new.at) c.args.keep.now end) (sym c.in-More.is)
-    (run_at g.K.Keep.holds g.K.Keep.may_answer (up (reading_of m.inner)) (reading_by m) (up to) behind
+    subst (λ (end : End). IsRunOfValues (intake extended_rules g.K.Keep.keeper)
+    (with_keep (reading_by m) c.args.keep.now) values (with_keep behind c.args.keep.now) (stands_up run.new.at) end)
+    (sym c.in-More.is)
+    (run_at g.K.Keep.keeper (up (reading_of m.inner)) (reading_by m) (up to) behind
     (both_read m c.args.values.now c.requires.inside) there c.args.keep.now c.args.keep.now values
     (stands_up run.new.at) More
-    (inner_more g.K.Keep.holds g.K.Keep.may_answer (reading_of m.inner) c.args.keep.now values to run.new.at
+    (inner_more g.K.Keep.keeper (reading_of m.inner) c.args.keep.now values to run.new.at
     run.new.keep more))
 
 pub returns-in_default-clause-some : goal.returns-in_default-clause-some
@@ -94,8 +96,8 @@ returns-in_default-clause-run g c =
     let all = c.args.values.now in
     let inner = subst (λ (v : List ℕ). is_inner (InProfile (reading_of m.inner).place) (unfinished_of m.inner ++ v)
     ≡ true) (sym (take-append-drop k all)) (only_inner m all c.requires.inside) in
-    run_at g.K.Keep.holds g.K.Keep.may_answer (up (reading_of m.inner)) (reading_by m) _ _
+    run_at g.K.Keep.keeper (up (reading_of m.inner)) (reading_by m) _ _
     (both_read m all c.requires.inside) refl c.args.keep.now c.args.keep.now (take k all) c.args.at.now run.result.end
-    (inner_bad g.K.Keep.holds g.K.Keep.may_answer (reading_of m.inner) c.args.keep.now (take k all) (drop k all)
+    (inner_bad g.K.Keep.keeper (reading_of m.inner) c.args.keep.now (take k all) (drop k all)
     (reading_of run.new.self) run.new.at run.new.keep run.result.end run.ensures.run c.in-None.is
     c.in_default.not-More inner _ c.args.at.now)

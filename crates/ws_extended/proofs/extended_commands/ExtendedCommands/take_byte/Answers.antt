@@ -1,6 +1,6 @@
-use Rattle.std.proofs.Common.{ℕ, List, [], ◌∷◌, ◌++◌, false, refl, subst, sym, ◌∙◌}
+use Rattle.std.proofs.Common.{ℕ, List, [], ◌∷◌, false, refl, subst, sym, ◌∙◌}
 use Rattle.ws_code.specs.Code.{IsUnfinished}
-use Rattle.ws_code.specs.Run.{IsRunOfValues}
+use Rattle.ws_code.specs.Run.{IsRunOfValues, intake, with_keep}
 use Rattle.ws_code.specs.declared.run.End.{End}
 use Rattle.ws_code.specs.declared.run.Standing.{Standing}
 use Rattle.ws_code.proofs.RunLaws.{is_between, same_reading}
@@ -14,7 +14,7 @@ use Rattle.ws_extended.proofs.extended_commands.ExtendedCommands.take_byte.Goals
 pub returns-in-More : goal.returns-in-More
 returns-in-More g c =
     let step = c.in-More.ensures in
-    run_more extended_rules extended_begins g.K.Keep.holds g.K.Keep.may_answer (reading_by c.args.self.now)
+    run_more extended_rules extended_begins g.K.Keep.keeper (reading_by c.args.self.now)
     (reading_by c.push.new.self) c.args.keep.now c.args.keep.now c.args.byte _ c.requires.unfinished step.2
     (same_reading _ _ _ _ step.0 step.1) refl (c.requires.at_place ∙ sym step.0) refl
 
@@ -30,14 +30,14 @@ returns-in-Unit g c =
     (extended_begins to.place) in
     let standing : Standing ExtendedPlace = record { place = c.after-place.result; is_inside = false } in
     let at = is_between extended_rules to standing unfinished (sym c.restart.ensures.place) refl fresh in
-    subst (λ (end : End). IsRunOfValues extended_rules g.K.Keep.holds g.K.Keep.may_answer from c.args.keep.now (b ∷ []) to
-    standing c.hand_over.new.keep end) (sym handed.1)
-    (run_unit extended_rules extended_begins g.K.Keep.holds g.K.Keep.may_answer from to c.args.keep.now
+    subst (λ (end : End). IsRunOfValues (intake extended_rules g.K.Keep.keeper) (with_keep from c.args.keep.now)
+    (b ∷ []) (with_keep to c.hand_over.new.keep) standing end) (sym handed.1)
+    (run_unit extended_rules extended_begins g.K.Keep.keeper from to c.args.keep.now
     c.hand_over.new.keep b standing handed.0 element c.requires.unfinished c.in-Unit.ensures handed.2 handed.3
     (same_reading _ _ _ _ (c.restart.ensures.place ∙ c.after-place.ensures) fresh) at)
 
 pub returns-in-Bad : goal.returns-in-Bad
 returns-in-Bad g c =
-    run_bad extended_rules extended_begins g.K.Keep.holds g.K.Keep.may_answer (reading_by c.args.self.now)
+    run_bad extended_rules extended_begins g.K.Keep.keeper (reading_by c.args.self.now)
     (reading_by c.push.new.self) c.args.keep.now c.args.keep.now c.args.byte c.args.at.now c.requires.unfinished
     c.in-Bad.reason c.in-Bad.ensures.0 c.in-Bad.ensures.1 refl

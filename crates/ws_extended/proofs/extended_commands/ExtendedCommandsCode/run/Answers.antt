@@ -1,5 +1,5 @@
-use Rattle.std.proofs.Common.{◌≡◌, ℕ, ◌+◌, ◌≤◌, List, [], take, length, subst, arith}
-use Rattle.ws_code.specs.Run.{IsRunOfValues, RunsOn}
+use Rattle.std.proofs.Common.{ℕ, List, [], take, subst, arith}
+use Rattle.ws_code.specs.Run.{IsRunOfValues, RunsOn, intake, with_keep}
 use Rattle.ws_code.specs.declared.run.End.TheVariants.{More}
 use Rattle.ws_code.proofs.DeviceLaws.{length_rest}
 use Rattle.ws_code.proofs.Pieces.{bytes_on, left_of}
@@ -12,7 +12,7 @@ use Rattle.ws_extended.proofs.extended_commands.ExtendedCommandsCode.run.Goals a
 pub loop-used-init : goal.loop-used-init
 loop-used-init g c = record {
   inside = omega arith;
-  on = runs_none extended_rules g.K.Keep.holds g.K.Keep.may_answer _ _ c.requires.unfinished;
+  on = runs_none extended_rules g.K.Keep.keeper _ _ c.requires.unfinished;
   is_at = c.requires;
 }
 
@@ -24,13 +24,15 @@ loop-used-preserved g c =
     let i : ℕ = now.used in
     let k : ℕ = run.result.used in
     let to = reading_by run.new.self in
-    let on = run_both extended_rules g.K.Keep.holds g.K.Keep.may_answer (reading_by c.args.self.now)
+    let on = run_both extended_rules g.K.Keep.keeper (reading_by c.args.self.now)
     (reading_by now.self) c.args.keep.now now.keep (take i values) now.invariant.on (take k (left_of values i)) to
     run.new.at run.new.keep More (rw c.in-More.is at run.ensures.run) in
     record {
       inside = omega (arith, run.ensures.used, length_rest values i, now.invariant.inside);
-      on = subst (λ (xs : List ℕ). RunsOn extended_rules g.K.Keep.holds g.K.Keep.may_answer (reading_by c.args.self.now)
-          c.args.keep.now xs to run.new.keep) (bytes_on [] values i k) on.0;
+      on = subst (λ (xs : List ℕ). RunsOn (intake extended_rules g.K.Keep.keeper)
+          (with_keep (reading_by c.args.self.now) c.args.keep.now) xs (with_keep to run.new.keep))
+          (bytes_on [] values i k)
+          on.0;
       is_at = on.1;
     }
 
@@ -42,14 +44,15 @@ returns-in_default g c =
     let i : ℕ = now.used in
     let k : ℕ = run.result.used in
     let to = reading_by run.new.self in
-    let all = run_both extended_rules g.K.Keep.holds g.K.Keep.may_answer (reading_by c.args.self.now)
+    let all = run_both extended_rules g.K.Keep.keeper (reading_by c.args.self.now)
     (reading_by now.self) c.args.keep.now now.keep (take i values) now.invariant.on (take k (left_of values i)) to
     run.new.at run.new.keep run.result.end run.ensures.run in
     record {
       used = omega (arith, run.ensures.used, length_rest values i, now.invariant.inside);
       whole = λ e. absurd (c.in_default.not-More e);
-      run = subst (λ (xs : List ℕ). IsRunOfValues extended_rules g.K.Keep.holds g.K.Keep.may_answer
-          (reading_by c.args.self.now) c.args.keep.now xs to run.new.at run.new.keep run.result.end)
+      run = subst (λ (xs : List ℕ). IsRunOfValues (intake extended_rules g.K.Keep.keeper)
+          (with_keep (reading_by c.args.self.now) c.args.keep.now) xs (with_keep to run.new.keep) run.new.at
+          run.result.end)
           (bytes_on [] values i k) all;
     }
 

@@ -1,5 +1,5 @@
 use Rattle.std.proofs.Common.{◌≤◌, ◌-◌, length, take}
-use Rattle.ws_code.specs.Run.{IsAt, RunsOn}
+use Rattle.ws_code.specs.Run.{IsAt, RunsOn, intake, with_keep}
 use Rattle.ws_extended.specs.ExtendedElements.{extended_rules}
 use Rattle.ws_extended.specs.ExtendedRuns.{reading_by}
 use Rattle.ws_extended.proofs.extended_commands.ExtendedCommandsCode.run.Given as goal
@@ -8,8 +8,8 @@ use Rattle.ws_extended.proofs.extended_commands.ExtendedCommandsCode.run.Given a
 abbrev pub invariant-loop-used : goal.invariant-loop-used
 invariant-loop-used g l = record {
   inside : l.used ≤ length l.values;
-  on : RunsOn extended_rules g.K.Keep.holds g.K.Keep.may_answer (reading_by l.fn.self) l.fn.keep
-      (take l.used l.values) (reading_by l.self) l.keep;
+  on : RunsOn (intake extended_rules g.K.Keep.keeper) (with_keep (reading_by l.fn.self) l.fn.keep)
+      (take l.used l.values) (with_keep (reading_by l.self) l.keep);
   is_at : IsAt extended_rules (reading_by l.self) l.at;
 }
 

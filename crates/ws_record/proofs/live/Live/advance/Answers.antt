@@ -11,7 +11,7 @@ returns-clause-near_full g c = λ bytes items so_far l some fits.
       length-append bytes front,
       length-take-le c.take_front-advance.result.used c.args.piece.now c.take_front-advance.ensures.within,
     ) in
-    recount g.B.Code.rules g.met.B.Body.can_end g.met.B.Code.bytes g.K.Keep.holds g.K.Keep.may_answer c.args.keep.now
+    recount g.B.Code.rules g.met.B.Body.can_end g.met.B.Code.bytes g.K.Keep.keeper c.args.keep.now
     c.take_front-advance.new.keep bytes items so_far c.self-2.inside.tokens c.self-2.inside.open_record front _
     c.take_front-advance.result.news (λ on. rw (taken, c.is_last-self-inside.ensures.1 on))
     (rw (← c.self-2.view_is) at (c.take_front-advance.ensures.advance bytes items so_far l))

@@ -13,18 +13,18 @@ pub returns-then-is_inside-clause-advance : goal.returns-then-is_inside-clause-a
 returns-then-is_inside-clause-advance g c = λ bytes items so_far l.
     let was = rw (← c.self.view_is) at l in
     rw (take_more c.args.piece.now 0 0 c.requires) (word_advance g.B.Code.rules g.met.B.Body.can_end
-    g.met.B.Code.bytes g.K.Keep.holds g.K.Keep.may_answer _ _ _ _ _ _ _ [] _ _ (rw (append-nil bytes) was.holds) _
+    g.met.B.Code.bytes g.K.Keep.keeper _ _ _ _ _ _ _ [] _ _ (rw (append-nil bytes) was.holds) _
     was.reads c.go_on-word.result _ c.go_on-word.ensures (c.complete.ensures so_far was.reads))
 
 pub returns-then-is_inside-clause-first : goal.returns-then-is_inside-clause-first
 returns-then-is_inside-clause-first g c = λ bytes items so_far l n lt.
-    part_held _ (part_at_none _ g.K.Keep.may_answer l c.args.piece.now n lt).2
+    part_held _ (part_at_none _ g.K.Keep.keeper l c.args.piece.now n lt).2
 
 pub returns-then-piece-clause-advance : goal.returns-then-piece-clause-advance
 returns-then-piece-clause-advance g c = λ bytes items so_far l.
     let was = rw (← c.self.view_is) at l in
     let fresh = c.is_inside.ensures.no c.if-is_inside.false in
-    advance_values g.B.Code.rules g.met.B.Body.can_end g.met.B.Code.bytes g.K.Keep.holds g.K.Keep.may_answer
+    advance_values g.B.Code.rules g.met.B.Body.can_end g.met.B.Code.bytes g.K.Keep.keeper
     c.args.keep.now _ _ _ _ _ _ _ _ c.take.result.news (carries_values _ _ _ _ _ (rw fresh at was.holds) (front_bytes
     c.args.piece.now c.take.result.used (λ i. omega (arith, c.type_inv.piece i))) c.take.ensures.plain) fresh
     (c.take.ensures.taken so_far was.reads)
@@ -32,7 +32,7 @@ returns-then-piece-clause-advance g c = λ bytes items so_far l.
 pub returns-then-piece-clause-before : goal.returns-then-piece-clause-before
 returns-then-piece-clause-before g c = λ bytes items so_far l n lt.
     let was = rw (← c.self.view_is) at l in
-    part_in_values g.B.Code.rules g.K.Keep.may_answer was g.K.Keep.holds g.met.B.Code.begins _ c.args.keep.now _
+    part_in_values g.B.Code.rules g.K.Keep.keeper was g.met.B.Code.begins _ c.args.keep.now _
     c.take.result.news c.args.piece.now c.take.result.used n lt c.take.ensures.within
     (c.take.ensures.taken so_far was.reads) (holds_values _ _ _ _ _ (rw (c.is_inside.ensures.no
     c.if-is_inside.false) at was.holds) (front_bytes c.args.piece.now n (λ i. omega (arith, c.type_inv.piece i)))
@@ -49,12 +49,12 @@ returns-then-piece-lt2-clause-advance g c = λ bytes items so_far l.
     let was = rw (← c.self.view_is) at l in
     let fresh = c.is_inside.ensures.no c.if-is_inside.false in
     rw (take_more c.args.piece.now 0 0 c.requires, c.if-piece.false) (more_advance g.B.Code.rules
-    g.met.B.Body.can_end g.met.B.Code.bytes g.K.Keep.holds g.K.Keep.may_answer _ _ _ _ _ _ _ [] [] _
+    g.met.B.Body.can_end g.met.B.Code.bytes g.K.Keep.keeper _ _ _ _ _ _ _ [] [] _
     (rw (append-nil bytes, ← fresh) was.holds) _ was.reads c.begin.ensures.more c.begin.ensures.begun refl refl)
 
 pub returns-then-piece-lt2-clause-first : goal.returns-then-piece-lt2-clause-first
 returns-then-piece-lt2-clause-first g c = λ bytes items so_far l n lt.
-    part_held _ (part_at_none _ g.K.Keep.may_answer l c.args.piece.now n lt).2
+    part_held _ (part_at_none _ g.K.Keep.keeper l c.args.piece.now n lt).2
 
 pub invariant_of-self-2 : goal.invariant_of-self-2
 invariant_of-self-2 g c = word_begun c.after_iac-word.new.self (IAC ∷ []) (get_or c.args.piece.now 1 0) _
@@ -67,20 +67,20 @@ returns-clause-advance g c = λ bytes items so_far l.
       take_more c.args.piece.now 1 0 (omega (arith, c.if-piece-lt2.false)),
       take_more c.args.piece.now 0 0 c.requires,
       c.if-piece.false,
-    ) (word_advance g.B.Code.rules g.met.B.Body.can_end g.met.B.Code.bytes g.K.Keep.holds g.K.Keep.may_answer
+    ) (word_advance g.B.Code.rules g.met.B.Body.can_end g.met.B.Code.bytes g.K.Keep.keeper
     c.args.keep.now _ _ _ _ _ _ (IAC ∷ []) _ _ (holds_iac _ was c.args.piece.now (c.is_inside.ensures.no
     c.if-is_inside.false)) _ was.reads c.after_iac-word.result _ c.after_iac-word.ensures
     (c.complete-2.ensures so_far was.reads))
 
 pub returns-then-is_inside-clause-before : goal.returns-then-is_inside-clause-before
-returns-then-is_inside-clause-before g c = λ bytes items so_far l. part_at_none _ g.K.Keep.may_answer l c.args.piece.now
+returns-then-is_inside-clause-before g c = λ bytes items so_far l. part_at_none _ g.K.Keep.keeper l c.args.piece.now
 
 pub returns-then-piece-lt2-clause-before : goal.returns-then-piece-lt2-clause-before
-returns-then-piece-lt2-clause-before g c = λ bytes items so_far l. part_at_none _ g.K.Keep.may_answer l c.args.piece.now
+returns-then-piece-lt2-clause-before g c = λ bytes items so_far l. part_at_none _ g.K.Keep.keeper l c.args.piece.now
 
 pub returns-clause-before : goal.returns-clause-before
 returns-clause-before g c = λ bytes items so_far l.
-    part_at_one _ g.K.Keep.may_answer (rw (← c.self.view_is) at l) c.args.piece.now
+    part_at_one _ g.K.Keep.keeper (rw (← c.self.view_is) at l) c.args.piece.now
     (c.is_inside.ensures.no c.if-is_inside.false)
     (rw (take_more c.args.piece.now 0 0 c.requires, c.if-piece.false))
 
@@ -92,14 +92,14 @@ pub returns-then-is_inside-clause-kept : goal.returns-then-is_inside-clause-kept
 returns-then-is_inside-clause-kept g c = λ bytes items so_far l n e.
     let was = rw (← c.self.view_is) at l in
     let zero : n ≡ 0 = omega (arith, e) in
-    rw zero (word_kept g.B.Code.rules g.K.Keep.holds c.args.keep.now _ items so_far g.K.Keep.may_answer bytes _ [] _ _
+    rw zero (word_kept g.B.Code.rules g.K.Keep.keeper c.args.keep.now _ items so_far bytes _ [] _ _
     (rw (append-nil bytes) was.holds) _ was.reads _ c.go_on-word.result _ c.go_on-word.ensures
     (c.complete.ensures so_far was.reads))
 
 pub returns-then-piece-clause-kept : goal.returns-then-piece-clause-kept
 returns-then-piece-clause-kept g c = λ bytes items so_far l n e.
     let was = rw (← c.self.view_is) at l in
-    values_kept g.B.Code.rules g.K.Keep.holds c.args.keep.now _ items so_far g.K.Keep.may_answer bytes _
+    values_kept g.B.Code.rules g.K.Keep.keeper c.args.keep.now _ items so_far bytes _
     (take n c.args.piece.now) (get_or c.args.piece.now n 0) _ _ c.take.result.news (carries_values _ _ _ _ _
     (rw (c.is_inside.ensures.no c.if-is_inside.false) at was.holds) (front_bytes c.args.piece.now c.take.result.used
     (λ i. omega (arith, c.type_inv.piece i))) c.take.ensures.plain) (c.take.ensures.taken so_far was.reads)
@@ -109,7 +109,7 @@ pub returns-clause-kept : goal.returns-clause-kept
 returns-clause-kept g c = λ bytes items so_far l n e.
     let was = rw (← c.self.view_is) at l in
     let one : n ≡ 1 = omega (arith, e) in
-    rw (one, take_more c.args.piece.now 0 0 c.requires, c.if-piece.false) (word_kept g.B.Code.rules g.K.Keep.holds
-    c.args.keep.now _ items so_far g.K.Keep.may_answer bytes _ (IAC ∷ []) _ _ (holds_iac _ was c.args.piece.now
+    rw (one, take_more c.args.piece.now 0 0 c.requires, c.if-piece.false) (word_kept g.B.Code.rules g.K.Keep.keeper
+    c.args.keep.now _ items so_far bytes _ (IAC ∷ []) _ _ (holds_iac _ was c.args.piece.now
     (c.is_inside.ensures.no c.if-is_inside.false)) _ was.reads _ c.after_iac-word.result _ c.after_iac-word.ensures
     (c.complete-2.ensures so_far was.reads))

@@ -21,7 +21,7 @@ pub returns-in_default : goal.returns-in_default
 returns-in_default g c = record {
   within = omega (arith, c.loop-index-test.true);
   used = omega arith;
-  taken = λ so_far r. header_step g.B.Code.rules g.K.Keep.holds g.K.Keep.may_answer so_far c.args._keep.now
+  taken = λ so_far r. header_step g.B.Code.rules g.K.Keep.keeper so_far c.args._keep.now
       (take (c.loop-index.index + 1) c.args.values.now) c.loop-index.self c.take_header_byte.new.self
       (take c.loop-index.index c.args.values.now) _ c.take_header_byte.result (c.loop-index.invariant.2 so_far r)
       (take_more c.args.values.now c.loop-index.index 0 c.loop-index-test.true)
