@@ -10,7 +10,7 @@ use Rattle.ws_session.proofs.attached.PlaySteps.{keys_taken}
 use Rattle.ws_session.proofs.attached.Plays.{text_of}
 use Rattle.ws_code.specs.Device.{on_devices}
 use Rattle.ws_session.specs.attached.StationRun.{asked, outflow}
-use Rattle.ws_session.specs.world.Carrying.{passage, line_of}
+use Rattle.ws_session.specs.world.Carrying.{passage, line_with}
 
 -- What the reads of a run make of its player.
 
@@ -49,7 +49,7 @@ module _ {R S : Type 0} (reader : Reader R) (writer : Writer S) (t : TerminalTyp
 
   pub start_fails : (station : StationParts) (source : R) (sink here : S) → StationLeads station [] [] (new_station_side
       t) → FailedWithin writer sink here (text_of (outcome (new_station_side t) (due 0 keys)).written)
-      → IsRun (asked t keys) (passage (on_devices writer reader) (line_of sink source) (line_of here source)) (Err Write)
+      → IsRun (asked t keys) (passage (on_devices writer reader) (line_with sink source) (line_with here source)) (Err Write)
   start_fails station source sink here l failed = record {
     bytes = [];
     reads = 0;
@@ -76,7 +76,7 @@ module _ {R S : Type 0} (reader : Reader R) (writer : Writer S) (t : TerminalTyp
         → IfErr result (λ fault. (bytes : List ℕ) (items : List (Item Element)) (side : StationSide)
         → StationLeads player.station bytes items side → length bytes + 1 < 2 ^ 64
         → (fault ≡ Truncated (length bytes)) × IsTruncated {Place = Place} {U = Element} element_rules bytes)
-        → IsRun (asked t keys) (passage (on_devices writer reader) (line_of sink source) (line_of here now')) result
+        → IsRun (asked t keys) (passage (on_devices writer reader) (line_with sink source) (line_with here now')) result
     run_ends now' room (Ok played) h made same ok err = record {
       bytes = r.bytes;
       items = r.items;
@@ -102,7 +102,7 @@ module _ {R S : Type 0} (reader : Reader R) (writer : Writer S) (t : TerminalTyp
 
     -- a read that failed
     pub run_unread : (now' : R) (room : ℕ) → reader.gives now room None now' → reader.failures now' ≡ one_more (reader.failures now)
-        → IsRun (asked t keys) (passage (on_devices writer reader) (line_of sink source) (line_of here now')) (Err Read)
+        → IsRun (asked t keys) (passage (on_devices writer reader) (line_with sink source) (line_with here now')) (Err Read)
     run_unread now' room made counted = record {
       bytes = r.bytes;
       items = r.items;
@@ -140,7 +140,7 @@ module _ {R S : Type 0} (reader : Reader R) (writer : Writer S) (t : TerminalTyp
 
       -- and one that isn't
       pub run_stops : (to : S) (fault : Fault) → IsRunFault (asked t keys) (outflow writer sink to) (length r.bytes)
-          (r.bytes ++ given) fault → IsRun (asked t keys) (passage (on_devices writer reader) (line_of sink source) (line_of to now')) (Err fault)
+          (r.bytes ++ given) fault → IsRun (asked t keys) (passage (on_devices writer reader) (line_with sink source) (line_with to now')) (Err fault)
       run_stops to (Refused place reason) f = (
         record {
           first = r.bytes;
@@ -162,7 +162,7 @@ module _ {R S : Type 0} (reader : Reader R) (writer : Writer S) (t : TerminalTyp
 pub run_endless : {R S : Type 0} (reader : Reader R) (writer : Writer S)
     (t : TerminalType) (keys : List (ℕ × Key)) (source now : R) (reads : ℕ) (sink here : S) (player : Player)
     → Reading reader source now reads writer t keys sink here player
-    → reads ≡ most_reads → IsRun (asked t keys) (passage (on_devices writer reader) (line_of sink source) (line_of here now)) (Err Read)
+    → reads ≡ most_reads → IsRun (asked t keys) (passage (on_devices writer reader) (line_with sink source) (line_with here now)) (Err Read)
 run_endless reader writer t keys source now reads sink here player r is = record {
   bytes = r.bytes;
   items = r.items;

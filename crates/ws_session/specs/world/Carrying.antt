@@ -14,8 +14,8 @@ pub record Passage (S R : Type 0) : Type 1 where
   pub to : Line S R
 
 -- a line of this sink and this source
-abbrev pub line_of : {S R : Type 0} → S → R → Line S R
-line_of sink source = record { sink = sink; source = source }
+abbrev pub line_with : {S R : Type 0} → S → R → Line S R
+line_with sink source = record { sink = sink; source = source }
 
 -- a line with such ends was this, and is that
 abbrev pub passage : {S R : Type 0} → Devices R S → Line S R → Line S R → Passage S R

@@ -3,7 +3,7 @@ ghost use Rattle.ws_nego.specs.declared.terminal.TerminalType.{TerminalType as A
 ghost use Rattle.ws_session.specs.station.StationLeads.{IsFresh, StationLeads};
 ghost use Rattle.ws_code.specs.Device.{on_devices};
 ghost use Rattle.ws_session.specs.attached.StationRun.{IsRun, asked};
-ghost use Rattle.ws_session.specs.world.Carrying.{line_of, passage};
+ghost use Rattle.ws_session.specs.world.Carrying.{line_with, passage};
 ghost use Rattle.ws_session.specs.station.StationSide.{new_station_side};
 
 use crate::Station;
@@ -38,7 +38,7 @@ pub fn run_station<R: Source, S: Sink>(
     requires { IsFresh station }
     ensures { (terminal : ATerminal) → StationLeads station [] [] (new_station_side terminal)
         → IsRun (asked terminal keys.now) (passage (on_devices S.writer R.reader)
-        (line_of sink.old source.old) (line_of sink.new source.new)) result }
+        (line_with sink.old source.old) (line_with sink.new source.new)) result }
 {
     let mut player = Player {
         station,

@@ -1,6 +1,6 @@
 ghost use Rattle.std.specs.Prelude.{◌≡◌, ◌≤◌, Err, length, IfErr, OnOk};
 ghost use Rattle.ws_code.specs.Device.{on_devices};
-ghost use Rattle.ws_session.specs.world.Carrying.{IsCarried, IsCarryFault, line_of, passage};
+ghost use Rattle.ws_session.specs.world.Carrying.{IsCarried, IsCarryFault, line_with, passage};
 
 use ws_code::{DeviceFailed, Fault, Sink, Source, write_whole};
 
@@ -23,9 +23,9 @@ pub fn carry<S: Sink, R: Source>(
     requires piece { length bytes.now ≤ 4096 }
     // What crossed, or how far it came; behind a failed write nothing was read.
     ensures carried { OnOk result (IsCarried (passage (on_devices S.writer R.reader)
-        (line_of sink.old source.old) (line_of sink.new source.new)) bytes.now taken.new) }
+        (line_with sink.old source.old) (line_with sink.new source.new)) bytes.now taken.new) }
     ensures fault { IfErr result (IsCarryFault (passage (on_devices S.writer R.reader)
-        (line_of sink.old source.old) (line_of sink.new source.new)) bytes.now taken.new) }
+        (line_with sink.old source.old) (line_with sink.new source.new)) bytes.now taken.new) }
     ensures unread { result ≡ Err Fault.Write → taken.new ≡ taken.old }
 {
     write_whole(sink, bytes)?;
