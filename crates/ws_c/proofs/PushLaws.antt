@@ -93,15 +93,6 @@ module _ {Place PlaceV Side U V Deed Event : Type 0} (rules : Rules Place U) (ou
         length-drop n bytes,
       ))))
 
--- behind the last byte none is left
-pub none_left : (bytes : List ℕ) (n taken : ℕ) → length bytes ≤ n → taken ≡ n → drop taken bytes ≡ []
-none_left bytes n taken h e = drop_all taken bytes (omega arith)
-
--- before it one is
-pub one_left : (bytes : List ℕ) (n taken : ℕ) → n < length bytes → taken ≡ n
-    → drop taken bytes ≡ get_or bytes n 0 ∷ drop (suc n) bytes
-one_left bytes n taken h e = ap (λ k. drop k bytes) e ∙ drop-cons bytes n 0 h
-
 -- what is told, by its own counts
 pub told_again : (told : PushedTold) (n m : ℕ) → told ≡ pushed_told n m → told ≡ pushed_told told.taken told.replied
 told_again told n m e = subst (λ (t : PushedTold). t ≡ pushed_told t.taken t.replied) (sym e) refl

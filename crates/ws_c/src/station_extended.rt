@@ -1,7 +1,7 @@
 //! Display stations as live hosts use them.
 ghost use Rattle.std.specs.Prelude.{◌≡◌};
 ghost use Rattle.ws_c.specs.declared.status.Status.{Status as AStatus};
-ghost use Rattle.ws_c.specs.Calls.{status_number};
+ghost use Rattle.ws_c.specs.Calls.{crossed, status_number};
 ghost use Rattle.ws_c.specs.HeldStations.{IsExtendedNew, IsHeldPush};
 ghost use Rattle.ws_c.specs.Pushes.{nothing_pushed};
 
@@ -52,7 +52,8 @@ pub(crate) fn push_all(
     told: &mut PushedTold,
 ) -> Status
     requires { told.old ≡ nothing_pushed }
-    ensures { IsHeldPush bytes.now buffer.old buffer.new result told.new held.old held.new }
+    ensures { IsHeldPush bytes.now
+        (crossed buffer.old buffer.new result told.new) held.old held.new }
 {
     held.hand_out(buffer, told);
     while told.taken < bytes.len() {
