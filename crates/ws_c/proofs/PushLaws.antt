@@ -1,9 +1,9 @@
 -- Bytes that are taken one after another, and a buffer that gets what they bring
 
-use Rattle.std.proofs.Common.{◌≡◌, ℕ, ◌+◌, ◌-◌, ◌^◌, ◌<◌, ◌≤◌, List, [], ◌∷◌, ◌++◌, length, get_or, take, drop, suc}
+use Rattle.std.proofs.Common.{◌≡◌, ℕ, ◌+◌, ◌-◌, ◌^◌, ◌<◌, ◌≤◌, List, [], ◌∷◌, ◌++◌, length, take, drop}
 use Rattle.std.proofs.Common.{refl, ap, subst, sym, ◌∙◌, arith, append_assoc, length-append}
-use Rattle.std.proofs.Math.Seq.{drop-cons, take-add}
-use Rattle.std.proofs.lemmas.List.{append-nil, drop_all, take_all, length-drop, length-take-le}
+use Rattle.std.proofs.Math.Seq.{take-add}
+use Rattle.std.proofs.lemmas.List.{append-nil, take_all, length-drop, length-take-le}
 use Rattle.ws_code.specs.Code.{Rules}
 use Rattle.ws_record.specs.declared.record.Item.{Item}
 use Rattle.ws_session.specs.ActLaws.{gone_on, came_append, bytes_came}

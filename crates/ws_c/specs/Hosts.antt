@@ -1,6 +1,6 @@
 -- A host's end, as C sees it (RFC 1205, sections 3 and 4)
 
-use Rattle.std.specs.Prelude.{◌≡◌, ℕ, ◌+◌, ◌-◌, ◌^◌, ◌<◌, ◌≤◌, List, [], ◌∷◌, ◌++◌, length, take, drop, Option, Some}
+use Rattle.std.specs.Prelude.{◌≡◌, ℕ, ◌+◌, ◌-◌, ◌^◌, ◌<◌, ◌≤◌, List, [], ◌∷◌, ◌++◌, length, take, Option, Some}
 use Rattle.std.specs.Prelude.{None, ◌⊎◌, IsSome}
 use Rattle.ws_nego.specs.Host.{opening}
 use Rattle.ws_nego.specs.declared.terminal.TerminalType.{TerminalType}
@@ -30,7 +30,7 @@ use Rattle.ws_c.specs.declared.told.Told.{Told}
 use Rattle.ws_c.specs.declared.told.PushedTold.{PushedTold}
 use Rattle.ws_c.specs.declared.told.TheConstants.{REPLY_ROOM}
 use Rattle.ws_c.specs.Calls.{Crossed, GivesBytes, TellsOnly, holds_front, told_length}
-use Rattle.ws_c.specs.Pushes.{Front, IsPushRefused, StandsBehind, TellsCounts, first_bytes, left_behind, pushed_told}
+use Rattle.ws_c.specs.Pushes.{Front, IsPushRefused, StandsBehind, TellsCounts, first_bytes, left_behind}
 
 -- the bytes by which a host asks the station for its terminal type
 abbrev pub opening_bytes : List ℕ
