@@ -57,6 +57,10 @@ status_number NoReadToCancel = 12
 status_number TooBig = 13
 status_number NoAnswer = 14
 
+-- a call gives C the number of a status, of which this is said
+abbrev pub HasStatus : ℕ → (Status → Type 0) → Type 0
+HasStatus number says = (status : Status) × (number ≡ status_number status) × says status
+
 -- a buffer at whose front these bytes were put
 abbrev pub holds_front : List ℕ → List ℕ → List ℕ
 holds_front bytes buffer = bytes ++ drop (length bytes) buffer

@@ -3,8 +3,7 @@ ghost use Rattle.std.specs.Prelude.{◌≡◌, ◌≤◌, ◌<◌, length, Resul
 ghost use Rattle.ws_code.specs.declared.fault.Fault.{Fault as AFault};
 ghost use Rattle.ws_record.specs.Grammar.{opcode_byte};
 ghost use Rattle.ws_record.specs.declared.live.Step.{Step as AStep};
-ghost use Rattle.ws_c.specs.declared.status.Status.{Status as AStatus};
-ghost use Rattle.ws_c.specs.Calls.{TellsOnly, crossed, status_number};
+ghost use Rattle.ws_c.specs.Calls.{HasStatus, TellsOnly, crossed, status_number};
 ghost use Rattle.ws_c.specs.Held.{HoldsNone, IsDecoderFreed, OnDecoders};
 ghost use Rattle.ws_c.specs.Decoding.{DecoderFinishedOn, IsDecode, IsDecodeOn, IsDecoderNew, IsStreamEnd, IsEndTold, IsExtendedDecode, IsExtendedDecoderNew, IsExtendedStreamEnd, IsStepToldOn, plain_step};
 
@@ -99,8 +98,8 @@ fn make_decoder(alloc: Global, handle: &mut Handle) -> Status
 /// `InUse` where the handle holds something, and `NoMemory`. The handle then stays as it is.
 #[unsafe(no_mangle)]
 pub extern "C" fn ws_c_decoder_new(alloc: Global, handle: &mut Handle) -> u32
-    ensures made { (status : AStatus) × (result ≡ status_number status)
-        × IsDecoderNew handle.old.owned.value handle.new.owned.value status }
+    ensures made { HasStatus result (λ status.
+        IsDecoderNew handle.old.owned.value handle.new.owned.value status) }
 {
     make_decoder(alloc, handle).number()
 }
@@ -127,8 +126,8 @@ fn make_extended_decoder(alloc: Global, handle: &mut Handle) -> Status
 /// `InUse` where the handle holds something, and `NoMemory`. The handle then stays as it is.
 #[unsafe(no_mangle)]
 pub extern "C" fn ws_c_decoder_new_extended(alloc: Global, handle: &mut Handle) -> u32
-    ensures made { (status : AStatus) × (result ≡ status_number status)
-        × IsExtendedDecoderNew handle.old.owned.value handle.new.owned.value status }
+    ensures made { HasStatus result (λ status.
+        IsExtendedDecoderNew handle.old.owned.value handle.new.owned.value status) }
 {
     make_extended_decoder(alloc, handle).number()
 }
@@ -283,8 +282,8 @@ pub extern "C" fn ws_c_decoder_push(
 ) -> u32
     ensures room { length buffer.old < 133 → (result ≡ status_number Status.NoRoom)
         × (handle.new ≡ handle.old) × (buffer.new ≡ buffer.old) × (told.new ≡ plain_step 0 0) }
-    ensures pushed { 133 ≤ length buffer.old → (status : AStatus) × (result ≡ status_number status)
-        × (let call = crossed buffer.old buffer.new status told.new in
+    ensures pushed { 133 ≤ length buffer.old → HasStatus result (λ status.
+        let call = crossed buffer.old buffer.new status told.new in
         OnDecoders handle.old.owned.value handle.new.owned.value (IsDecode bytes.now call)
         (IsExtendedDecode bytes.now call) (TellsOnly call Status.NothingHeld (plain_step 0 0))) }
 {
@@ -336,9 +335,9 @@ fn finish(alloc: Global, handle: &mut Handle, place: &mut u64) -> Status
 /// `NothingHeld` where the handle holds no decoder; `place` is then 0.
 #[unsafe(no_mangle)]
 pub extern "C" fn ws_c_decoder_finish(alloc: Global, handle: &mut Handle, place: &mut u64) -> u32
-    ensures { (status : AStatus) × (result ≡ status_number status)
-        × OnDecoders handle.old.owned.value handle.new.owned.value (IsStreamEnd status place.new)
-        (IsExtendedStreamEnd status place.new) (HoldsNone status (place.new ≡ 0)) }
+    ensures { HasStatus result (λ status. OnDecoders handle.old.owned.value handle.new.owned.value
+        (IsStreamEnd status place.new) (IsExtendedStreamEnd status place.new)
+        (HoldsNone status (place.new ≡ 0))) }
 {
     finish(alloc, handle, place).number()
 }

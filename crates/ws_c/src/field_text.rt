@@ -4,8 +4,7 @@ ghost use Rattle.std.specs.Str.{encode_utf8_all};
 ghost use Rattle.ws_code.specs.declared.address.TheConstants.{CELLS as ALL_CELLS};
 ghost use Rattle.ws_screen.specs.Lines.{shown_char};
 ghost use Rattle.ws_keys.specs.Contents.{is_null, without_trailing_nulls};
-ghost use Rattle.ws_c.specs.declared.status.Status.{Status as AStatus};
-ghost use Rattle.ws_c.specs.Calls.{TellsOnly, crossed, status_number, told_length};
+ghost use Rattle.ws_c.specs.Calls.{HasStatus, TellsOnly, crossed, told_length};
 ghost use Rattle.ws_c.specs.Held.{OnScreen};
 ghost use Rattle.ws_c.specs.Texts.{IsFieldTextTold, IsTextTold, field_text};
 
@@ -141,8 +140,8 @@ pub extern "C" fn ws_c_station_field_text(
     buffer: &mut [u8],
     told: &mut Told,
 ) -> u32
-    ensures { (status : AStatus) × (result ≡ status_number status)
-        × (let call = crossed buffer.old buffer.new status told.new in
+    ensures { HasStatus result (λ status.
+        let call = crossed buffer.old buffer.new status told.new in
         OnScreen handle.old.owned.value handle.new.owned.value
         (λ screen. IsFieldTextTold (slice_get screen.fields index) screen call)
         (TellsOnly call Status.NothingHeld (told_length 0))) }

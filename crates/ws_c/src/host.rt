@@ -1,7 +1,6 @@
 //! Hosts' ends of sessions.
 ghost use Rattle.std.specs.Prelude.{◌≡◌, ◌≤◌, ◌<◌, None, length};
-ghost use Rattle.ws_c.specs.declared.status.Status.{Status as AStatus};
-ghost use Rattle.ws_c.specs.Calls.{TellsOnly, crossed, status_number, told_length};
+ghost use Rattle.ws_c.specs.Calls.{HasStatus, TellsOnly, crossed, status_number, told_length};
 ghost use Rattle.ws_c.specs.Held.{IsHostFreed, OnHost};
 ghost use Rattle.ws_c.specs.Hosts.{IsHostNew, IsHostPush, IsNewHost, answer_after, event_told, host_told, number_of_terminal, opening_bytes};
 ghost use Rattle.ws_c.specs.Pushes.{nothing_pushed};
@@ -86,9 +85,9 @@ pub extern "C" fn ws_c_host_new(
 ) -> u32
     ensures room { length buffer.old < 17 → (result ≡ status_number Status.NoRoom)
         × (handle.new ≡ handle.old) × (buffer.new ≡ buffer.old) × (told.new ≡ told_length 0) }
-    ensures made { 17 ≤ length buffer.old → (status : AStatus) × (result ≡ status_number status)
-        × IsHostNew handle.old.owned.value handle.new.owned.value
-        (crossed buffer.old buffer.new status told.new) }
+    ensures made { 17 ≤ length buffer.old → HasStatus result (λ status.
+        IsHostNew handle.old.owned.value handle.new.owned.value
+        (crossed buffer.old buffer.new status told.new)) }
 {
     *told = Told::length(0);
     if buffer.len() < 17 {
@@ -233,8 +232,8 @@ pub extern "C" fn ws_c_host_push(
     told: &mut PushedTold,
     event: &mut EventTold,
 ) -> u32
-    ensures { (status : AStatus) × (result ≡ status_number status)
-        × (let call = crossed buffer.old buffer.new status (host_told told.new event.new) in
+    ensures { HasStatus result (λ status. let call = crossed buffer.old buffer.new status
+        (host_told told.new event.new) in
         OnHost handle.old.owned.value handle.new.owned.value (IsHostPush bytes.now call)
         (TellsOnly call Status.NothingHeld (host_told nothing_pushed (event_told None)))) }
 {

@@ -1,7 +1,6 @@
 //! The answer that a host's end has taken.
 ghost use Rattle.std.specs.Prelude.{◌≡◌};
-ghost use Rattle.ws_c.specs.declared.status.Status.{Status as AStatus};
-ghost use Rattle.ws_c.specs.Calls.{TellsOnly, crossed, status_number};
+ghost use Rattle.ws_c.specs.Calls.{HasStatus, TellsOnly, crossed};
 ghost use Rattle.ws_c.specs.Held.{HoldsNone, OnHost};
 ghost use Rattle.ws_c.specs.Answers.{IsAnswerTold, IsContentTold, IsFieldRead, no_answer, no_read_field};
 
@@ -99,10 +98,9 @@ fn answer_of(alloc: Global, handle: &mut Handle, told: &mut AnswerTold) -> Statu
 /// `NoAnswer` where none has come yet, `NothingHeld` where the handle holds no host; `told` is then zero.
 #[unsafe(no_mangle)]
 pub extern "C" fn ws_c_host_answer(alloc: Global, handle: &mut Handle, told: &mut AnswerTold) -> u32
-    ensures { (status : AStatus) × (result ≡ status_number status)
-        × OnHost handle.old.owned.value handle.new.owned.value
+    ensures { HasStatus result (λ status. OnHost handle.old.owned.value handle.new.owned.value
         (λ old new. (new ≡ old) × IsAnswerTold old.answer status told.new)
-        (HoldsNone status (told.new ≡ no_answer)) }
+        (HoldsNone status (told.new ≡ no_answer))) }
 {
     answer_of(alloc, handle, told).number()
 }
@@ -179,8 +177,8 @@ pub extern "C" fn ws_c_host_answer_field(
     buffer: &mut [u8],
     told: &mut ReadFieldTold,
 ) -> u32
-    ensures { (status : AStatus) × (result ≡ status_number status)
-        × (let call = crossed buffer.old buffer.new status told.new in
+    ensures { HasStatus result (λ status.
+        let call = crossed buffer.old buffer.new status told.new in
         OnHost handle.old.owned.value handle.new.owned.value
         (λ old new. (new ≡ old) × IsFieldRead old.answer index call)
         (TellsOnly call Status.NothingHeld no_read_field)) }

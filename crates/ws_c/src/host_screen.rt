@@ -1,7 +1,6 @@
 //! The screen that a host's end keeps: what the station's is by what was sent.
 ghost use Rattle.std.specs.Prelude.{◌≡◌, ◌≤◌, ◌<◌, ◌++◌, drop, length, slice_get};
-ghost use Rattle.ws_c.specs.declared.status.Status.{Status as AStatus};
-ghost use Rattle.ws_c.specs.Calls.{IsFieldTold, no_field, no_state, status_number};
+ghost use Rattle.ws_c.specs.Calls.{HasStatus, IsFieldTold, no_field, no_state, status_number};
 ghost use Rattle.ws_c.specs.Cells.{AreRowNumbers, cells_in, rows_told};
 ghost use Rattle.ws_c.specs.Held.{HoldsNone, OnHost};
 ghost use Rattle.ws_c.specs.HostScreens.{host_state_told};
@@ -44,10 +43,9 @@ fn look_at_state(alloc: Global, handle: &mut Handle, state: &mut StateTold) -> S
 /// `NothingHeld` where the handle holds no host; `state` is then zero.
 #[unsafe(no_mangle)]
 pub extern "C" fn ws_c_host_state(alloc: Global, handle: &mut Handle, state: &mut StateTold) -> u32
-    ensures { (status : AStatus) × (result ≡ status_number status)
-        × OnHost handle.old.owned.value handle.new.owned.value
+    ensures { HasStatus result (λ status. OnHost handle.old.owned.value handle.new.owned.value
         (λ old new. (new ≡ old) × (status ≡ Status.Done) × (state.new ≡ host_state_told old.end))
-        (HoldsNone status (state.new ≡ no_state)) }
+        (HoldsNone status (state.new ≡ no_state))) }
 {
     look_at_state(alloc, handle, state).number()
 }
@@ -87,12 +85,12 @@ pub extern "C" fn ws_c_host_cells(
     cells: &mut [CellTold],
 ) -> u32
     ensures cells { AreRowNumbers first_row last_row
-        → cells_in first_row last_row ≤ length cells.old → (status : AStatus)
-        × (result ≡ status_number status) × OnHost handle.old.owned.value handle.new.owned.value
+        → cells_in first_row last_row ≤ length cells.old → HasStatus result (λ status.
+        OnHost handle.old.owned.value handle.new.owned.value
         (λ old new. (new ≡ old) × (status ≡ Status.Done)
         × (cells.new ≡ rows_told old.end.screen first_row last_row
         ++ drop (cells_in first_row last_row) cells.old))
-        (HoldsNone status (cells.new ≡ cells.old)) }
+        (HoldsNone status (cells.new ≡ cells.old))) }
     ensures off { ¬ AreRowNumbers first_row last_row
         → (result ≡ status_number Status.BadArgument)
         × (handle.new ≡ handle.old) × (cells.new ≡ cells.old) }
@@ -133,11 +131,10 @@ pub extern "C" fn ws_c_host_field(
     index: usize,
     field: &mut FieldTold,
 ) -> u32
-    ensures { (status : AStatus) × (result ≡ status_number status)
-        × OnHost handle.old.owned.value handle.new.owned.value
+    ensures { HasStatus result (λ status. OnHost handle.old.owned.value handle.new.owned.value
         (λ old new. (new ≡ old)
         × IsFieldTold (slice_get old.end.screen.fields index) status field.new)
-        (HoldsNone status (field.new ≡ no_field)) }
+        (HoldsNone status (field.new ≡ no_field))) }
 {
     look_at_field(alloc, handle, index, field).number()
 }

@@ -6,8 +6,7 @@ ghost use Rattle.ws_stream.specs.Elements.{element_rules};
 ghost use Rattle.ws_stream.specs.declared.element.Element.{Element as AnElement};
 ghost use Rattle.ws_session.specs.declared.host_end.send_fault.SendFault.{SendFault as AFault};
 ghost use Rattle.ws_record.specs.declared.body_reader.BodyFault.{BodyFault as ABodyFault};
-ghost use Rattle.ws_c.specs.declared.status.Status.{Status as AStatus};
-ghost use Rattle.ws_c.specs.Calls.{TellsOnly, crossed, returned, status_number, told_length};
+ghost use Rattle.ws_c.specs.Calls.{HasStatus, TellsOnly, crossed, returned, status_number, told_length};
 ghost use Rattle.ws_c.specs.Held.{HoldsNone, OnHost};
 ghost use Rattle.ws_c.specs.Sends.{HostCancelled, HostSent, IsCancel, IsCancelTold, IsFetched, IsOpcodeFrom, IsReadFrom, IsSend, IsSendFaultTold, IsSendFrom, IsSendGiven, IsSentTold};
 
@@ -173,9 +172,9 @@ pub extern "C" fn ws_c_host_send(
 ) -> u32
     ensures sent { (given : Option AnOpcode) × IsOpcodeFrom opcode given
         × (read : Result (Seq AnElement) ABodyFault) × IsReadFrom element_rules body.now read
-        × (status : AStatus) × (result ≡ status_number status)
-        × IsSendGiven given read handle.old.owned.value handle.new.owned.value
-        (returned status told.new) }
+        × HasStatus result (λ status.
+        IsSendGiven given read handle.old.owned.value handle.new.owned.value
+        (returned status told.new)) }
 {
     *told = Told::length(0);
     let given = opcode_from(opcode);
@@ -217,8 +216,8 @@ pub extern "C" fn ws_c_host_sent(
     buffer: &mut [u8],
     told: &mut Told,
 ) -> u32
-    ensures { (status : AStatus) × (result ≡ status_number status)
-        × (let call = crossed buffer.old buffer.new status told.new in
+    ensures { HasStatus result (λ status.
+        let call = crossed buffer.old buffer.new status told.new in
         OnHost handle.old.owned.value handle.new.owned.value
         (λ old new. (new ≡ old) × IsFetched old.sent call)
         (TellsOnly call Status.NothingHeld (told_length 0))) }
@@ -288,8 +287,8 @@ pub extern "C" fn ws_c_host_cancel(
 ) -> u32
     ensures room { length buffer.old < 12 → (result ≡ status_number Status.NoRoom)
         × (handle.new ≡ handle.old) × (buffer.new ≡ buffer.old) × (told.new ≡ told_length 0) }
-    ensures sent { 12 ≤ length buffer.old → (status : AStatus) × (result ≡ status_number status)
-        × (let call = crossed buffer.old buffer.new status told.new in
+    ensures sent { 12 ≤ length buffer.old → HasStatus result (λ status.
+        let call = crossed buffer.old buffer.new status told.new in
         OnHost handle.old.owned.value handle.new.owned.value (IsCancel call)
         (TellsOnly call Status.NothingHeld (told_length 0))) }
 {

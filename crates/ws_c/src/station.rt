@@ -3,8 +3,7 @@ ghost use Rattle.std.specs.Prelude.{◌≡◌, ◌≤◌, ◌<◌, ◌+◌, ◌-
 ghost use Rattle.ws_nego.specs.Terminal.{terminal_named};
 ghost use Rattle.ws_session.specs.station.StationLeads.{StationParts, StationLeads};
 ghost use Rattle.ws_session.specs.station.StationSide.{new_station_side};
-ghost use Rattle.ws_c.specs.declared.status.Status.{Status as AStatus};
-ghost use Rattle.ws_c.specs.Calls.{IsStationNew, TellsOnly, crossed, holds_front, status_number};
+ghost use Rattle.ws_c.specs.Calls.{HasStatus, IsStationNew, TellsOnly, crossed, holds_front};
 ghost use Rattle.ws_c.specs.Held.{IsStationFreed, OnStations};
 ghost use Rattle.ws_c.specs.HeldStations.{IsHeldPush};
 ghost use Rattle.ws_c.specs.Pushes.{IsPushRefused, IsStationPush, nothing_pushed, place_refused_at, pushed_told};
@@ -42,8 +41,8 @@ fn make_station(alloc: Global, handle: &mut Handle, name: &[u8]) -> Status
 /// then stays as it is.
 #[unsafe(no_mangle)]
 pub extern "C" fn ws_c_station_new(alloc: Global, handle: &mut Handle, name: &[u8]) -> u32
-    ensures made { (status : AStatus) × (result ≡ status_number status)
-        × IsStationNew name.now handle.old.owned.value handle.new.owned.value status }
+    ensures made { HasStatus result (λ status.
+        IsStationNew name.now handle.old.owned.value handle.new.owned.value status) }
 {
     make_station(alloc, handle, name).number()
 }
@@ -184,8 +183,8 @@ pub extern "C" fn ws_c_station_push(
     buffer: &mut [u8],
     told: &mut PushedTold,
 ) -> u32
-    ensures { (status : AStatus) × (result ≡ status_number status)
-        × (let call = crossed buffer.old buffer.new status told.new in
+    ensures { HasStatus result (λ status.
+        let call = crossed buffer.old buffer.new status told.new in
         OnStations handle.old.owned.value handle.new.owned.value (IsStationPush bytes.now call)
         (IsHeldPush bytes.now call) (TellsOnly call Status.NothingHeld nothing_pushed)) }
 {

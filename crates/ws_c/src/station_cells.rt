@@ -2,8 +2,7 @@
 ghost use Rattle.std.specs.Prelude.{◌≡◌, ◌≤◌, ◌<◌, ◌+◌, ◌*◌, ◌-◌, ◌++◌, drop, length, map};
 ghost use Rattle.std.specs.List.{range_with_len};
 ghost use Rattle.ws_code.specs.declared.address.TheConstants.{CELLS as ALL_CELLS};
-ghost use Rattle.ws_c.specs.declared.status.Status.{Status as AStatus};
-ghost use Rattle.ws_c.specs.Calls.{status_number};
+ghost use Rattle.ws_c.specs.Calls.{HasStatus, status_number};
 ghost use Rattle.ws_c.specs.Cells.{AreRowNumbers, cell_told as told_of, cells_in, rows_told};
 ghost use Rattle.ws_c.specs.Held.{HoldsNone, OnScreen};
 
@@ -134,12 +133,12 @@ pub extern "C" fn ws_c_station_cells(
     cells: &mut [CellTold],
 ) -> u32
     ensures cells { AreRowNumbers first_row last_row
-        → cells_in first_row last_row ≤ length cells.old → (status : AStatus)
-        × (result ≡ status_number status) × OnScreen handle.old.owned.value handle.new.owned.value
+        → cells_in first_row last_row ≤ length cells.old → HasStatus result (λ status.
+        OnScreen handle.old.owned.value handle.new.owned.value
         (λ screen. (status ≡ Status.Done)
         × (cells.new ≡ rows_told screen first_row last_row
         ++ drop (cells_in first_row last_row) cells.old))
-        (HoldsNone status (cells.new ≡ cells.old)) }
+        (HoldsNone status (cells.new ≡ cells.old))) }
     ensures off { ¬ AreRowNumbers first_row last_row
         → (result ≡ status_number Status.BadArgument)
         × (handle.new ≡ handle.old) × (cells.new ≡ cells.old) }

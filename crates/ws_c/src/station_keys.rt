@@ -3,8 +3,7 @@ ghost use Rattle.std.specs.Prelude.{◌≡◌, ◌≤◌, ◌<◌, Option, Resul
 ghost use Rattle.ws_keys.specs.declared.answer.Answer.{Answer as AnAnswer};
 ghost use Rattle.ws_extended_station.specs.declared.extended_key.ExtendedKey.{ExtendedKey as AnyKey};
 ghost use Rattle.ws_session.specs.declared.station.key_fault.KeyFault.{KeyFault as AFault};
-ghost use Rattle.ws_c.specs.declared.status.Status.{Status as AStatus};
-ghost use Rattle.ws_c.specs.Calls.{IsKeyFaultTold, IsKeyTold, IsPress, StationKeyed, TellsOnly, crossed, status_number, told_length};
+ghost use Rattle.ws_c.specs.Calls.{HasStatus, IsKeyFaultTold, IsKeyTold, IsPress, StationKeyed, TellsOnly, crossed, status_number, told_length};
 ghost use Rattle.ws_c.specs.Held.{OnExtended, OnStations};
 ghost use Rattle.ws_c.specs.HeldStations.{IsAnyKeyFrom, IsAnyPressFrom, IsHeldPress};
 ghost use Rattle.ws_c.specs.Keys.{IsKeyFrom, IsKeyOfKind};
@@ -207,9 +206,9 @@ pub extern "C" fn ws_c_station_key(
     ensures room { length buffer.old < 5404 → (result ≡ status_number Status.NoRoom)
         × (handle.new ≡ handle.old) × (buffer.new ≡ buffer.old) × (told.new ≡ told_length 0) }
     ensures pressed { 5404 ≤ length buffer.old → (key : Option AnyKey) × IsAnyKeyFrom kind value key
-        × (status : AStatus) × (result ≡ status_number status)
-        × IsAnyPressFrom key handle.old.owned.value handle.new.owned.value
-        (crossed buffer.old buffer.new status told.new) }
+        × HasStatus result (λ status.
+        IsAnyPressFrom key handle.old.owned.value handle.new.owned.value
+        (crossed buffer.old buffer.new status told.new)) }
 {
     *told = Told::length(0);
     if buffer.len() < 5404 {

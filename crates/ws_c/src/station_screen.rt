@@ -2,8 +2,7 @@
 ghost use Rattle.std.specs.Prelude.{◌≡◌, ◌≤◌, ◌<◌, length, slice_get, slice_index};
 ghost use Rattle.ws_code.specs.Address.{IsRowAndColumn, place_of};
 ghost use Rattle.ws_screen.specs.ScreenParts.{holds as holds_cell};
-ghost use Rattle.ws_c.specs.declared.status.Status.{Status as AStatus};
-ghost use Rattle.ws_c.specs.Calls.{IsFieldTold, beside_screen, field_index as index_of, holds_front, no_field, no_state, place_refused, read_number as pending_number, reason_refused, row_number as number_of_row, row_text, state_of_screen, state_told, status_number, told_length};
+ghost use Rattle.ws_c.specs.Calls.{HasStatus, IsFieldTold, beside_screen, field_index as index_of, holds_front, no_field, no_state, place_refused, read_number as pending_number, reason_refused, row_number as number_of_row, row_text, state_of_screen, state_told, status_number, told_length};
 ghost use Rattle.ws_extended.specs.ErrorLine.{IsRow};
 ghost use Rattle.ws_c.specs.HeldStations.{extended_state_told};
 ghost use Rattle.ws_c.specs.Held.{HoldsNone, OnScreen, OnStations};
@@ -161,11 +160,11 @@ pub extern "C" fn ws_c_station_state(
     handle: &mut Handle,
     state: &mut StateTold,
 ) -> u32
-    ensures { (status : AStatus) × (result ≡ status_number status)
-        × OnStations handle.old.owned.value handle.new.owned.value
+    ensures { HasStatus result (λ status. OnStations handle.old.owned.value handle.new.owned.value
         (λ old new. (new ≡ old) × (status ≡ Status.Done) × (state.new ≡ state_told old))
         (λ old new. (new ≡ old) × (status ≡ Status.Done)
-        × (state.new ≡ extended_state_told old.station)) (HoldsNone status (state.new ≡ no_state)) }
+        × (state.new ≡ extended_state_told old.station))
+        (HoldsNone status (state.new ≡ no_state))) }
 {
     look_at_state(alloc, handle, state).number()
 }
@@ -198,11 +197,11 @@ pub extern "C" fn ws_c_station_cell(
     column: u8,
     byte: &mut u8,
 ) -> u32
-    ensures cell { IsRowAndColumn row column → (status : AStatus) × (result ≡ status_number status)
-        × OnScreen handle.old.owned.value handle.new.owned.value
+    ensures cell { IsRowAndColumn row column → HasStatus result (λ status.
+        OnScreen handle.old.owned.value handle.new.owned.value
         (λ screen. (status ≡ Status.Done)
         × (byte.new ≡ slice_index screen.cells (place_of row column)))
-        (HoldsNone status (byte.new ≡ 0)) }
+        (HoldsNone status (byte.new ≡ 0))) }
     ensures off { ¬ IsRowAndColumn row column → (result ≡ status_number Status.BadArgument)
         × (handle.new ≡ handle.old) × (byte.new ≡ 0) }
 {
@@ -266,11 +265,11 @@ pub extern "C" fn ws_c_station_row(
     text: &mut [u8],
     told: &mut Told,
 ) -> u32
-    ensures row { IsRow row → 160 ≤ length text.old → (status : AStatus)
-        × (result ≡ status_number status) × OnScreen handle.old.owned.value handle.new.owned.value
+    ensures row { IsRow row → 160 ≤ length text.old → HasStatus result (λ status.
+        OnScreen handle.old.owned.value handle.new.owned.value
         (λ screen. (status ≡ Status.Done) × (text.new ≡ holds_front (row_text screen row) text.old)
         × (told.new ≡ told_length (length (row_text screen row))))
-        (HoldsNone status ((text.new ≡ text.old) × (told.new ≡ told_length 0))) }
+        (HoldsNone status ((text.new ≡ text.old) × (told.new ≡ told_length 0)))) }
     ensures off { ¬ IsRow row → (result ≡ status_number Status.BadArgument)
         × (handle.new ≡ handle.old) × (text.new ≡ text.old) × (told.new ≡ told_length 0) }
     ensures room { IsRow row → length text.old < 160 → (result ≡ status_number Status.NoRoom)
@@ -318,10 +317,9 @@ pub extern "C" fn ws_c_station_field(
     index: usize,
     field: &mut FieldTold,
 ) -> u32
-    ensures { (status : AStatus) × (result ≡ status_number status)
-        × OnScreen handle.old.owned.value handle.new.owned.value
+    ensures { HasStatus result (λ status. OnScreen handle.old.owned.value handle.new.owned.value
         (λ screen. IsFieldTold (slice_get screen.fields index) status field.new)
-        (HoldsNone status (field.new ≡ no_field)) }
+        (HoldsNone status (field.new ≡ no_field))) }
 {
     look_at_field(alloc, handle, index, field).number()
 }

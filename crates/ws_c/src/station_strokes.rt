@@ -2,9 +2,8 @@
 ghost use Rattle.std.specs.Prelude.{◌≡◌, ◌∷◌, [], replicate};
 ghost use Rattle.ws_code.specs.Address.{IsRowAndColumn, place_of};
 ghost use Rattle.ws_keys.specs.Strokes.{keys_of};
-ghost use Rattle.ws_c.specs.declared.status.Status.{Status as AStatus};
 ghost use Rattle.ws_c.specs.declared.stroke.Stroke.TheVariants as Struck;
-ghost use Rattle.ws_c.specs.Calls.{returned, status_number, told_length};
+ghost use Rattle.ws_c.specs.Calls.{HasStatus, returned, status_number, told_length};
 ghost use Rattle.ws_c.specs.Held.{HoldsNone, OnStations};
 ghost use Rattle.ws_c.specs.Strokes.{AreKeyed, AreStruck, IsHeldStroke, IsStroke, IsStrokeTold, keys_of_stroke};
 
@@ -113,11 +112,11 @@ pub extern "C" fn ws_c_station_move_cursor(
     column: u8,
     told: &mut Told,
 ) -> u32
-    ensures moved { IsRowAndColumn row column → (status : AStatus) × (result ≡ status_number status)
-        × OnStations handle.old.owned.value handle.new.owned.value
+    ensures moved { IsRowAndColumn row column → HasStatus result (λ status.
+        OnStations handle.old.owned.value handle.new.owned.value
         (IsStroke (Struck.MoveTo (place_of row column)) status told.new)
         (IsHeldStroke (Struck.MoveTo (place_of row column)) status told.new)
-        (HoldsNone status (told.new ≡ told_length 0)) }
+        (HoldsNone status (told.new ≡ told_length 0))) }
     ensures off { ¬ IsRowAndColumn row column → (result ≡ status_number Status.BadArgument)
         × (handle.new ≡ handle.old) × (told.new ≡ told_length 0) }
 {
@@ -134,10 +133,9 @@ pub extern "C" fn ws_c_station_move_cursor(
 /// Told as `ws_c_station_move_cursor` tells it.
 #[unsafe(no_mangle)]
 pub extern "C" fn ws_c_station_new_line(alloc: Global, handle: &mut Handle, told: &mut Told) -> u32
-    ensures { (status : AStatus) × (result ≡ status_number status)
-        × OnStations handle.old.owned.value handle.new.owned.value
+    ensures { HasStatus result (λ status. OnStations handle.old.owned.value handle.new.owned.value
         (IsStroke Struck.NewLine status told.new) (IsHeldStroke Struck.NewLine status told.new)
-        (HoldsNone status (told.new ≡ told_length 0)) }
+        (HoldsNone status (told.new ≡ told_length 0))) }
 {
     *told = Told::length(0);
     press(alloc, handle, Stroke::NewLine, told).number()
@@ -149,10 +147,9 @@ pub extern "C" fn ws_c_station_new_line(alloc: Global, handle: &mut Handle, told
 /// Told as `ws_c_station_move_cursor` tells it.
 #[unsafe(no_mangle)]
 pub extern "C" fn ws_c_station_erase_eof(alloc: Global, handle: &mut Handle, told: &mut Told) -> u32
-    ensures { (status : AStatus) × (result ≡ status_number status)
-        × OnStations handle.old.owned.value handle.new.owned.value
+    ensures { HasStatus result (λ status. OnStations handle.old.owned.value handle.new.owned.value
         (IsStroke Struck.EraseEof status told.new) (IsHeldStroke Struck.EraseEof status told.new)
-        (HoldsNone status (told.new ≡ told_length 0)) }
+        (HoldsNone status (told.new ≡ told_length 0))) }
 {
     *told = Told::length(0);
     press(alloc, handle, Stroke::EraseEof, told).number()
