@@ -232,8 +232,8 @@ pub extern "C" fn ws_c_host_push(
     told: &mut PushedTold,
     event: &mut EventTold,
 ) -> u32
-    ensures { HasStatus result (λ status. let call = crossed buffer.old buffer.new status
-        (host_told told.new event.new) in
+    ensures { HasStatus result (λ status.
+        let call = crossed buffer.old buffer.new status (host_told told.new event.new) in
         OnHost handle.old.owned.value handle.new.owned.value (IsHostPush bytes.now call)
         (TellsOnly call Status.NothingHeld (host_told nothing_pushed (event_told None)))) }
 {

@@ -61,8 +61,8 @@ pub(crate) fn tell_key(
 fn press_station(station: &mut Station, key: Key, buffer: &mut [u8], told: &mut Told) -> Status
     requires { 5404 ≤ length buffer.old }
     ensures { (keyed : Result (Option AnAnswer) AFault)
-        × StationKeyed station.old station.new key keyed × IsKeyTold keyed
-        (crossed buffer.old buffer.new result told.new) }
+        × StationKeyed station.old station.new key keyed
+        × IsKeyTold keyed (crossed buffer.old buffer.new result told.new) }
 {
     let keyed = station.key(key);
     tell_key(keyed, buffer, told)
