@@ -4,7 +4,6 @@ use Rattle.std.specs.Prelude.{min}
 use Rattle.std.proofs.Common.{◌≡◌, ℕ, ◌+◌, ◌-◌, ◌^◌, ◌<◌, ◌≤◌, inl, inr, Bool, List, [], ◌∷◌, ◌++◌, Some, None, IsSome}
 use Rattle.std.proofs.Common.{length, take, drop, refl, ap, subst, sym, ◌∙◌, arith, length-append}
 use Rattle.std.proofs.lemmas.Bool.{cases_lt}
-use Rattle.ws_code.specs.Code.{Rules}
 use Rattle.ws_record.specs.declared.record.Item.{Item}
 use Rattle.ws_stream.specs.AnswerParts.{answer_rules}
 use Rattle.ws_stream.specs.Elements.{element_rules}
@@ -19,25 +18,26 @@ use Rattle.ws_session.specs.declared.refusal.Refusal.TheVariants.{At, Failed, Me
 use Rattle.ws_session.specs.host_end.HostFeeds.{HasHostFed, HasHostRefused}
 use Rattle.ws_session.specs.host_end.HostLeads.{HostParts, HostLeads}
 use Rattle.ws_session.specs.host_end.HostSide.{HostSide}
-use Rattle.ws_session.specs.station.Displays.{DisplayOf, SideOn}
-use Rattle.ws_session.specs.station.PartsOn.{PartsOn}
+use Rattle.ws_session.specs.station.Displays.{SideOn}
 use Rattle.ws_session.specs.station.StationActs.{HasFedOn, HasRefusedOn, IsSilentOn}
 use Rattle.ws_session.specs.station.StationManners.{manner_on}
-use Rattle.ws_session.specs.station.Stations.{LeadsOn}
 use Rattle.ws_session.proofs.Counts.{counted_on}
 use Rattle.ws_session.proofs.Feedings.{none_come}
 use Rattle.ws_c.specs.Hosts.{HostTakes, HostRefusesWithin}
-use Rattle.ws_c.specs.Pushes.{BringsAtMostOn, StationTakesOn, StationRefusesOn, StandsBehind, place_refused_at}
+use Rattle.ws_c.specs.Kinds.{LeadsOf, StationKind, StationOf}
+use Rattle.ws_c.specs.Pushes.{BringsAtMostOn, StationTakesOn, StationRefusesOn, StandsBehind, first_bytes}
+use Rattle.ws_c.specs.Pushes.{place_refused_at}
 use Rattle.ws_c.specs.declared.host.HeldHost.{HeldHost}
 use Rattle.ws_c.proofs.PushLaws.{come_on}
 
-module _ {D P U H PlaceV V K R : Type 0} (rules : Rules P U) (d : DisplayOf D U H PlaceV V K R) where
+module _ (kind : StationKind) where
   -- none of the bytes was taken
-  pub station_takes_none : (station : PartsOn D P) (bytes : List ℕ) → StationTakesOn rules d station bytes 0 [] station
+  pub station_takes_none : (station : StationOf kind) (bytes : List ℕ)
+      → StationTakesOn kind station (first_bytes bytes 0) [] station
   station_takes_none station bytes = record {
     taken = λ before items side l fits. (
       [],
-      none_come rules d.out (manner_on d) (LeadsOn rules d station) before items side l,
+      none_come kind.rules kind.display.out (manner_on kind.display) (LeadsOf kind station) before items side l,
     );
     counted = λ fits. omega arith;
     works = λ some e. absurd (omega (arith, some));
@@ -46,44 +46,46 @@ module _ {D P U H PlaceV V K R : Type 0} (rules : Rules P U) (d : DisplayOf D U 
   }
 
   -- more of them are
-  pub station_takes_on : (old now new : PartsOn D P) (bytes : List ℕ) (n k : ℕ) (written reply : List ℕ) (ends : Bool)
-      → n ≤ length bytes → 0 < k → StationTakesOn rules d old bytes n written now
-      → ((b : List ℕ) (its : List (Item U)) (s : SideOn H) → LeadsOn rules d now b its s
+  pub station_takes_on : (old now new : StationOf kind) (bytes : List ℕ) (n k : ℕ) (written reply : List ℕ)
+      (ends : Bool) → n ≤ length bytes → 0 < k → StationTakesOn kind old (first_bytes bytes n) written now
+      → ((b : List ℕ) (its : List (Item kind.Reads)) (s : SideOn kind.Happened) → LeadsOf kind now b its s
       → length b + length (drop n bytes) + 1 < 2 ^ 64
-      → HasFedOn rules d new b its s (take k (drop n bytes)) reply ends)
+      → HasFedOn kind.rules kind.display new b its s (take k (drop n bytes)) reply ends)
       → (now.live.taken + k < 2 ^ 64 → new.live.taken ≡ now.live.taken + k)
       → (IsSome now.ended → ⊥) → (now.live.taken + 1 ≡ 2 ^ 64 → ⊥)
-      → StationTakesOn rules d old bytes (n + k) (written ++ reply) new
+      → StationTakesOn kind old (first_bytes bytes (n + k)) (written ++ reply) new
   station_takes_on old now new bytes n k written reply ends inside some t fed counted works counts = record {
     counted = counted_on old.live.taken now.live.taken new.live.taken n k t.counted counted;
     taken = λ before items side l fits. (let g = t.taken before items side l fits in (
       g.0 ++ as_list (told_by ends),
-      come_on rules d.out (manner_on d) (LeadsOn rules d now) (LeadsOn rules d new) bytes n k before items
-          side written reply g.0 (as_list (told_by ends)) inside fits g.1 fed,
+      come_on kind.rules kind.display.out (manner_on kind.display) (LeadsOf kind now) (LeadsOf kind new) bytes n k
+          before items side written reply g.0 (as_list (told_by ends)) inside fits g.1 fed,
     ));
     works = λ _ e. elim (cases_lt 0 n) [
       | inl lt ↦ t.works lt e
-      | inr ge ↦ works (subst (λ (s : PartsOn D P). IsSome s.ended) (sym (t.none (omega (arith, ge))).0) e)
+      | inr ge ↦ works (subst (λ (s : StationOf kind). IsSome s.ended) (sym (t.none (omega (arith, ge))).0) e)
     ];
     counts = λ _ e. elim (cases_lt 0 n) [
       | inl lt ↦ t.counts lt e
-      | inr ge ↦ counts (subst (λ (s : PartsOn D P). s.live.taken + 1 ≡ 2 ^ 64) (sym (t.none (omega (arith, ge))).0) e)
+      | inr ge ↦ counts (subst (λ (s : StationOf kind). s.live.taken + 1 ≡ 2 ^ 64)
+          (sym (t.none (omega (arith, ge))).0) e)
     ];
     none = λ z. absurd (omega (arith, z, some));
   }
 
   -- what bytes bring behind these that bring nothing
-  pub station_brings : (old now : PartsOn D P) (bytes : List ℕ) (n j : ℕ) (written : List ℕ) (most : ℕ)
-      → n ≤ length bytes → StationTakesOn rules d old bytes n written now
-      → ((b : List ℕ) (its : List (Item U)) (s : SideOn H) → LeadsOn rules d now b its s
-      → length b + length (drop n bytes) + 1 < 2 ^ 64 → IsSilentOn rules d b its s (take j (drop n bytes)))
-      → length written ≤ most → BringsAtMostOn rules d old bytes (n + j) most
+  pub station_brings : (old now : StationOf kind) (bytes : List ℕ) (n j : ℕ) (written : List ℕ) (most : ℕ)
+      → n ≤ length bytes → StationTakesOn kind old (first_bytes bytes n) written now
+      → ((b : List ℕ) (its : List (Item kind.Reads)) (s : SideOn kind.Happened) → LeadsOf kind now b its s
+      → length b + length (drop n bytes) + 1 < 2 ^ 64
+      → IsSilentOn kind.rules kind.display b its s (take j (drop n bytes)))
+      → length written ≤ most → BringsAtMostOn kind old (first_bytes bytes (n + j)) most
   station_brings old now bytes n j written most inside t silent few = λ before items side l fits.
       (let g = t.taken before items side l fits in (
         written ++ [],
         g.0 ++ [],
-        come_on rules d.out (manner_on d) (LeadsOn rules d now) (λ b its s. Unit {0}) bytes n j before items side
-            written [] g.0 [] inside fits g.1 silent,
+        come_on kind.rules kind.display.out (manner_on kind.display) (LeadsOf kind now) (λ b its s. Unit {0}) bytes n j
+            before items side written [] g.0 [] inside fits g.1 silent,
         omega (arith, few, length-append written []),
       ))
 
@@ -96,17 +98,16 @@ stands_behind (At place reason) n before after length is up =
 stands_behind Memory n before after length is up = (omega (arith, is, up), omega (arith, is, up))
 stands_behind Failed n before after length is up = omega (arith, is)
 
-module _ {D P U H PlaceV V K R : Type 0} (rules : Rules P U) (d : DisplayOf D U H PlaceV V K R) (old new : PartsOn D P)
-    (bytes : List ℕ) (after : ℕ) where
+module _ (kind : StationKind) (old new : StationOf kind) (bytes : List ℕ) (after : ℕ) where
   -- how many bytes stand before a refused one
-  station_front : (refusal : Refusal) (b : List ℕ) (its : List (Item U)) (s : SideOn H)
-      → LeadsOn rules d old b its s → (r : HasRefusedOn rules d old new b its s bytes refusal)
+  station_front : (refusal : Refusal) (b : List ℕ) (its : List (Item kind.Reads)) (s : SideOn kind.Happened)
+      → LeadsOf kind old b its s → (r : HasRefusedOn kind.rules kind.display old new b its s bytes refusal)
       → min (place_refused_at refusal old.live.taken after - old.live.taken) (length bytes) ≡ length r.front
   station_front (At place reason) b its s l r =
-      let here : place ≡ length (b ++ bytes_of (all_came {Deed = K} r.front)) = r.refused.leads.0 in
-      let size : length (b ++ bytes_of (all_came {Deed = K} r.front)) ≡ length b + length r.front =
-      length-append b (bytes_of (all_came {Deed = K} r.front))
-      ∙ ap (λ (x : List ℕ). length b + length x) (bytes_came K r.front) in
+      let here : place ≡ length (b ++ bytes_of (all_came {Deed = kind.Pressed} r.front)) = r.refused.leads.0 in
+      let size : length (b ++ bytes_of (all_came {Deed = kind.Pressed} r.front)) ≡ length b + length r.front =
+      length-append b (bytes_of (all_came {Deed = kind.Pressed} r.front))
+      ∙ ap (λ (x : List ℕ). length b + length x) (bytes_came kind.Pressed r.front) in
       let all : length bytes ≡ length r.front + length (r.byte ∷ r.rest) =
       ap length r.split ∙ length-append r.front (r.byte ∷ r.rest) in
       omega (arith, here, size, all, l.leads.1.count)
@@ -115,13 +116,13 @@ module _ {D P U H PlaceV V K R : Type 0} (rules : Rules P U) (d : DisplayOf D U 
 
   pub station_refuses : (refusal : Refusal) (n : ℕ)
       → n ≡ min (place_refused_at refusal old.live.taken after - old.live.taken) (length bytes)
-      → ((b : List ℕ) (its : List (Item U)) (s : SideOn H) → LeadsOn rules d old b its s
-      → length b + length bytes + 1 < 2 ^ 64 → HasRefusedOn rules d old new b its s bytes refusal)
+      → ((b : List ℕ) (its : List (Item kind.Reads)) (s : SideOn kind.Happened) → LeadsOf kind old b its s
+      → length b + length bytes + 1 < 2 ^ 64 → HasRefusedOn kind.rules kind.display old new b its s bytes refusal)
       → (old.live.taken + 1 ≡ 2 ^ 64 → refusal ≡ Failed)
       → (IsSome old.ended → (refusal ≡ Failed) × (new ≡ old))
       → (old.ended ≡ None → new.ended ≡ Some refusal) → new.screen ≡ old.screen → after ≡ new.live.taken
       → (old.live.taken + length bytes < 2 ^ 64 → CountsUpTo refusal old.live.taken new.live.taken (length bytes))
-      → StationRefusesOn rules d old bytes n refusal new
+      → StationRefusesOn kind old (first_bytes bytes n) refusal new
   station_refuses refusal n is refused full failed after_it seen now up = record {
     counted = λ fits. stands_behind refusal n old.live.taken new.live.taken (length bytes)
         (subst (λ (z : ℕ). n ≡ min (place_refused_at refusal old.live.taken z - old.live.taken) (length bytes)) now is)
@@ -136,7 +137,7 @@ module _ {D P U H PlaceV V K R : Type 0} (rules : Rules P U) (d : DisplayOf D U 
   }
 
 -- The same of a host's end, that tells nothing
-pub host_takes_none : (host : HostParts) (bytes : List ℕ) → HostTakes host bytes 0 [] host
+pub host_takes_none : (host : HostParts) (bytes : List ℕ) → HostTakes host (first_bytes bytes 0) [] host
 host_takes_none host bytes = record {
   taken = λ before items side l fits. none_come answer_rules element_rules host_manner (HostLeads host) before items
       side l;
@@ -147,12 +148,12 @@ host_takes_none host bytes = record {
 }
 
 pub host_takes_on : (old now new : HostParts) (bytes : List ℕ) (n k : ℕ) (written reply : List ℕ) → n ≤ length bytes
-    → 0 < k → HostTakes old bytes n written now
+    → 0 < k → HostTakes old (first_bytes bytes n) written now
     → ((b : List ℕ) (its : List (Item AnswerPart)) (s : HostSide) → HostLeads now b its s
     → length b + length (drop n bytes) + 1 < 2 ^ 64 → HasHostFed new b its s (take k (drop n bytes)) reply None)
     → (now.receiver.live.taken + k < 2 ^ 64 → new.receiver.live.taken ≡ now.receiver.live.taken + k)
     → (IsSome now.ended → ⊥) → (now.receiver.live.taken + 1 ≡ 2 ^ 64 → ⊥)
-    → HostTakes old bytes (n + k) (written ++ reply) new
+    → HostTakes old (first_bytes bytes (n + k)) (written ++ reply) new
 host_takes_on old now new bytes n k written reply inside some t fed counted works counts = record {
   counted = counted_on old.receiver.live.taken now.receiver.live.taken new.receiver.live.taken n k t.counted counted;
   taken = λ before items side l fits. come_on answer_rules element_rules host_manner (HostLeads now) (HostLeads new)
@@ -206,7 +207,7 @@ module _ (old new : HostParts) (bytes : List ℕ) where
       → (old.ended ≡ None → new.ended ≡ Some refusal) → new.screen ≡ old.screen
       → (old.receiver.live.taken + length bytes < 2 ^ 64
       → CountsUpTo refusal old.receiver.live.taken new.receiver.live.taken (length bytes))
-      → HostRefusesWithin old bytes n refusal new
+      → HostRefusesWithin old (first_bytes bytes n) refusal new
   host_refuses refusal n is refused full failed after_it seen up = record {
     counted = λ fits. stands_behind refusal n old.receiver.live.taken new.receiver.live.taken (length bytes) is
         (up fits);
@@ -221,5 +222,5 @@ module _ (old new : HostParts) (bytes : List ℕ) where
 
 -- and keeps what C fetches
 abbrev pub HeldTakes : HeldHost → List ℕ → ℕ → List ℕ → HeldHost → Type 0
-HeldTakes old bytes n written new = HostTakes old.end bytes n written new.end × (new.sent ≡ old.sent)
+HeldTakes old bytes n written new = HostTakes old.end (first_bytes bytes n) written new.end × (new.sent ≡ old.sent)
     × (new.answer ≡ old.answer)

@@ -1,9 +1,9 @@
 -- Bytes that are taken one after another, and a buffer that gets what they bring
 
-use Rattle.std.proofs.Common.{◌≡◌, ℕ, ◌+◌, ◌-◌, ◌^◌, ◌<◌, ◌≤◌, List, [], ◌∷◌, ◌++◌, length, get_or, take, drop, suc}
+use Rattle.std.proofs.Common.{◌≡◌, ℕ, ◌+◌, ◌-◌, ◌^◌, ◌<◌, ◌≤◌, List, [], ◌∷◌, ◌++◌, length, take, drop}
 use Rattle.std.proofs.Common.{refl, ap, subst, sym, ◌∙◌, arith, append_assoc, length-append}
-use Rattle.std.proofs.Math.Seq.{drop-cons, take-add}
-use Rattle.std.proofs.lemmas.List.{append-nil, drop_all, take_all, length-drop, length-take-le}
+use Rattle.std.proofs.Math.Seq.{take-add}
+use Rattle.std.proofs.lemmas.List.{append-nil, take_all, length-drop, length-take-le}
 use Rattle.ws_code.specs.Code.{Rules}
 use Rattle.ws_record.specs.declared.record.Item.{Item}
 use Rattle.ws_session.specs.ActLaws.{gone_on, came_append, bytes_came}
@@ -92,15 +92,6 @@ module _ {Place PlaceV Side U V Deed Event : Type 0} (rules : Rules Place U) (ou
         length-take-le n bytes inside,
         length-drop n bytes,
       ))))
-
--- behind the last byte none is left
-pub none_left : (bytes : List ℕ) (n taken : ℕ) → length bytes ≤ n → taken ≡ n → drop taken bytes ≡ []
-none_left bytes n taken h e = drop_all taken bytes (omega arith)
-
--- before it one is
-pub one_left : (bytes : List ℕ) (n taken : ℕ) → n < length bytes → taken ≡ n
-    → drop taken bytes ≡ get_or bytes n 0 ∷ drop (suc n) bytes
-one_left bytes n taken h e = ap (λ k. drop k bytes) e ∙ drop-cons bytes n 0 h
 
 -- what is told, by its own counts
 pub told_again : (told : PushedTold) (n m : ℕ) → told ≡ pushed_told n m → told ≡ pushed_told told.taken told.replied

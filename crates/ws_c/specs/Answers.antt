@@ -1,13 +1,13 @@
 -- The answer that a host's end has taken, as C sees it (SC30-3533, responses to read commands)
 
-use Rattle.std.specs.Prelude.{◌≡◌, ℕ, ◌+◌, ◌/◌, ◌%◌, ◌<◌, ◌≤◌, List, length, slice_get, Option, Some, None}
+use Rattle.std.specs.Prelude.{◌≡◌, ℕ, ◌+◌, ◌/◌, ◌%◌, ◌<◌, ◌≤◌, length, slice_get, Option, Some, None}
 use Rattle.ws_keys.specs.declared.host_answer.HostAnswer.{HostAnswer}
 use Rattle.ws_keys.specs.declared.host_answer.ReadField.{ReadField}
 use Rattle.ws_c.specs.declared.host_answer.AnswerTold.{AnswerTold}
 use Rattle.ws_c.specs.declared.host_answer.ReadFieldTold.{ReadFieldTold}
 use Rattle.ws_c.specs.declared.status.Status.{Status}
 use Rattle.ws_c.specs.declared.status.Status.TheVariants.{Done, NoRoom, BadArgument, NoAnswer}
-use Rattle.ws_c.specs.Calls.{holds_front}
+use Rattle.ws_c.specs.Calls.{Crossed, TellsOnly, holds_front}
 
 -- what of an answer is no field: its cursor, its AID, and how many fields it has
 abbrev pub answer_told : HostAnswer → AnswerTold
@@ -36,19 +36,18 @@ abbrev pub no_read_field : ReadFieldTold
 no_read_field = record { length = 0; row = 0; column = 0 }
 
 -- what is told of a field of an answer; a buffer with room for its content gets it
-pub record IsContentTold (field : ReadField) (status : Status) (told : ReadFieldTold)
-    (buffer after : List ℕ) : Type 0 where
-  pub state : told ≡ read_field_told field
-  pub room : length buffer < length field.content → (status ≡ NoRoom) × (after ≡ buffer)
-  pub put : length field.content ≤ length buffer → (status ≡ Done) × (after ≡ holds_front field.content buffer)
+pub record IsContentTold (field : ReadField) (call : Crossed ReadFieldTold) : Type 0 where
+  pub state : call.told ≡ read_field_told field
+  pub room : length call.buffer < length field.content → (call.status ≡ NoRoom) × (call.after ≡ call.buffer)
+  pub put : length field.content ≤ length call.buffer
+      → (call.status ≡ Done) × (call.after ≡ holds_front field.content call.buffer)
 
 -- what is told of a field of an answer, where there is one
-abbrev pub IsReadFieldTold : Option ReadField → Status → ReadFieldTold → List ℕ → List ℕ → Type 0
-IsReadFieldTold None status told buffer after = (status ≡ BadArgument) × (told ≡ no_read_field) × (after ≡ buffer)
-IsReadFieldTold (Some field) status told buffer after = IsContentTold field status told buffer after
+abbrev pub IsReadFieldTold : Option ReadField → Crossed ReadFieldTold → Type 0
+IsReadFieldTold None call = TellsOnly call BadArgument no_read_field
+IsReadFieldTold (Some field) call = IsContentTold field call
 
 -- what is told of a field of the last answer, by its index
-abbrev pub IsFieldRead : Option HostAnswer → ℕ → Status → ReadFieldTold → List ℕ → List ℕ → Type 0
-IsFieldRead None index status told buffer after = (status ≡ NoAnswer) × (told ≡ no_read_field) × (after ≡ buffer)
-IsFieldRead (Some answer) index status told buffer after =
-    IsReadFieldTold (slice_get answer.fields index) status told buffer after
+abbrev pub IsFieldRead : Option HostAnswer → ℕ → Crossed ReadFieldTold → Type 0
+IsFieldRead None index call = TellsOnly call NoAnswer no_read_field
+IsFieldRead (Some answer) index call = IsReadFieldTold (slice_get answer.fields index) call

@@ -1,35 +1,33 @@
 -- What calls come to, as C sees it
 
-use Rattle.std.specs.Prelude.{◌≡◌, ℕ, ◌+◌, ◌^◌, ◌<◌, ◌≤◌, ◌/◌, ◌%◌, false, List, [], ◌∷◌, ◌++◌, length, drop}
+use Rattle.std.specs.Prelude.{◌≡◌, ℕ, ◌+◌, ◌^◌, ◌<◌, ◌/◌, ◌%◌, false, List, [], ◌∷◌, ◌++◌, length, drop}
 use Rattle.std.specs.Prelude.{Bool}
 use Rattle.std.specs.Prelude.{Option, Some, None, IsSome, Result, Ok, Err, OnErr, if◌then◌else◌}
 use Rattle.std.specs.Str.{encode_utf8_all}
-use Rattle.ws_code.specs.Code.{Rules}
 use Rattle.ws_code.specs.Reason.{number_of as reason_number}
 use Rattle.ws_code.specs.declared.reason.Reason.{Reason}
 use Rattle.ws_nego.specs.Station.{station_allows_records}
 use Rattle.ws_nego.specs.Terminal.{terminal_named}
 use Rattle.ws_nego.specs.declared.terminal.TerminalType.{TerminalType}
 use Rattle.ws_record.specs.declared.record.Item.{Item}
-use Rattle.ws_stream.specs.Elements.{element_rules}
 use Rattle.ws_screen.specs.Lines.{row_chars}
 use Rattle.ws_screen.specs.ScreenParts.{ScreenParts, holds}
 use Rattle.ws_screen.specs.declared.field.Field.{Field}
 use Rattle.ws_screen.specs.declared.read_kind.ReadKind.{ReadKind}
 use Rattle.ws_screen.specs.declared.read_kind.ReadKind.TheVariants.{Input, Mdt, MdtAlternate}
 use Rattle.ws_session.specs.station.AnswerSpelling.{answer_spelling}
-use Rattle.ws_session.specs.station.Displays.{DisplayOf, SideOn}
+use Rattle.ws_session.specs.station.Displays.{SideOn}
 use Rattle.ws_session.specs.Ends.{refused_byte}
-use Rattle.ws_session.specs.station.PartsOn.{PartsOn}
 use Rattle.ws_session.specs.station.StationLeads.{StationParts, StationLeads}
-use Rattle.ws_session.specs.station.StationSide.{new_station_side, profile}
-use Rattle.ws_session.specs.station.Stations.{LeadsOn, IsKeyedOn}
+use Rattle.ws_session.specs.station.StationSide.{new_station_side}
+use Rattle.ws_session.specs.station.Stations.{IsKeyedOn}
 use Rattle.ws_session.specs.declared.station.key_fault.KeyFault.{KeyFault}
 use Rattle.ws_session.specs.declared.station.key_fault.KeyFault.TheVariants.{Failed as KeyFailed, NotReady as KeyNotReady}
 use Rattle.ws_session.specs.declared.station.key_fault.KeyFault.TheVariants.{Key as Refuses}
 use Rattle.ws_keys.specs.declared.answer.Answer.{Answer}
 use Rattle.ws_keys.specs.declared.key.Key.{Key}
 use Rattle.ws_c.specs.Keys.{refusal_number}
+use Rattle.ws_c.specs.Kinds.{LeadsOf, StationKind, StationOf, profile_kind}
 use Rattle.ws_c.specs.declared.field_told.FieldTold.{FieldTold}
 use Rattle.ws_c.specs.declared.machine.Machine.{Machine}
 use Rattle.ws_c.specs.declared.machine.Machine.TheVariants.{Station}
@@ -59,6 +57,10 @@ status_number NoReadToCancel = 12
 status_number TooBig = 13
 status_number NoAnswer = 14
 
+-- a call gives C the number of a status, of which this is said
+abbrev pub HasStatus : ℕ → (Status → Type 0) → Type 0
+HasStatus number says = (status : Status) × (number ≡ status_number status) × says status
+
 -- a buffer at whose front these bytes were put
 abbrev pub holds_front : List ℕ → List ℕ → List ℕ
 holds_front bytes buffer = bytes ++ drop (length bytes) buffer
@@ -66,6 +68,36 @@ holds_front bytes buffer = bytes ++ drop (length bytes) buffer
 -- what a call tells that put so many bytes, and nothing else
 abbrev pub told_length : ℕ → Told
 told_length n = record { length = n; place = 0; reason = 0 }
+
+-- what a call gives beside its buffer: its status, and what is told
+pub record Returned (T : Type 0) : Type 0 where
+  pub status : Status
+  pub told : T
+
+-- what a call gives that has this status and tells this
+abbrev pub returned : {T : Type 0} → Status → T → Returned T
+returned status told = record { status = status; told = told }
+
+-- What crosses to C at a call: what the buffer held before it, and what it holds after it, the status, and what is told
+-- beside that.
+pub record Crossed (T : Type 0) : Type 0 where
+  pub buffer : List ℕ
+  pub after : List ℕ
+  pub status : Status
+  pub told : T
+
+-- what crosses where the buffer held this and holds that, with this status, and this is told
+abbrev pub crossed : {T : Type 0} → List ℕ → List ℕ → Status → T → Crossed T
+crossed buffer after status told = record { buffer = buffer; after = after; status = status; told = told }
+
+-- the call has this status and tells this, and the buffer stays as it was
+abbrev pub TellsOnly : {T : Type 0} → Crossed T → Status → T → Type 0
+TellsOnly call status told = (call.status ≡ status) × (call.told ≡ told) × (call.after ≡ call.buffer)
+
+-- the call puts these bytes at the buffer's front, tells how many they are, and is done
+abbrev pub GivesBytes : Crossed Told → List ℕ → Type 0
+GivesBytes call bytes = (call.status ≡ Done) × (call.told ≡ told_length (length bytes))
+    × (call.after ≡ holds_front bytes call.buffer)
 
 -- what a new station crosses as: it is made for the terminal of the name, or the handle stays as it is
 abbrev pub IsStationNew : List ℕ → Option Machine → Option Machine → Status → Type 0
@@ -77,18 +109,19 @@ IsStationNew name None now BadArgument = (terminal_named name ≡ None) × (now 
 IsStationNew name None now NoMemory = (terminal : TerminalType) × (terminal_named name ≡ Some terminal) × (now ≡ None)
 IsStationNew name None now status = ⊥
 
--- a station on any display at a key
-pub record StationKeyedOn {D P U H PlaceV V K R : Type 0} (rules : Rules P U) (d : DisplayOf D U H PlaceV V K R)
-    (old new : PartsOn D P) (key : K) (result : Result (Option Answer) KeyFault) : Type 0 where
-  pub keyed : (bytes : List ℕ) (items : List (Item U)) (side : SideOn H) → LeadsOn rules d old bytes items side
-      → length bytes + 1 < 2 ^ 64 → IsKeyedOn rules d old new bytes items side key result
+-- a station of any kind at a key
+pub record StationKeyedOn (kind : StationKind) (old new : StationOf kind) (key : kind.Pressed)
+    (result : Result (Option Answer) KeyFault) : Type 0 where
+  pub keyed : (bytes : List ℕ) (items : List (Item kind.Reads)) (side : SideOn kind.Happened)
+      → LeadsOf kind old bytes items side → length bytes + 1 < 2 ^ 64
+      → IsKeyedOn kind.rules kind.display old new bytes items side key result
   pub full : old.live.taken + 1 ≡ 2 ^ 64 → result ≡ Err KeyFailed
   pub failed : IsSome old.ended → result ≡ Err KeyFailed
   pub same : OnErr result (new ≡ old)
 
 -- a station of the profile at a key
 abbrev pub StationKeyed : StationParts → StationParts → Key → Result (Option Answer) KeyFault → Type 0
-StationKeyed = StationKeyedOn element_rules profile
+StationKeyed = StationKeyedOn profile_kind
 
 -- what a key's fault crosses as
 abbrev pub IsKeyFaultTold : KeyFault → Status → Told → Type 0
@@ -98,16 +131,15 @@ IsKeyFaultTold (Refuses refusal) status told = (status ≡ KeyRefused)
     × (told ≡ record { length = 0; place = 0; reason = refusal_number refusal })
 
 -- what a key crosses as
-abbrev pub IsKeyTold : Result (Option Answer) KeyFault → Status → Told → List ℕ → List ℕ → Type 0
-IsKeyTold (Ok None) status told old new = (status ≡ Done) × (told ≡ told_length 0) × (new ≡ old)
-IsKeyTold (Ok (Some answer)) status told old new = (status ≡ Done)
-    × (told ≡ told_length (length (answer_spelling answer))) × (new ≡ holds_front (answer_spelling answer) old)
-IsKeyTold (Err fault) status told old new = IsKeyFaultTold fault status told × (new ≡ old)
+abbrev pub IsKeyTold : Result (Option Answer) KeyFault → Crossed Told → Type 0
+IsKeyTold (Ok None) call = TellsOnly call Done (told_length 0)
+IsKeyTold (Ok (Some answer)) call = GivesBytes call (answer_spelling answer)
+IsKeyTold (Err fault) call = IsKeyFaultTold fault call.status call.told × (call.after ≡ call.buffer)
 
 -- what a key crosses as that is pressed at a station
-abbrev pub IsPress : Key → List ℕ → List ℕ → Status → Told → StationParts → StationParts → Type 0
-IsPress key buffer after status told old new = (result : Result (Option Answer) KeyFault)
-    × StationKeyed old new key result × IsKeyTold result status told buffer after
+abbrev pub IsPress : Key → Crossed Told → StationParts → StationParts → Type 0
+IsPress key call old new = (result : Result (Option Answer) KeyFault) × StationKeyed old new key result
+    × IsKeyTold result call
 
 -- the number of a pending read; 0 where there is none
 abbrev pub read_number : Option ReadKind → ℕ
@@ -140,30 +172,48 @@ abbrev pub row_number : Option ℕ → ℕ
 row_number None = 0
 row_number (Some row) = row
 
--- what is told of a screen, the records that were carried out, the alarms that sounded, a refused byte, whether records
--- are allowed, and the row of an error
-abbrev pub state_of_screen : ScreenParts → ℕ → ℕ → Option (ℕ × Reason) → Bool → ℕ → StateTold
-state_of_screen screen records alarms refused is_ready error_row = record {
+-- what is told beside the screen: the records that were carried out, the alarms that sounded, a refused byte, whether
+-- records are allowed, and the row of an error, 0 for none
+pub record BesideScreen : Type 0 where
+  pub records : ℕ
+  pub alarms : ℕ
+  pub refused : Option (ℕ × Reason)
+  pub is_ready : Bool
+  pub error_row : ℕ
+
+-- what is told beside the screen, by its parts
+abbrev pub beside_screen : ℕ → ℕ → Option (ℕ × Reason) → Bool → ℕ → BesideScreen
+beside_screen records alarms refused is_ready error_row = record {
   records = records;
-  refused_place = place_refused refused;
   alarms = alarms;
+  refused = refused;
+  is_ready = is_ready;
+  error_row = error_row;
+}
+
+-- what is told of a screen, and beside it
+abbrev pub state_of_screen : ScreenParts → BesideScreen → StateTold
+state_of_screen screen beside = record {
+  records = beside.records;
+  refused_place = place_refused beside.refused;
+  alarms = beside.alarms;
   field_count = length screen.fields;
   cursor_field = field_index screen.fields screen.cursor;
   cursor_row = screen.cursor / 80 + 1;
   cursor_column = screen.cursor % 80 + 1;
   pending_read = read_number screen.pending;
-  refused_reason = reason_refused refused;
-  is_ready = is_ready;
+  refused_reason = reason_refused beside.refused;
+  is_ready = beside.is_ready;
   is_locked = screen.locked;
   is_message_lit = screen.message;
   is_blinking = screen.blink;
-  error_row = error_row;
+  error_row = beside.error_row;
 }
 
 -- what is told of a station but for its cells and fields
 abbrev pub state_told : StationParts → StateTold
-state_told s = state_of_screen s.screen.screen s.records s.screen.alarms (refused_byte s.ended)
-    (station_allows_records s.options) 0
+state_told s = state_of_screen s.screen.screen
+    (beside_screen s.records s.screen.alarms (refused_byte s.ended) (station_allows_records s.options) 0)
 
 -- what is told of a station where there is none
 abbrev pub no_state : StateTold

@@ -1,7 +1,7 @@
 -- The decoder of a host's stream, as C sees it
 
-use Rattle.std.specs.Prelude.{◌≡◌, ℕ, ◌+◌, ◌^◌, ◌<◌, ◌≤◌, Bool, true, false, List, [], ◌∷◌, length, take, drop, Option}
-use Rattle.std.specs.Prelude.{Some, None, Result, Ok, Err, OnErr, IfErr, OnOk}
+use Rattle.std.specs.Prelude.{◌≡◌, ℕ, ◌+◌, ◌^◌, ◌<◌, ◌≤◌, Bool, true, false, List, [], length, take, Option}
+use Rattle.std.specs.Prelude.{Some, None, Result, Ok, Err, OnErr, IfErr, OnOk, slice_index}
 use Rattle.ws_code.specs.Code.{Rules}
 use Rattle.ws_code.specs.Reason.{number_of as reason_number}
 use Rattle.ws_code.specs.declared.fault.Fault.{Fault}
@@ -25,7 +25,7 @@ use Rattle.ws_c.specs.declared.status.Status.{Status}
 use Rattle.ws_c.specs.declared.status.Status.TheVariants.{Done, Refused, Failed, NoMemory, InUse}
 use Rattle.ws_c.specs.declared.status.Status.TheVariants.{Truncated}
 use Rattle.ws_c.specs.declared.decoder.StepTold.{StepTold}
-use Rattle.ws_c.specs.Calls.{holds_front}
+use Rattle.ws_c.specs.Calls.{Crossed, TellsOnly, holds_front}
 use Rattle.ws_c.specs.Pushes.{TakesAll}
 
 -- what a new decoder of the profile's streams crosses as: it is made, or the handle stays as it is
@@ -48,6 +48,12 @@ plain_step taken kind = record {
   opcode = 0;
   reason = 0;
 }
+
+-- so many bytes were taken, and with the last something of this kind is complete: the buffer gets its spelling
+abbrev pub IsSpellingTold : List ℕ → ℕ → ℕ → Crossed StepTold → Type 0
+IsSpellingTold spelling taken kind call = (call.status ≡ Done)
+    × (call.told ≡ record (plain_step taken kind) { length = length spelling })
+    × (call.after ≡ holds_front spelling call.buffer)
 
 -- something is complete with the step, or its byte is refused
 abbrev pub tells_something : {U : Type 0} → Step U → Bool
@@ -72,46 +78,34 @@ module _ {P U : Type 0} (rules : Rules P U) where
 
   -- what a step crosses as, with the number of bytes before its byte: 0 nothing, 1 a header, 2 an element, 3 a record's
   -- end, 4 a Telnet command
-  abbrev pub IsStepToldOn : Step U → ℕ → Status → StepTold → List ℕ → List ℕ → Type 0
-  IsStepToldOn More before status told old new = (status ≡ Done) × (told ≡ plain_step (before + 1) 0) × (new ≡ old)
-  IsStepToldOn (Open head) before status told old new = (status ≡ Done)
-      × (told ≡ record (plain_step (before + 1) 1) {
-        flags = head.flags;
-        record_length = head.length;
-        opcode = opcode_byte head.opcode;
-      }) × (new ≡ old)
-  IsStepToldOn (Whole unit) before status told old new = let spelling = rules.spelling unit in
-      (status ≡ Done) × (told ≡ record (plain_step (before + 1) 2) { length = length spelling })
-      × (new ≡ holds_front spelling old)
-  IsStepToldOn Close before status told old new = (status ≡ Done) × (told ≡ plain_step (before + 1) 3) × (new ≡ old)
-  IsStepToldOn (Command telnet) before status told old new = let spelling = telnet_spelling telnet in
-      (status ≡ Done) × (told ≡ record (plain_step (before + 1) 4) { length = length spelling })
-      × (new ≡ holds_front spelling old)
-  IsStepToldOn (StepRefused place reason) before status told old new =
-      (status ≡ Refused) × (told ≡ record (plain_step before 0) { place = place; reason = reason_number reason })
-      × (new ≡ old)
-  IsStepToldOn StepFailed before status told old new = (status ≡ Failed) × (told ≡ plain_step before 0) × (new ≡ old)
+  abbrev pub IsStepToldOn : Step U → ℕ → Crossed StepTold → Type 0
+  IsStepToldOn More before call = TellsOnly call Done (plain_step (before + 1) 0)
+  IsStepToldOn (Open head) before call = TellsOnly call Done (record (plain_step (before + 1) 1) {
+    flags = head.flags;
+    record_length = head.length;
+    opcode = opcode_byte head.opcode;
+  })
+  IsStepToldOn (Whole unit) before call = IsSpellingTold (rules.spelling unit) (before + 1) 2 call
+  IsStepToldOn Close before call = TellsOnly call Done (plain_step (before + 1) 3)
+  IsStepToldOn (Command telnet) before call = IsSpellingTold (telnet_spelling telnet) (before + 1) 4 call
+  IsStepToldOn (StepRefused place reason) before call =
+      TellsOnly call Refused (record (plain_step before 0) { place = place; reason = reason_number reason })
+  IsStepToldOn StepFailed before call = TellsOnly call Failed (plain_step before 0)
 
   -- a decoder takes a byte with which nothing is complete
   abbrev pub DecoderTakesOn : Watching P → ℕ → List ℕ → Watching P → Type 0
   DecoderTakesOn old byte brought new = DecoderPushedOn old new byte More × (brought ≡ [])
 
-  -- where a push of bytes ends: with the last, or at the first with which something is complete, or which is refused
-  abbrev pub IsDecoderEndOn : List ℕ → ℕ → Status → StepTold → List ℕ → List ℕ → Watching P → Watching P → Type 0
-  IsDecoderEndOn [] before status told buffer after old new = (status ≡ Done) × (told ≡ plain_step before 0)
-      × (after ≡ buffer) × (new ≡ old)
-  IsDecoderEndOn (byte ∷ left) before status told buffer after old new = (step : Step U)
-      × DecoderPushedOn old new byte step × (tells_something step ≡ true) × IsStepToldOn step before status told buffer after
-
-  -- what a push of bytes into a decoder crosses as: with some nothing is complete, and it ends there or with the one
-  -- behind them
-  pub record IsDecodeOn (bytes buffer after : List ℕ) (status : Status) (told : StepTold) (old new : Watching P)
-      : Type 0 where
+  -- What a push of bytes into a decoder crosses as: with some nothing is complete. It ends there where they are all, or
+  -- else with the one behind them, with which something is complete, or which is refused.
+  pub record IsDecodeOn (bytes : List ℕ) (call : Crossed StepTold) (old new : Watching P) : Type 0 where
     pub quiet : ℕ
     pub counted : quiet ≤ length bytes
     pub before : Watching P
     pub takes : TakesAll DecoderTakesOn old (take quiet bytes) [] before
-    pub ends : IsDecoderEndOn (drop quiet bytes) quiet status told buffer after before new
+    pub all : length bytes ≤ quiet → TellsOnly call Done (plain_step quiet 0) × (new ≡ before)
+    pub one : quiet < length bytes → (step : Step U) × DecoderPushedOn before new (slice_index bytes quiet) step
+        × (tells_something step ≡ true) × IsStepToldOn step quiet call
 
   -- whether a decoder's stream may end
   pub record DecoderFinishedOn (old new : Watching P) (result : Result (Unit {0}) Fault) : Type 0 where
@@ -130,7 +124,7 @@ module _ {P U : Type 0} (rules : Rules P U) where
       × IsEndTold result status place
 
 -- what a push of bytes into a decoder of the profile's streams crosses as
-abbrev pub IsDecode : List ℕ → List ℕ → List ℕ → Status → StepTold → Watching Place → Watching Place → Type 0
+abbrev pub IsDecode : List ℕ → Crossed StepTold → Watching Place → Watching Place → Type 0
 IsDecode = IsDecodeOn element_rules
 
 -- what the end of a stream of the profile crosses as
@@ -138,8 +132,7 @@ abbrev pub IsStreamEnd : Status → ℕ → Watching Place → Watching Place �
 IsStreamEnd = IsEndOfOn element_rules
 
 -- what a push of bytes into a decoder of live hosts' streams crosses as
-abbrev pub IsExtendedDecode : List ℕ → List ℕ → List ℕ → Status → StepTold → Watching ExtendedPlace
-    → Watching ExtendedPlace → Type 0
+abbrev pub IsExtendedDecode : List ℕ → Crossed StepTold → Watching ExtendedPlace → Watching ExtendedPlace → Type 0
 IsExtendedDecode = IsDecodeOn extended_rules
 
 -- what the end of a live host's stream crosses as

@@ -14,44 +14,47 @@ use Rattle.ws_c.specs.declared.machine.Machine.TheVariants.{Station}
 use Rattle.ws_c.specs.declared.status.Status.{Status}
 use Rattle.ws_c.specs.declared.status.Status.TheVariants.{NothingHeld}
 
+-- the call says that the handle holds nothing that it is for, and this is said of the outputs
+abbrev pub HoldsNone : Status → Type 0 → Type 0
+HoldsNone status untold = (status ≡ NothingHeld) × untold
+
 -- What a call does with the station that a handle holds: this with one of the profile, that with one as live hosts use
--- it. Where it holds none, the call says so, the handle stays as it was, and this is said of the outputs.
-abbrev pub OnStations : Option Machine → Option Machine → Status → (StationParts → StationParts → Type 0)
+-- it. Where it holds none the handle stays as it was, and this is said of what crosses.
+abbrev pub OnStations : Option Machine → Option Machine → (StationParts → StationParts → Type 0)
     → (HeldStation → HeldStation → Type 0) → Type 0 → Type 0
-OnStations (Some (Station old)) now status does also untold = (new : StationParts) × (now ≡ Some (Station new))
+OnStations (Some (Station old)) now does also otherwise = (new : StationParts) × (now ≡ Some (Station new))
     × does old new
-OnStations (Some (ExtendedStation old)) now status does also untold = (new : HeldStation)
+OnStations (Some (ExtendedStation old)) now does also otherwise = (new : HeldStation)
     × (now ≡ Some (ExtendedStation new)) × also old new
-OnStations held now status does also untold = (status ≡ NothingHeld) × (now ≡ held) × untold
+OnStations held now does also otherwise = (now ≡ held) × otherwise
 
 -- What a call tells of the screen of a station of either kind, which stays as it was.
-abbrev pub OnScreen : Option Machine → Option Machine → Status → (ScreenParts → Type 0) → Type 0 → Type 0
-OnScreen held now status tells untold = OnStations held now status (λ old new. (new ≡ old) × tells old.screen.screen)
-    (λ old new. (new ≡ old) × tells old.station.screen.display.screen) untold
+abbrev pub OnScreen : Option Machine → Option Machine → (ScreenParts → Type 0) → Type 0 → Type 0
+OnScreen held now tells otherwise = OnStations held now (λ old new. (new ≡ old) × tells old.screen.screen)
+    (λ old new. (new ≡ old) × tells old.station.screen.display.screen) otherwise
 
--- What a call does with the station as live hosts use it that a handle holds. Where it holds none, the call answers
--- this, the handle stays as it was, and this is said of the outputs.
-abbrev pub OnExtended : Option Machine → Option Machine → Status → (HeldStation → HeldStation → Type 0) → Status
-    → Type 0 → Type 0
-OnExtended (Some (ExtendedStation old)) now status does otherwise untold = (new : HeldStation)
+-- What a call does with the station as live hosts use it that a handle holds. Where it holds none the handle stays as
+-- it was, and this is said of what crosses.
+abbrev pub OnExtended : Option Machine → Option Machine → (HeldStation → HeldStation → Type 0) → Type 0 → Type 0
+OnExtended (Some (ExtendedStation old)) now does otherwise = (new : HeldStation)
     × (now ≡ Some (ExtendedStation new)) × does old new
-OnExtended held now status does otherwise untold = (status ≡ otherwise) × (now ≡ held) × untold
+OnExtended held now does otherwise = (now ≡ held) × otherwise
 
--- What a call does with the host's end that a handle holds. Where it holds none, the call says so, the handle stays as
--- it was, and this is said of the outputs.
-abbrev pub OnHost : Option Machine → Option Machine → Status → (HeldHost → HeldHost → Type 0) → Type 0 → Type 0
-OnHost (Some (Host old)) now status does untold = (new : HeldHost) × (now ≡ Some (Host new)) × does old new
-OnHost held now status does untold = (status ≡ NothingHeld) × (now ≡ held) × untold
+-- What a call does with the host's end that a handle holds. Where it holds none the handle stays as it was, and this is
+-- said of what crosses.
+abbrev pub OnHost : Option Machine → Option Machine → (HeldHost → HeldHost → Type 0) → Type 0 → Type 0
+OnHost (Some (Host old)) now does otherwise = (new : HeldHost) × (now ≡ Some (Host new)) × does old new
+OnHost held now does otherwise = (now ≡ held) × otherwise
 
 -- What a call does with the decoder that a handle holds: this with one of the profile's streams, that with one of live
--- hosts' streams. Where it holds none, the call says so, the handle stays as it was, and this is said of the outputs.
-abbrev pub OnDecoders : Option Machine → Option Machine → Status → (Watching Place → Watching Place → Type 0)
+-- hosts' streams. Where it holds none the handle stays as it was, and this is said of what crosses.
+abbrev pub OnDecoders : Option Machine → Option Machine → (Watching Place → Watching Place → Type 0)
     → (Watching ExtendedPlace → Watching ExtendedPlace → Type 0) → Type 0 → Type 0
-OnDecoders (Some (Decoder old)) now status does also untold = (new : Watching Place) × (now ≡ Some (Decoder new))
+OnDecoders (Some (Decoder old)) now does also otherwise = (new : Watching Place) × (now ≡ Some (Decoder new))
     × does old new
-OnDecoders (Some (ExtendedDecoder old)) now status does also untold = (new : Watching ExtendedPlace)
+OnDecoders (Some (ExtendedDecoder old)) now does also otherwise = (new : Watching ExtendedPlace)
     × (now ≡ Some (ExtendedDecoder new)) × also old new
-OnDecoders held now status does also untold = (status ≡ NothingHeld) × (now ≡ held) × untold
+OnDecoders held now does also otherwise = (now ≡ held) × otherwise
 
 -- a handle that held a station of either kind holds nothing, and another stays as it was
 abbrev pub IsStationFreed : Option Machine → Option Machine → Type 0

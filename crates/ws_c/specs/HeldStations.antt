@@ -16,17 +16,19 @@ use Rattle.ws_session.specs.station.PartsOn.{PartsOn}
 use Rattle.ws_session.specs.station.StationManners.{new_side_on}
 use Rattle.ws_session.specs.station.Stations.{LeadsOn}
 use Rattle.ws_session.specs.declared.station.key_fault.KeyFault.{KeyFault}
-use Rattle.ws_c.specs.Calls.{IsKeyTold, IsPress, StationKeyedOn, holds_front, row_number, state_of_screen, told_length}
+use Rattle.ws_c.specs.Calls.{Crossed, IsKeyTold, IsPress, StationKeyedOn, TellsOnly, beside_screen, holds_front}
+use Rattle.ws_c.specs.Calls.{row_number, state_of_screen, told_length}
 use Rattle.ws_c.specs.Held.{OnExtended, OnStations}
 use Rattle.ws_c.specs.Keys.{IsKeyFrom}
-use Rattle.ws_c.specs.Pushes.{BringsAtMostOn, IsEndOn, StationTakesOn, pushed_told}
+use Rattle.ws_c.specs.Kinds.{extended_kind}
+use Rattle.ws_c.specs.Pushes.{BringsAtMostOn, IsEndOn, StationTakesOn, first_bytes, pushed_told}
 use Rattle.ws_c.specs.declared.held_station.HeldStation.{HeldStation}
 use Rattle.ws_c.specs.declared.key_kind.TheConstants.{RESET_KIND}
 use Rattle.ws_c.specs.declared.machine.Machine.{Machine}
 use Rattle.ws_c.specs.declared.machine.Machine.TheVariants.{ExtendedStation}
 use Rattle.ws_c.specs.declared.state_told.StateTold.{StateTold}
 use Rattle.ws_c.specs.declared.status.Status.{Status}
-use Rattle.ws_c.specs.declared.status.Status.TheVariants.{Done, NoMemory, InUse, NoRoom, BadArgument}
+use Rattle.ws_c.specs.declared.status.Status.TheVariants.{Done, NoMemory, NothingHeld, InUse, NoRoom, BadArgument}
 use Rattle.ws_c.specs.declared.told.PushedTold.{PushedTold}
 use Rattle.ws_c.specs.declared.told.Told.{Told}
 
@@ -46,40 +48,48 @@ IsExtendedNew name None now NoMemory = (terminal : TerminalType) × (terminal_na
     × (now ≡ None)
 IsExtendedNew name None now status = ⊥
 
+-- how far a push has come: what it tells so far, and what the buffer holds
+pub record Filling : Type 0 where
+  pub told : PushedTold
+  pub buffer : List ℕ
+
+-- a push has come so far that this is told, and the buffer holds this
+abbrev pub filling : PushedTold → List ℕ → Filling
+filling told buffer = record { told = told; buffer = buffer }
+
 -- Of what waits a front goes out: it is put behind what stands at the buffer's front, and counted. That is all of it,
 -- or as much as there is room for.
-pub record HandsOut (old new : HeldStation) (told counts : PushedTold) (buffer after : List ℕ) : Type 0 where
+pub record HandsOut (old new : HeldStation) (at after : Filling) : Type 0 where
   pub out : List ℕ
   pub whole : waiting old ≡ out ++ waiting new
   pub station : new.station ≡ old.station
-  pub counted : counts ≡ record told { replied = told.replied + length out }
-  pub fits : counts.replied ≤ length buffer
-  pub filled : waiting new ≢ [] → counts.replied ≡ length buffer
-  pub put : (front before : List ℕ) → length front ≡ told.replied → buffer ≡ holds_front front before
-      → after ≡ holds_front (front ++ out) before
+  pub counted : after.told ≡ record at.told { replied = at.told.replied + length out }
+  pub fits : after.told.replied ≤ length at.buffer
+  pub filled : waiting new ≢ [] → after.told.replied ≡ length at.buffer
+  pub put : (front before : List ℕ) → length front ≡ at.told.replied → at.buffer ≡ holds_front front before
+      → after.buffer ≡ holds_front (front ++ out) before
 
 -- A push of bytes: what waited and what the station writes goes out in order, and the rest of it waits. No byte is taken
 -- before all that waited, and all that the bytes before it brought, has gone out. Where something waits at the end the
 -- buffer is full, and the call says so.
-pub record IsHeldPush (bytes buffer after : List ℕ) (status : Status) (told : PushedTold) (old new : HeldStation)
-    : Type 0 where
-  pub counted : told.taken ≤ length bytes
+pub record IsHeldPush (bytes : List ℕ) (call : Crossed PushedTold) (old new : HeldStation) : Type 0 where
+  pub counted : call.told.taken ≤ length bytes
   pub fed : ℕ
   pub written : List ℕ
   pub out : List ℕ
   pub before : HeldStation
-  pub takes : StationTakesOn extended_rules extended old.station bytes fed written before.station
+  pub takes : StationTakesOn extended_kind old.station (first_bytes bytes fed) written before.station
   pub whole : waiting old ++ written ≡ out ++ waiting before
   pub first : length out < length (waiting old) → fed ≡ 0
   pub in_time : (n : ℕ) → n < fed
-      → BringsAtMostOn extended_rules extended old.station bytes n (length out - length (waiting old))
-  pub replied : told.replied ≡ length out
-  pub fits : told.replied ≤ length buffer
-  pub put : after ≡ holds_front out buffer
-  pub waits : waiting before ≢ [] → (status ≡ NoRoom) × (told ≡ pushed_told fed (length buffer)) × (new ≡ before)
+      → BringsAtMostOn extended_kind old.station (first_bytes bytes n) (length out - length (waiting old))
+  pub replied : call.told.replied ≡ length out
+  pub fits : call.told.replied ≤ length call.buffer
+  pub put : call.after ≡ holds_front out call.buffer
+  pub waits : waiting before ≢ []
+      → (call.status ≡ NoRoom) × (call.told ≡ pushed_told fed (length call.buffer)) × (new ≡ before)
   pub ends : waiting before ≡ [] → (waiting new ≡ [])
-      × IsEndOn extended_rules extended (drop fed bytes) fed (length buffer - told.replied) status told
-      before.station new.station
+      × IsEndOn extended_kind (first_bytes bytes fed) call before.station new.station
 
 -- a key of the profile, or Reset where there is none
 abbrev pub key_or_reset : Option Key → ExtendedKey
@@ -87,17 +97,15 @@ key_or_reset (Some key) = Profile key
 key_or_reset None = Reset
 
 -- what a key crosses as that is pressed at a station as live hosts use it; nothing waits then
-abbrev pub IsHeldKeyed : ExtendedKey → List ℕ → List ℕ → Status → Told → HeldStation → HeldStation → Type 0
-IsHeldKeyed key buffer after status told old new = (result : Result (Option Answer) KeyFault)
-    × StationKeyedOn extended_rules extended old.station new.station key result
-    × IsKeyTold result status told buffer after × (waiting new ≡ [])
+abbrev pub IsHeldKeyed : ExtendedKey → Crossed Told → HeldStation → HeldStation → Type 0
+IsHeldKeyed key call old new = (result : Result (Option Answer) KeyFault)
+    × StationKeyedOn extended_kind old.station new.station key result × IsKeyTold result call × (waiting new ≡ [])
 
 -- What a key crosses as at a station as live hosts use it: where something waits it isn't pressed, since its record
 -- could get between the bytes of another.
-pub record IsHeldPress (key : ExtendedKey) (buffer after : List ℕ) (status : Status) (told : Told)
-    (old new : HeldStation) : Type 0 where
-  pub waits : waiting old ≢ [] → (status ≡ NoRoom) × (new ≡ old) × (told ≡ told_length 0) × (after ≡ buffer)
-  pub pressed : waiting old ≡ [] → IsHeldKeyed key buffer after status told old new
+pub record IsHeldPress (key : ExtendedKey) (call : Crossed Told) (old new : HeldStation) : Type 0 where
+  pub waits : waiting old ≢ [] → (new ≡ old) × TellsOnly call NoRoom (told_length 0)
+  pub pressed : waiting old ≡ [] → IsHeldKeyed key call old new
 
 -- a key of the profile, where there is one, as a key of a station as live hosts use it
 abbrev pub among_all : Option Key → Option ExtendedKey
@@ -111,17 +119,14 @@ pub record IsAnyKeyFrom (kind value : ℕ) (key : Option ExtendedKey) : Type 0 w
 
 -- What a key crosses as, where there is one, at the station of either kind that a handle holds; only one as live hosts
 -- use it has Reset.
-abbrev pub IsAnyPressFrom : Option ExtendedKey → Option Machine → Option Machine → List ℕ → List ℕ → Told → Status
-    → Type 0
-IsAnyPressFrom None held now buffer after told status = (status ≡ BadArgument) × (now ≡ held) × (after ≡ buffer)
-    × (told ≡ told_length 0)
-IsAnyPressFrom (Some Reset) held now buffer after told status = OnExtended held now status
-    (IsHeldPress Reset buffer after status told) BadArgument ((told ≡ told_length 0) × (after ≡ buffer))
-IsAnyPressFrom (Some (Profile key)) held now buffer after told status = OnStations held now status
-    (IsPress key buffer after status told) (IsHeldPress (Profile key) buffer after status told)
-    ((told ≡ told_length 0) × (after ≡ buffer))
+abbrev pub IsAnyPressFrom : Option ExtendedKey → Option Machine → Option Machine → Crossed Told → Type 0
+IsAnyPressFrom None held now call = (now ≡ held) × TellsOnly call BadArgument (told_length 0)
+IsAnyPressFrom (Some Reset) held now call = OnExtended held now (IsHeldPress Reset call)
+    (TellsOnly call BadArgument (told_length 0))
+IsAnyPressFrom (Some (Profile key)) held now call = OnStations held now (IsPress key call)
+    (IsHeldPress (Profile key) call) (TellsOnly call NothingHeld (told_length 0))
 
 -- what is told of a station as live hosts use it but for its cells and fields, with the row on which an error stands
 abbrev pub extended_state_told : PartsOn DisplayParts ExtendedPlace → StateTold
-extended_state_told s = state_of_screen s.screen.display.screen s.records s.screen.alarms (refused_byte s.ended)
-    (station_allows_records s.options) (row_number (standing_row s.screen.display))
+extended_state_told s = state_of_screen s.screen.display.screen (beside_screen s.records s.screen.alarms
+    (refused_byte s.ended) (station_allows_records s.options) (row_number (standing_row s.screen.display)))

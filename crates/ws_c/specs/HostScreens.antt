@@ -4,9 +4,10 @@ use Rattle.ws_nego.specs.Host.{host_allows_records}
 use Rattle.ws_session.specs.Ends.{refused_byte}
 use Rattle.ws_session.specs.host_end.HostLeads.{HostParts}
 use Rattle.ws_c.specs.declared.state_told.StateTold.{StateTold}
-use Rattle.ws_c.specs.Calls.{state_of_screen}
+use Rattle.ws_c.specs.Calls.{beside_screen, state_of_screen}
 
 -- What is told of the screen that a host's end keeps, but for its cells and fields. A host carries out no records, hears
 -- no alarm and has no row of an error, and the pending read is the one that it asks for.
 abbrev pub host_state_told : HostParts → StateTold
-host_state_told h = state_of_screen h.screen 0 0 (refused_byte h.ended) (host_allows_records h.options) 0
+host_state_told h = state_of_screen h.screen
+    (beside_screen 0 0 (refused_byte h.ended) (host_allows_records h.options) 0)

@@ -1,6 +1,6 @@
 -- A host's end, as C sees it (RFC 1205, sections 3 and 4)
 
-use Rattle.std.specs.Prelude.{◌≡◌, ℕ, ◌+◌, ◌-◌, ◌^◌, ◌<◌, ◌≤◌, List, [], ◌∷◌, ◌++◌, length, take, drop, Option, Some}
+use Rattle.std.specs.Prelude.{◌≡◌, ℕ, ◌+◌, ◌-◌, ◌^◌, ◌<◌, ◌≤◌, List, [], ◌∷◌, ◌++◌, length, take, Option, Some}
 use Rattle.std.specs.Prelude.{None, ◌⊎◌, IsSome}
 use Rattle.ws_nego.specs.Host.{opening}
 use Rattle.ws_nego.specs.declared.terminal.TerminalType.{TerminalType}
@@ -29,8 +29,8 @@ use Rattle.ws_c.specs.declared.status.Status.TheVariants.{Done, NoMemory, NoRoom
 use Rattle.ws_c.specs.declared.told.Told.{Told}
 use Rattle.ws_c.specs.declared.told.PushedTold.{PushedTold}
 use Rattle.ws_c.specs.declared.told.TheConstants.{REPLY_ROOM}
-use Rattle.ws_c.specs.Calls.{holds_front, told_length}
-use Rattle.ws_c.specs.Pushes.{IsPushRefused, StandsBehind, pushed_told}
+use Rattle.ws_c.specs.Calls.{Crossed, GivesBytes, TellsOnly, holds_front, told_length}
+use Rattle.ws_c.specs.Pushes.{Front, IsPushRefused, StandsBehind, TellsCounts, first_bytes, left_behind}
 
 -- the bytes by which a host asks the station for its terminal type
 abbrev pub opening_bytes : List ℕ
@@ -42,53 +42,56 @@ pub record IsNewHost (host : HeldHost) : Type 0 where
   pub unsent : host.sent ≡ []
   pub unanswered : host.answer ≡ None
 
+-- what a new host's end crosses as, by the status, where the handle holds nothing
+abbrev pub IsHostMade : Option Machine → Crossed Told → Status → Type 0
+IsHostMade now call Done = (host : HeldHost) × (now ≡ Some (Host host)) × IsNewHost host × GivesBytes call opening_bytes
+IsHostMade now call NoMemory = (now ≡ None) × TellsOnly call NoMemory (told_length 0)
+IsHostMade now call status = ⊥
+
 -- what a new host's end crosses as: it is made, and its opening's bytes are given; or the handle and the buffer stay as
 -- they are, and nothing is told
-abbrev pub IsHostNew : List ℕ → List ℕ → Told → Option Machine → Option Machine → Status → Type 0
-IsHostNew buffer after told (Some held) now status = (status ≡ InUse) × (now ≡ Some held) × (after ≡ buffer)
-    × (told ≡ told_length 0)
-IsHostNew buffer after told None now Done = (host : HeldHost) × (now ≡ Some (Host host)) × IsNewHost host
-    × (after ≡ holds_front opening_bytes buffer) × (told ≡ told_length (length opening_bytes))
-IsHostNew buffer after told None now NoMemory = (now ≡ None) × (after ≡ buffer) × (told ≡ told_length 0)
-IsHostNew buffer after told None now status = ⊥
+abbrev pub IsHostNew : Option Machine → Option Machine → Crossed Told → Type 0
+IsHostNew (Some held) now call = (now ≡ Some held) × TellsOnly call InUse (told_length 0)
+IsHostNew None now call = IsHostMade now call call.status
 
--- The first n of these bytes are taken one after another to come from the one host end to the other: none of their
--- items is refused, this is written, nothing is told, and the host end counts them. One that has ended takes none.
-pub record HostTakes (old : HostParts) (bytes : List ℕ) (n : ℕ) (written : List ℕ) (new : HostParts) : Type 0 where
+-- A front of bytes is taken, one after another, to come from the one host end to the other: none of their items is
+-- refused, this is written, nothing is told, and the host end counts them. One that has ended takes none.
+pub record HostTakes (old : HostParts) (front : Front) (written : List ℕ) (new : HostParts) : Type 0 where
   pub taken : (before : List ℕ) (items : List (Item AnswerPart)) (side : HostSide) → HostLeads old before items side
-      → length before + length bytes + 1 < 2 ^ 64
-      → HasHostTakenAll (HostLeads new) before items side (take n bytes) written []
-  pub counted : old.receiver.live.taken + n < 2 ^ 64 → new.receiver.live.taken ≡ old.receiver.live.taken + n
-  pub works : 0 < n → IsSome old.ended → ⊥
-  pub counts : 0 < n → old.receiver.live.taken + 1 ≡ 2 ^ 64 → ⊥
-  pub none : n ≡ 0 → (new ≡ old) × (written ≡ [])
+      → length before + length front.bytes + 1 < 2 ^ 64
+      → HasHostTakenAll (HostLeads new) before items side (take front.count front.bytes) written []
+  pub counted : old.receiver.live.taken + front.count < 2 ^ 64
+      → new.receiver.live.taken ≡ old.receiver.live.taken + front.count
+  pub works : 0 < front.count → IsSome old.ended → ⊥
+  pub counts : 0 < front.count → old.receiver.live.taken + 1 ≡ 2 ^ 64 → ⊥
+  pub none : front.count ≡ 0 → (new ≡ old) × (written ≡ [])
 
--- The first n of these bytes are taken, the host end writes this and tells this at the last of them, and nothing
--- before.
-pub record HostTells (old : HostParts) (bytes : List ℕ) (n : ℕ) (written : List ℕ) (event : HostEvent)
-    (new : HostParts) : Type 0 where
-  pub some : 0 < n
+-- A front of bytes is taken, the host end writes this and tells this at the last of them, and nothing before.
+pub record HostTells (old : HostParts) (front : Front) (written : List ℕ) (event : HostEvent) (new : HostParts)
+    : Type 0 where
+  pub some : 0 < front.count
   pub taken : (before : List ℕ) (items : List (Item AnswerPart)) (side : HostSide) → HostLeads old before items side
-      → length before + length bytes + 1 < 2 ^ 64
-      → HasHostFed new before items side (take n bytes) written (Some event)
-  pub counted : old.receiver.live.taken + n < 2 ^ 64 → new.receiver.live.taken ≡ old.receiver.live.taken + n
+      → length before + length front.bytes + 1 < 2 ^ 64
+      → HasHostFed new before items side (take front.count front.bytes) written (Some event)
+  pub counted : old.receiver.live.taken + front.count < 2 ^ 64
+      → new.receiver.live.taken ≡ old.receiver.live.taken + front.count
   pub first : (before : List ℕ) (items : List (Item AnswerPart)) (side : HostSide) → HostLeads old before items side
-      → length before + length bytes + 1 < 2 ^ 64 → (m : ℕ) → m < n → AreSilent before items side (take m bytes)
+      → length before + length front.bytes + 1 < 2 ^ 64 → (m : ℕ) → m < front.count
+      → AreSilent before items side (take m front.bytes)
   pub works : IsSome old.ended → ⊥
   pub counts : old.receiver.live.taken + 1 ≡ 2 ^ 64 → ⊥
 
--- The host end fails at one of these bytes, of which so many stand before it and bring nothing: so it counts them, and
+-- The host end fails at a byte, before which this front of all bytes stands and brings nothing: so it counts them, and
 -- so they are in all bytes that it has taken.
-pub record HostRefusesWithin (old : HostParts) (bytes : List ℕ) (n : ℕ) (refusal : Refusal) (new : HostParts)
-    : Type 0 where
+pub record HostRefusesWithin (old : HostParts) (front : Front) (refusal : Refusal) (new : HostParts) : Type 0 where
   pub refused : (before : List ℕ) (items : List (Item AnswerPart)) (side : HostSide) → HostLeads old before items side
-      → length before + length bytes + 1 < 2 ^ 64
-      → (r : HasHostRefused old new before items side bytes refusal) × (n ≡ length r.front)
-  pub counted : old.receiver.live.taken + length bytes < 2 ^ 64
-      → StandsBehind refusal n old.receiver.live.taken new.receiver.live.taken (length bytes)
+      → length before + length front.bytes + 1 < 2 ^ 64
+      → (r : HasHostRefused old new before items side front.bytes refusal) × (front.count ≡ length r.front)
+  pub counted : old.receiver.live.taken + length front.bytes < 2 ^ 64
+      → StandsBehind refusal front.count old.receiver.live.taken new.receiver.live.taken (length front.bytes)
   pub full : old.receiver.live.taken + 1 ≡ 2 ^ 64 → refusal ≡ HasFailed
   pub failed : IsSome old.ended → (refusal ≡ HasFailed) × (new ≡ old)
-  pub none : refusal ≡ HasFailed → n ≡ 0
+  pub none : refusal ≡ HasFailed → front.count ≡ 0
   pub after : old.ended ≡ None → new.ended ≡ Some refusal
   pub seen : new.screen ≡ old.screen
 
@@ -115,57 +118,70 @@ abbrev pub answer_after : Option HostEvent → Option HostAnswer → Option Host
 answer_after (Some (Answer answer)) last = Some answer
 answer_after event last = last
 
--- what a push of bytes crosses as at the last of which the host end tells something, behind so many that told nothing
-pub record IsHostTold (left : List ℕ) (quiet : ℕ) (status : Status) (told : PushedTold) (event : EventTold)
-    (last : List ℕ) (old new : HeldHost) : Type 0 where
+-- what a push of bytes tells of a host's end: the counts, with a refusal, and the event
+pub record HostTold : Type 0 where
+  pub pushed : PushedTold
+  pub event : EventTold
+
+-- what a push tells that has these counts and this event
+abbrev pub host_told : PushedTold → EventTold → HostTold
+host_told pushed event = record { pushed = pushed; event = event }
+
+-- what a push of bytes crosses as at the last of which the host end tells something, behind a front that tells nothing
+pub record IsHostTold (quiet : Front) (last : List ℕ) (call : Crossed HostTold) (old new : HeldHost) : Type 0 where
   pub length_is : ℕ
   pub tells : HostEvent
-  pub taken : HostTells old.end left length_is last tells new.end
-  pub done : status ≡ Done
-  pub told_is : told ≡ pushed_told (quiet + length_is) told.replied
-  pub event_is : event ≡ event_told (Some tells)
+  pub taken : HostTells old.end (first_bytes (left_behind quiet) length_is) last tells new.end
+  pub done : call.status ≡ Done
+  pub told_is : TellsCounts (quiet.count + length_is) call.told.pushed
+  pub event_is : call.told.event ≡ event_told (Some tells)
   pub sent_is : new.sent ≡ old.sent
   pub answer_is : new.answer ≡ answer_after (Some tells) old.answer
 
--- what a push of bytes crosses as at one of which the host end fails
-pub record IsHostFailed (left : List ℕ) (quiet : ℕ) (status : Status) (told : PushedTold) (event : EventTold)
-    (last : List ℕ) (old new : HeldHost) : Type 0 where
+-- what a push of bytes crosses as at one of which the host end fails, behind a front that tells nothing
+pub record IsHostFailed (quiet : Front) (last : List ℕ) (call : Crossed HostTold) (old new : HeldHost) : Type 0 where
   pub length_is : ℕ
   pub refusal : Refusal
-  pub refuses : HostRefusesWithin old.end left length_is refusal new.end
-  pub taken_is : told.taken ≡ quiet + length_is
-  pub told_is : IsPushRefused refusal told.taken told.replied status told
-  pub event_is : event ≡ event_told None
+  pub refuses : HostRefusesWithin old.end (first_bytes (left_behind quiet) length_is) refusal new.end
+  pub taken_is : call.told.pushed.taken ≡ quiet.count + length_is
+  pub told_is : IsPushRefused refusal call.status call.told.pushed
+  pub event_is : call.told.event ≡ event_told None
   pub silent : last ≡ []
   pub sent_is : new.sent ≡ old.sent
   pub answer_is : new.answer ≡ old.answer
 
--- nothing is told but the counts
-abbrev pub HasHostToldNothing : ℕ → PushedTold → EventTold → List ℕ → HeldHost → HeldHost → Type 0
-HasHostToldNothing quiet told event last old new = (told ≡ pushed_told quiet told.replied) × (event ≡ event_told None)
-    × (last ≡ []) × (new ≡ old)
+-- nothing is told but the counts, with this status
+pub record HasHostToldNothing (quiet : Front) (last : List ℕ) (call : Crossed HostTold) (status : Status)
+    : Type 0 where
+  pub status_is : call.status ≡ status
+  pub told_is : TellsCounts quiet.count call.told.pushed
+  pub event_is : call.told.event ≡ event_told None
+  pub silent : last ≡ []
 
--- where a push of bytes ends: with the last, before one without room for what it may bring, or at one that tells
--- something or is refused
-abbrev pub IsHostEnd : List ℕ → ℕ → ℕ → Status → PushedTold → EventTold → List ℕ → HeldHost → HeldHost → Type 0
-IsHostEnd [] quiet room status told event last old new = (status ≡ Done) × HasHostToldNothing quiet told event last old new
-IsHostEnd (byte ∷ left) quiet room status told event last old new =
-    (room < REPLY_ROOM → (status ≡ NoRoom) × HasHostToldNothing quiet told event last old new)
-    × (REPLY_ROOM ≤ room → IsHostTold (byte ∷ left) quiet status told event last old new
-    ⊎ IsHostFailed (byte ∷ left) quiet status told event last old new)
+-- how much room was left of the buffer before these last bytes were put
+abbrev pub room_before : List ℕ → Crossed HostTold → ℕ
+room_before last call = length call.buffer - (call.told.pushed.replied - length last)
+
+-- Where a push of bytes ends, behind a front that tells nothing: with the last, before one without room for what it may
+-- bring, or at one that tells something or is refused.
+pub record IsHostEnd (quiet : Front) (last : List ℕ) (call : Crossed HostTold) (old new : HeldHost) : Type 0 where
+  pub all : length quiet.bytes ≤ quiet.count → HasHostToldNothing quiet last call Done × (new ≡ old)
+  pub crowded : quiet.count < length quiet.bytes → room_before last call < REPLY_ROOM
+      → HasHostToldNothing quiet last call NoRoom × (new ≡ old)
+  pub tells : quiet.count < length quiet.bytes → REPLY_ROOM ≤ room_before last call
+      → IsHostTold quiet last call old new ⊎ IsHostFailed quiet last call old new
 
 -- what a push of bytes into a host's end crosses as: some tell nothing, and it ends there or with one behind them
-pub record IsHostPush (bytes buffer after : List ℕ) (status : Status) (told : PushedTold) (event : EventTold)
-    (old new : HeldHost) : Type 0 where
-  pub counted : told.taken ≤ length bytes
+pub record IsHostPush (bytes : List ℕ) (call : Crossed HostTold) (old new : HeldHost) : Type 0 where
+  pub counted : call.told.pushed.taken ≤ length bytes
   pub quiet : ℕ
   pub written : List ℕ
   pub before : HeldHost
-  pub takes : HostTakes old.end bytes quiet written before.end
+  pub takes : HostTakes old.end (first_bytes bytes quiet) written before.end
   pub sent_is : before.sent ≡ old.sent
   pub answer_is : before.answer ≡ old.answer
   pub last : List ℕ
-  pub replied : told.replied ≡ length written + length last
-  pub fits : told.replied ≤ length buffer
-  pub put : after ≡ holds_front (written ++ last) buffer
-  pub ends : IsHostEnd (drop quiet bytes) quiet (length buffer - length written) status told event last before new
+  pub replied : call.told.pushed.replied ≡ length written + length last
+  pub fits : call.told.pushed.replied ≤ length call.buffer
+  pub put : call.after ≡ holds_front (written ++ last) call.buffer
+  pub ends : IsHostEnd (first_bytes bytes quiet) last call before new

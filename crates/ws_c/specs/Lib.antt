@@ -8,6 +8,7 @@ pub mod HeldStations
 pub mod HostScreens
 pub mod Hosts
 pub mod Keys
+pub mod Kinds
 pub mod Looks
 pub mod Owned
 pub mod Pushes

@@ -29,8 +29,8 @@ use Rattle.ws_c.specs.declared.status.Status.TheVariants.{BadArgument, NotReady,
 use Rattle.ws_c.specs.declared.status.Status.TheVariants.{TooBig}
 use Rattle.ws_c.specs.declared.told.Told.{Told}
 use Rattle.ws_record.specs.Body.{IsBody, IsBodyFault, HasUnitSoFar}
-use Rattle.ws_c.specs.Calls.{holds_front, told_length}
-use Rattle.ws_c.specs.Held.{OnHost}
+use Rattle.ws_c.specs.Calls.{Crossed, GivesBytes, Returned, TellsOnly, told_length}
+use Rattle.ws_c.specs.Held.{HoldsNone, OnHost}
 
 -- the opcode of a byte, other than Cancel Invite, where there is one
 pub record IsOpcodeFrom (byte : ℕ) (opcode : Option Opcode) : Type 0 where
@@ -91,39 +91,39 @@ IsSentTold (Ok spelled) status told last sent = (status ≡ Done) × (told ≡ t
 IsSentTold (Err fault) status told last sent = IsSendFaultTold fault status told × (sent ≡ last)
 
 -- what a send of a host's end crosses as
-abbrev pub IsSend : Opcode → List Element → Status → Told → HeldHost → HeldHost → Type 0
-IsSend opcode body status told old new = (result : Result (List ℕ) SendFault)
-    × HostSent old.end new.end opcode body result
-    × IsSentTold result status told old.sent new.sent × (new.answer ≡ old.answer)
+abbrev pub IsSend : Opcode → List Element → Returned Told → HeldHost → HeldHost → Type 0
+IsSend opcode body gave old new = (result : Result (List ℕ) SendFault) × HostSent old.end new.end opcode body result
+    × IsSentTold result gave.status gave.told old.sent new.sent × (new.answer ≡ old.answer)
+
+-- nothing is sent: the call has this status, tells nothing, and the handle stays as it was
+abbrev pub IsUnsent : Option Machine → Option Machine → Returned Told → Status → Type 0
+IsUnsent held now gave status = (gave.status ≡ status) × (now ≡ held) × (gave.told ≡ told_length 0)
 
 -- what a send of the body that was read crosses as, where one was
-abbrev pub IsSendFrom : Opcode → Result (List Element) BodyFault → Option Machine → Option Machine → Told → Status
+abbrev pub IsSendFrom : Opcode → Result (List Element) BodyFault → Option Machine → Option Machine → Returned Told
     → Type 0
-IsSendFrom opcode (Ok body) held now told status = OnHost held now status (IsSend opcode body status told)
-    (told ≡ told_length 0)
-IsSendFrom opcode (Err Bad) held now told status = (status ≡ BadArgument) × (now ≡ held) × (told ≡ told_length 0)
-IsSendFrom opcode (Err BodyMemory) held now told status = (status ≡ NoMemory) × (now ≡ held) × (told ≡ told_length 0)
+IsSendFrom opcode (Ok body) held now gave = OnHost held now (IsSend opcode body gave)
+    (HoldsNone gave.status (gave.told ≡ told_length 0))
+IsSendFrom opcode (Err Bad) held now gave = IsUnsent held now gave BadArgument
+IsSendFrom opcode (Err BodyMemory) held now gave = IsUnsent held now gave NoMemory
 
 -- what a send crosses as, by its opcode, where there is one
-abbrev pub IsSendGiven : Option Opcode → Result (List Element) BodyFault → Option Machine → Option Machine → Told
-    → Status → Type 0
-IsSendGiven None body held now told status = (status ≡ BadArgument) × (now ≡ held) × (told ≡ told_length 0)
-IsSendGiven (Some opcode) body held now told status = IsSendFrom opcode body held now told status
+abbrev pub IsSendGiven : Option Opcode → Result (List Element) BodyFault → Option Machine → Option Machine
+    → Returned Told → Type 0
+IsSendGiven None body held now gave = IsUnsent held now gave BadArgument
+IsSendGiven (Some opcode) body held now gave = IsSendFrom opcode body held now gave
 
 -- what a cancel crosses as
-abbrev pub IsCancelTold : Result (List ℕ) SendFault → Status → Told → List ℕ → List ℕ → Type 0
-IsCancelTold (Ok spelled) status told buffer after = (status ≡ Done) × (told ≡ told_length (length spelled))
-    × (after ≡ holds_front spelled buffer)
-IsCancelTold (Err fault) status told buffer after = IsSendFaultTold fault status told × (after ≡ buffer)
+abbrev pub IsCancelTold : Result (List ℕ) SendFault → Crossed Told → Type 0
+IsCancelTold (Ok spelled) call = GivesBytes call spelled
+IsCancelTold (Err fault) call = IsSendFaultTold fault call.status call.told × (call.after ≡ call.buffer)
 
 -- what a cancel of a host's end crosses as
-abbrev pub IsCancel : List ℕ → List ℕ → Status → Told → HeldHost → HeldHost → Type 0
-IsCancel buffer after status told old new = (result : Result (List ℕ) SendFault)
-    × HostCancelled old.end new.end result × IsCancelTold result status told buffer after
-    × (new.sent ≡ old.sent) × (new.answer ≡ old.answer)
+abbrev pub IsCancel : Crossed Told → HeldHost → HeldHost → Type 0
+IsCancel call old new = (result : Result (List ℕ) SendFault) × HostCancelled old.end new.end result
+    × IsCancelTold result call × (new.sent ≡ old.sent) × (new.answer ≡ old.answer)
 
 -- what is told where bytes are put into a buffer, if it has room for them
-pub record IsFetched (bytes : List ℕ) (status : Status) (told : Told) (buffer after : List ℕ) : Type 0 where
-  pub room : length buffer < length bytes → (status ≡ NoRoom) × (told ≡ told_length 0) × (after ≡ buffer)
-  pub fetched : length bytes ≤ length buffer → (status ≡ Done) × (told ≡ told_length (length bytes))
-      × (after ≡ holds_front bytes buffer)
+pub record IsFetched (bytes : List ℕ) (call : Crossed Told) : Type 0 where
+  pub room : length call.buffer < length bytes → TellsOnly call NoRoom (told_length 0)
+  pub fetched : length bytes ≤ length call.buffer → GivesBytes call bytes

@@ -1,16 +1,12 @@
 -- Strokes at a station: the keys of one, one after another, up to the first that is refused
 
 use Rattle.std.specs.Prelude.{◌≡◌, ◌≢◌, List, [], ◌∷◌, Option, Result, Ok, Err}
-use Rattle.ws_extended.specs.ExtendedElements.{extended_rules}
-use Rattle.ws_extended.specs.declared.extended_place.ExtendedPlace.{ExtendedPlace}
-use Rattle.ws_extended_station.specs.ExtendedDisplays.{DisplayParts, extended}
 use Rattle.ws_extended_station.specs.declared.extended_key.ExtendedKey.TheVariants.{Profile}
 use Rattle.ws_keys.specs.Strokes.{erase_eof_runs, keys_of, new_line_cell, runs_to}
 use Rattle.ws_keys.specs.declared.answer.Answer.{Answer}
 use Rattle.ws_keys.specs.declared.key.Key.{Key}
 use Rattle.ws_keys.specs.declared.key_run.KeyRun.{KeyRun}
 use Rattle.ws_screen.specs.ScreenParts.{ScreenParts}
-use Rattle.ws_session.specs.station.PartsOn.{PartsOn}
 use Rattle.ws_session.specs.station.StationLeads.{StationParts}
 use Rattle.ws_session.specs.declared.station.key_fault.KeyFault.{KeyFault}
 use Rattle.ws_c.specs.declared.held_station.HeldStation.{HeldStation}
@@ -19,51 +15,58 @@ use Rattle.ws_c.specs.declared.status.Status.TheVariants.{Done, NoRoom}
 use Rattle.ws_c.specs.declared.stroke.Stroke.{Stroke}
 use Rattle.ws_c.specs.declared.stroke.Stroke.TheVariants.{MoveTo, NewLine, EraseEof}
 use Rattle.ws_c.specs.declared.told.Told.{Told}
-use Rattle.ws_c.specs.Calls.{IsKeyFaultTold, StationKeyed, StationKeyedOn, told_length}
+use Rattle.ws_c.specs.Calls.{IsKeyFaultTold, Returned, StationKeyed, StationKeyedOn, returned, told_length}
+use Rattle.ws_c.specs.Kinds.{StationOf, extended_kind}
 use Rattle.ws_c.specs.HeldStations.{waiting}
 
--- the keys of a stroke at a screen
+-- the keys of a stroke at a screen, in runs
 abbrev pub stroke_key_runs : Stroke → ScreenParts → List KeyRun
 stroke_key_runs (MoveTo cell) s = runs_to s.cursor cell
 stroke_key_runs NewLine s = runs_to s.cursor (new_line_cell s)
 stroke_key_runs EraseEof s = erase_eof_runs s
+
+-- the keys of a stroke at a screen, one after another
+abbrev pub keys_of_stroke : Stroke → ScreenParts → List Key
+keys_of_stroke stroke screen = keys_of (stroke_key_runs stroke screen)
 
 -- what the keys of a stroke cross as
 abbrev pub IsStrokeTold : Result (Unit {0}) KeyFault → Status → Told → Type 0
 IsStrokeTold (Ok done) status told = (status ≡ Done) × (told ≡ told_length 0)
 IsStrokeTold (Err fault) status told = IsKeyFaultTold fault status told
 
+-- where a key is taken this is said of the keys behind it; where it is refused they aren't pressed
+abbrev pub GoesOnBehindKey : {S : Type 0} → Result (Option Answer) KeyFault → Type 0 → S → S
+    → Result (Unit {0}) KeyFault → Type 0
+GoesOnBehindKey (Ok answer) behind next new result = behind
+GoesOnBehindKey (Err fault) behind next new result = (result ≡ Err fault) × (new ≡ next)
+
 -- a station of any kind, by what one key of the profile does at it
 module _ {S : Type 0} (takes : S → S → Key → Result (Option Answer) KeyFault → Type 0) where
-  -- where a key is taken this is said of the keys behind it; where it is refused they aren't pressed
-  abbrev pub GoesOnBehindKey : Result (Option Answer) KeyFault → Type 0 → S → S → Result (Unit {0}) KeyFault → Type 0
-  GoesOnBehindKey (Ok answer) behind next new result = behind
-  GoesOnBehindKey (Err fault) behind next new result = (result ≡ Err fault) × (new ≡ next)
-
   -- keys at a station, one after another, up to the first that is refused
   abbrev pub AreKeyed : List Key → S → S → Result (Unit {0}) KeyFault → Type 0
   AreKeyed [] old new result = (result ≡ Ok tt) × (new ≡ old)
   AreKeyed (key ∷ keys) old new result = (next : S) × (pressed : Result (Option Answer) KeyFault)
       × takes old next key pressed × GoesOnBehindKey pressed (AreKeyed keys next new result) next new result
 
-  -- a stroke at a station, whose screen was this: its keys are pressed one after another, up to the first that is
-  -- refused
-  abbrev pub IsStruck : Stroke → ScreenParts → Status → Told → S → S → Type 0
-  IsStruck stroke screen status told old new = (result : Result (Unit {0}) KeyFault)
-      × AreKeyed (keys_of (stroke_key_runs stroke screen)) old new result × IsStrokeTold result status told
+  -- the keys of a stroke at a station: they are pressed one after another, up to the first that is refused
+  abbrev pub AreStruck : List Key → Returned Told → S → S → Type 0
+  AreStruck keys gave old new = (result : Result (Unit {0}) KeyFault) × AreKeyed keys old new result
+      × IsStrokeTold result gave.status gave.told
 
 -- what a stroke at a station of the profile crosses as
 abbrev pub IsStroke : Stroke → Status → Told → StationParts → StationParts → Type 0
-IsStroke stroke status told old new = IsStruck StationKeyed stroke old.screen.screen status told old new
+IsStroke stroke status told old new =
+    AreStruck StationKeyed (keys_of_stroke stroke old.screen.screen) (returned status told) old new
 
 -- a key of the profile at a station as live hosts use it
-abbrev pub ExtendedKeyed : PartsOn DisplayParts ExtendedPlace → PartsOn DisplayParts ExtendedPlace → Key
-    → Result (Option Answer) KeyFault → Type 0
-ExtendedKeyed old new key result = StationKeyedOn extended_rules extended old new (Profile key) result
+abbrev pub ExtendedKeyed : StationOf extended_kind → StationOf extended_kind → Key → Result (Option Answer) KeyFault
+    → Type 0
+ExtendedKeyed old new key result = StationKeyedOn extended_kind old new (Profile key) result
 
 -- what a stroke at a station as live hosts use it crosses as; where something waits no key is pressed
 pub record IsHeldStroke (stroke : Stroke) (status : Status) (told : Told) (old new : HeldStation) : Type 0 where
   pub waits : waiting old ≢ [] → (status ≡ NoRoom) × (new ≡ old) × (told ≡ told_length 0)
   pub pressed : waiting old ≡ []
-      → IsStruck ExtendedKeyed stroke old.station.screen.display.screen status told old.station new.station
+      → AreStruck ExtendedKeyed (keys_of_stroke stroke old.station.screen.display.screen) (returned status told)
+      old.station new.station
       × (waiting new ≡ [])

@@ -7,10 +7,9 @@ use Rattle.ws_screen.specs.Lines.{shown_char}
 use Rattle.ws_screen.specs.ScreenParts.{ScreenParts}
 use Rattle.ws_screen.specs.declared.field.Field.{Field}
 use Rattle.ws_keys.specs.Contents.{without_trailing_nulls}
-use Rattle.ws_c.specs.declared.status.Status.{Status}
 use Rattle.ws_c.specs.declared.status.Status.TheVariants.{Done, NoRoom, BadArgument}
 use Rattle.ws_c.specs.declared.told.Told.{Told}
-use Rattle.ws_c.specs.Calls.{holds_front, told_length}
+use Rattle.ws_c.specs.Calls.{Crossed, TellsOnly, holds_front, told_length}
 
 -- The characters of a field's cells up to the last that isn't 00, in UTF-8: those that they show, whether or not an
 -- attribute hides them.
@@ -18,12 +17,13 @@ abbrev pub field_text : ScreenParts → Field → List ℕ
 field_text s f = encode_utf8_all (map shown_char (without_trailing_nulls (cells_of s f)))
 
 -- what is told of a text: how long it is; a buffer with room for it gets it
-pub record IsTextTold (text : List ℕ) (status : Status) (told : Told) (buffer after : List ℕ) : Type 0 where
-  pub state : told ≡ told_length (length text)
-  pub room : length buffer < length text → (status ≡ NoRoom) × (after ≡ buffer)
-  pub put : length text ≤ length buffer → (status ≡ Done) × (after ≡ holds_front text buffer)
+pub record IsTextTold (text : List ℕ) (call : Crossed Told) : Type 0 where
+  pub state : call.told ≡ told_length (length text)
+  pub room : length call.buffer < length text → (call.status ≡ NoRoom) × (call.after ≡ call.buffer)
+  pub put : length text ≤ length call.buffer
+      → (call.status ≡ Done) × (call.after ≡ holds_front text call.buffer)
 
 -- what is told of the text of a field, where there is one
-abbrev pub IsFieldTextTold : Option Field → ScreenParts → Status → Told → List ℕ → List ℕ → Type 0
-IsFieldTextTold None s status told buffer after = (status ≡ BadArgument) × (told ≡ told_length 0) × (after ≡ buffer)
-IsFieldTextTold (Some field) s status told buffer after = IsTextTold (field_text s field) status told buffer after
+abbrev pub IsFieldTextTold : Option Field → ScreenParts → Crossed Told → Type 0
+IsFieldTextTold None s call = TellsOnly call BadArgument (told_length 0)
+IsFieldTextTold (Some field) s call = IsTextTold (field_text s field) call

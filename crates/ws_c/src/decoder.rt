@@ -3,9 +3,8 @@ ghost use Rattle.std.specs.Prelude.{◌≡◌, ◌≤◌, ◌<◌, length, Resul
 ghost use Rattle.ws_code.specs.declared.fault.Fault.{Fault as AFault};
 ghost use Rattle.ws_record.specs.Grammar.{opcode_byte};
 ghost use Rattle.ws_record.specs.declared.live.Step.{Step as AStep};
-ghost use Rattle.ws_c.specs.declared.status.Status.{Status as AStatus};
-ghost use Rattle.ws_c.specs.Calls.{status_number};
-ghost use Rattle.ws_c.specs.Held.{IsDecoderFreed, OnDecoders};
+ghost use Rattle.ws_c.specs.Calls.{HasStatus, TellsOnly, crossed, status_number};
+ghost use Rattle.ws_c.specs.Held.{HoldsNone, IsDecoderFreed, OnDecoders};
 ghost use Rattle.ws_c.specs.Decoding.{DecoderFinishedOn, IsDecode, IsDecodeOn, IsDecoderNew, IsStreamEnd, IsEndTold, IsExtendedDecode, IsExtendedDecoderNew, IsExtendedStreamEnd, IsStepToldOn, plain_step};
 
 use crate::held::{on_decoders, on_two};
@@ -99,8 +98,8 @@ fn make_decoder(alloc: Global, handle: &mut Handle) -> Status
 /// `InUse` where the handle holds something, and `NoMemory`. The handle then stays as it is.
 #[unsafe(no_mangle)]
 pub extern "C" fn ws_c_decoder_new(alloc: Global, handle: &mut Handle) -> u32
-    ensures made { (status : AStatus) × (result ≡ status_number status)
-        × IsDecoderNew handle.old.owned.value handle.new.owned.value status }
+    ensures made { HasStatus result (λ status.
+        IsDecoderNew handle.old.owned.value handle.new.owned.value status) }
 {
     make_decoder(alloc, handle).number()
 }
@@ -127,8 +126,8 @@ fn make_extended_decoder(alloc: Global, handle: &mut Handle) -> Status
 /// `InUse` where the handle holds something, and `NoMemory`. The handle then stays as it is.
 #[unsafe(no_mangle)]
 pub extern "C" fn ws_c_decoder_new_extended(alloc: Global, handle: &mut Handle) -> u32
-    ensures made { (status : AStatus) × (result ≡ status_number status)
-        × IsExtendedDecoderNew handle.old.owned.value handle.new.owned.value status }
+    ensures made { HasStatus result (λ status.
+        IsExtendedDecoderNew handle.old.owned.value handle.new.owned.value status) }
 {
     make_extended_decoder(alloc, handle).number()
 }
@@ -157,8 +156,8 @@ fn tell_unit<C: Body>(
 ) -> Status
     requires room { 133 ≤ length buffer.old }
     requires count { before < usize.MAX }
-    ensures { IsStepToldOn C.rules (AStep.Unit unit.now) before result told.new buffer.old
-        buffer.new }
+    ensures { IsStepToldOn C.rules (AStep.Unit unit.now) before
+        (crossed buffer.old buffer.new result told.new) }
 {
     let mut spelling = ArrayVec::new();
     C::spell(unit, &mut spelling);
@@ -176,8 +175,8 @@ fn tell_telnet<C: Body>(
 ) -> Status
     requires room { 133 ≤ length buffer.old }
     requires count { before < usize.MAX }
-    ensures { IsStepToldOn C.rules (AStep.Telnet telnet) before result told.new buffer.old
-        buffer.new }
+    ensures { IsStepToldOn C.rules (AStep.Telnet telnet) before
+        (crossed buffer.old buffer.new result told.new) }
 {
     let mut spelling = ArrayVec::new();
     spell(&Token::Telnet(telnet), &mut spelling);
@@ -195,7 +194,7 @@ fn tell_step<C: Body>(
 ) -> Status
     requires room { 133 ≤ length buffer.old }
     requires count { before < usize.MAX }
-    ensures { IsStepToldOn C.rules step before result told.new buffer.old buffer.new }
+    ensures { IsStepToldOn C.rules step before (crossed buffer.old buffer.new result told.new) }
 {
     match step {
         Step::More => {
@@ -233,8 +232,8 @@ fn push_all<C: Body>(
     told: &mut StepTold,
 ) -> Status
     requires { 133 ≤ length buffer.old }
-    ensures { IsDecodeOn C.rules bytes.now buffer.old buffer.new result told.new decoder.old
-        decoder.new }
+    ensures { IsDecodeOn C.rules bytes.now
+        (crossed buffer.old buffer.new result told.new) decoder.old decoder.new }
 {
     for (at, byte) in bytes.iter().enumerate() {
         match decoder.push(*byte) {
@@ -256,10 +255,9 @@ fn push(
 ) -> Status
     requires room { 133 ≤ length buffer.old }
     requires untold { told.old ≡ plain_step 0 0 }
-    ensures { OnDecoders handle.old.owned.value handle.new.owned.value result
-        (IsDecode bytes.now buffer.old buffer.new result told.new)
-        (IsExtendedDecode bytes.now buffer.old buffer.new result told.new)
-        ((told.new ≡ plain_step 0 0) × (buffer.new ≡ buffer.old)) }
+    ensures { let call = crossed buffer.old buffer.new result told.new in
+        OnDecoders handle.old.owned.value handle.new.owned.value (IsDecode bytes.now call)
+        (IsExtendedDecode bytes.now call) (TellsOnly call Status.NothingHeld (plain_step 0 0)) }
 {
     on_decoders!(
         alloc,
@@ -284,12 +282,10 @@ pub extern "C" fn ws_c_decoder_push(
 ) -> u32
     ensures room { length buffer.old < 133 → (result ≡ status_number Status.NoRoom)
         × (handle.new ≡ handle.old) × (buffer.new ≡ buffer.old) × (told.new ≡ plain_step 0 0) }
-    ensures pushed { 133 ≤ length buffer.old → (status : AStatus)
-        × (result ≡ status_number status)
-        × OnDecoders handle.old.owned.value handle.new.owned.value status
-        (IsDecode bytes.now buffer.old buffer.new status told.new)
-        (IsExtendedDecode bytes.now buffer.old buffer.new status told.new)
-        ((told.new ≡ plain_step 0 0) × (buffer.new ≡ buffer.old)) }
+    ensures pushed { 133 ≤ length buffer.old → HasStatus result (λ status.
+        let call = crossed buffer.old buffer.new status told.new in
+        OnDecoders handle.old.owned.value handle.new.owned.value (IsDecode bytes.now call)
+        (IsExtendedDecode bytes.now call) (TellsOnly call Status.NothingHeld (plain_step 0 0))) }
 {
     *told = StepTold::plain(0, 0);
     if buffer.len() < 133 {
@@ -325,8 +321,9 @@ fn finish_decoder<C: Body>(decoder: &mut Live<C>, place: &mut u64) -> Status
 
 // Ends the stream of the decoder that a handle holds.
 fn finish(alloc: Global, handle: &mut Handle, place: &mut u64) -> Status
-    ensures { OnDecoders handle.old.owned.value handle.new.owned.value result
-        (IsStreamEnd result place.new) (IsExtendedStreamEnd result place.new) (place.new ≡ 0) }
+    ensures { OnDecoders handle.old.owned.value handle.new.owned.value
+        (IsStreamEnd result place.new) (IsExtendedStreamEnd result place.new)
+        (HoldsNone result (place.new ≡ 0)) }
 {
     *place = 0;
     on_decoders!(alloc, handle, |decoder| finish_decoder(decoder, place))
@@ -338,9 +335,9 @@ fn finish(alloc: Global, handle: &mut Handle, place: &mut u64) -> Status
 /// `NothingHeld` where the handle holds no decoder; `place` is then 0.
 #[unsafe(no_mangle)]
 pub extern "C" fn ws_c_decoder_finish(alloc: Global, handle: &mut Handle, place: &mut u64) -> u32
-    ensures { (status : AStatus) × (result ≡ status_number status)
-        × OnDecoders handle.old.owned.value handle.new.owned.value status
-        (IsStreamEnd status place.new) (IsExtendedStreamEnd status place.new) (place.new ≡ 0) }
+    ensures { HasStatus result (λ status. OnDecoders handle.old.owned.value handle.new.owned.value
+        (IsStreamEnd status place.new) (IsExtendedStreamEnd status place.new)
+        (HoldsNone status (place.new ≡ 0))) }
 {
     finish(alloc, handle, place).number()
 }

@@ -4,8 +4,7 @@ ghost use Rattle.std.specs.Str.{encode_utf8_all};
 ghost use Rattle.ws_code.specs.declared.address.TheConstants.{CELLS as ALL_CELLS};
 ghost use Rattle.ws_screen.specs.Lines.{shown_char};
 ghost use Rattle.ws_keys.specs.Contents.{is_null, without_trailing_nulls};
-ghost use Rattle.ws_c.specs.declared.status.Status.{Status as AStatus};
-ghost use Rattle.ws_c.specs.Calls.{status_number, told_length};
+ghost use Rattle.ws_c.specs.Calls.{HasStatus, TellsOnly, crossed, told_length};
 ghost use Rattle.ws_c.specs.Held.{OnScreen};
 ghost use Rattle.ws_c.specs.Texts.{IsFieldTextTold, IsTextTold, field_text};
 
@@ -67,7 +66,7 @@ fn text_of(screen: &Screen, field: &Field) -> ArrayString<3840>
 
 // Puts a text into a buffer that has room for it.
 fn put_text(text: &[u8], buffer: &mut [u8], told: &mut Told) -> Status
-    ensures { IsTextTold text.now result told.new buffer.old buffer.new }
+    ensures { IsTextTold text.now (crossed buffer.old buffer.new result told.new) }
 {
     *told = Told::length(text.len());
     if buffer.len() < text.len() {
@@ -80,7 +79,8 @@ fn put_text(text: &[u8], buffer: &mut [u8], told: &mut Told) -> Status
 // Puts the text of a field into a buffer that has room for it.
 fn put_field(screen: &Screen, field: &Field, buffer: &mut [u8], told: &mut Told) -> Status
     requires { field.now.start + field.now.length ≤ ALL_CELLS }
-    ensures { IsTextTold (field_text screen.now field.now) result told.new buffer.old buffer.new }
+    ensures { IsTextTold (field_text screen.now field.now)
+        (crossed buffer.old buffer.new result told.new) }
 {
     let text = text_of(screen, field);
     put_text(text.as_str().as_bytes(), buffer, told)
@@ -97,8 +97,8 @@ fn field_at(screen: &Screen, index: usize) -> Option<Field>
 // Tells the text of a field by its index.
 fn tell_text(screen: &Screen, index: usize, buffer: &mut [u8], told: &mut Told) -> Status
     requires { told.old ≡ told_length 0 }
-    ensures { IsFieldTextTold (slice_get screen.now.fields index) screen.now result told.new
-        buffer.old buffer.new }
+    ensures { IsFieldTextTold (slice_get screen.now.fields index) screen.now
+        (crossed buffer.old buffer.new result told.new) }
 {
     screen.known();
     match field_at(screen, index) {
@@ -114,10 +114,10 @@ fn look_at_station(
     buffer: &mut [u8],
     told: &mut Told,
 ) -> Status
-    ensures { OnScreen handle.old.owned.value handle.new.owned.value result
-        (λ screen. IsFieldTextTold (slice_get screen.fields index) screen result told.new buffer.old
-        buffer.new)
-        ((told.new ≡ told_length 0) × (buffer.new ≡ buffer.old)) }
+    ensures { let call = crossed buffer.old buffer.new result told.new in
+        OnScreen handle.old.owned.value handle.new.owned.value
+        (λ screen. IsFieldTextTold (slice_get screen.fields index) screen call)
+        (TellsOnly call Status.NothingHeld (told_length 0)) }
 {
     *told = Told::length(0);
     on_screen!(
@@ -140,11 +140,11 @@ pub extern "C" fn ws_c_station_field_text(
     buffer: &mut [u8],
     told: &mut Told,
 ) -> u32
-    ensures { (status : AStatus) × (result ≡ status_number status)
-        × OnScreen handle.old.owned.value handle.new.owned.value status
-        (λ screen. IsFieldTextTold (slice_get screen.fields index) screen status told.new buffer.old
-        buffer.new)
-        ((told.new ≡ told_length 0) × (buffer.new ≡ buffer.old)) }
+    ensures { HasStatus result (λ status.
+        let call = crossed buffer.old buffer.new status told.new in
+        OnScreen handle.old.owned.value handle.new.owned.value
+        (λ screen. IsFieldTextTold (slice_get screen.fields index) screen call)
+        (TellsOnly call Status.NothingHeld (told_length 0))) }
 {
     look_at_station(alloc, handle, index, buffer, told).number()
 }

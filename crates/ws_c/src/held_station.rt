@@ -4,8 +4,9 @@ ghost use Rattle.ws_session.specs.station.StationManners.{new_side_on};
 ghost use Rattle.ws_session.specs.station.Stations.{LeadsOn};
 ghost use Rattle.ws_extended.specs.ExtendedElements.{extended_rules};
 ghost use Rattle.ws_extended_station.specs.ExtendedDisplays.{extended};
-ghost use Rattle.ws_c.specs.HeldStations.{HandsOut, IsHeldKeyed, key_or_reset, waiting};
-ghost use Rattle.ws_c.specs.Strokes.{ExtendedKeyed, IsStruck};
+ghost use Rattle.ws_c.specs.HeldStations.{HandsOut, IsHeldKeyed, filling, key_or_reset, waiting};
+ghost use Rattle.ws_c.specs.Strokes.{AreStruck, ExtendedKeyed, keys_of_stroke};
+ghost use Rattle.ws_c.specs.Calls.{crossed, returned};
 
 use crate::station::put_behind;
 use crate::station_keys::tell_key;
@@ -75,7 +76,8 @@ impl HeldStation {
     /// Puts of what waits as much as there is room for into a buffer, behind the bytes that were put there.
     pub fn hand_out(&mut self, buffer: &mut [u8], told: &mut PushedTold)
         requires { told.old.replied ≤ length buffer.old }
-        ensures { HandsOut self.old self.new told.old told.new buffer.old buffer.new }
+        ensures { HandsOut self.old self.new (filling told.old buffer.old)
+            (filling told.new buffer.new) }
     {
         let rest = self.rest();
         let room = buffer.len() - told.replied;
@@ -88,8 +90,8 @@ impl HeldStation {
     /// Presses a key of the profile, or Reset. Nothing waits then, so it is for a station of which nothing does.
     pub fn press(&mut self, key: Option<Key>, buffer: &mut [u8], told: &mut Told) -> Status
         requires { 5404 ≤ length buffer.old }
-        ensures { IsHeldKeyed (key_or_reset key) buffer.old buffer.new result told.new self.old
-            self.new }
+        ensures { IsHeldKeyed (key_or_reset key)
+            (crossed buffer.old buffer.new result told.new) self.old self.new }
     {
         let pressed = or_reset(key);
         let keyed = self.station.key(pressed);
@@ -99,8 +101,9 @@ impl HeldStation {
     }
     /// Presses the keys of a stroke. It too is for a station of which nothing waits.
     pub fn strike(&mut self, stroke: Stroke, told: &mut Told) -> Status
-        ensures struck { IsStruck ExtendedKeyed stroke self.old.station.screen.display.screen result
-            told.new self.old.station self.new.station }
+        ensures struck { AreStruck ExtendedKeyed
+            (keys_of_stroke stroke self.old.station.screen.display.screen)
+            (returned result told.new) self.old.station self.new.station }
         ensures waits { waiting self.new ≡ [] }
     {
         self.reply = no_reply();

@@ -1,9 +1,8 @@
 //! Hosts' ends of sessions.
 ghost use Rattle.std.specs.Prelude.{◌≡◌, ◌≤◌, ◌<◌, None, length};
-ghost use Rattle.ws_c.specs.declared.status.Status.{Status as AStatus};
-ghost use Rattle.ws_c.specs.Calls.{status_number, told_length};
+ghost use Rattle.ws_c.specs.Calls.{HasStatus, TellsOnly, crossed, status_number, told_length};
 ghost use Rattle.ws_c.specs.Held.{IsHostFreed, OnHost};
-ghost use Rattle.ws_c.specs.Hosts.{IsHostNew, IsHostPush, IsNewHost, answer_after, event_told, number_of_terminal, opening_bytes};
+ghost use Rattle.ws_c.specs.Hosts.{IsHostNew, IsHostPush, IsNewHost, answer_after, event_told, host_told, number_of_terminal, opening_bytes};
 ghost use Rattle.ws_c.specs.Pushes.{nothing_pushed};
 
 use crate::held::{on_held, on_host};
@@ -54,8 +53,8 @@ fn opened_host(alloc: Global) -> (HeldHost, Reply)
 fn make_host(alloc: Global, handle: &mut Handle, buffer: &mut [u8], told: &mut Told) -> Status
     requires room { 17 ≤ length buffer.old }
     requires untold { told.old ≡ told_length 0 }
-    ensures { IsHostNew buffer.old buffer.new told.new handle.old.owned.value
-        handle.new.owned.value result }
+    ensures { IsHostNew handle.old.owned.value handle.new.owned.value
+        (crossed buffer.old buffer.new result told.new) }
 {
     if let Some(held) = handle.take(alloc) {
         handle.put(held);
@@ -86,10 +85,9 @@ pub extern "C" fn ws_c_host_new(
 ) -> u32
     ensures room { length buffer.old < 17 → (result ≡ status_number Status.NoRoom)
         × (handle.new ≡ handle.old) × (buffer.new ≡ buffer.old) × (told.new ≡ told_length 0) }
-    ensures made { 17 ≤ length buffer.old
-        → (status : AStatus) × (result ≡ status_number status)
-        × IsHostNew buffer.old buffer.new told.new handle.old.owned.value
-        handle.new.owned.value status }
+    ensures made { 17 ≤ length buffer.old → HasStatus result (λ status.
+        IsHostNew handle.old.owned.value handle.new.owned.value
+        (crossed buffer.old buffer.new status told.new)) }
 {
     *told = Told::length(0);
     if buffer.len() < 17 {
@@ -167,8 +165,8 @@ fn push_all(
 ) -> Status
     requires told { told.old ≡ nothing_pushed }
     requires event { event.old ≡ event_told None }
-    ensures { IsHostPush bytes.now buffer.old buffer.new result told.new event.new
-        host.old host.new }
+    ensures { IsHostPush bytes.now
+        (crossed buffer.old buffer.new result (host_told told.new event.new)) host.old host.new }
 {
     while told.taken < bytes.len() {
         if buffer.len() - told.replied < REPLY_ROOM {
@@ -205,9 +203,9 @@ fn push(
     told: &mut PushedTold,
     event: &mut EventTold,
 ) -> Status
-    ensures { OnHost handle.old.owned.value handle.new.owned.value result
-        (IsHostPush bytes.now buffer.old buffer.new result told.new event.new)
-        ((told.new ≡ nothing_pushed) × (event.new ≡ event_told None) × (buffer.new ≡ buffer.old)) }
+    ensures { let call = crossed buffer.old buffer.new result (host_told told.new event.new) in
+        OnHost handle.old.owned.value handle.new.owned.value (IsHostPush bytes.now call)
+        (TellsOnly call Status.NothingHeld (host_told nothing_pushed (event_told None))) }
 {
     *told = PushedTold::nothing();
     *event = EventTold::plain(0);
@@ -234,10 +232,10 @@ pub extern "C" fn ws_c_host_push(
     told: &mut PushedTold,
     event: &mut EventTold,
 ) -> u32
-    ensures { (status : AStatus) × (result ≡ status_number status)
-        × OnHost handle.old.owned.value handle.new.owned.value status
-        (IsHostPush bytes.now buffer.old buffer.new status told.new event.new)
-        ((told.new ≡ nothing_pushed) × (event.new ≡ event_told None) × (buffer.new ≡ buffer.old)) }
+    ensures { HasStatus result (λ status.
+        let call = crossed buffer.old buffer.new status (host_told told.new event.new) in
+        OnHost handle.old.owned.value handle.new.owned.value (IsHostPush bytes.now call)
+        (TellsOnly call Status.NothingHeld (host_told nothing_pushed (event_told None)))) }
 {
     push(alloc, handle, bytes, buffer, told, event).number()
 }

@@ -1,8 +1,7 @@
 //! The answer that a host's end has taken.
 ghost use Rattle.std.specs.Prelude.{◌≡◌};
-ghost use Rattle.ws_c.specs.declared.status.Status.{Status as AStatus};
-ghost use Rattle.ws_c.specs.Calls.{status_number};
-ghost use Rattle.ws_c.specs.Held.{OnHost};
+ghost use Rattle.ws_c.specs.Calls.{HasStatus, TellsOnly, crossed};
+ghost use Rattle.ws_c.specs.Held.{HoldsNone, OnHost};
 ghost use Rattle.ws_c.specs.Answers.{IsAnswerTold, IsContentTold, IsFieldRead, no_answer, no_read_field};
 
 use crate::held::{on_held, on_host};
@@ -85,9 +84,9 @@ fn tell_answer(answer: &Option<HostAnswer>, told: &mut AnswerTold) -> Status
 
 // Tells the answer of what a handle holds.
 fn answer_of(alloc: Global, handle: &mut Handle, told: &mut AnswerTold) -> Status
-    ensures { OnHost handle.old.owned.value handle.new.owned.value result
+    ensures { OnHost handle.old.owned.value handle.new.owned.value
         (λ old new. (new ≡ old) × IsAnswerTold old.answer result told.new)
-        (told.new ≡ no_answer) }
+        (HoldsNone result (told.new ≡ no_answer)) }
 {
     *told = AnswerTold::nothing();
     on_host!(alloc, handle, |host| tell_answer(&host.answer, told))
@@ -99,17 +98,16 @@ fn answer_of(alloc: Global, handle: &mut Handle, told: &mut AnswerTold) -> Statu
 /// `NoAnswer` where none has come yet, `NothingHeld` where the handle holds no host; `told` is then zero.
 #[unsafe(no_mangle)]
 pub extern "C" fn ws_c_host_answer(alloc: Global, handle: &mut Handle, told: &mut AnswerTold) -> u32
-    ensures { (status : AStatus) × (result ≡ status_number status)
-        × OnHost handle.old.owned.value handle.new.owned.value status
+    ensures { HasStatus result (λ status. OnHost handle.old.owned.value handle.new.owned.value
         (λ old new. (new ≡ old) × IsAnswerTold old.answer status told.new)
-        (told.new ≡ no_answer) }
+        (HoldsNone status (told.new ≡ no_answer))) }
 {
     answer_of(alloc, handle, told).number()
 }
 
 // Tells a field, and puts its content into a buffer that has room for it.
 fn tell_field(field: &ReadField, buffer: &mut [u8], told: &mut ReadFieldTold) -> Status
-    ensures { IsContentTold field.now result told.new buffer.old buffer.new }
+    ensures { IsContentTold field.now (crossed buffer.old buffer.new result told.new) }
 {
     let content = field.content.as_slice();
     *told = ReadFieldTold {
@@ -132,7 +130,7 @@ fn field_at(
     told: &mut ReadFieldTold,
 ) -> Status
     requires { told.old ≡ no_read_field }
-    ensures { IsFieldRead answer.now index result told.new buffer.old buffer.new }
+    ensures { IsFieldRead answer.now index (crossed buffer.old buffer.new result told.new) }
 {
     let Some(came) = answer else {
         return Status::NoAnswer;
@@ -152,10 +150,10 @@ fn field_of(
     buffer: &mut [u8],
     told: &mut ReadFieldTold,
 ) -> Status
-    ensures { OnHost handle.old.owned.value handle.new.owned.value result
-        (λ old new. (new ≡ old)
-        × IsFieldRead old.answer index result told.new buffer.old buffer.new)
-        ((told.new ≡ no_read_field) × (buffer.new ≡ buffer.old)) }
+    ensures { let call = crossed buffer.old buffer.new result told.new in
+        OnHost handle.old.owned.value handle.new.owned.value
+        (λ old new. (new ≡ old) × IsFieldRead old.answer index call)
+        (TellsOnly call Status.NothingHeld no_read_field) }
 {
     *told = ReadFieldTold::nothing();
     on_host!(
@@ -179,11 +177,11 @@ pub extern "C" fn ws_c_host_answer_field(
     buffer: &mut [u8],
     told: &mut ReadFieldTold,
 ) -> u32
-    ensures { (status : AStatus) × (result ≡ status_number status)
-        × OnHost handle.old.owned.value handle.new.owned.value status
-        (λ old new. (new ≡ old)
-        × IsFieldRead old.answer index status told.new buffer.old buffer.new)
-        ((told.new ≡ no_read_field) × (buffer.new ≡ buffer.old)) }
+    ensures { HasStatus result (λ status.
+        let call = crossed buffer.old buffer.new status told.new in
+        OnHost handle.old.owned.value handle.new.owned.value
+        (λ old new. (new ≡ old) × IsFieldRead old.answer index call)
+        (TellsOnly call Status.NothingHeld no_read_field)) }
 {
     field_of(alloc, handle, index, buffer, told).number()
 }

@@ -1,9 +1,8 @@
 //! The screen that a host's end keeps: what the station's is by what was sent.
 ghost use Rattle.std.specs.Prelude.{◌≡◌, ◌≤◌, ◌<◌, ◌++◌, drop, length, slice_get};
-ghost use Rattle.ws_c.specs.declared.status.Status.{Status as AStatus};
-ghost use Rattle.ws_c.specs.Calls.{IsFieldTold, no_field, no_state, status_number};
+ghost use Rattle.ws_c.specs.Calls.{HasStatus, IsFieldTold, no_field, no_state, status_number};
 ghost use Rattle.ws_c.specs.Cells.{AreRowNumbers, cells_in, rows_told};
-ghost use Rattle.ws_c.specs.Held.{OnHost};
+ghost use Rattle.ws_c.specs.Held.{HoldsNone, OnHost};
 ghost use Rattle.ws_c.specs.HostScreens.{host_state_told};
 
 use crate::held::{on_held, on_host};
@@ -30,9 +29,9 @@ fn tell_state(host: &HostEnd, state: &mut StateTold) -> Status
 }
 
 fn look_at_state(alloc: Global, handle: &mut Handle, state: &mut StateTold) -> Status
-    ensures { OnHost handle.old.owned.value handle.new.owned.value result
+    ensures { OnHost handle.old.owned.value handle.new.owned.value
         (λ old new. (new ≡ old) × (result ≡ Status.Done) × (state.new ≡ host_state_told old.end))
-        (state.new ≡ no_state) }
+        (HoldsNone result (state.new ≡ no_state)) }
 {
     *state = StateTold::nothing();
     on_host!(alloc, handle, |host| tell_state(&host.end, state))
@@ -44,10 +43,9 @@ fn look_at_state(alloc: Global, handle: &mut Handle, state: &mut StateTold) -> S
 /// `NothingHeld` where the handle holds no host; `state` is then zero.
 #[unsafe(no_mangle)]
 pub extern "C" fn ws_c_host_state(alloc: Global, handle: &mut Handle, state: &mut StateTold) -> u32
-    ensures { (status : AStatus) × (result ≡ status_number status)
-        × OnHost handle.old.owned.value handle.new.owned.value status
+    ensures { HasStatus result (λ status. OnHost handle.old.owned.value handle.new.owned.value
         (λ old new. (new ≡ old) × (status ≡ Status.Done) × (state.new ≡ host_state_told old.end))
-        (state.new ≡ no_state) }
+        (HoldsNone status (state.new ≡ no_state))) }
 {
     look_at_state(alloc, handle, state).number()
 }
@@ -61,11 +59,11 @@ fn look_at_cells(
 ) -> Status
     requires rows { AreRowNumbers first_row last_row }
     requires room { cells_in first_row last_row ≤ length cells.old }
-    ensures { OnHost handle.old.owned.value handle.new.owned.value result
+    ensures { OnHost handle.old.owned.value handle.new.owned.value
         (λ old new. (new ≡ old) × (result ≡ Status.Done)
         × (cells.new ≡ rows_told old.end.screen first_row last_row
         ++ drop (cells_in first_row last_row) cells.old))
-        (cells.new ≡ cells.old) }
+        (HoldsNone result (cells.new ≡ cells.old)) }
 {
     on_host!(
         alloc,
@@ -87,13 +85,12 @@ pub extern "C" fn ws_c_host_cells(
     cells: &mut [CellTold],
 ) -> u32
     ensures cells { AreRowNumbers first_row last_row
-        → cells_in first_row last_row ≤ length cells.old
-        → (status : AStatus) × (result ≡ status_number status)
-        × OnHost handle.old.owned.value handle.new.owned.value status
+        → cells_in first_row last_row ≤ length cells.old → HasStatus result (λ status.
+        OnHost handle.old.owned.value handle.new.owned.value
         (λ old new. (new ≡ old) × (status ≡ Status.Done)
         × (cells.new ≡ rows_told old.end.screen first_row last_row
         ++ drop (cells_in first_row last_row) cells.old))
-        (cells.new ≡ cells.old) }
+        (HoldsNone status (cells.new ≡ cells.old))) }
     ensures off { ¬ AreRowNumbers first_row last_row
         → (result ≡ status_number Status.BadArgument)
         × (handle.new ≡ handle.old) × (cells.new ≡ cells.old) }
@@ -111,10 +108,10 @@ pub extern "C" fn ws_c_host_cells(
 }
 
 fn look_at_field(alloc: Global, handle: &mut Handle, index: usize, field: &mut FieldTold) -> Status
-    ensures { OnHost handle.old.owned.value handle.new.owned.value result
+    ensures { OnHost handle.old.owned.value handle.new.owned.value
         (λ old new. (new ≡ old)
         × IsFieldTold (slice_get old.end.screen.fields index) result field.new)
-        (field.new ≡ no_field) }
+        (HoldsNone result (field.new ≡ no_field)) }
 {
     *field = FieldTold::nothing();
     on_host!(
@@ -134,11 +131,10 @@ pub extern "C" fn ws_c_host_field(
     index: usize,
     field: &mut FieldTold,
 ) -> u32
-    ensures { (status : AStatus) × (result ≡ status_number status)
-        × OnHost handle.old.owned.value handle.new.owned.value status
+    ensures { HasStatus result (λ status. OnHost handle.old.owned.value handle.new.owned.value
         (λ old new. (new ≡ old)
         × IsFieldTold (slice_get old.end.screen.fields index) status field.new)
-        (field.new ≡ no_field) }
+        (HoldsNone status (field.new ≡ no_field))) }
 {
     look_at_field(alloc, handle, index, field).number()
 }

@@ -6,9 +6,8 @@ ghost use Rattle.ws_stream.specs.Elements.{element_rules};
 ghost use Rattle.ws_stream.specs.declared.element.Element.{Element as AnElement};
 ghost use Rattle.ws_session.specs.declared.host_end.send_fault.SendFault.{SendFault as AFault};
 ghost use Rattle.ws_record.specs.declared.body_reader.BodyFault.{BodyFault as ABodyFault};
-ghost use Rattle.ws_c.specs.declared.status.Status.{Status as AStatus};
-ghost use Rattle.ws_c.specs.Calls.{status_number, told_length};
-ghost use Rattle.ws_c.specs.Held.{OnHost};
+ghost use Rattle.ws_c.specs.Calls.{HasStatus, TellsOnly, crossed, returned, status_number, told_length};
+ghost use Rattle.ws_c.specs.Held.{HoldsNone, OnHost};
 ghost use Rattle.ws_c.specs.Sends.{HostCancelled, HostSent, IsCancel, IsCancelTold, IsFetched, IsOpcodeFrom, IsReadFrom, IsSend, IsSendFaultTold, IsSendFrom, IsSendGiven, IsSentTold};
 
 use crate::held::{on_held, on_host};
@@ -97,8 +96,9 @@ fn send(
 ) -> Status
     requires other { opcode ≢ Opcode.CancelInvite }
     requires untold { told.old ≡ told_length 0 }
-    ensures { OnHost handle.old.owned.value handle.new.owned.value result
-        (IsSend opcode body.now result told.new) (told.new ≡ told_length 0) }
+    ensures { OnHost handle.old.owned.value handle.new.owned.value
+        (IsSend opcode body.now (returned result told.new))
+        (HoldsNone result (told.new ≡ told_length 0)) }
 {
     on_host!(alloc, handle, |host| send_host(host, opcode, body, told))
 }
@@ -123,7 +123,8 @@ fn send_read(
 ) -> Status
     requires other { opcode ≢ Opcode.CancelInvite }
     requires untold { told.old ≡ told_length 0 }
-    ensures { IsSendFrom opcode body handle.old.owned.value handle.new.owned.value told.new result }
+    ensures { IsSendFrom opcode body handle.old.owned.value handle.new.owned.value
+        (returned result told.new) }
 {
     match body {
         Ok(body) => send(alloc, handle, opcode, body.as_slice(), told),
@@ -143,7 +144,8 @@ fn send_given(
     requires other { IfSome opcode (λ given. given ≢ Opcode.CancelInvite) }
     requires untold { told.old ≡ told_length 0 }
     ensures { (body : Result (Seq AnElement) ABodyFault) × IsReadFrom element_rules bytes.now body
-        × IsSendGiven opcode body handle.old.owned.value handle.new.owned.value told.new result }
+        × IsSendGiven opcode body handle.old.owned.value handle.new.owned.value
+        (returned result told.new) }
 {
     let body = read_elements(alloc, bytes);
     match opcode {
@@ -170,8 +172,9 @@ pub extern "C" fn ws_c_host_send(
 ) -> u32
     ensures sent { (given : Option AnOpcode) × IsOpcodeFrom opcode given
         × (read : Result (Seq AnElement) ABodyFault) × IsReadFrom element_rules body.now read
-        × (status : AStatus) × (result ≡ status_number status)
-        × IsSendGiven given read handle.old.owned.value handle.new.owned.value told.new status }
+        × HasStatus result (λ status.
+        IsSendGiven given read handle.old.owned.value handle.new.owned.value
+        (returned status told.new)) }
 {
     *told = Told::length(0);
     let given = opcode_from(opcode);
@@ -181,7 +184,7 @@ pub extern "C" fn ws_c_host_send(
 // Puts the bytes that were sent last into a buffer.
 fn fetch_host(host: &HeldHost, buffer: &mut [u8], told: &mut Told) -> Status
     requires { told.old ≡ told_length 0 }
-    ensures { IsFetched host.now.sent result told.new buffer.old buffer.new }
+    ensures { IsFetched host.now.sent (crossed buffer.old buffer.new result told.new) }
 {
     let bytes = host.sent.as_slice();
     if buffer.len() < bytes.len() {
@@ -193,9 +196,10 @@ fn fetch_host(host: &HeldHost, buffer: &mut [u8], told: &mut Told) -> Status
 
 // Puts the bytes that were sent last into a buffer, from what a handle holds.
 fn fetch(alloc: Global, handle: &mut Handle, buffer: &mut [u8], told: &mut Told) -> Status
-    ensures { OnHost handle.old.owned.value handle.new.owned.value result
-        (λ old new. (new ≡ old) × IsFetched old.sent result told.new buffer.old buffer.new)
-        ((told.new ≡ told_length 0) × (buffer.new ≡ buffer.old)) }
+    ensures { let call = crossed buffer.old buffer.new result told.new in
+        OnHost handle.old.owned.value handle.new.owned.value
+        (λ old new. (new ≡ old) × IsFetched old.sent call)
+        (TellsOnly call Status.NothingHeld (told_length 0)) }
 {
     *told = Told::length(0);
     on_host!(alloc, handle, |host| fetch_host(host, buffer, told))
@@ -212,10 +216,11 @@ pub extern "C" fn ws_c_host_sent(
     buffer: &mut [u8],
     told: &mut Told,
 ) -> u32
-    ensures { (status : AStatus) × (result ≡ status_number status)
-        × OnHost handle.old.owned.value handle.new.owned.value status
-        (λ old new. (new ≡ old) × IsFetched old.sent status told.new buffer.old buffer.new)
-        ((told.new ≡ told_length 0) × (buffer.new ≡ buffer.old)) }
+    ensures { HasStatus result (λ status.
+        let call = crossed buffer.old buffer.new status told.new in
+        OnHost handle.old.owned.value handle.new.owned.value
+        (λ old new. (new ≡ old) × IsFetched old.sent call)
+        (TellsOnly call Status.NothingHeld (told_length 0))) }
 {
     fetch(alloc, handle, buffer, told).number()
 }
@@ -233,7 +238,7 @@ fn cancel_read(end: &mut HostEnd) -> Result<ByteList<12>, SendFault>
 // What a cancel crosses as.
 fn tell_cancel(sent: Result<ByteList<12>, SendFault>, buffer: &mut [u8], told: &mut Told) -> Status
     requires { 12 ≤ length buffer.old }
-    ensures { IsCancelTold sent result told.new buffer.old buffer.new }
+    ensures { IsCancelTold sent (crossed buffer.old buffer.new result told.new) }
 {
     match sent {
         Ok(bytes) => {
@@ -248,7 +253,7 @@ fn tell_cancel(sent: Result<ByteList<12>, SendFault>, buffer: &mut [u8], told: &
 fn cancel_host(host: &mut HeldHost, buffer: &mut [u8], told: &mut Told) -> Status
     requires { 12 ≤ length buffer.old }
     ensures sent { (sent : Result (Seq ℕ) AFault) × HostCancelled host.old.end host.new.end sent
-        × IsCancelTold sent result told.new buffer.old buffer.new }
+        × IsCancelTold sent (crossed buffer.old buffer.new result told.new) }
     ensures kept { host.new.sent ≡ host.old.sent }
     ensures answer { host.new.answer ≡ host.old.answer }
 {
@@ -260,9 +265,9 @@ fn cancel_host(host: &mut HeldHost, buffer: &mut [u8], told: &mut Told) -> Statu
 fn cancel(alloc: Global, handle: &mut Handle, buffer: &mut [u8], told: &mut Told) -> Status
     requires room { 12 ≤ length buffer.old }
     requires untold { told.old ≡ told_length 0 }
-    ensures { OnHost handle.old.owned.value handle.new.owned.value result
-        (IsCancel buffer.old buffer.new result told.new)
-        ((told.new ≡ told_length 0) × (buffer.new ≡ buffer.old)) }
+    ensures { let call = crossed buffer.old buffer.new result told.new in
+        OnHost handle.old.owned.value handle.new.owned.value (IsCancel call)
+        (TellsOnly call Status.NothingHeld (told_length 0)) }
 {
     on_host!(alloc, handle, |host| cancel_host(host, buffer, told))
 }
@@ -282,11 +287,10 @@ pub extern "C" fn ws_c_host_cancel(
 ) -> u32
     ensures room { length buffer.old < 12 → (result ≡ status_number Status.NoRoom)
         × (handle.new ≡ handle.old) × (buffer.new ≡ buffer.old) × (told.new ≡ told_length 0) }
-    ensures sent { 12 ≤ length buffer.old
-        → (status : AStatus) × (result ≡ status_number status)
-        × OnHost handle.old.owned.value handle.new.owned.value status
-        (IsCancel buffer.old buffer.new status told.new)
-        ((told.new ≡ told_length 0) × (buffer.new ≡ buffer.old)) }
+    ensures sent { 12 ≤ length buffer.old → HasStatus result (λ status.
+        let call = crossed buffer.old buffer.new status told.new in
+        OnHost handle.old.owned.value handle.new.owned.value (IsCancel call)
+        (TellsOnly call Status.NothingHeld (told_length 0))) }
 {
     *told = Told::length(0);
     if buffer.len() < 12 {

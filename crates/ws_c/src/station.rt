@@ -3,8 +3,7 @@ ghost use Rattle.std.specs.Prelude.{◌≡◌, ◌≤◌, ◌<◌, ◌+◌, ◌-
 ghost use Rattle.ws_nego.specs.Terminal.{terminal_named};
 ghost use Rattle.ws_session.specs.station.StationLeads.{StationParts, StationLeads};
 ghost use Rattle.ws_session.specs.station.StationSide.{new_station_side};
-ghost use Rattle.ws_c.specs.declared.status.Status.{Status as AStatus};
-ghost use Rattle.ws_c.specs.Calls.{IsStationNew, holds_front, status_number};
+ghost use Rattle.ws_c.specs.Calls.{HasStatus, IsStationNew, TellsOnly, crossed, holds_front};
 ghost use Rattle.ws_c.specs.Held.{IsStationFreed, OnStations};
 ghost use Rattle.ws_c.specs.HeldStations.{IsHeldPush};
 ghost use Rattle.ws_c.specs.Pushes.{IsPushRefused, IsStationPush, nothing_pushed, place_refused_at, pushed_told};
@@ -42,8 +41,8 @@ fn make_station(alloc: Global, handle: &mut Handle, name: &[u8]) -> Status
 /// then stays as it is.
 #[unsafe(no_mangle)]
 pub extern "C" fn ws_c_station_new(alloc: Global, handle: &mut Handle, name: &[u8]) -> u32
-    ensures made { (status : AStatus) × (result ≡ status_number status)
-        × IsStationNew name.now handle.old.owned.value handle.new.owned.value status }
+    ensures made { HasStatus result (λ status.
+        IsStationNew name.now handle.old.owned.value handle.new.owned.value status) }
 {
     make_station(alloc, handle, name).number()
 }
@@ -92,7 +91,7 @@ pub(crate) fn tell_push_refusal(refusal: Refusal, told: &mut PushedTold) -> Stat
     requires { told.old ≡ pushed_told told.old.taken told.old.replied }
     ensures taken { told.new.taken ≡ told.old.taken }
     ensures replied { told.new.replied ≡ told.old.replied }
-    ensures refused { IsPushRefused refusal told.new.taken told.new.replied result told.new }
+    ensures refused { IsPushRefused refusal result told.new }
 {
     match refusal {
         Refusal::At { place, reason } => {
@@ -123,8 +122,8 @@ pub(crate) fn front_length(refusal: Refusal, before: u64, after: u64, length: us
 // its bytes where there is before the first.
 fn push_all(station: &mut Station, bytes: &[u8], buffer: &mut [u8], told: &mut PushedTold) -> Status
     requires { told.old ≡ nothing_pushed }
-    ensures { IsStationPush bytes.now buffer.old buffer.new result told.new
-        station.old station.new }
+    ensures { IsStationPush bytes.now
+        (crossed buffer.old buffer.new result told.new) station.old station.new }
 {
     while told.taken < bytes.len() {
         if buffer.len() - told.replied < REPLY_ROOM {
@@ -156,10 +155,9 @@ fn push(
     buffer: &mut [u8],
     told: &mut PushedTold,
 ) -> Status
-    ensures { OnStations handle.old.owned.value handle.new.owned.value result
-        (IsStationPush bytes.now buffer.old buffer.new result told.new)
-        (IsHeldPush bytes.now buffer.old buffer.new result told.new)
-        ((told.new ≡ nothing_pushed) × (buffer.new ≡ buffer.old)) }
+    ensures { let call = crossed buffer.old buffer.new result told.new in
+        OnStations handle.old.owned.value handle.new.owned.value (IsStationPush bytes.now call)
+        (IsHeldPush bytes.now call) (TellsOnly call Status.NothingHeld nothing_pushed) }
 {
     *told = PushedTold::nothing();
     on_stations!(
@@ -185,11 +183,10 @@ pub extern "C" fn ws_c_station_push(
     buffer: &mut [u8],
     told: &mut PushedTold,
 ) -> u32
-    ensures { (status : AStatus) × (result ≡ status_number status)
-        × OnStations handle.old.owned.value handle.new.owned.value status
-        (IsStationPush bytes.now buffer.old buffer.new status told.new)
-        (IsHeldPush bytes.now buffer.old buffer.new status told.new)
-        ((told.new ≡ nothing_pushed) × (buffer.new ≡ buffer.old)) }
+    ensures { HasStatus result (λ status.
+        let call = crossed buffer.old buffer.new status told.new in
+        OnStations handle.old.owned.value handle.new.owned.value (IsStationPush bytes.now call)
+        (IsHeldPush bytes.now call) (TellsOnly call Status.NothingHeld nothing_pushed)) }
 {
     push(alloc, handle, bytes, buffer, told).number()
 }

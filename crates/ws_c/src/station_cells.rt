@@ -2,10 +2,9 @@
 ghost use Rattle.std.specs.Prelude.{◌≡◌, ◌≤◌, ◌<◌, ◌+◌, ◌*◌, ◌-◌, ◌++◌, drop, length, map};
 ghost use Rattle.std.specs.List.{range_with_len};
 ghost use Rattle.ws_code.specs.declared.address.TheConstants.{CELLS as ALL_CELLS};
-ghost use Rattle.ws_c.specs.declared.status.Status.{Status as AStatus};
-ghost use Rattle.ws_c.specs.Calls.{status_number};
+ghost use Rattle.ws_c.specs.Calls.{HasStatus, status_number};
 ghost use Rattle.ws_c.specs.Cells.{AreRowNumbers, cell_told as told_of, cells_in, rows_told};
-ghost use Rattle.ws_c.specs.Held.{OnScreen};
+ghost use Rattle.ws_c.specs.Held.{HoldsNone, OnScreen};
 
 use crate::cell_fields::{fields_behind, index_at, passed};
 use crate::held::{on_screen, on_stations, on_two};
@@ -107,11 +106,11 @@ fn look_at_cells(
 ) -> Status
     requires rows { AreRowNumbers first_row last_row }
     requires room { cells_in first_row last_row ≤ length cells.old }
-    ensures { OnScreen handle.old.owned.value handle.new.owned.value result
+    ensures { OnScreen handle.old.owned.value handle.new.owned.value
         (λ screen. (result ≡ Status.Done)
         × (cells.new ≡ rows_told screen first_row last_row
         ++ drop (cells_in first_row last_row) cells.old))
-        (cells.new ≡ cells.old) }
+        (HoldsNone result (cells.new ≡ cells.old)) }
 {
     on_screen!(
         alloc,
@@ -134,13 +133,12 @@ pub extern "C" fn ws_c_station_cells(
     cells: &mut [CellTold],
 ) -> u32
     ensures cells { AreRowNumbers first_row last_row
-        → cells_in first_row last_row ≤ length cells.old
-        → (status : AStatus) × (result ≡ status_number status)
-        × OnScreen handle.old.owned.value handle.new.owned.value status
+        → cells_in first_row last_row ≤ length cells.old → HasStatus result (λ status.
+        OnScreen handle.old.owned.value handle.new.owned.value
         (λ screen. (status ≡ Status.Done)
         × (cells.new ≡ rows_told screen first_row last_row
         ++ drop (cells_in first_row last_row) cells.old))
-        (cells.new ≡ cells.old) }
+        (HoldsNone status (cells.new ≡ cells.old))) }
     ensures off { ¬ AreRowNumbers first_row last_row
         → (result ≡ status_number Status.BadArgument)
         × (handle.new ≡ handle.old) × (cells.new ≡ cells.old) }

@@ -1,7 +1,6 @@
 //! Display stations as live hosts use them.
 ghost use Rattle.std.specs.Prelude.{◌≡◌};
-ghost use Rattle.ws_c.specs.declared.status.Status.{Status as AStatus};
-ghost use Rattle.ws_c.specs.Calls.{status_number};
+ghost use Rattle.ws_c.specs.Calls.{HasStatus, crossed};
 ghost use Rattle.ws_c.specs.HeldStations.{IsExtendedNew, IsHeldPush};
 ghost use Rattle.ws_c.specs.Pushes.{nothing_pushed};
 
@@ -36,8 +35,8 @@ fn make_station(alloc: Global, handle: &mut Handle, name: &[u8]) -> Status
 /// then stays as it is.
 #[unsafe(no_mangle)]
 pub extern "C" fn ws_c_station_new_extended(alloc: Global, handle: &mut Handle, name: &[u8]) -> u32
-    ensures made { (status : AStatus) × (result ≡ status_number status)
-        × IsExtendedNew name.now handle.old.owned.value handle.new.owned.value status }
+    ensures made { HasStatus result (λ status.
+        IsExtendedNew name.now handle.old.owned.value handle.new.owned.value status) }
 {
     make_station(alloc, handle, name).number()
 }
@@ -52,7 +51,8 @@ pub(crate) fn push_all(
     told: &mut PushedTold,
 ) -> Status
     requires { told.old ≡ nothing_pushed }
-    ensures { IsHeldPush bytes.now buffer.old buffer.new result told.new held.old held.new }
+    ensures { IsHeldPush bytes.now
+        (crossed buffer.old buffer.new result told.new) held.old held.new }
 {
     held.hand_out(buffer, told);
     while told.taken < bytes.len() {

@@ -3,8 +3,7 @@ ghost use Rattle.std.specs.Prelude.{◌≡◌, ◌≤◌, ◌<◌, Option, Resul
 ghost use Rattle.ws_keys.specs.declared.answer.Answer.{Answer as AnAnswer};
 ghost use Rattle.ws_extended_station.specs.declared.extended_key.ExtendedKey.{ExtendedKey as AnyKey};
 ghost use Rattle.ws_session.specs.declared.station.key_fault.KeyFault.{KeyFault as AFault};
-ghost use Rattle.ws_c.specs.declared.status.Status.{Status as AStatus};
-ghost use Rattle.ws_c.specs.Calls.{IsKeyFaultTold, IsKeyTold, IsPress, StationKeyed, status_number, told_length};
+ghost use Rattle.ws_c.specs.Calls.{HasStatus, IsKeyFaultTold, IsKeyTold, IsPress, StationKeyed, TellsOnly, crossed, status_number, told_length};
 ghost use Rattle.ws_c.specs.Held.{OnExtended, OnStations};
 ghost use Rattle.ws_c.specs.HeldStations.{IsAnyKeyFrom, IsAnyPressFrom, IsHeldPress};
 ghost use Rattle.ws_c.specs.Keys.{IsKeyFrom, IsKeyOfKind};
@@ -42,7 +41,7 @@ pub(crate) fn tell_key(
     told: &mut Told,
 ) -> Status
     requires { 5404 ≤ length buffer.old }
-    ensures { IsKeyTold keyed result told.new buffer.old buffer.new }
+    ensures { IsKeyTold keyed (crossed buffer.old buffer.new result told.new) }
 {
     match keyed {
         Ok(None) => {
@@ -63,7 +62,7 @@ fn press_station(station: &mut Station, key: Key, buffer: &mut [u8], told: &mut 
     requires { 5404 ≤ length buffer.old }
     ensures { (keyed : Result (Option AnAnswer) AFault)
         × StationKeyed station.old station.new key keyed
-        × IsKeyTold keyed result told.new buffer.old buffer.new }
+        × IsKeyTold keyed (crossed buffer.old buffer.new result told.new) }
 {
     let keyed = station.key(key);
     tell_key(keyed, buffer, told)
@@ -106,8 +105,8 @@ fn any_key_from(kind: u32, value: u32) -> Option<ExtendedKey>
 fn press_held(held: &mut HeldStation, key: Key, buffer: &mut [u8], told: &mut Told) -> Status
     requires room { 5404 ≤ length buffer.old }
     requires untold { told.old ≡ told_length 0 }
-    ensures { IsHeldPress (AnyKey.Profile key) buffer.old buffer.new result told.new held.old
-        held.new }
+    ensures { IsHeldPress (AnyKey.Profile key)
+        (crossed buffer.old buffer.new result told.new) held.old held.new }
 {
     if !held.rest().is_empty() {
         return Status::NoRoom;
@@ -120,7 +119,8 @@ fn press_held(held: &mut HeldStation, key: Key, buffer: &mut [u8], told: &mut To
 fn reset_held(held: &mut HeldStation, buffer: &mut [u8], told: &mut Told) -> Status
     requires room { 5404 ≤ length buffer.old }
     requires untold { told.old ≡ told_length 0 }
-    ensures { IsHeldPress AnyKey.Reset buffer.old buffer.new result told.new held.old held.new }
+    ensures { IsHeldPress AnyKey.Reset
+        (crossed buffer.old buffer.new result told.new) held.old held.new }
 {
     if held.rest().is_empty() {
         return held.press(None, buffer, told);
@@ -132,10 +132,10 @@ fn reset_held(held: &mut HeldStation, buffer: &mut [u8], told: &mut Told) -> Sta
 fn press(alloc: Global, handle: &mut Handle, key: Key, buffer: &mut [u8], told: &mut Told) -> Status
     requires room { 5404 ≤ length buffer.old }
     requires untold { told.old ≡ told_length 0 }
-    ensures { OnStations handle.old.owned.value handle.new.owned.value result
-        (IsPress key buffer.old buffer.new result told.new)
-        (IsHeldPress (AnyKey.Profile key) buffer.old buffer.new result told.new)
-        ((told.new ≡ told_length 0) × (buffer.new ≡ buffer.old)) }
+    ensures { let call = crossed buffer.old buffer.new result told.new in
+        OnStations handle.old.owned.value handle.new.owned.value (IsPress key call)
+        (IsHeldPress (AnyKey.Profile key) call)
+        (TellsOnly call Status.NothingHeld (told_length 0)) }
 {
     on_stations!(
         alloc,
@@ -149,9 +149,9 @@ fn press(alloc: Global, handle: &mut Handle, key: Key, buffer: &mut [u8], told: 
 fn press_reset(alloc: Global, handle: &mut Handle, buffer: &mut [u8], told: &mut Told) -> Status
     requires room { 5404 ≤ length buffer.old }
     requires untold { told.old ≡ told_length 0 }
-    ensures { OnExtended handle.old.owned.value handle.new.owned.value result
-        (IsHeldPress AnyKey.Reset buffer.old buffer.new result told.new) Status.BadArgument
-        ((told.new ≡ told_length 0) × (buffer.new ≡ buffer.old)) }
+    ensures { let call = crossed buffer.old buffer.new result told.new in
+        OnExtended handle.old.owned.value handle.new.owned.value (IsHeldPress AnyKey.Reset call)
+        (TellsOnly call Status.BadArgument (told_length 0)) }
 {
     on_held!(
         alloc,
@@ -176,8 +176,8 @@ fn press_from(
 ) -> Status
     requires room { 5404 ≤ length buffer.old }
     requires untold { told.old ≡ told_length 0 }
-    ensures { IsAnyPressFrom key handle.old.owned.value handle.new.owned.value buffer.old buffer.new
-        told.new result }
+    ensures { IsAnyPressFrom key handle.old.owned.value handle.new.owned.value
+        (crossed buffer.old buffer.new result told.new) }
 {
     match key {
         Some(ExtendedKey::Profile(key)) => press(alloc, handle, key, buffer, told),
@@ -206,9 +206,9 @@ pub extern "C" fn ws_c_station_key(
     ensures room { length buffer.old < 5404 → (result ≡ status_number Status.NoRoom)
         × (handle.new ≡ handle.old) × (buffer.new ≡ buffer.old) × (told.new ≡ told_length 0) }
     ensures pressed { 5404 ≤ length buffer.old → (key : Option AnyKey) × IsAnyKeyFrom kind value key
-        × (status : AStatus) × (result ≡ status_number status)
-        × IsAnyPressFrom key handle.old.owned.value handle.new.owned.value buffer.old buffer.new
-        told.new status }
+        × HasStatus result (λ status.
+        IsAnyPressFrom key handle.old.owned.value handle.new.owned.value
+        (crossed buffer.old buffer.new status told.new)) }
 {
     *told = Told::length(0);
     if buffer.len() < 5404 {

@@ -2,11 +2,10 @@
 ghost use Rattle.std.specs.Prelude.{◌≡◌, ◌≤◌, ◌<◌, length, slice_get, slice_index};
 ghost use Rattle.ws_code.specs.Address.{IsRowAndColumn, place_of};
 ghost use Rattle.ws_screen.specs.ScreenParts.{holds as holds_cell};
-ghost use Rattle.ws_c.specs.declared.status.Status.{Status as AStatus};
-ghost use Rattle.ws_c.specs.Calls.{IsFieldTold, field_index as index_of, holds_front, no_field, no_state, status_number, place_refused, read_number as pending_number, reason_refused, row_number as number_of_row, row_text, state_of_screen, state_told, told_length};
+ghost use Rattle.ws_c.specs.Calls.{HasStatus, IsFieldTold, beside_screen, field_index as index_of, holds_front, no_field, no_state, place_refused, read_number as pending_number, reason_refused, row_number as number_of_row, row_text, state_of_screen, state_told, status_number, told_length};
 ghost use Rattle.ws_extended.specs.ErrorLine.{IsRow};
 ghost use Rattle.ws_c.specs.HeldStations.{extended_state_told};
-ghost use Rattle.ws_c.specs.Held.{OnScreen, OnStations};
+ghost use Rattle.ws_c.specs.Held.{HoldsNone, OnScreen, OnStations};
 
 use crate::held::{on_screen, on_stations, on_two};
 use crate::station::put_front;
@@ -71,7 +70,8 @@ pub(crate) fn state_with(
     is_ready: bool,
     error_row: u8,
 ) -> StateTold
-    ensures { result ≡ state_of_screen screen.now records alarms refused is_ready error_row }
+    ensures { result ≡ state_of_screen screen.now
+        (beside_screen records alarms refused is_ready error_row) }
 {
     screen.known();
     let cursor = screen.cursor();
@@ -136,11 +136,10 @@ fn tell_extended_state(station: &ExtendedStation, state: &mut StateTold) -> Stat
 }
 
 fn look_at_state(alloc: Global, handle: &mut Handle, state: &mut StateTold) -> Status
-    ensures { OnStations handle.old.owned.value handle.new.owned.value result
+    ensures { OnStations handle.old.owned.value handle.new.owned.value
         (λ old new. (new ≡ old) × (result ≡ Status.Done) × (state.new ≡ state_told old))
         (λ old new. (new ≡ old) × (result ≡ Status.Done)
-        × (state.new ≡ extended_state_told old.station))
-        (state.new ≡ no_state) }
+        × (state.new ≡ extended_state_told old.station)) (HoldsNone result (state.new ≡ no_state)) }
 {
     *state = StateTold::nothing();
     on_stations!(
@@ -161,12 +160,11 @@ pub extern "C" fn ws_c_station_state(
     handle: &mut Handle,
     state: &mut StateTold,
 ) -> u32
-    ensures { (status : AStatus) × (result ≡ status_number status)
-        × OnStations handle.old.owned.value handle.new.owned.value status
+    ensures { HasStatus result (λ status. OnStations handle.old.owned.value handle.new.owned.value
         (λ old new. (new ≡ old) × (status ≡ Status.Done) × (state.new ≡ state_told old))
         (λ old new. (new ≡ old) × (status ≡ Status.Done)
         × (state.new ≡ extended_state_told old.station))
-        (state.new ≡ no_state) }
+        (HoldsNone status (state.new ≡ no_state))) }
 {
     look_at_state(alloc, handle, state).number()
 }
@@ -181,9 +179,9 @@ fn tell_cell(screen: &Screen, at: Address, byte: &mut u8) -> Status
 
 fn look_at_cell(alloc: Global, handle: &mut Handle, at: Address, byte: &mut u8) -> Status
     requires { byte.old ≡ 0 }
-    ensures { OnScreen handle.old.owned.value handle.new.owned.value result
+    ensures { OnScreen handle.old.owned.value handle.new.owned.value
         (λ screen. (result ≡ Status.Done) × (byte.new ≡ slice_index screen.cells at))
-        (byte.new ≡ 0) }
+        (HoldsNone result (byte.new ≡ 0)) }
 {
     on_screen!(alloc, handle, |screen| tell_cell(screen, at, byte))
 }
@@ -199,12 +197,11 @@ pub extern "C" fn ws_c_station_cell(
     column: u8,
     byte: &mut u8,
 ) -> u32
-    ensures cell { IsRowAndColumn row column
-        → (status : AStatus) × (result ≡ status_number status)
-        × OnScreen handle.old.owned.value handle.new.owned.value status
+    ensures cell { IsRowAndColumn row column → HasStatus result (λ status.
+        OnScreen handle.old.owned.value handle.new.owned.value
         (λ screen. (status ≡ Status.Done)
         × (byte.new ≡ slice_index screen.cells (place_of row column)))
-        (byte.new ≡ 0) }
+        (HoldsNone status (byte.new ≡ 0))) }
     ensures off { ¬ IsRowAndColumn row column → (result ≡ status_number Status.BadArgument)
         × (handle.new ≡ handle.old) × (byte.new ≡ 0) }
 {
@@ -248,11 +245,10 @@ fn look_at_row(
     requires row { IsRow row }
     requires room { 160 ≤ length text.old }
     requires untold { told.old ≡ told_length 0 }
-    ensures { OnScreen handle.old.owned.value handle.new.owned.value result
-        (λ screen. (result ≡ Status.Done)
-        × (text.new ≡ holds_front (row_text screen row) text.old)
+    ensures { OnScreen handle.old.owned.value handle.new.owned.value
+        (λ screen. (result ≡ Status.Done) × (text.new ≡ holds_front (row_text screen row) text.old)
         × (told.new ≡ told_length (length (row_text screen row))))
-        ((text.new ≡ text.old) × (told.new ≡ told_length 0)) }
+        (HoldsNone result ((text.new ≡ text.old) × (told.new ≡ told_length 0))) }
 {
     on_screen!(alloc, handle, |screen| tell_row(screen, row, text, told))
 }
@@ -269,13 +265,11 @@ pub extern "C" fn ws_c_station_row(
     text: &mut [u8],
     told: &mut Told,
 ) -> u32
-    ensures row { IsRow row → 160 ≤ length text.old
-        → (status : AStatus) × (result ≡ status_number status)
-        × OnScreen handle.old.owned.value handle.new.owned.value status
-        (λ screen. (status ≡ Status.Done)
-        × (text.new ≡ holds_front (row_text screen row) text.old)
+    ensures row { IsRow row → 160 ≤ length text.old → HasStatus result (λ status.
+        OnScreen handle.old.owned.value handle.new.owned.value
+        (λ screen. (status ≡ Status.Done) × (text.new ≡ holds_front (row_text screen row) text.old)
         × (told.new ≡ told_length (length (row_text screen row))))
-        ((text.new ≡ text.old) × (told.new ≡ told_length 0)) }
+        (HoldsNone status ((text.new ≡ text.old) × (told.new ≡ told_length 0)))) }
     ensures off { ¬ IsRow row → (result ≡ status_number Status.BadArgument)
         × (handle.new ≡ handle.old) × (text.new ≡ text.old) × (told.new ≡ told_length 0) }
     ensures room { IsRow row → length text.old < 160 → (result ≡ status_number Status.NoRoom)
@@ -305,9 +299,9 @@ pub(crate) fn tell_field(screen: &Screen, index: usize, field: &mut FieldTold) -
 }
 
 fn look_at_field(alloc: Global, handle: &mut Handle, index: usize, field: &mut FieldTold) -> Status
-    ensures { OnScreen handle.old.owned.value handle.new.owned.value result
+    ensures { OnScreen handle.old.owned.value handle.new.owned.value
         (λ screen. IsFieldTold (slice_get screen.fields index) result field.new)
-        (field.new ≡ no_field) }
+        (HoldsNone result (field.new ≡ no_field)) }
 {
     *field = FieldTold::nothing();
     on_screen!(alloc, handle, |screen| tell_field(screen, index, field))
@@ -323,10 +317,9 @@ pub extern "C" fn ws_c_station_field(
     index: usize,
     field: &mut FieldTold,
 ) -> u32
-    ensures { (status : AStatus) × (result ≡ status_number status)
-        × OnScreen handle.old.owned.value handle.new.owned.value status
+    ensures { HasStatus result (λ status. OnScreen handle.old.owned.value handle.new.owned.value
         (λ screen. IsFieldTold (slice_get screen.fields index) status field.new)
-        (field.new ≡ no_field) }
+        (HoldsNone status (field.new ≡ no_field))) }
 {
     look_at_field(alloc, handle, index, field).number()
 }

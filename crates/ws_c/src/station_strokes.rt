@@ -2,11 +2,10 @@
 ghost use Rattle.std.specs.Prelude.{◌≡◌, ◌∷◌, [], replicate};
 ghost use Rattle.ws_code.specs.Address.{IsRowAndColumn, place_of};
 ghost use Rattle.ws_keys.specs.Strokes.{keys_of};
-ghost use Rattle.ws_c.specs.declared.status.Status.{Status as AStatus};
 ghost use Rattle.ws_c.specs.declared.stroke.Stroke.TheVariants as Struck;
-ghost use Rattle.ws_c.specs.Calls.{status_number, told_length};
-ghost use Rattle.ws_c.specs.Held.{OnStations};
-ghost use Rattle.ws_c.specs.Strokes.{AreKeyed, IsHeldStroke, IsStroke, IsStrokeTold, IsStruck};
+ghost use Rattle.ws_c.specs.Calls.{HasStatus, returned, status_number, told_length};
+ghost use Rattle.ws_c.specs.Held.{HoldsNone, OnStations};
+ghost use Rattle.ws_c.specs.Strokes.{AreKeyed, AreStruck, IsHeldStroke, IsStroke, IsStrokeTold, keys_of_stroke};
 
 use crate::held::{on_stations, on_two};
 use crate::station_keys::tell_fault;
@@ -64,8 +63,8 @@ fn tell_stroke(pressed: Result<(), KeyFault>, told: &mut Told) -> Status
 
 /// Presses the keys of a stroke at a station.
 pub(crate) fn press_stroke<S: TakesKeys>(station: &mut S, stroke: Stroke, told: &mut Told) -> Status
-    ensures { IsStruck S.takes stroke (S.shows station.old) result told.new station.old
-        station.new }
+    ensures { AreStruck S.takes (keys_of_stroke stroke (S.shows station.old))
+        (returned result told.new) station.old station.new }
 {
     let keys = stroke.keys(station.shown());
     let pressed = press_all(station, keys.as_slice());
@@ -86,9 +85,9 @@ fn press_held(held: &mut HeldStation, stroke: Stroke, told: &mut Told) -> Status
 // Presses the keys of a stroke at the station that a handle holds.
 fn press(alloc: Global, handle: &mut Handle, stroke: Stroke, told: &mut Told) -> Status
     requires { told.old ≡ told_length 0 }
-    ensures { OnStations handle.old.owned.value handle.new.owned.value result
+    ensures { OnStations handle.old.owned.value handle.new.owned.value
         (IsStroke stroke result told.new) (IsHeldStroke stroke result told.new)
-        (told.new ≡ told_length 0) }
+        (HoldsNone result (told.new ≡ told_length 0)) }
 {
     on_stations!(
         alloc,
@@ -113,12 +112,11 @@ pub extern "C" fn ws_c_station_move_cursor(
     column: u8,
     told: &mut Told,
 ) -> u32
-    ensures moved { IsRowAndColumn row column
-        → (status : AStatus) × (result ≡ status_number status)
-        × OnStations handle.old.owned.value handle.new.owned.value status
+    ensures moved { IsRowAndColumn row column → HasStatus result (λ status.
+        OnStations handle.old.owned.value handle.new.owned.value
         (IsStroke (Struck.MoveTo (place_of row column)) status told.new)
         (IsHeldStroke (Struck.MoveTo (place_of row column)) status told.new)
-        (told.new ≡ told_length 0) }
+        (HoldsNone status (told.new ≡ told_length 0))) }
     ensures off { ¬ IsRowAndColumn row column → (result ≡ status_number Status.BadArgument)
         × (handle.new ≡ handle.old) × (told.new ≡ told_length 0) }
 {
@@ -135,10 +133,9 @@ pub extern "C" fn ws_c_station_move_cursor(
 /// Told as `ws_c_station_move_cursor` tells it.
 #[unsafe(no_mangle)]
 pub extern "C" fn ws_c_station_new_line(alloc: Global, handle: &mut Handle, told: &mut Told) -> u32
-    ensures { (status : AStatus) × (result ≡ status_number status)
-        × OnStations handle.old.owned.value handle.new.owned.value status
+    ensures { HasStatus result (λ status. OnStations handle.old.owned.value handle.new.owned.value
         (IsStroke Struck.NewLine status told.new) (IsHeldStroke Struck.NewLine status told.new)
-        (told.new ≡ told_length 0) }
+        (HoldsNone status (told.new ≡ told_length 0))) }
 {
     *told = Told::length(0);
     press(alloc, handle, Stroke::NewLine, told).number()
@@ -150,10 +147,9 @@ pub extern "C" fn ws_c_station_new_line(alloc: Global, handle: &mut Handle, told
 /// Told as `ws_c_station_move_cursor` tells it.
 #[unsafe(no_mangle)]
 pub extern "C" fn ws_c_station_erase_eof(alloc: Global, handle: &mut Handle, told: &mut Told) -> u32
-    ensures { (status : AStatus) × (result ≡ status_number status)
-        × OnStations handle.old.owned.value handle.new.owned.value status
+    ensures { HasStatus result (λ status. OnStations handle.old.owned.value handle.new.owned.value
         (IsStroke Struck.EraseEof status told.new) (IsHeldStroke Struck.EraseEof status told.new)
-        (told.new ≡ told_length 0) }
+        (HoldsNone status (told.new ≡ told_length 0))) }
 {
     *told = Told::length(0);
     press(alloc, handle, Stroke::EraseEof, told).number()

@@ -3,11 +3,11 @@ use Rattle.std.proofs.lemmas.List.{take_more}
 use Rattle.ws_record.specs.declared.live.Step.{Step}
 use Rattle.ws_record.specs.declared.live.Step.TheVariants.{More, Open, Unit as Whole, Close, Telnet as Command}
 use Rattle.ws_record.specs.declared.live.Step.TheVariants.{Refused as StepRefused, Failed as StepFailed}
-use Rattle.ws_c.specs.Decoding.{DecoderPushedOn, DecoderTakesOn, IsDecoderEndOn, IsStepToldOn, plain_step}
+use Rattle.ws_c.specs.Calls.{crossed}
+use Rattle.ws_c.specs.Decoding.{DecoderPushedOn, DecoderTakesOn, IsStepToldOn, plain_step}
 use Rattle.ws_c.specs.Decoding.{tells_something}
 use Rattle.ws_c.specs.Pushes.{TakesAll}
-use Rattle.ws_c.specs.declared.status.Status.TheVariants.{Done}
-use Rattle.ws_c.proofs.PushLaws.{takes_more, none_left, one_left}
+use Rattle.ws_c.proofs.PushLaws.{takes_more}
 use Rattle.ws_c.proofs.decoder.push_all.Goals as goal
 
 tells_else : {U : Type 0} (step : Step U) → (step ≡ More → ⊥) → tells_something step ≡ true
@@ -52,9 +52,8 @@ returns g c =
       counted = omega arith;
       before = now.decoder;
       takes = now.invariant.takes;
-      ends = subst (λ (l : List ℕ). IsDecoderEndOn rules l now.at Done c.plain.result c.args.buffer.now now.buffer now.decoder
-          now.decoder)
-          (sym (none_left bytes now.at now.at c.loop-at-test.false refl)) (refl, told, now.invariant.same, refl);
+      all = λ _. ((refl, told, now.invariant.same), refl);
+      one = λ more. absurd (omega (arith, more, c.loop-at-test.false));
     }
 
 pub returns-in_default : goal.returns-in_default
@@ -75,13 +74,13 @@ returns-in_default g c =
       counted = omega arith;
       before = now.decoder;
       takes = now.invariant.takes;
-      ends = subst (λ (l : List ℕ). IsDecoderEndOn rules l now.at c.tell_step.result c.tell_step.new.told c.args.buffer.now
-          c.tell_step.new.buffer now.decoder c.push.new.self)
-          (sym (one_left bytes now.at now.at c.loop-at-test.true refl)) (
-            c.push.result,
-            one,
-            tells_else c.push.result c.in_default.not-More,
-            subst (λ (b : List ℕ). IsStepToldOn rules c.push.result now.at c.tell_step.result c.tell_step.new.told b
-                c.tell_step.new.buffer) now.invariant.same c.tell_step.ensures,
-          );
+      all = λ none. absurd (omega (arith, none, c.loop-at-test.true));
+      one = λ _. (
+        c.push.result,
+        one,
+        tells_else c.push.result c.in_default.not-More,
+        subst (λ (b : List ℕ). IsStepToldOn rules c.push.result now.at
+            (crossed b c.tell_step.new.buffer c.tell_step.result c.tell_step.new.told)) now.invariant.same
+            c.tell_step.ensures,
+      );
     }

@@ -5,12 +5,11 @@ use Rattle.std.proofs.lemmas.List.{length-drop}
 use Rattle.ws_session.specs.Ends.{CountsUpTo}
 use Rattle.ws_session.specs.declared.host_end.host_event.HostEvent.{HostEvent}
 use Rattle.ws_session.specs.host_end.HostFeeds.{HasHostFed, HasHostRefused, IsHostSilent}
-use Rattle.ws_c.specs.Hosts.{HostTells, HostRefusesWithin, IsHostEnd, answer_after, event_told}
-use Rattle.ws_c.specs.Pushes.{place_refused_at}
-use Rattle.ws_c.specs.declared.status.Status.TheVariants.{Done, NoRoom}
+use Rattle.ws_c.specs.Hosts.{HostTells, HostRefusesWithin, answer_after, event_told}
+use Rattle.ws_c.specs.Pushes.{first_bytes, place_refused_at}
 use Rattle.ws_c.specs.declared.told.PushedTold.{PushedTold}
 use Rattle.ws_c.proofs.FeedLaws.{HeldTakes, host_takes_none, host_takes_on, host_refuses}
-use Rattle.ws_c.proofs.PushLaws.{feeding_more, none_left, one_left, put_no_more, rest_is, told_again}
+use Rattle.ws_c.proofs.PushLaws.{feeding_more, put_no_more, rest_is, told_again}
 use Rattle.ws_c.proofs.host.push_all.Goals as goal
 
 none_of : (o : Option HostEvent) → is_some o ≡ false → o ≡ None
@@ -95,10 +94,14 @@ returns c =
       replied = f.replied_is ∙ sym (add-zero _);
       fits = f.fits;
       put = put_no_more now.buffer f.written c.args.buffer.now f.put;
-      ends = subst (λ (l : List ℕ). IsHostEnd l now.told.taken (length c.args.buffer.now - length f.written) Done
-          now.told now.event [] now.host now.host)
-          (sym (none_left c.args.bytes.now now.told.taken now.told.taken c.loop-told-test.false refl))
-          (refl, (now.invariant.told, now.invariant.event, refl, refl));
+      ends = record {
+        all = λ _. (
+          record { status_is = refl; told_is = now.invariant.told; event_is = now.invariant.event; silent = refl },
+          refl,
+        );
+        crowded = λ more _. absurd (omega (arith, more, c.loop-told-test.false));
+        tells = λ more _. absurd (omega (arith, more, c.loop-told-test.false));
+      };
     }
 
 pub returns-then-buffer-told-lt-REPLY_ROOM : goal.returns-then-buffer-told-lt-REPLY_ROOM
@@ -117,12 +120,14 @@ returns-then-buffer-told-lt-REPLY_ROOM c =
       replied = f.replied_is ∙ sym (add-zero _);
       fits = f.fits;
       put = put_no_more now.buffer f.written c.args.buffer.now f.put;
-      ends = subst (λ (l : List ℕ). IsHostEnd l now.told.taken (length c.args.buffer.now - length f.written) NoRoom
-          now.told now.event [] now.host now.host)
-          (sym (one_left c.args.bytes.now now.told.taken now.told.taken c.loop-told-test.true refl)) (
-            (λ _. (refl, (now.invariant.told, now.invariant.event, refl, refl))),
-            (λ enough. absurd (omega (arith, f.replied_is))),
-          );
+      ends = record {
+        all = λ none. absurd (omega (arith, none, c.loop-told-test.true));
+        crowded = λ _ _. (
+          record { status_is = refl; told_is = now.invariant.told; event_is = now.invariant.event; silent = refl },
+          refl,
+        );
+        tells = λ _ enough. absurd (omega (arith, enough));
+      };
     }
 
 pub returns-in-Err : goal.returns-in-Err
@@ -134,7 +139,6 @@ returns-in-Err c =
     let m : ℕ = c.front_length.result in
     let e = c.in-Err.ensures in
     let refusal = c.in-Err.refusal in
-    let told = c.tell_push_refusal.new.told in
     let is = rest_is bytes n in
     let new = c.feed.new.self in
     let old = now.host.end in
@@ -146,14 +150,13 @@ returns-in-Err c =
     c.taken-before.ensures.count
     (subst (λ (x : List ℕ). m ≡ min (place_refused_at refusal c.taken-before.result c.taken.result
     - c.taken-before.result) (length x)) is c.front_length.ensures)) in
-    let refuses : HostRefusesWithin old (drop n bytes) m refusal new =
+    let refuses : HostRefusesWithin old (first_bytes (drop n bytes) m) refusal new =
     host_refuses old new (drop n bytes) refusal m few
     (λ b its s l fits. subst (λ (x : List ℕ). HasHostRefused old new b its s x refusal) is
     (e.refused b its s l (subst (λ (x : List ℕ). length b + length x + 1 < 2 ^ 64) (sym is) fits)))
     (λ h. (let x = e.full h in cc)) (λ h. ((let x = (e.failed h).0 in cc), (e.failed h).1)) e.after e.seen
     (subst (λ (x : List ℕ). old.receiver.live.taken + length x < 2 ^ 64
     → CountsUpTo refusal old.receiver.live.taken new.receiver.live.taken (length x)) is e.counted_up) in
-    let one = one_left bytes n n c.loop-told-test.true refl in
     record {
       counted = omega (arith, c.tell_push_refusal.ensures.taken, few, length-drop n bytes, f.inside);
       quiet = n;
@@ -166,22 +169,21 @@ returns-in-Err c =
       replied = c.tell_push_refusal.ensures.replied ∙ f.replied_is ∙ sym (add-zero _);
       fits = omega (arith, c.tell_push_refusal.ensures.replied, f.fits);
       put = put_no_more now.buffer f.written c.args.buffer.now f.put;
-      ends = subst (λ (l : List ℕ). IsHostEnd l n (length c.args.buffer.now - length f.written)
-          c.tell_push_refusal.result told now.event [] now.host
-          (record { end = new; sent = now.host.sent; answer = now.host.answer })) (sym one) (
-            (λ small. absurd (omega (arith, f.replied_is))),
-            (λ _. inr (record {
-              length_is = m;
-              refusal = refusal;
-              refuses = subst (λ (l : List ℕ). HostRefusesWithin old l m refusal new) one refuses;
-              taken_is = c.tell_push_refusal.ensures.taken;
-              told_is = c.tell_push_refusal.ensures.refused;
-              event_is = now.invariant.event;
-              silent = refl;
-              sent_is = refl;
-              answer_is = refl;
-            })),
-          );
+      ends = record {
+        all = λ none. absurd (omega (arith, none, c.loop-told-test.true));
+        crowded = λ _ small. absurd (omega (arith, small, c.tell_push_refusal.ensures.replied));
+        tells = λ _ _. inr (record {
+          length_is = m;
+          refusal = refusal;
+          refuses = refuses;
+          taken_is = c.tell_push_refusal.ensures.taken;
+          told_is = c.tell_push_refusal.ensures.refused;
+          event_is = now.invariant.event;
+          silent = refl;
+          sent_is = refl;
+          answer_is = refl;
+        });
+      };
     }
 
 pub returns-then-is_some : goal.returns-then-is_some
@@ -201,8 +203,7 @@ returns-then-is_some c =
     let old = now.host.end in
     let within : k ≤ length (drop n bytes) = subst (λ (x : List ℕ). k ≤ length x) is e.within in
     let some : 0 < k = e.some (omega (arith, ap length is, length-drop n bytes, c.loop-told-test.true)) in
-    let one = one_left bytes n n c.loop-told-test.true refl in
-    let taken : HostTells old (drop n bytes) k text tells.0 new = record {
+    let taken : HostTells old (first_bytes (drop n bytes) k) text tells.0 new = record {
       some = some;
       taken = λ b its s l fits. subst (λ (r : List ℕ). HasHostFed new b its s (take k (drop n bytes)) r
           (Some tells.0)) (sym same)
@@ -227,23 +228,19 @@ returns-then-is_some c =
       replied = ap (λ r. r + length text) f.replied_is;
       fits = omega (arith, c.as_slice-text.ensures.fits, ap length same);
       put = c.put_behind.ensures f.written c.args.buffer.now (sym f.replied_is) f.put;
-      ends = subst (λ (l : List ℕ). IsHostEnd l n (length c.args.buffer.now - length f.written) Done
-          (record now.told { taken = n + k; replied = now.told.replied + length text }) c.tell_event.result text
-          now.host (record { end = new; sent = now.host.sent; answer = c.tell_event.new.answer })) (sym one) (
-            (λ small. absurd (omega (arith, f.replied_is))),
-            (λ _. inl (record {
-              length_is = k;
-              tells = tells.0;
-              taken = subst (λ (l : List ℕ). HostTells old l k text tells.0 new) one taken;
-              done = refl;
-              told_is = ap (λ (t : PushedTold). record t {
-                taken = n + k;
-                replied = now.told.replied + length text;
-              }) now.invariant.told;
-              event_is = c.tell_event.ensures.told ∙ ap event_told tells.1;
-              sent_is = refl;
-              answer_is = c.tell_event.ensures.kept ∙ ap (λ (o : Option HostEvent). answer_after o now.host.answer)
-                  tells.1;
-            })),
-          );
+      ends = record {
+        all = λ none. absurd (omega (arith, none, c.loop-told-test.true));
+        crowded = λ _ small. absurd (omega (arith, small));
+        tells = λ _ _. inl (record {
+          length_is = k;
+          tells = tells.0;
+          taken = taken;
+          done = refl;
+          told_is = ap (λ (t : PushedTold). record t { taken = n + k; replied = now.told.replied + length text })
+              now.invariant.told;
+          event_is = c.tell_event.ensures.told ∙ ap event_told tells.1;
+          sent_is = refl;
+          answer_is = c.tell_event.ensures.kept ∙ ap (λ (o : Option HostEvent). answer_after o now.host.answer) tells.1;
+        });
+      };
     }

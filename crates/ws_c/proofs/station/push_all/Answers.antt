@@ -2,15 +2,13 @@ use Rattle.std.specs.Prelude.{min}
 use Rattle.std.proofs.Common.{◌≡◌, ◌+◌, ◌-◌, ◌<◌, ◌≤◌, ◌^◌, ◌++◌, ℕ, List, [], length, take, drop, refl, sym, subst, ap}
 use Rattle.std.proofs.Common.{◌∙◌, arith}
 use Rattle.std.proofs.lemmas.List.{length-drop}
-use Rattle.ws_stream.specs.Elements.{element_rules}
 use Rattle.ws_session.specs.Ends.{CountsUpTo}
 use Rattle.ws_session.specs.station.StationFeeds.{HasFed, HasRefused}
-use Rattle.ws_session.specs.station.StationSide.{profile}
-use Rattle.ws_c.specs.Pushes.{StationTakes, StationRefusesWithin, IsStationEnd, place_refused_at}
-use Rattle.ws_c.specs.declared.status.Status.TheVariants.{Done, NoRoom}
+use Rattle.ws_c.specs.Kinds.{profile_kind}
+use Rattle.ws_c.specs.Pushes.{StationTakes, StationRefusesWithin, first_bytes, place_refused_at}
 use Rattle.ws_c.specs.declared.told.PushedTold.{PushedTold}
 use Rattle.ws_c.proofs.FeedLaws.{station_takes_none, station_takes_on, station_refuses}
-use Rattle.ws_c.proofs.PushLaws.{feeding_more, none_left, one_left, rest_is, told_again}
+use Rattle.ws_c.proofs.PushLaws.{feeding_more, rest_is, told_again}
 use Rattle.ws_c.proofs.station.push_all.Goals as goal
 
 pub loop-told-init : goal.loop-told-init
@@ -22,8 +20,8 @@ loop-told-init c =
       feeding = record {
         inside = omega (arith, ap (λ (t : PushedTold). t.taken) c.requires);
         written = [];
-        takes = subst (λ (n : ℕ). StationTakes station bytes n [] station)
-            (sym (ap (λ (t : PushedTold). t.taken) c.requires)) (station_takes_none element_rules profile station bytes);
+        takes = subst (λ (n : ℕ). StationTakes station (first_bytes bytes n) [] station)
+            (sym (ap (λ (t : PushedTold). t.taken) c.requires)) (station_takes_none profile_kind station bytes);
         put = refl;
         fits = omega (arith, ap (λ (t : PushedTold). t.replied) c.requires);
         replied_is = ap (λ (t : PushedTold). t.replied) c.requires;
@@ -46,13 +44,13 @@ loop-told-preserved c =
     let within : k ≤ length (drop n bytes) = subst (λ (x : List ℕ). k ≤ length x) is e.within in
     let some : 0 < k = e.some (omega (arith, ap length is, length-drop n bytes, c.loop-told-test.true)) in
     record {
-      feeding = feeding_more (StationTakes c.args.station.now bytes) bytes c.args.buffer.now now.buffer
-          c.put_behind.new.buffer n now.told.replied k now.station c.feed.new.self text
+      feeding = feeding_more (λ m. StationTakes c.args.station.now (first_bytes bytes m)) bytes c.args.buffer.now
+          now.buffer c.put_behind.new.buffer n now.told.replied k now.station c.feed.new.self text
           (omega (arith, within, length-drop n bytes, f.inside))
           (omega (arith, c.as_slice-text.ensures.fits, ap length same)) f
-          (subst (λ (r : List ℕ). StationTakes c.args.station.now bytes (n + k) (f.written ++ r) c.feed.new.self)
-          (sym same)
-          (station_takes_on element_rules profile c.args.station.now now.station c.feed.new.self bytes n k f.written fed.reply
+          (subst (λ (r : List ℕ). StationTakes c.args.station.now (first_bytes bytes (n + k)) (f.written ++ r)
+          c.feed.new.self) (sym same)
+          (station_takes_on profile_kind c.args.station.now now.station c.feed.new.self bytes n k f.written fed.reply
           fed.ends_record f.inside some f.takes
           (λ b its s l fits. subst
           (λ (x : List ℕ). HasFed c.feed.new.self b its s (take k x) fed.reply fed.ends_record) is
@@ -76,10 +74,11 @@ returns c =
       replied = f.replied_is;
       fits = f.fits;
       put = f.put;
-      ends = subst (λ (l : List ℕ). IsStationEnd l now.told.taken (length c.args.buffer.now - now.told.replied) Done
-          now.told now.station now.station)
-          (sym (none_left c.args.bytes.now now.told.taken now.told.taken c.loop-told-test.false refl))
-          (refl, now.invariant.told, refl);
+      ends = record {
+        all = λ _. (refl, now.invariant.told, refl);
+        crowded = λ more _. absurd (omega (arith, more, c.loop-told-test.false));
+        refused = λ more _. absurd (omega (arith, more, c.loop-told-test.false));
+      };
     }
 
 pub returns-then-buffer-told-lt-REPLY_ROOM : goal.returns-then-buffer-told-lt-REPLY_ROOM
@@ -95,10 +94,11 @@ returns-then-buffer-told-lt-REPLY_ROOM c =
       replied = f.replied_is;
       fits = f.fits;
       put = f.put;
-      ends = subst (λ (l : List ℕ). IsStationEnd l now.told.taken (length c.args.buffer.now - now.told.replied) NoRoom
-          now.told now.station now.station)
-          (sym (one_left c.args.bytes.now now.told.taken now.told.taken c.loop-told-test.true refl))
-          ((λ _. (refl, now.invariant.told, refl)), (λ enough. absurd (omega arith)));
+      ends = record {
+        all = λ none. absurd (omega (arith, none, c.loop-told-test.true));
+        crowded = λ _ _. (refl, now.invariant.told, refl);
+        refused = λ _ enough. absurd (omega arith);
+      };
     }
 
 pub returns-in-Err : goal.returns-in-Err
@@ -110,7 +110,6 @@ returns-in-Err c =
     let m : ℕ = c.front_length.result in
     let e = c.in-Err.ensures in
     let refusal = c.in-Err.refusal in
-    let told = c.tell_push_refusal.new.told in
     let is = rest_is bytes n in
     let new = c.feed.new.self in
     let last : ℕ = c.taken.result in
@@ -120,15 +119,14 @@ returns-in-Err c =
     c.taken-before.ensures.count
     (subst (λ (x : List ℕ). m ≡ min (place_refused_at refusal c.taken-before.result last - c.taken-before.result)
     (length x)) is c.front_length.ensures) in
-    let refuses : StationRefusesWithin now.station (drop n bytes) m refusal new =
-    station_refuses element_rules profile now.station new (drop n bytes) last refusal m few
+    let refuses : StationRefusesWithin now.station (first_bytes (drop n bytes) m) refusal new =
+    station_refuses profile_kind now.station new (drop n bytes) last refusal m few
     (λ b its s l fits. subst (λ (x : List ℕ). HasRefused now.station new b its s x refusal) is
     (e.refused b its s l (subst (λ (x : List ℕ). length b + length x + 1 < 2 ^ 64) (sym is) fits)))
     (λ h. (let x = e.full h in cc)) (λ h. ((let x = (e.failed h).0 in cc), (e.failed h).1)) e.after e.seen
     c.taken.ensures.count
     (subst (λ (x : List ℕ). now.station.live.taken + length x < 2 ^ 64
     → CountsUpTo refusal now.station.live.taken new.live.taken (length x)) is e.counted_up) in
-    let one = one_left bytes n n c.loop-told-test.true refl in
     record {
       counted = omega (arith, c.tell_push_refusal.ensures.taken, few, length-drop n bytes, f.inside);
       fed = n;
@@ -138,15 +136,10 @@ returns-in-Err c =
       replied = c.tell_push_refusal.ensures.replied ∙ f.replied_is;
       fits = omega (arith, c.tell_push_refusal.ensures.replied, f.fits);
       put = f.put;
-      ends = subst (λ (l : List ℕ). IsStationEnd l n (length c.args.buffer.now - told.replied)
-          c.tell_push_refusal.result told now.station new) (sym one) (
-            (λ small. absurd (omega (arith, c.tell_push_refusal.ensures.replied))),
-            (λ _. (
-              refusal,
-              m,
-              subst (λ (l : List ℕ). StationRefusesWithin now.station l m refusal new) one refuses,
-              c.tell_push_refusal.ensures.taken,
-              c.tell_push_refusal.ensures.refused,
-            )),
-          );
+      ends = record {
+        all = λ none. absurd (omega (arith, none, c.loop-told-test.true));
+        crowded = λ _ small. absurd (omega (arith, small, c.tell_push_refusal.ensures.replied));
+        refused = λ _ _.
+            (refusal, m, refuses, c.tell_push_refusal.ensures.taken, c.tell_push_refusal.ensures.refused);
+      };
     }

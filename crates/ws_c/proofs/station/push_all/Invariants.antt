@@ -1,12 +1,12 @@
 use Rattle.std.proofs.Common.{◌≡◌, ◌-◌, length}
-use Rattle.ws_c.specs.Pushes.{StationTakes, pushed_told}
+use Rattle.ws_c.specs.Pushes.{StationTakes, first_bytes, pushed_told}
 use Rattle.ws_c.proofs.PushLaws.{Feeding}
 use Rattle.ws_c.proofs.station.push_all.Given as goal
 
 abbrev pub invariant-loop-told : goal.invariant-loop-told
 invariant-loop-told l = record {
-  feeding : Feeding (StationTakes l.fn.station l.bytes) l.bytes l.fn.buffer l.buffer l.told.taken l.told.replied
-      l.station;
+  feeding : Feeding (λ n. StationTakes l.fn.station (first_bytes l.bytes n)) l.bytes l.fn.buffer l.buffer l.told.taken
+      l.told.replied l.station;
   told : l.told ≡ pushed_told l.told.taken l.told.replied;
 }
 

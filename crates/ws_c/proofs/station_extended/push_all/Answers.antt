@@ -7,12 +7,13 @@ use Rattle.ws_session.specs.Ends.{CountsUpTo}
 use Rattle.ws_session.specs.station.StationActs.{HasFedOn, HasRefusedOn, IsSilentOn}
 use Rattle.ws_extended_station.specs.ExtendedDisplays.{DisplayParts, extended, extended_written}
 use Rattle.ws_c.specs.HeldStations.{waiting}
-use Rattle.ws_c.specs.Pushes.{IsEndOn, StationRefusesOn, place_refused_at}
+use Rattle.ws_c.specs.Kinds.{extended_kind}
+use Rattle.ws_c.specs.Pushes.{StationRefusesOn, first_bytes, place_refused_at}
 use Rattle.ws_c.specs.declared.held_station.HeldStation.{HeldStation}
 use Rattle.ws_c.specs.declared.status.Status.TheVariants.{Done}
 use Rattle.ws_c.proofs.FeedLaws.{station_takes_on, station_refuses}
 use Rattle.ws_c.proofs.HeldLaws.{ends_plainly, feeding_on, feeding_start, nothing_waits}
-use Rattle.ws_c.proofs.PushLaws.{none_left, one_left, rest_is}
+use Rattle.ws_c.proofs.PushLaws.{rest_is}
 use Rattle.ws_c.proofs.station_extended.push_all.Goals as goal
 
 pub loop-told-init : goal.loop-told-init
@@ -39,7 +40,7 @@ loop-told-preserved c =
     feeding_on c.args.held.now now.held mid c.hand_out-in-Ok.new.self bytes c.args.buffer.now now.buffer
     c.hand_out-in-Ok.new.buffer now.told _ c.hand_out-in-Ok.new.told k f none refl
     (omega (arith, within, length-drop n bytes, f.inside))
-    (station_takes_on extended_rules extended c.args.held.now.station now.held.station new bytes n k f.written reply
+    (station_takes_on extended_kind c.args.held.now.station now.held.station new bytes n k f.written reply
     fed.ends_record f.inside some f.takes
     (λ b its s l fits. subst (λ (x : List ℕ). HasFedOn extended_rules extended new b its s (take k x) reply
     fed.ends_record) is
@@ -57,10 +58,11 @@ returns-then-is_empty c =
     (sym c.is_empty-2.ensures ∙ c.if-is_empty.true) in
     ends_plainly c.args.held.now now.held c.args.bytes.now c.args.buffer.now now.buffer now.told f now.held Done
     now.told none none f.inside refl
-    (subst (λ (l : List ℕ). IsEndOn extended_rules extended l now.told.taken (length c.args.buffer.now
-    - now.told.replied) Done now.told now.held.station now.held.station)
-    (sym (none_left c.args.bytes.now now.told.taken now.told.taken c.loop-told-test.false refl))
-    (refl, f.plain, refl))
+    (record {
+      all = λ _. (refl, f.plain, refl);
+      crowded = λ more _. absurd (omega (arith, more, c.loop-told-test.false));
+      refused = λ more _. absurd (omega (arith, more, c.loop-told-test.false));
+    })
 
 pub returns-in-Err : goal.returns-in-Err
 returns-in-Err c =
@@ -83,29 +85,22 @@ returns-in-Err c =
     c.taken-before.ensures.count
     (subst (λ (x : List ℕ). m ≡ min (place_refused_at refusal c.taken-before.result last - c.taken-before.result)
     (length x)) is c.front_length.ensures) in
-    let refuses : StationRefusesOn extended_rules extended old (drop n bytes) m refusal new =
-    station_refuses extended_rules extended old new (drop n bytes) last refusal m few
+    let refuses : StationRefusesOn extended_kind old (first_bytes (drop n bytes) m) refusal new =
+    station_refuses extended_kind old new (drop n bytes) last refusal m few
     (λ b its s l fits. subst (λ (x : List ℕ). HasRefusedOn extended_rules extended old new b its s x refusal) is
     (e.refused b its s l (subst (λ (x : List ℕ). length b + length x + 1 < 2 ^ 64) (sym is) fits)))
     (λ h. (let x = e.full h in cc)) (λ h. ((let x = (e.failed h).0 in cc), (e.failed h).1)) e.after e.seen
     c.taken.ensures.count
     (subst (λ (x : List ℕ). old.live.taken + length x < 2 ^ 64
     → CountsUpTo refusal old.live.taken new.live.taken (length x)) is e.counted_up) in
-    let one = one_left bytes n n c.loop-told-test.true refl in
     let held : HeldStation = record { station = new; reply = now.held.reply; sent = now.held.sent } in
     ends_plainly c.args.held.now now.held bytes c.args.buffer.now now.buffer now.told f held
     c.tell_push_refusal.result told none
     (ap (λ (s : DisplayParts). drop now.held.sent (extended_written s now.held.reply)) e.seen ∙ none)
     (omega (arith, c.tell_push_refusal.ensures.taken, few, length-drop n bytes, f.inside))
     c.tell_push_refusal.ensures.replied
-    (subst (λ (l : List ℕ). IsEndOn extended_rules extended l n (length c.args.buffer.now - told.replied)
-    c.tell_push_refusal.result told old new) (sym one) (
-      (λ small. absurd (omega (arith, c.tell_push_refusal.ensures.replied))),
-      (λ _. (
-        refusal,
-        m,
-        subst (λ (l : List ℕ). StationRefusesOn extended_rules extended old l m refusal new) one refuses,
-        c.tell_push_refusal.ensures.taken,
-        c.tell_push_refusal.ensures.refused,
-      )),
-    ))
+    (record {
+      all = λ all_fed. absurd (omega (arith, all_fed, c.loop-told-test.true));
+      crowded = λ _ small. absurd (omega (arith, small, c.tell_push_refusal.ensures.replied));
+      refused = λ _ _. (refusal, m, refuses, c.tell_push_refusal.ensures.taken, c.tell_push_refusal.ensures.refused);
+    })

@@ -7,7 +7,7 @@ pub returns-then-not-is_empty : goal.returns-then-not-is_empty
 returns-then-not-is_empty c =
     let some = something_waits c.rest.result.now (waiting c.args.held.now) c.rest.ensures.rest
     (sym c.is_empty.ensures ∙ c.if-not-is_empty.true) in
-    record { waits = λ _. (refl, refl, c.requires.untold, refl); pressed = λ none. absurd (some none) }
+    record { waits = λ _. (refl, (refl, c.requires.untold, refl)); pressed = λ none. absurd (some none) }
 
 pub returns : goal.returns
 returns c =

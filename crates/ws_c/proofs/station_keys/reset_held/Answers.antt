@@ -13,4 +13,4 @@ pub returns : goal.returns
 returns c =
     let some = something_waits c.rest.result.now (waiting c.args.held.now) c.rest.ensures.rest
     (sym c.is_empty.ensures ∙ c.if-is_empty.false) in
-    record { waits = λ _. (refl, refl, c.requires.untold, refl); pressed = λ none. absurd (some none) }
+    record { waits = λ _. (refl, (refl, c.requires.untold, refl)); pressed = λ none. absurd (some none) }
