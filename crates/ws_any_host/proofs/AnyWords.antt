@@ -15,7 +15,7 @@ use Rattle.ws_live.specs.live.LiveScript.{IsBlockFault}
 use Rattle.ws_live.specs.live.WireLines.{MeansWire}
 use Rattle.ws_live.specs.script.ScriptFaults.{has_no_blank}
 use Rattle.ws_live.proofs.ScriptWords.{blank_inside, split_unique, digits_have_no_blank}
-use Rattle.ws_any_host.specs.AnyLines.{AreExtendedBadAt, BeginsAnyLine, IsAnyLine, IsBadAnyLineAt, IsAnyLineFault}
+use Rattle.ws_any_host.specs.AnyLines.{AreExtendedBadAt, IsAnyLineFault, any_language}
 use Rattle.ws_any_host.specs.AnyLines.{IsLineBegun, IsOpcode, IsAnySendBegun, IsSendText, IsWordFault, MeansAnyLine}
 use Rattle.ws_any_host.specs.AnyLines.{OpensAnyBlock, SayBytes, SendsAnyOpcodeAlone}
 use Rattle.ws_any_host.specs.declared.any_line.AnyLine.{AnyLine}
@@ -70,7 +70,8 @@ sends_only line words e none (Bad cause) m = m
 
 -- the fault of its words is the line's
 pub line_fault : (line words : List ℕ) → line ≡ codes "send " ++ words → (fault : ScriptFault)
-    → IsAnyLineFault (IsSendText words) (IsAnySendBegun words) fault → IsAnyLineFault (MeansAnyLine line) (IsLineBegun line) fault
+    → IsAnyLineFault (IsSendText words) (IsAnySendBegun words) fault → IsAnyLineFault (MeansAnyLine line)
+    (IsLineBegun line) fault
 line_fault line words e (Line at) f = (f.0, sends_only line words e f.1)
 line_fault line words e Memory f = inl (words, e, f)
 
@@ -82,8 +83,9 @@ one_opcode line m n o p a b =
 -- the elements behind a line are bad
 pub bad_words : (line number : List ℕ) (elements : List (List ℕ)) (opcode : Opcode) (at told : ℕ)
     → SendsAnyOpcodeAlone line number opcode → elements ≢ [] → IsWordFault elements opcode (items.Line at)
-    → ((body : List ℕ) → SayBytes elements opcode body → items.Line at ≡ items.Memory) → AreExtendedBadAt opcode elements told
-    → IsBlockFault IsAnyLine BeginsAnyLine IsBadAnyLineAt line elements (Line told)
+    → ((body : List ℕ) → SayBytes elements opcode body → items.Line at ≡ items.Memory)
+    → AreExtendedBadAt opcode elements told
+    → IsBlockFault any_language line elements (Line told)
 bad_words line number elements opcode at told alone some bad only place = (
   (λ read m. elim m [
     | inl p ↦ some p.0
@@ -98,7 +100,7 @@ bad_words line number elements opcode at told alone some bad only place = (
 
 -- no elements may stand behind a line
 pub no_words : (line : List ℕ) (elements : List (List ℕ)) → elements ≢ [] → (OpensAnyBlock line → ⊥)
-    → IsBlockFault IsAnyLine BeginsAnyLine IsBadAnyLineAt line elements (Line 1)
+    → IsBlockFault any_language line elements (Line 1)
 no_words line elements some other = (
   (λ read m. elim m [ inl p ↦ some p.0 | inr p ↦ other (p.1.0, p.1.1, p.1.3) ]),
   inl (refl, inr other),

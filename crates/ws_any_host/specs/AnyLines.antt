@@ -14,6 +14,7 @@ use Rattle.ws_text.specs.Words.{IsNumber, IsHex}
 use Rattle.ws_text.specs.declared.items.TextFault.{TextFault}
 use Rattle.ws_text.specs.declared.items.TextFault.TheVariants as items
 use Rattle.ws_live.specs.script.KeyNames.{aid_named}
+use Rattle.ws_live.specs.live.LiveScript.{LineLanguage}
 use Rattle.ws_live.specs.live.ServeLines.{IsIdle}
 use Rattle.ws_live.specs.live.WireLines.{IsWireBegun, MeansWire}
 use Rattle.ws_live.specs.declared.script.ScriptFault.{ScriptFault}
@@ -102,10 +103,21 @@ AreExtendedBadAt opcode elements at = (number : ℕ) × IsWordFault elements opc
 -- where a line is bad with the elements behind it: at itself, or in these
 abbrev pub IsBadAnyLineAt : List ℕ → List (List ℕ) → ℕ → Type 0
 IsBadAnyLineAt line elements at = ((at ≡ 1) × ((elements ≡ []) ⊎ (OpensAnyBlock line → ⊥)))
-    ⊎ ((number : List ℕ) × (opcode : Opcode) × SendsAnyOpcodeAlone line number opcode × AreExtendedBadAt opcode elements at)
+    ⊎ ((number : List ℕ) × (opcode : Opcode) × SendsAnyOpcodeAlone line number opcode
+    × AreExtendedBadAt opcode elements at)
 
 -- why a line, or its words, isn't read: it is the bad one, and means nothing; or a growth was refused, and it is good
 -- up to there
 abbrev pub IsAnyLineFault : {X : Type 0} → (X → Type 0) → Type 0 → ScriptFault → Type 0
 IsAnyLineFault {X} IsRead IsGood (Line at) = (at ≡ 1) × ((x : X) → IsRead x → ⊥)
 IsAnyLineFault IsRead IsGood Memory = IsGood
+
+-- the lines of such scripts
+abbrev pub any_language : LineLanguage AnyLine
+any_language = record {
+  means = IsAnyLine;
+  begins = BeginsAnyLine;
+  opener = OpensAnyBlock;
+  bad_at = IsBadAnyLineAt;
+  bad_line = λ cause. Bad cause;
+}

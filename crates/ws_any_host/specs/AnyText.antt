@@ -5,7 +5,7 @@ use Rattle.std.specs.Prelude.{Option, None, Some, IfSome, IfNone, Result, Ok, Er
 use Rattle.std.specs.List.{flat_map}
 use Rattle.std.specs.Fmt.{decimal}
 use Rattle.hex.specs.Hex.{encode_upper}
-use Rattle.ws_code.specs.Device.{Writer, Reader, most_reads, Devices}
+use Rattle.ws_code.specs.Device.{most_reads, Devices}
 use Rattle.ws_code.specs.declared.fault.Fault.{Fault}
 use Rattle.ws_code.specs.declared.fault.Fault.TheVariants as fault
 use Rattle.ws_record.specs.Grammar.{two_bytes, opcode_byte}
@@ -14,10 +14,10 @@ use Rattle.ws_session.specs.Acts.{Did}
 use Rattle.ws_session.specs.attached.Attachments.{AttachedParts, HaveLed, IsSendFailure, HasHeard, IsHearFault}
 use Rattle.ws_session.specs.declared.host_end.send_fault.SendFault.{SendFault}
 use Rattle.ws_text.specs.ItemLines.{hex_behind_blank}
-use Rattle.ws_live.specs.live.LiveText.{bad_outcome, bad_text}
+use Rattle.ws_live.specs.live.LiveText.{LineResult, LinesDo, bad_outcome, bad_text, line_result}
 use Rattle.ws_live.specs.live.ServeText.{given_outcome, given_text, unheard_outcome, unheard_text}
+use Rattle.ws_live.specs.live.Waits.{InTime, WatchTimes, WatchedDevices}
 use Rattle.ws_live.specs.live.WireLines.{WireRuns}
-use Rattle.ws_live.specs.declared.live.Closing.{Closing}
 use Rattle.ws_live.specs.declared.live.Closing.TheVariants.{Nothing, Done, Ended}
 use Rattle.ws_live.specs.declared.live.watch.WaitSpan.{WaitSpan}
 use Rattle.ws_live.specs.declared.live.watch.WaitSpan.TheVariants.{Whole}
@@ -68,7 +68,8 @@ module _ {S K : Type 0} (devices : Devices S K) where
   AttachedAnyHost = AttachedParts AnyParts S K
 
   -- the record was written, or refused, and nothing is changed; no byte was read or taken
-  pub record IsAnySendDone (r : Record ℕ) (from : AttachedAnyHost) (refused : Option SendFault) (to : AttachedAnyHost) : Type 0 where
+  pub record IsAnySendDone (r : Record ℕ) (from : AttachedAnyHost) (refused : Option SendFault)
+      (to : AttachedAnyHost) : Type 0 where
     pub led : HaveLed any_conduct devices from to (Did r ∷ []) []
     pub same : IfSome refused (λ why. to ≡ from)
     pub why : IfSome refused (IsAnySendRefusal from.end r)
@@ -89,57 +90,63 @@ module _ {S K : Type 0} (devices : Devices S K) where
       × HasHeard any_conduct devices from mid (Some event)
       × (is_by aid event ≡ false) × HaveToldBeforeKey aid mid more to
 
-  -- What a wait comes to, at a watch that tells of a source whether the read that failed was late.
-  module _ (tells : S → Bool → Type 0) where
-    -- the host heard the station, and tells nothing more: the station closed, or a fault came
-    abbrev pub AnyHearsNone : AttachedAnyHost → Result Closing Fault → List ℕ → AttachedAnyHost → Type 0
-    AnyHearsNone from outcome text to =
-        (HasHeard any_conduct devices from to None
-        × (outcome ≡ Ok Ended) × (text ≡ []))
-        ⊎ ((why : Fault) × (late : Bool) × IsHearFault any_conduct devices from to why
-        × (why ≡ fault.Read → tells to.source late)
-        × (outcome ≡ unheard_outcome late why) × (text ≡ unheard_text why))
+-- What a wait comes to, at a watch that tells of a source whether the read that failed was late.
+module _ {S K : Type 0} (on : WatchedDevices S K) where
+  -- such a host
+  abbrev pub WatchedAnyHost : Type 0
+  WatchedAnyHost = AttachedAnyHost on.devices
 
-    -- the host heard the station up to the first thing that it tells, which is printed, or none came
-    abbrev pub AnyHearsOne : AttachedAnyHost → Result Closing Fault → List ℕ → AttachedAnyHost → Type 0
-    AnyHearsOne from outcome text to =
-        ((event : AnyEvent) × HasHeard any_conduct devices from to (Some event)
-        × (outcome ≡ Ok Done) × (text ≡ any_event_text event))
-        ⊎ AnyHearsNone from outcome text to
+  -- the host heard the station, and tells nothing more: the station closed, or a fault came
+  abbrev pub AnyHearsNone : WatchedAnyHost → LineResult → WatchedAnyHost → Type 0
+  AnyHearsNone from came to =
+      (HasHeard any_conduct on.devices from to None × (came.outcome ≡ Ok Ended) × (came.text ≡ []))
+      ⊎ ((why : Fault) × (late : Bool) × IsHearFault any_conduct on.devices from to why
+      × (why ≡ fault.Read → on.tells.is_late to.source late)
+      × (came.outcome ≡ unheard_outcome late why) × (came.text ≡ unheard_text why))
 
-    -- behind so many things a record by the key is told; or none more is; or as many were told as one wait takes
-    abbrev pub KeyComes : ℕ → ℕ → AttachedAnyHost → Result Closing Fault → List ℕ → AttachedAnyHost → Type 0
-    KeyComes aid told from outcome text to =
-        ((event : AnyEvent) × HasHeard any_conduct devices from to (Some event)
-        × (is_by aid event ≡ true) × (outcome ≡ Ok Done) × (text ≡ any_event_text event))
-        ⊎ (AnyHearsNone from outcome text to
-        ⊎ ((told ≡ most_reads) × (to ≡ from) × (outcome ≡ Err fault.Read) × (text ≡ [])))
+  -- the host heard the station up to the first thing that it tells, which is printed, or none came
+  abbrev pub AnyHearsOne : WatchedAnyHost → LineResult → WatchedAnyHost → Type 0
+  AnyHearsOne from came to =
+      ((event : AnyEvent) × HasHeard any_conduct on.devices from to (Some event)
+      × (came.outcome ≡ Ok Done) × (came.text ≡ any_event_text event))
+      ⊎ AnyHearsNone from came to
 
-    -- the host heard the station up to a record by the key, and printed all that it told
-    pub record HearsKey (aid : ℕ) (from : AttachedAnyHost) (outcome : Result Closing Fault) (text : List ℕ) (to : AttachedAnyHost)
-        : Type 0 where
-      pub told : List AnyEvent
-      pub mid : AttachedAnyHost
-      pub before : HaveToldBeforeKey aid from told mid
-      pub last : List ℕ
-      pub came : KeyComes aid (length told) mid outcome last to
-      pub all : text ≡ flat_map any_event_text told ++ last
+  -- a record by the key is told, and printed
+  abbrev pub KeyComes : ℕ → WatchedAnyHost → LineResult → WatchedAnyHost → Type 0
+  KeyComes aid from came to = (event : AnyEvent) × HasHeard any_conduct on.devices from to (Some event)
+      × (is_by aid event ≡ true) × (came.outcome ≡ Ok Done) × (came.text ≡ any_event_text event)
 
-    -- what a line does at such a host, how it closed, and what it printed
-    abbrev pub AnyDoes : AnyLine → AttachedAnyHost → Result Closing Fault → List ℕ → AttachedAnyHost → Type 0
-    AnyDoes NoLine from outcome text to = (to ≡ from) × (outcome ≡ Ok Nothing) × (text ≡ [])
-    AnyDoes (Send r) from outcome text to = (given : Result (Option SendFault) Fault) × IsAnySendGiven r from given to
-        × (outcome ≡ given_outcome given) × (text ≡ given_text given)
-    AnyDoes Await from outcome text to = AnyHearsOne from outcome text to
-    AnyDoes (AwaitKey aid) from outcome text to = HearsKey aid from outcome text to
-    AnyDoes (Wire line) from outcome text to = WireRuns devices.writer line from outcome to × (text ≡ [])
-    AnyDoes (Bad cause) from outcome text to = (to ≡ from) × (outcome ≡ bad_outcome)
-        × (text ≡ bad_text (string_bytes cause))
+  -- The host heard the station up to a record by the key, and printed all that it told: behind some things the record
+  -- came; or none more did; or as many were told as one wait takes.
+  pub record HearsKey (aid : ℕ) (from : WatchedAnyHost) (came : LineResult) (to : WatchedAnyHost) : Type 0 where
+    pub told : List AnyEvent
+    pub mid : WatchedAnyHost
+    pub before : HaveToldBeforeKey on.devices aid from told mid
+    pub last : List ℕ
+    pub ends : KeyComes aid mid (line_result came.outcome last) to
+        ⊎ (AnyHearsNone mid (line_result came.outcome last) to
+        ⊎ ((length told ≡ most_reads) × (to ≡ mid) × (came.outcome ≡ Err fault.Read) × (last ≡ [])))
+    pub all : came.text ≡ flat_map any_event_text told ++ last
 
-    -- such a host, of which so many records are ahead, which none of its lines takes
-    abbrev pub AnyHostAndAhead : Type 0
-    AnyHostAndAhead = AttachedAnyHost × ℕ
+  -- what a line comes to at such a host
+  abbrev pub AnyDoes : LinesDo AnyLine WatchedAnyHost
+  AnyDoes NoLine from came to = (to ≡ from) × (came.outcome ≡ Ok Nothing) × (came.text ≡ [])
+  AnyDoes (Send r) from came to = (given : Result (Option SendFault) Fault) × IsAnySendGiven on.devices r from given to
+      × (came.outcome ≡ given_outcome given) × (came.text ≡ given_text given)
+  AnyDoes Await from came to = AnyHearsOne from came to
+  AnyDoes (AwaitKey aid) from came to = HearsKey aid from came to
+  AnyDoes (Wire line) from came to = WireRuns on.devices.writer line from came.outcome to × (came.text ≡ [])
+  AnyDoes (Bad cause) from came to = (to ≡ from) × (came.outcome ≡ bad_outcome)
+      × (came.text ≡ bad_text (string_bytes cause))
 
-    -- a line at it, how it closed, and what it printed
-    abbrev pub AnyRuns : AnyLine → AnyHostAndAhead → Result Closing Fault → List ℕ → AnyHostAndAhead → Type 0
-    AnyRuns line from outcome text to = AnyDoes line from.0 outcome text to.0 × (to.1 ≡ from.1)
+  -- such a host, of which so many records are ahead, which none of its lines takes
+  abbrev pub AnyHostAndAhead : Type 0
+  AnyHostAndAhead = WatchedAnyHost × ℕ
+
+  -- what a line comes to at it
+  abbrev pub AnyRuns : LinesDo AnyLine AnyHostAndAhead
+  AnyRuns line from came to = AnyDoes line from.0 came to.0 × (to.1 ≡ from.1)
+
+  -- what lines do at such a host, at a watch that keeps its waits so
+  abbrev pub AnyRunsInTime : {W : Type 0} → WatchTimes W S → LinesDo AnyLine (AnyHostAndAhead × W)
+  AnyRunsInTime times = InTime AnyRuns any_waits times

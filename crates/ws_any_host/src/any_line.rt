@@ -5,9 +5,8 @@ ghost use Rattle.ws_live.specs.live.LiveScript.{IsBlockFault};
 ghost use Rattle.ws_live.specs.script.ScriptFaults.{IsNoComment, has_no_blank};
 ghost use Rattle.ws_text.specs.Words.{IsHex};
 ghost use Rattle.std.specs.Str.Lines.{lines};
-ghost use Rattle.ws_any_host.specs.AnyLines.{BeginsAnyLine, IsAnyLine, IsBadAnyLineAt, OpensAnyBlock};
+ghost use Rattle.ws_any_host.specs.AnyLines.{IsAnyLine, OpensAnyBlock, any_language};
 ghost use Rattle.ws_any_host.specs.AnyLines as Spec;
-ghost use Rattle.ws_any_host.specs.declared.any_line.AnyLine.TheVariants.{Bad};
 
 use arrayvec::ArrayVec;
 use hex::FromHexError;
@@ -37,15 +36,7 @@ pub enum AnyLine {
 }
 
 impl LiveLine for AnyLine {
-    ghost means = { IsAnyLine };
-
-    ghost begins = { BeginsAnyLine };
-
-    ghost opener = { OpensAnyBlock };
-
-    ghost bad_at = { IsBadAnyLineAt };
-
-    ghost bad_line = { λ cause. Bad cause };
+    ghost language = { any_language };
 
     fn opens(line: &[u8]) -> bool {
         sent_alone(line).is_some()
@@ -113,8 +104,7 @@ fn spelled(alloc: Global, elements: &[ExtendedElement]) -> Result<Vec<u8>, Alloc
 // A line that no other belongs to.
 fn read_alone(alloc: Global, line: &[u8]) -> Result<AnyLine, ScriptFault>
     ensures line { IfOk result (IsAnyLine line.now []) }
-    ensures fault { IfErr result
-        (IsBlockFault IsAnyLine BeginsAnyLine IsBadAnyLineAt line.now []) }
+    ensures fault { IfErr result (IsBlockFault any_language line.now []) }
 {
     let Ok(text) = str::from_utf8(line) else {
         return Err(ScriptFault::Line(1));

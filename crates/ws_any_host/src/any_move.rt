@@ -1,7 +1,8 @@
 //! The lines of a script, carried out at a host that takes any record.
-ghost use Rattle.std.specs.Prelude.{◌≡◌, false, Bool, List, ℕ, IfOk};
+ghost use Rattle.std.specs.Prelude.{◌≡◌, false, List, ℕ, IfOk};
 ghost use Rattle.ws_text.specs.Printing.{Prints};
-ghost use Rattle.ws_live.specs.live.LiveText.{stops};
+ghost use Rattle.ws_live.specs.live.LiveText.{line_result, stops};
+ghost use Rattle.ws_live.specs.live.Waits.{watched_devices};
 ghost use Rattle.ws_any_host.specs.AnyText as Spec;
 ghost use Rattle.ws_code.specs.Device.{on_devices};
 
@@ -16,8 +17,8 @@ use ws_session::{Attached, SendFault};
 use ws_text::Output;
 
 impl<S: Source, K: Sink> LiveMove<AnyHost, S, K> for AnyLine {
-    ghost runs = { λ tells rests paint.
-        Spec.AnyRuns (on_devices K.writer S.reader) tells };
+    ghost runs = { λ tells paint.
+        Spec.AnyRuns (watched_devices (on_devices K.writer S.reader) tells) };
 
     ghost waits = { Spec.any_waits };
 
@@ -78,8 +79,9 @@ fn hear_event<S: Source, K: Sink, W: Watch<S>, O: Sink>(
     output: Output,
 ) -> Carried
     requires works { attached.old.broken ≡ false }
-    ensures heard { (text : List ℕ) × Spec.AnyHearsOne (on_devices K.writer S.reader)
-        W.tells attached.old result.outcome text attached.new
+    ensures heard { (text : List ℕ) × Spec.AnyHearsOne
+        (watched_devices (on_devices K.writer S.reader) W.tells)
+        attached.old (line_result result.outcome text) attached.new
         × Prints O.writer out.old out.new output result.output text }
     ensures works { IfOk result.outcome (λ closing.
         stops closing ≡ false → attached.new.broken ≡ false) }
@@ -106,8 +108,9 @@ fn hear_key<S: Source, K: Sink, W: Watch<S>, O: Sink>(
     output: Output,
 ) -> Carried
     requires works { attached.old.broken ≡ false }
-    ensures heard { (text : List ℕ) × Spec.HearsKey (on_devices K.writer S.reader)
-        W.tells aid attached.old result.outcome text attached.new
+    ensures heard { (text : List ℕ) × Spec.HearsKey
+        (watched_devices (on_devices K.writer S.reader) W.tells)
+        aid attached.old (line_result result.outcome text) attached.new
         × Prints O.writer out.old out.new output result.output text }
     ensures works { IfOk result.outcome (λ closing.
         stops closing ≡ false → attached.new.broken ≡ false) }

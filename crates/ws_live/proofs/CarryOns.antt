@@ -9,8 +9,8 @@ use Rattle.ws_code.proofs.DeviceLaws.{went_out_both}
 use Rattle.ws_text.specs.Printed.{IsPrinted}
 use Rattle.ws_live.specs.declared.live.Closing.{Closing}
 use Rattle.ws_live.specs.declared.live.Closing.TheVariants.{Nothing, Done, Declined, Late, Ended, Stopped, Closed}
-use Rattle.ws_live.specs.live.LiveText.{HaveRun, stops, line_printing}
-use Rattle.ws_live.specs.live.CarryingOn.{CarriesOn, CarryingEnds, carrying_on, goes_well, is_told}
+use Rattle.ws_live.specs.live.LiveText.{HaveRun, LinesDo, account, line_result, stops, line_printing}
+use Rattle.ws_live.specs.live.CarryingOn.{CarriesOn, carrying_on, goes_well, is_told}
 use Rattle.ws_live.proofs.LiveRuns.{run_more, fails_behind}
 
 -- A line that is carried out again and again.
@@ -28,27 +28,29 @@ told_done Closed e = absurd (false≢true e)
 pub told_goes : (closing : Closing) → is_told closing ≡ true → stops closing ≡ false
 told_goes closing e = ap stops (told_done closing e)
 
-module _ {L P : Type 0} (runs : L → P → Result Closing Fault → List ℕ → P → Type 0) (line : L) where
+module _ {L P : Type 0} (runs : LinesDo L P) (line : L) where
   module _ {O : Type 0} (printer : Writer O) (from mid to : P) (old between new : O) (count : ℕ)
-      (printed : List ℕ) (h : HaveRun runs from (replicate count line) true printed mid)
+      (printed : List ℕ) (h : HaveRun runs from (replicate count line) (account true printed) mid)
       (out : WentOut printer old between printed) where
-    came_to : (outcome : Result Closing Fault) (last : List ℕ) → runs line mid outcome last to
-        → CarriesOn runs line from to outcome (printed ++ last)
+    came_to : (outcome : Result Closing Fault) (last : List ℕ) → runs line mid (line_result outcome last) to
+        → CarriesOn runs line from (line_result outcome (printed ++ last)) to
     came_to outcome last came =
-        record { count = count; printed = printed; mid = mid; ran = h; last = last; came = came; all = refl }
+        record { count = count; printed = printed; mid = mid; ran = h; last = last; ends = came; all = refl }
 
     -- once more
     pub one_told : (closing : Closing) → IsPrinted printer between new (line_printing runs mid line to) (Ok closing)
-        → is_told closing ≡ true → (text : List ℕ) × HaveRun runs from (replicate (count + 1) line) true text to
+        → is_told closing ≡ true → (text : List ℕ) × HaveRun runs from (replicate (count + 1) line)
+        (account true text) to
         × WentOut printer old new text
     one_told closing one told =
-        let came : runs line mid (Ok Done) one.0 to = subst (λ (k : Closing). runs line mid (Ok k) one.0 to)
+        let came : runs line mid (line_result (Ok Done) one.0) to =
+        subst (λ (k : Closing). runs line mid (line_result (Ok k) one.0) to)
         (told_done closing told) one.1 in
         let longer : replicate count line ++ line ∷ [] ≡ replicate (count + 1) line = replicate-append-replicate
         count 1 line in (
           printed ++ one.0,
-          subst (λ (lines : List L). HaveRun runs from lines true (printed ++ one.0) to) longer
-              (run_more runs from mid to (replicate count line) line true printed one.0 Done h came refl),
+          subst (λ (lines : List L). HaveRun runs from lines (account true (printed ++ one.0)) to) longer
+              (run_more runs from mid to (replicate count line) line (account true printed) one.0 Done h came refl),
           went_out_both printer old between new printed one.0 out one.2,
         )
 
@@ -64,15 +66,22 @@ module _ {L P : Type 0} (runs : L → P → Result Closing Fault → List ℕ �
     pub once_fails : (why : Fault) → IsPrinted printer between new (line_printing runs mid line to) (Err why)
         → IsPrinted printer old new (carrying_on runs line from to) (Err why)
     once_fails why one =
-        fails_behind runs printer mid to old between new line printed out (CarriesOn runs line from to) came_to
-        (CarryingEnds runs line from to) why (λ text came. inl came) one
+        fails_behind runs printer mid to old between new line printed out (λ came. CarriesOn runs line from came to)
+        came_to
+        (carrying_on runs line from to).Ends why (λ text came. inl came) one
 
   pub too_much_told : {O : Type 0} (printer : Writer O) (from to : P) (old new : O)
-      (printed : List ℕ) (count : ℕ) → HaveRun runs from (replicate count line) true printed to
+      (printed : List ℕ) (count : ℕ) → HaveRun runs from (replicate count line) (account true printed) to
       → WentOut printer old new printed → count ≡ most_reads
       → IsPrinted printer old new (carrying_on runs line from to) (Err fault.Read)
   too_much_told printer from to old new printed count h out all = inl (
     printed,
-    inr (refl, record { ran = subst (λ (n : ℕ). HaveRun runs from (replicate n line) true printed to) all h }),
+    inr (
+      refl,
+      record {
+        ran = subst (λ (n : ℕ). HaveRun runs from (replicate n line)
+            (account true printed) to) all h;
+      },
+    ),
     out,
   )

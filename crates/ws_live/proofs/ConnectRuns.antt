@@ -5,15 +5,12 @@ use Rattle.std.proofs.Common.{length-append}
 use Rattle.std.proofs.Math.Seq.{drop-cons}
 use Rattle.std.proofs.lemmas.Bool.{cases_lt}
 use Rattle.std.proofs.lemmas.List.{append-nil, take_more}
-use Rattle.ws_code.specs.Code.{Rules}
-use Rattle.ws_code.specs.Device.{one_more, Devices}
+use Rattle.ws_code.specs.Device.{one_more}
 use Rattle.ws_code.specs.declared.fault.Fault.{Fault}
 use Rattle.ws_code.specs.declared.fault.Fault.TheVariants as fault
-use Rattle.ws_nego.specs.Station.{station_allows_records}
 use Rattle.ws_session.specs.attached.Attachments.{AttachedParts}
 use Rattle.ws_session.specs.declared.end_step.Applied.{Applied}
 use Rattle.ws_session.specs.declared.station.key_fault.KeyFault.{KeyFault}
-use Rattle.ws_session.specs.station.Displays.{DisplayOf}
 use Rattle.ws_session.specs.station.PartsOn.{PartsOn}
 use Rattle.ws_live.specs.declared.live.Closing.{Closing}
 use Rattle.ws_live.specs.declared.live.connect.Waited.{Waited}
@@ -23,14 +20,13 @@ use Rattle.ws_live.specs.declared.live.connect_line.Awaited.TheVariants as await
 use Rattle.ws_live.specs.declared.live.report.Report.{Report}
 use Rattle.ws_live.specs.declared.live.report.Report.TheVariants as reported
 use Rattle.ws_live.specs.declared.live.watch.WaitSpan.TheVariants.{AtOnce}
-use Rattle.ws_live.specs.live.ConnectText.{key_refused_text, pressed, closing_of_both, IsMet, IsKeyPressed, KeyRuns}
+use Rattle.ws_live.specs.live.ConnectText.{pressed, closing_of_both, IsMet, IsKeyPressed, KeyRuns}
 use Rattle.ws_live.specs.live.ConnectText.{ArePressed, KeysRun, Hears, HasWaited, HearsOne, HearsNone, WaitsFor}
-use Rattle.ws_live.specs.live.Waits.{watch_tells}
+use Rattle.ws_live.specs.live.LiveText.{Account, LineResult, account, line_result}
 use Rattle.ws_live.specs.live.ConnectText.{IsWaited, IsKeyUnwritten, IsWorking, Reports, ShowsStation, more_ahead}
-use Rattle.ws_live.specs.live.ConnectText.{report_waits, rested}
-use Rattle.ws_live.specs.live.Operating.{OperatedOn}
-use Rattle.ws_live.specs.printing.ReportLines.{IsReportText}
-use Rattle.ws_live.specs.script.KeyWords.{KeyWords}
+use Rattle.ws_live.specs.live.ConnectText.{refusal_text, report_waits, rested}
+use Rattle.ws_live.specs.live.Operating.{AttachedDisplay, KeyedDisplay, OperatedOn, WatchedDisplay}
+use Rattle.ws_live.specs.printing.ReportLines.{IsReportText, reported_station}
 
 -- Keys and records at a station, one more at a time.
 
@@ -81,56 +77,53 @@ both_pressed : (a b : Bool) → closing_of_both (pressed a) (pressed b) ≡ pres
 both_pressed true b = refl
 both_pressed false b = refl
 
-module _ {D P U H PlaceV V Q R S K : Type 0} (rules : Rules P U) (d : DisplayOf D U H PlaceV V Q R)
-    (devices : Devices S K) (w : KeyWords Q) where
+module _ {D P U H PlaceV V Q R S K : Type 0} (display : KeyedDisplay D P U H PlaceV V Q R S K) where
   abbrev Ends : Type 0
   Ends = AttachedParts (PartsOn D P) S K
 
-  pub pressed_more : (from mid to : Ends) (keys : List Q) (key : Q) (refused : Option KeyFault) (well : Bool)
-      (text : List ℕ) → ArePressed rules d devices w from keys well text mid
-      → IsKeyPressed rules d devices key mid refused to
-      → ArePressed rules d devices w from (keys ++ key ∷ []) (well && is_none refused)
-      (text ++ key_refused_text (w.entered key) refused) to
-  pressed_more from mid to [] key refused well text h p = (
+  -- what is printed of one key behind others
+  abbrev Refused : Q → Option KeyFault → List ℕ
+  Refused key refused = refusal_text display key refused
+
+  pub pressed_more : (from mid to : Ends) (keys : List Q) (key : Q) (refused : Option KeyFault) (came : Account)
+      → ArePressed display from keys came mid → IsKeyPressed display.at key mid refused to
+      → ArePressed display from (keys ++ key ∷ []) (account (came.all_well && is_none refused)
+      (came.text ++ Refused key refused)) to
+  pressed_more from mid to [] key refused came h p = (
     refused,
     to,
-    true,
-    [],
-    subst (λ (z : Ends). IsKeyPressed rules d devices key z refused to) h.0 p,
+    account true [],
+    subst (λ (z : Ends). IsKeyPressed display.at key z refused to) h.0 p,
     (refl, refl, refl),
     ap (λ b. b && is_none refused) h.1 ∙ sym (and_true (is_none refused)),
-    ap (λ z. z ++ key_refused_text (w.entered key) refused) h.2 ∙ sym (append-nil (key_refused_text (w.entered key) refused)),
+    ap (λ z. z ++ Refused key refused) h.2 ∙ sym (append-nil (Refused key refused)),
   )
-  pressed_more from mid to (first ∷ keys) key refused well text h p = (
+  pressed_more from mid to (first ∷ keys) key refused came h p = (
     h.0,
     h.1,
-    h.2 && is_none refused,
-    h.3 ++ key_refused_text (w.entered key) refused,
-    h.4,
-    pressed_more h.1 mid to keys key refused h.2 h.3 h.5 p,
-    ap (λ b. b && is_none refused) h.6 ∙ and_assoc (is_none h.0) h.2 (is_none refused),
-    ap (λ z. z ++ key_refused_text (w.entered key) refused) h.7 ∙ append_assoc (key_refused_text (w.entered first) h.0) h.3 (key_refused_text (w.entered key) refused),
+    account (h.2.all_well && is_none refused) (h.2.text ++ Refused key refused),
+    h.3,
+    pressed_more h.1 mid to keys key refused h.2 h.4 p,
+    ap (λ b. b && is_none refused) h.5 ∙ and_assoc (is_none h.0) h.2.all_well (is_none refused),
+    ap (λ z. z ++ Refused key refused) h.6 ∙ append_assoc (Refused first h.0) h.2.text (Refused key refused),
   )
 
   -- the keys of a list, of which so many are pressed
   module _ (from mid to : Ends) (keys : List Q) (i : ℕ) (key : Q) (inside : i < length keys)
       (is : key ≡ get_or keys i key) where
-    pub pressed_on : (refused : Option KeyFault) (well : Bool) (text : List ℕ)
-        → ArePressed rules d devices w from (take i keys) well text mid
-        → IsKeyPressed rules d devices key mid refused to
-        → ArePressed rules d devices w from (take (i + 1) keys) (well && is_none refused)
-        (text ++ key_refused_text (w.entered key) refused) to
-    pressed_on refused well text h p =
+    pub pressed_on : (refused : Option KeyFault) (came : Account)
+        → ArePressed display from (take i keys) came mid → IsKeyPressed display.at key mid refused to
+        → ArePressed display from (take (i + 1) keys) (account (came.all_well && is_none refused)
+        (came.text ++ Refused key refused)) to
+    pressed_on refused came h p =
         let next : take i keys ++ key ∷ [] ≡ take (i + 1) keys = ap (λ z. take i keys ++ z ∷ []) is
         ∙ sym (take_more keys i key inside) in
-        subst (λ (z : List Q). ArePressed rules d devices w from z (well && is_none refused)
-        (text ++ key_refused_text (w.entered key) refused) to) next (pressed_more from mid to (take i keys) key refused well text h p)
+        subst (λ (z : List Q). ArePressed display from z (account (came.all_well && is_none refused)
+        (came.text ++ Refused key refused)) to) next (pressed_more from mid to (take i keys) key refused came h p)
 
-    pub unwritten_at : (well : Bool) (text : List ℕ) (outcome : Result Closing Fault)
-        → ArePressed rules d devices w from (take i keys) well text mid
-        → IsKeyUnwritten rules d devices key mid to → outcome
-        ≡ Err fault.Write → KeysRun rules d devices w keys from outcome text to
-    unwritten_at well text outcome h led e = let n : suc i ≡ i + 1 = omega arith in inr (
+    pub unwritten_at : (well : Bool) (text : List ℕ) → ArePressed display from (take i keys) (account well text) mid
+        → IsKeyUnwritten display.at key mid to → KeysRun display keys from (line_result (Err fault.Write) text) to
+    unwritten_at well text h led = let n : suc i ≡ i + 1 = omega arith in inr (
       take i keys,
       key,
       drop (i + 1) keys,
@@ -140,88 +133,89 @@ module _ {D P U H PlaceV V Q R S K : Type 0} (rules : Rules P U) (d : DisplayOf 
           ∙ ap (λ z. take i keys ++ z ∷ drop (suc i) keys) (sym is) ∙ ap (λ m. take i keys ++ key ∷ drop m keys) n,
       h,
       led,
-      e,
+      refl,
     )
 
     -- one key more, and how they close then
     pub key_more : (well : Bool) (text last : List ℕ) (closing next : Closing)
-        → ArePressed rules d devices w from (take i keys) well text mid → closing ≡ pressed well
-        → KeyRuns rules d devices w key mid (Ok next) last to
-        → (more : Bool) × ArePressed rules d devices w from (take (i + 1) keys) more (text ++ last) to
+        → ArePressed display from (take i keys) (account well text) mid → closing ≡ pressed well
+        → KeyRuns display key mid (line_result (Ok next) last) to
+        → (more : Bool) × ArePressed display from (take (i + 1) keys) (account more (text ++ last)) to
         × (closing_of_both closing next ≡ pressed more)
     key_more well text last closing next h e (inl r) =
         let same : next ≡ pressed (is_none r.0) = ok_same next (pressed (is_none r.0)) r.2 in (
           well && is_none r.0,
-          subst (λ (z : List ℕ). ArePressed rules d devices w from (take (i + 1) keys)
-              (well && is_none r.0) (text ++ z) to) (sym r.3) (pressed_on r.0 well text h r.1),
+          subst (λ (z : List ℕ). ArePressed display from (take (i + 1) keys)
+              (account (well && is_none r.0) (text ++ z)) to) (sym r.3) (pressed_on r.0 (account well text) h r.1),
           ap (λ z. closing_of_both z next) e ∙ ap (λ z. closing_of_both (pressed well) z) same ∙ both_pressed well
               (is_none r.0),
         )
     key_more well text last closing next h e (inr r) = absurd (ok_no_err next fault.Write r.1)
 
     pub key_stops : (well : Bool) (text last : List ℕ) (why : Fault)
-        → ArePressed rules d devices w from (take i keys) well text mid
-        → KeyRuns rules d devices w key mid (Err why) last to
-        → KeysRun rules d devices w keys from (Err why) (text ++ last) to
+        → ArePressed display from (take i keys) (account well text) mid
+        → KeyRuns display key mid (line_result (Err why) last) to
+        → KeysRun display keys from (line_result (Err why) (text ++ last)) to
     key_stops well text last why h (inl r) = absurd (ok_no_err (pressed (is_none r.0)) why (sym r.2))
     key_stops well text last why h (inr r) =
         let all : text ≡ text ++ last = sym (append-nil text) ∙ ap (λ z. text ++ z) (sym r.2) in
-        subst (λ (z : List ℕ). KeysRun rules d devices w keys from (Err why) z to) all
-        (unwritten_at well text (Err why) h r.0 r.1)
+        let written : KeysRun display keys from (line_result (Err fault.Write) (text ++ last)) to =
+        subst (λ (z : List ℕ). KeysRun display keys from (line_result (Err fault.Write) z) to) all
+        (unwritten_at well text h r.0) in
+        subst (λ (o : Result Closing Fault). KeysRun display keys from (line_result o (text ++ last)) to) (sym r.1)
+        written
 
-module _ {D P U H PlaceV V Q R S K : Type 0} (rules : Rules P U) (d : DisplayOf D U H PlaceV V Q R)
-    (devices : Devices S K) where
+module _ {D P U H PlaceV V Q R S K : Type 0} (at : AttachedDisplay D P U H PlaceV V Q R S K) (Met : D → Type 0) where
   abbrev Parts : Type 0
   Parts = AttachedParts (PartsOn D P) S K
 
-  pub is_waited : (tells rests : S → Bool → Type 0) (operated : OperatedOn D) (from to : Parts) (ahead : ℕ)
+  pub waited_more : (from mid to : Parts) (told : List Applied) (one : Applied) → HasWaited at Met from told mid
+      → (Met mid.end.screen → ⊥) → Hears at mid (Some one) to → HasWaited at Met from (told ++ one ∷ []) to
+  waited_more from mid to [] one h unmet heard = (
+    to,
+    subst (λ (z : Parts). Met z.end.screen → ⊥) h unmet,
+    subst (λ (z : Parts). Hears at z (Some one) to) h heard,
+    refl,
+  )
+  waited_more from mid to (first ∷ told) one h unmet heard =
+      (h.0, h.1, h.2, waited_more h.0 mid to told one h.3 unmet heard)
+
+pub waits_on : (told : List Applied) (one : Applied) (count : ℕ) → length told ≡ count
+    → length (told ++ one ∷ []) ≡ count + 1
+waits_on told one count e = omega (arith, e, length-append told (one ∷ []))
+
+module _ {D P U H PlaceV V Q R S K : Type 0} (display : WatchedDisplay D P U H PlaceV V Q R S K) where
+  abbrev Watched : Type 0
+  Watched = AttachedParts (PartsOn D P) S K
+
+  pub is_waited : (operated : OperatedOn D) (from to : Watched) (ahead : ℕ)
       (awaited : Awaited) (waited : Waited) → (awaited ≡ awaits.Record → ⊥)
       → ((time : ℕ) → awaited ≡ awaits.Quiet time → ⊥)
-      → WaitsFor rules d devices tells (IsMet d.shown operated awaited) from waited to
-      → IsWaited rules d operated devices (watch_tells tells rests) awaited (from, ahead) waited to
-  is_waited tells rests operated from to ahead awaits.Turn waited other loud h = h
-  is_waited tells rests operated from to ahead (awaits.Text text) waited other loud h = h
-  is_waited tells rests operated from to ahead (awaits.At cell text) waited other loud h = h
-  is_waited tells rests operated from to ahead awaits.Record waited other loud h = absurd (other refl)
-  is_waited tells rests operated from to ahead (awaits.Quiet time) waited other loud h = absurd (loud time refl)
+      → WaitsFor display (IsMet display.at.does.shown operated awaited) from waited to
+      → IsWaited display operated awaited (from, ahead) waited to
+  is_waited operated from to ahead awaits.Turn waited other loud h = h
+  is_waited operated from to ahead (awaits.Text text) waited other loud h = h
+  is_waited operated from to ahead (awaits.At cell text) waited other loud h = h
+  is_waited operated from to ahead awaits.Record waited other loud h = absurd (other refl)
+  is_waited operated from to ahead (awaits.Quiet time) waited other loud h = absurd (loud time refl)
 
   -- a report that is no note
-  pub reports : (tells : S → Bool → Type 0) (report : Report) (from to : Parts × ℕ) (outcome : Result Closing Fault)
-      (text : List ℕ) → ((note : List ℕ) → report ≡ reported.Note note → ⊥)
-      → ShowsStation rules d devices tells (λ station. IsReportText (d.shown station.screen)
-      (station_allows_records station.options) station.records station.live.taken report) from outcome text to
-      → Reports rules d devices tells report from outcome text to
-  reports tells reported.Status from to outcome text other h = h
-  reports tells (reported.Cells cell) from to outcome text other h = h
-  reports tells (reported.Text span) from to outcome text other h = h
-  reports tells (reported.Note note) from to outcome text other h = absurd (other note refl)
-
-  module _ (Met : D → Type 0) where
-    pub waited_more : (from mid to : Parts) (told : List Applied) (one : Applied)
-        → HasWaited rules d devices Met from told mid → (Met mid.end.screen → ⊥)
-        → Hears rules d devices mid (Some one) to
-        → HasWaited rules d devices Met from (told ++ one ∷ []) to
-    waited_more from mid to [] one h unmet heard = (
-      to,
-      subst (λ (z : Parts). Met z.end.screen → ⊥) h unmet,
-      subst (λ (z : Parts). Hears rules d devices z (Some one) to) h heard,
-      refl,
-    )
-    waited_more from mid to (first ∷ told) one h unmet heard =
-        (h.0, h.1, h.2, waited_more h.0 mid to told one h.3 unmet heard)
-
-    pub waits_on : (from to : Parts) (told : List Applied) (one : Applied) (count : ℕ) → length told ≡ count
-        → length (told ++ one ∷ []) ≡ count + 1
-    waits_on from to told one count e = omega (arith, e, length-append told (one ∷ []))
+  pub reports : (report : Report) (from to : Watched × ℕ) (came : LineResult)
+      → ((note : List ℕ) → report ≡ reported.Note note → ⊥)
+      → ShowsStation display (λ station. IsReportText (reported_station display.at.does station) report) from came to
+      → Reports display report from came to
+  reports reported.Status from to came other h = h
+  reports (reported.Cells cell) from to came other h = h
+  reports (reported.Text span) from to came other h = h
+  reports (reported.Note note) from to came other h = absurd (other note refl)
 
   -- what isn't a record
-  pub hears_none : (tells : S → Bool → Type 0) (from to : Parts) (waited : Waited)
-      → HearsOne rules d devices tells from waited to → (waited ≡ waits.Met → ⊥)
-      → HearsNone rules d devices tells from waited to
-  hears_none tells from to waits.Met h other = absurd (other refl)
-  hears_none tells from to waits.Late h other = h
-  hears_none tells from to waits.Ended h other = h
-  hears_none tells from to (waits.Failed why) h other = h
+  pub hears_none : (from to : Watched) (waited : Waited) → HearsOne display from waited to → (waited ≡ waits.Met → ⊥)
+      → HearsNone display from waited to
+  hears_none from to waits.Met h other = absurd (other refl)
+  hears_none from to waits.Late h other = h
+  hears_none from to waits.Ended h other = h
+  hears_none from to (waits.Failed why) h other = h
 
 -- what no row up to one has, and that one neither
 pub below_next : (P : ℕ → Type 0) (at : ℕ) → ((row : ℕ) → 1 ≤ row → row < at → P row → ⊥) → (P at → ⊥) → (row : ℕ)

@@ -3,19 +3,20 @@ use Rattle.std.proofs.Common.{◌≡◌, ℕ, ◌+◌, ◌<◌, List, [], ◌∷
 use Rattle.std.proofs.Common.{inr, refl, sym, ap, ◌∙◌, subst, arith, append_assoc, suc, get_or, take-append-drop}
 use Rattle.std.proofs.Math.Seq.{drop-cons}
 use Rattle.std.proofs.lemmas.List.{append-nil, take_more}
-use Rattle.ws_code.specs.Device.{Writer, WentOut, FailedWithin}
+use Rattle.ws_code.specs.Device.{Writer, WentOut}
 use Rattle.ws_code.specs.declared.fault.Fault.{Fault}
 use Rattle.ws_code.specs.declared.fault.Fault.TheVariants.{Write}
 use Rattle.ws_code.proofs.DeviceLaws.{went_out_both}
 use Rattle.ws_code.proofs.Parts.{fails_last}
-use Rattle.ws_text.specs.Printed.{Printing, IsPrinted}
+use Rattle.ws_text.specs.Printed.{IsPrinted}
 use Rattle.ws_text.specs.Printing.{IsOut}
 use Rattle.ws_text.specs.declared.output.Output.{Output}
 use Rattle.ws_text.specs.declared.output.Output.TheVariants.{Open, Failed}
 use Rattle.ws_live.specs.declared.live.Closing.{Closing}
 use Rattle.ws_live.specs.declared.live.Ran.{Ran}
 use Rattle.ws_live.specs.live.LiveText.{is_well, stops, ran_by, ran_and, HaveRun, IsStoppedAt, IsCutIn}
-use Rattle.ws_live.specs.live.LiveText.{LinesEnd, line_printing, lines_printing}
+use Rattle.ws_live.specs.live.LiveText.{Account, LineResult, LinesDo, account, line_result, line_printing}
+use Rattle.ws_live.specs.live.LiveText.{lines_printing}
 
 -- Lines that are carried out one after another.
 
@@ -27,64 +28,63 @@ and_assoc : (a b c : Bool) → ((a && b) && c) ≡ (a && (b && c))
 and_assoc true b c = refl
 and_assoc false b c = refl
 
-module _ {L P : Type 0} (runs : L → P → Result Closing Fault → List ℕ → P → Type 0) where
+module _ {L P : Type 0} (runs : LinesDo L P) where
   -- one line more
-  pub run_more : (from mid to : P) (before : List L) (line : L) (well : Bool) (printed last : List ℕ)
+  pub run_more : (from mid to : P) (before : List L) (line : L) (came : Account) (last : List ℕ)
       (closing : Closing)
-      → HaveRun runs from before well printed mid → runs line mid (Ok closing) last to → stops closing ≡ false
-      → HaveRun runs from (before ++ line ∷ []) (well && is_well closing) (printed ++ last) to
-  run_more from mid to [] line well printed last closing h r s = (
+      → HaveRun runs from before came mid → runs line mid (line_result (Ok closing) last) to → stops closing ≡ false
+      → HaveRun runs from (before ++ line ∷ []) (account (came.all_well && is_well closing) (came.text ++ last)) to
+  run_more from mid to [] line came last closing h r s = (
     closing,
     last,
     to,
-    true,
-    [],
-    subst (λ (p : P). runs line p (Ok closing) last to) h.0 r,
+    account true [],
+    subst (λ (p : P). runs line p (line_result (Ok closing) last) to) h.0 r,
     s,
     (refl, refl, refl),
     ap (λ b. b && is_well closing) h.1 ∙ sym (and_true (is_well closing)),
     ap (λ z. z ++ last) h.2 ∙ sym (append-nil last),
   )
-  run_more from mid to (first ∷ before) line well printed last closing h r s = (
+  run_more from mid to (first ∷ before) line came last closing h r s = (
     h.0,
     h.1,
     h.2,
-    h.3 && is_well closing,
-    h.4 ++ last,
+    account (h.3.all_well && is_well closing) (h.3.text ++ last),
+    h.4,
     h.5,
-    h.6,
-    run_more h.2 mid to before line h.3 h.4 last closing h.7 r s,
-    ap (λ b. b && is_well closing) h.8 ∙ and_assoc (is_well h.0) h.3 (is_well closing),
-    ap (λ z. z ++ last) h.9 ∙ append_assoc h.1 h.4 last,
+    run_more h.2 mid to before line h.3 last closing h.6 r s,
+    ap (λ b. b && is_well closing) h.7 ∙ and_assoc (is_well h.0) h.3.all_well (is_well closing),
+    ap (λ z. z ++ last) h.8 ∙ append_assoc h.1 h.3.text last,
   )
 
   -- one line, whose text went out or didn't
   module _ {O : Type 0} (writer : Writer O) (from to : P) (old new : O) (line : L) where
-    pub line_out : (closing : Closing) (text : List ℕ) → runs line from (Ok closing) text to
+    pub line_out : (closing : Closing) (text : List ℕ) → runs line from (line_result (Ok closing) text) to
         → IsOut writer old new Open text → IsPrinted writer old new (line_printing runs from line to) (Ok closing)
     line_out closing text r out = (text, r, out)
 
-    pub line_cut : (closing : Closing) (text : List ℕ) → runs line from (Ok closing) text to
+    pub line_cut : (closing : Closing) (text : List ℕ) → runs line from (line_result (Ok closing) text) to
         → IsOut writer old new Failed text → IsPrinted writer old new (line_printing runs from line to) (Err Write)
     line_cut closing text r out = inr (text, inl (refl, (closing, r)), out)
 
-    pub line_failed : (fault : Fault) (output : Output) (text : List ℕ) → runs line from (Err fault) text to
+    pub line_failed : (fault : Fault) (output : Output) (text : List ℕ) → runs line from (line_result
+        (Err fault) text) to
         → IsOut writer old new output text → IsPrinted writer old new (line_printing runs from line to) (Err fault)
     line_failed fault Open text r out = inl (text, r, out)
     line_failed fault Failed text r out = inr (text, inr r, out)
 
   -- a line at which a fault came, behind a text that is out
   module _ {O : Type 0} (writer : Writer O) (mid to : P) (old between new : O) (line : L) (printed : List ℕ)
-      (out : WentOut writer old between printed) (Comes : Result Closing Fault → List ℕ → Type 0)
-      (come : (outcome : Result Closing Fault) (last : List ℕ) → runs line mid outcome last to
-      → Comes outcome (printed ++ last)) where
-    cut_behind : (fault : Fault) (last : List ℕ) → IsCutIn (λ outcome text. runs line mid outcome text to) last fault
+      (out : WentOut writer old between printed) (Comes : LineResult → Type 0)
+      (come : (outcome : Result Closing Fault) (last : List ℕ) → runs line mid (line_result outcome last) to
+      → Comes (line_result outcome (printed ++ last))) where
+    cut_behind : (fault : Fault) (last : List ℕ) → IsCutIn (λ came. runs line mid came to) last fault
         → IsCutIn Comes (printed ++ last) fault
     cut_behind fault last (inl p) = inl (p.0, (p.1.0, come (Ok p.1.0) last p.1.1))
     cut_behind fault last (inr r) = inr (come (Err fault) last r)
 
     pub fails_behind : {A : Type 0} (Ends : List ℕ → Result A Fault → Type 0) (fault : Fault)
-        → ((text : List ℕ) → Comes (Err fault) text → Ends text (Err fault))
+        → ((text : List ℕ) → Comes (line_result (Err fault) text) → Ends text (Err fault))
         → IsPrinted writer between new (line_printing runs mid line to) (Err fault)
         → IsPrinted writer old new (record { Ends = Ends; Cut = IsCutIn Comes }) (Err fault)
     fails_behind {A} Ends fault ends (inl e) = inl (
@@ -101,18 +101,17 @@ module _ {L P : Type 0} (runs : L → P → Result Closing Fault → List ℕ �
   -- one line more, behind those that were carried out and printed
   module _ {O : Type 0} (writer : Writer O) (from mid to : P) (old between new : O)
       (before : List L) (line : L) (ran : Ran) (printed : List ℕ)
-      (h : HaveRun runs from before ran.all_well printed mid) (out : WentOut writer old between printed)
+      (h : HaveRun runs from before (account ran.all_well printed) mid) (out : WentOut writer old between printed)
     where
       stopped_at : (after lines : List L) → lines ≡ before ++ line ∷ after → (outcome : Result Closing Fault)
-          (last : List ℕ) → runs line mid outcome last to → IsStoppedAt runs from lines outcome
-          (printed ++ last) to
+          (last : List ℕ) → runs line mid (line_result outcome last) to
+          → IsStoppedAt runs from lines (line_result outcome (printed ++ last)) to
       stopped_at after lines split outcome last r = record {
         before = before;
         line = line;
         after = after;
         split = split;
-        well = ran.all_well;
-        printed = printed;
+        so_far = account ran.all_well printed;
         mid = mid;
         ran = h;
         last = last;
@@ -122,11 +121,12 @@ module _ {L P : Type 0} (runs : L → P → Result Closing Fault → List ℕ �
 
       pub goes_on : (closing : Closing) → IsPrinted writer between new (line_printing runs mid line to) (Ok closing)
           → (ran_and ran (ran_by closing)).is_over ≡ false
-          → (text : List ℕ) × HaveRun runs from (before ++ line ∷ []) (ran_and ran (ran_by closing)).all_well text to
+          → (text : List ℕ)
+          × HaveRun runs from (before ++ line ∷ []) (account (ran_and ran (ran_by closing)).all_well text) to
           × WentOut writer old new text
       goes_on closing one going = (
         printed ++ one.0,
-        run_more from mid to before line ran.all_well printed one.0 closing h one.1 going,
+        run_more from mid to before line (account ran.all_well printed) one.0 closing h one.1 going,
         went_out_both writer old between new printed one.0 out one.2,
       )
 
@@ -137,13 +137,15 @@ module _ {L P : Type 0} (runs : L → P → Result Closing Fault → List ℕ �
       unfolding stopped_at
       ends_here after lines split closing one over = (
         printed ++ one.0,
-        inr (record {
-          closing = closing;
-          at = stopped_at after lines split (Ok closing) one.0 one.1;
-          over = over;
-          came = ap (λ (b : Bool). let r : Ran = record { all_well = ran.all_well && is_well closing; is_over = b } in
-              r) over;
-        }),
+        inr (
+          record {
+            closing = closing;
+            at = stopped_at after lines split (Ok closing) one.0 one.1;
+            over = over;
+            well = refl;
+          },
+          over,
+        ),
         went_out_both writer old between new printed one.0 out one.2,
       )
 
@@ -152,8 +154,8 @@ module _ {L P : Type 0} (runs : L → P → Result Closing Fault → List ℕ �
           → IsPrinted writer old new (lines_printing runs from lines to) (Err fault)
       breaks after lines split fault one =
           fails_behind writer mid to old between new line printed out
-          (λ outcome text. IsStoppedAt runs from lines outcome text to) (stopped_at after lines split)
-          (LinesEnd runs from lines to) fault
+          (λ came. IsStoppedAt runs from lines came to) (stopped_at after lines split)
+          (lines_printing runs from lines to).Ends fault
           (λ text at. at) one
 
 -- the lines of a list, of which so many are carried out

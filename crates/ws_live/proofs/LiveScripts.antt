@@ -4,9 +4,8 @@ use Rattle.std.proofs.Common.{◌≡◌, ℕ, ◌+◌, ◌-◌, ◌^◌, ◌<◌
 use Rattle.std.proofs.Common.{arith, append_assoc, length-append, take, true, inl}
 use Rattle.std.proofs.Math.Seq.{take-append_seam}
 use Rattle.ws_text.specs.FirstLine.{IsBehindLines}
-use Rattle.ws_live.specs.live.LiveScript.{is_indented, AreIndented, BeginsFlush, HasInside, IsBlock, HasBlock}
-use Rattle.ws_live.specs.live.LiveScript.{MeanThese, AreLiveLines, IsFirstBadLiveLine, IsGoodBlockSoFar}
-use Rattle.ws_live.specs.live.LiveScript.{IsLiveScriptSoFar}
+use Rattle.ws_live.specs.live.LiveScript.{is_indented, AreIndented, BeginsFlush, HasInside, IsBadBlock, IsBlock, HasBlock}
+use Rattle.ws_live.specs.live.LiveScript.{LineLanguage, text_cut, MeanThese, AreLiveLines, IsFirstBadLiveLine, IsGoodBlockSoFar, IsLiveScriptSoFar}
 use Rattle.ws_live.proofs.LineFronts.{behind_more, lines_behind}
 
 -- The lines of a live script, one more at a time.
@@ -47,26 +46,27 @@ gathers_more text rest behind line count r e cut shorter blank =
 
 -- they are the front of the text, as a slice
 pub gathered : (text rest inside : List ℕ) (count : ℕ) → Gathers text rest count
-    → inside ≡ take (length text - length rest) text → BeginsFlush (lines rest) → HasInside text inside count rest
+    → inside ≡ take (length text - length rest) text → BeginsFlush (lines rest)
+    → HasInside text (text_cut inside count rest)
 gathered text rest inside count r is flush =
     let sizes = ap length r.behind.split ∙ length-append r.behind.front rest in
     let same : inside ≡ r.behind.front = is ∙ ap (λ z. take (length text - length rest) z) r.behind.split
     ∙ ap (λ n. take n (r.behind.front ++ rest)) (omega (arith, sizes)) ∙ take-append_seam r.behind.front rest in
-    subst (λ (z : List ℕ). HasInside text z count rest) (sym same) (record {
-      cut = r.behind.split;
+    subst (λ (z : List ℕ). HasInside text (text_cut z count rest)) (sym same) (record {
+      whole = r.behind.split;
       split = lines_behind text rest r.behind;
       indented = r.indented;
-      whole = flush;
+      flush = flush;
       counted = r.counted;
       few = r.few;
     })
 
 -- THE LINES OF A SCRIPT
 
-module _ {L : Type 0} (means : List ℕ → List (List ℕ) → L → Type 0) (opener : List ℕ → Type 0) where
+module _ {L : Type 0} (language : LineLanguage L) where
   mean_more : (all : List (List ℕ)) (read : List L) (line : List ℕ) (inside after : List (List ℕ)) (x : L)
-      → MeanThese means opener all read (line ∷ (inside ++ after)) → IsBlock opener line inside after
-      → means line inside x → MeanThese means opener all (read ++ x ∷ []) after
+      → MeanThese language all read (line ∷ (inside ++ after)) → IsBlock language line inside after
+      → language.means line inside x → MeanThese language all (read ++ x ∷ []) after
   mean_more all [] line inside after x e block m = (line, inside, after, e, block, m, refl)
   mean_more all (first ∷ read) line inside after x h block m = (
     h.0,
@@ -82,7 +82,7 @@ module _ {L : Type 0} (means : List ℕ → List (List ℕ) → L → Type 0) (o
   pub record Reads (text rest : List ℕ) (read : List L) (number : ℕ) : Type 0 where
     pub before : List (List ℕ)
     pub split : lines text ≡ before ++ lines rest
-    pub good : MeanThese means opener (lines text) read (lines rest)
+    pub good : MeanThese language (lines text) read (lines rest)
     pub counted : number ≡ length before
     pub few : length before + length rest ≤ length text
 
@@ -91,13 +91,14 @@ module _ {L : Type 0} (means : List ℕ → List (List ℕ) → L → Type 0) (o
 
   -- the lines that are next
   ahead : (rest behind line next inside : List ℕ) (count : ℕ) → lines rest ≡ line ∷ lines next
-      → (b : HasBlock opener line next inside count behind)
+      → (b : HasBlock language line next (text_cut inside count behind))
       → lines rest ≡ line ∷ (lines inside ++ lines behind)
   ahead rest behind line next inside count e b = e ∙ ap (λ z. line ∷ z) b.split
 
   pub reads_more : (text rest next behind line inside : List ℕ) (read more : List L) (x : L) (number count : ℕ)
       → Reads text rest read number → lines rest ≡ line ∷ lines next → length next < length rest
-      → HasBlock opener line next inside count behind → means line (lines inside) x → more ≡ read ++ x ∷ []
+      → HasBlock language line next (text_cut inside count behind) → language.means line (lines inside) x
+      → more ≡ read ++ x ∷ []
       → Reads text behind more (number + (1 + count))
   reads_more text rest next behind line inside read more x number count r e shorter b m is =
       let front = ahead rest behind line next inside count e b in
@@ -105,24 +106,23 @@ module _ {L : Type 0} (means : List ℕ → List (List ℕ) → L → Type 0) (o
         before = r.before ++ (line ∷ lines inside);
         split = r.split ∙ ap (λ z. r.before ++ z) front
             ∙ sym (append_assoc r.before (line ∷ lines inside) (lines behind));
-        good = subst (λ (z : List L). MeanThese means opener (lines text) z (lines behind)) (sym is)
+        good = subst (λ (z : List L). MeanThese language (lines text) z (lines behind)) (sym is)
             (mean_more (lines text) read line (lines inside) (lines behind) x
-            (subst (MeanThese means opener (lines text) read) front r.good) b.block m);
+            (subst (MeanThese language (lines text) read) front r.good) b.block m);
         counted = omega (arith, r.counted, b.counted, length-append r.before (line ∷ lines inside));
         few = omega (arith, r.few, b.few, b.counted, length-append r.before (line ∷ lines inside));
       }
 
   pub reads_all : (text rest : List ℕ) (read : List L) (number : ℕ) → Reads text rest read number → rest ≡ []
-      → AreLiveLines means opener text read
-  reads_all text rest read number r e = subst (λ (z : List ℕ). MeanThese means opener (lines text) read (lines z)) e
+      → AreLiveLines language text read
+  reads_all text rest read number r e = subst (λ (z : List ℕ). MeanThese language (lines text) read (lines z)) e
       r.good
 
-  pub reads_bad : (bad_at : List ℕ → List (List ℕ) → ℕ → Type 0) (text rest next behind line inside : List ℕ)
+  pub reads_bad : (text rest next behind line inside : List ℕ)
       (read : List L) (number count at told : ℕ) → Reads text rest read number → lines rest ≡ line ∷ lines next
-      → HasBlock opener line next inside count behind → ((x : L) → means line (lines inside) x → ⊥)
-      → bad_at line (lines inside) at
-      → told ≡ min (number + at) (2 ^ 64 - 1) → IsFirstBadLiveLine means opener bad_at text told
-  reads_bad bad_at text rest next behind line inside read number count at told r e b bad place is =
+      → HasBlock language line next (text_cut inside count behind) → IsBadBlock language line (lines inside) at
+      → told ≡ min (number + at) (2 ^ 64 - 1) → IsFirstBadLiveLine language text told
+  reads_bad text rest next behind line inside read number count at told r e b bad is =
       let front = ahead rest behind line next inside count e b in
       record {
         before = r.before;
@@ -131,27 +131,26 @@ module _ {L : Type 0} (means : List ℕ → List (List ℕ) → L → Type 0) (o
         after = lines behind;
         split = r.split ∙ ap (λ z. r.before ++ z) front;
         read = read;
-        good = subst (MeanThese means opener (lines text) read) front r.good;
+        good = subst (MeanThese language (lines text) read) front r.good;
         block = b.block;
-        bad = bad;
         at = at;
-        place = place;
+        bad = bad;
         counted = is ∙ ap (λ n. min (n + at) (2 ^ 64 - 1)) r.counted;
       }
 
   -- a growth was refused within a line, or behind it
-  pub reads_begun : (begins : List ℕ → Type 0) (text rest next behind line inside : List ℕ) (read : List L)
+  pub reads_begun : (text rest next behind line inside : List ℕ) (read : List L)
       (number count : ℕ) → Reads text rest read number → lines rest ≡ line ∷ lines next
-      → HasBlock opener line next inside count behind → IsGoodBlockSoFar means begins line (lines inside)
-      → IsLiveScriptSoFar means begins opener text
-  reads_begun begins text rest next behind line inside read number count r e b good =
+      → HasBlock language line next (text_cut inside count behind) → IsGoodBlockSoFar language line (lines inside)
+      → IsLiveScriptSoFar language text
+  reads_begun text rest next behind line inside read number count r e b good =
       let front = ahead rest behind line next inside count e b in
       record {
         line = line;
         inside = lines inside;
         after = lines behind;
         read = read;
-        good = subst (MeanThese means opener (lines text) read) front r.good;
+        good = subst (MeanThese language (lines text) read) front r.good;
         block = b.block;
         so_far = good;
       }

@@ -15,8 +15,7 @@ use Rattle.ws_text.specs.declared.items.TextFault.TheVariants as items
 use Rattle.ws_text.proofs.LineEnds.{some_lines}
 use Rattle.ws_live.specs.declared.script.ScriptFault.TheVariants.{Line}
 use Rattle.ws_live.specs.live.LiveScript.{IsBlockFault}
-use Rattle.ws_live.specs.live.ServeLines.{AreBadAt, BeginsHostLine, IsBadHostLineAt, IsHostLine, OpensHostBlock}
-use Rattle.ws_live.specs.live.ServeLines.{SendsAlone}
+use Rattle.ws_live.specs.live.ServeLines.{AreBadAt, OpensHostBlock, SendsAlone, host_language}
 
 -- Records that are told in words.
 
@@ -39,7 +38,7 @@ pub bad_words : (line number : List ℕ) (elements : List (List ℕ)) (opcode : 
     → IsAddFault element_rules element_wording elements (new_record opcode) (items.Line at)
     → ((r : Record Element) → AddUnits element_rules element_wording elements (new_record opcode) r
     → items.Line at ≡ items.Memory) → AreBadAt opcode elements told
-    → IsBlockFault IsHostLine BeginsHostLine IsBadHostLineAt line elements (Line told)
+    → IsBlockFault host_language line elements (Line told)
 bad_words line number elements opcode at told alone some bad only place = (
   (λ read m. elim m [
     | inl p ↦ some p.0
@@ -54,7 +53,7 @@ bad_words line number elements opcode at told alone some bad only place = (
 
 -- no elements may stand behind a line
 pub no_words : (line : List ℕ) (elements : List (List ℕ)) → elements ≢ [] → (OpensHostBlock line → ⊥)
-    → IsBlockFault IsHostLine BeginsHostLine IsBadHostLineAt line elements (Line 1)
+    → IsBlockFault host_language line elements (Line 1)
 no_words line elements some other = (
   (λ read m. elim m [ inl p ↦ some p.0 | inr p ↦ other (p.1.0, p.1.1, p.1.3) ]),
   inl (refl, inr other),

@@ -5,8 +5,6 @@ use Rattle.std.proofs.Common.{take-append-drop, inl, inr, refl, sym, ap, ◌∙�
 use Rattle.std.proofs.Math.Seq.{drop-cons}
 use Rattle.std.proofs.lemmas.Grind.{flat_map-append}
 use Rattle.std.proofs.lemmas.List.{append-nil, map-append, take_more, replicate-append-replicate}
-use Rattle.ws_code.specs.Code.{Rules}
-use Rattle.ws_code.specs.Device.{Writer, Reader, Devices}
 use Rattle.ws_code.specs.declared.fault.Fault.{Fault}
 use Rattle.ws_screen.specs.ScreenParts.{ScreenParts}
 use Rattle.ws_keys.specs.Strokes.{keys_of}
@@ -14,7 +12,6 @@ use Rattle.ws_keys.specs.declared.key.Key.{Key}
 use Rattle.ws_keys.specs.declared.key_run.KeyRun.{KeyRun}
 use Rattle.ws_session.specs.attached.Attachments.{AttachedParts}
 use Rattle.ws_session.specs.declared.station.key_fault.KeyFault.{KeyFault}
-use Rattle.ws_session.specs.station.Displays.{DisplayOf}
 use Rattle.ws_session.specs.station.PartsOn.{PartsOn}
 use Rattle.ws_live.specs.declared.live.Closing.{Closing}
 use Rattle.ws_live.specs.declared.live.Closing.TheVariants.{Declined, Done}
@@ -23,7 +20,8 @@ use Rattle.ws_live.specs.declared.live.stroke.Stroke.{Stroke}
 use Rattle.ws_live.specs.declared.live.stroke.Stroke.TheVariants.{Cursor, NewLine, EraseEof, Fill}
 use Rattle.ws_live.specs.live.ConnectText.{key_refused_text, pressed, KeyRuns, KeysUntil, StrokeRuns}
 use Rattle.ws_live.specs.live.Stroking.{keys_behind, no_field_text, stroke_keys, stroke_runs}
-use Rattle.ws_live.specs.script.KeyWords.{KeyWords}
+use Rattle.ws_live.specs.live.LiveText.{LineResult, LinesDo, line_result}
+use Rattle.ws_live.specs.live.Operating.{KeyedDisplay}
 
 -- Keys one after another, up to the first that isn't taken.
 
@@ -83,16 +81,19 @@ no_keys_behind (Fill f) other = absurd (other f refl)
 
 -- KEYS THAT ARE PRESSED
 
-module _ {D P U H PlaceV V Q R S K : Type 0} (rules : Rules P U) (d : DisplayOf D U H PlaceV V Q R)
-    (devices : Devices S K) (w : KeyWords Q) where
+module _ {D P U H PlaceV V Q R S K : Type 0} (display : KeyedDisplay D P U H PlaceV V Q R S K) where
   abbrev Parts : Type 0
   Parts = AttachedParts (PartsOn D P) S K
 
-  abbrev Runs : Q → Parts → Result Closing Fault → List ℕ → Parts → Type 0
-  Runs = KeyRuns rules d devices w
+  abbrev Runs : LinesDo Q Parts
+  Runs = KeyRuns display
 
-  abbrev Until : List Q → Parts → Result Closing Fault → List ℕ → Parts → Type 0
-  Until = KeysUntil rules d devices w
+  abbrev Until : LinesDo (List Q) Parts
+  Until = KeysUntil display
+
+  -- a key or keys that were taken, and printed this
+  abbrev taken : List ℕ → LineResult
+  taken text = line_result (Ok Done) text
 
   -- a key that is taken prints nothing
   quiet : (entered : Option ℕ) (refused : Option KeyFault)
@@ -101,99 +102,100 @@ module _ {D P U H PlaceV V Q R S K : Type 0} (rules : Rules P U) (d : DisplayOf 
   quiet entered None e = refl
   quiet entered (Some why) e = cc
 
-  pub prints_nothing : (key : Q) (from to : Parts) (text : List ℕ) → Runs key from (Ok Done) text to → text ≡ []
-  prints_nothing key from to text (inl r) = r.3 ∙ quiet (w.entered key) r.0 r.2
+  pub prints_nothing : (key : Q) (from to : Parts) (text : List ℕ) → Runs key from (taken text) to → text ≡ []
+  prints_nothing key from to text (inl r) = r.3 ∙ quiet (display.words.entered key) r.0 r.2
   prints_nothing key from to text (inr r) = r.2
 
-  pub silent : (key : Q) (from to : Parts) (outcome : Result Closing Fault) (text : List ℕ) → outcome ≡ Ok Done
-      → Runs key from outcome text to → Runs key from (Ok Done) [] to
-  silent key from to outcome text e r =
-      let done : Runs key from (Ok Done) text to = subst (λ (o : Result Closing Fault). Runs key from o text to) e r in
-      subst (λ (z : List ℕ). Runs key from (Ok Done) z to) (prints_nothing key from to text done) done
+  pub silent : (key : Q) (from to : Parts) (came : LineResult) → came.outcome ≡ Ok Done
+      → Runs key from came to → Runs key from (taken []) to
+  silent key from to came e r =
+      let done : Runs key from (taken came.text) to =
+      subst (λ (o : Result Closing Fault). Runs key from (line_result o came.text) to) e r in
+      subst (λ (z : List ℕ). Runs key from (taken z) to) (prints_nothing key from to came.text done) done
 
   -- keys that were all taken, and those behind them
-  pub until_on : (a b : List Q) (from mid to : Parts) (outcome : Result Closing Fault) (first text : List ℕ)
-      → Until a from (Ok Done) first mid → Until b mid outcome text to → Until (a ++ b) from outcome text to
-  until_on [] b from mid to outcome first text h more = subst (λ (z : Parts). Until b z outcome text to) h.0 more
-  until_on (key ∷ a) b from mid to outcome first text (inl h) more =
-      inl (h.0, h.1, until_on a b h.0 mid to outcome first text h.2 more)
-  until_on (key ∷ a) b from mid to outcome first text (inr h) more = absurd (h.1 refl)
+  pub until_on : (a b : List Q) (from mid to : Parts) (came : LineResult) (first : List ℕ)
+      → Until a from (taken first) mid → Until b mid came to → Until (a ++ b) from came to
+  until_on [] b from mid to came first h more = subst (λ (z : Parts). Until b z came to) h.0 more
+  until_on (key ∷ a) b from mid to came first (inl h) more =
+      inl (h.0, h.1, until_on a b h.0 mid to came first h.2 more)
+  until_on (key ∷ a) b from mid to came first (inr h) more = absurd (h.1 refl)
 
   -- all that were taken print nothing
-  pub until_quiet : (a : List Q) (from to : Parts) (text : List ℕ) → Until a from (Ok Done) text to → text ≡ []
+  pub until_quiet : (a : List Q) (from to : Parts) (text : List ℕ) → Until a from (taken text) to → text ≡ []
   until_quiet [] from to text h = h.2
   until_quiet (key ∷ a) from to text (inl h) = until_quiet a h.0 to text h.2
   until_quiet (key ∷ a) from to text (inr h) = absurd (h.1 refl)
 
   -- keys of which one wasn't taken
-  pub until_stopped : (a b : List Q) (from to : Parts) (outcome : Result Closing Fault) (text : List ℕ)
-      → Until a from outcome text to → outcome ≢ Ok Done → Until (a ++ b) from outcome text to
-  until_stopped [] b from to outcome text h other = absurd (other h.1)
-  until_stopped (key ∷ a) b from to outcome text (inl h) other =
-      inl (h.0, h.1, until_stopped a b h.0 to outcome text h.2 other)
-  until_stopped (key ∷ a) b from to outcome text (inr h) other = inr h
+  pub until_stopped : (a b : List Q) (from to : Parts) (came : LineResult)
+      → Until a from came to → came.outcome ≢ Ok Done → Until (a ++ b) from came to
+  until_stopped [] b from to came h other = absurd (other h.1)
+  until_stopped (key ∷ a) b from to came (inl h) other =
+      inl (h.0, h.1, until_stopped a b h.0 to came h.2 other)
+  until_stopped (key ∷ a) b from to came (inr h) other = inr h
 
   -- a key more that is taken
-  pub until_more : (a all : List Q) (key : Q) (from mid to : Parts) (outcome : Result Closing Fault) (text : List ℕ)
-      → a ++ key ∷ [] ≡ all → Until a from (Ok Done) [] mid → outcome ≡ Ok Done → Runs key mid outcome text to
-      → Until all from (Ok Done) [] to
-  until_more a all key from mid to outcome text is h done r =
-      subst (λ (z : List Q). Until z from (Ok Done) [] to) is
-      (until_on a (key ∷ []) from mid to (Ok Done) [] [] h
-      (inl (to, silent key mid to outcome text done r, (refl, refl, refl))))
+  pub until_more : (a all : List Q) (key : Q) (from mid to : Parts) (came : LineResult)
+      → a ++ key ∷ [] ≡ all → Until a from (taken []) mid → came.outcome ≡ Ok Done → Runs key mid came to
+      → Until all from (taken []) to
+  until_more a all key from mid to came is h done r =
+      subst (λ (z : List Q). Until z from (taken []) to) is
+      (until_on a (key ∷ []) from mid to (taken []) [] h
+      (inl (to, silent key mid to came done r, (refl, refl, refl))))
 
   -- a key more that isn't
-  pub until_one : (a b all : List Q) (key : Q) (from mid to : Parts) (outcome : Result Closing Fault) (text : List ℕ)
-      → all ≡ a ++ key ∷ b → Until a from (Ok Done) [] mid → outcome ≢ Ok Done → Runs key mid outcome text to
-      → Until all from outcome text to
-  until_one a b all key from mid to outcome text is h other r =
-      subst (λ (z : List Q). Until z from outcome text to) (sym is)
-      (until_on a (key ∷ b) from mid to outcome [] text h (inr (r, other)))
+  pub until_one : (a b all : List Q) (key : Q) (from mid to : Parts) (came : LineResult)
+      → all ≡ a ++ key ∷ b → Until a from (taken []) mid → came.outcome ≢ Ok Done → Runs key mid came to
+      → Until all from came to
+  until_one a b all key from mid to came is h other r =
+      subst (λ (z : List Q). Until z from came to) (sym is)
+      (until_on a (key ∷ b) from mid to came [] h (inr (r, other)))
 
   -- RUNS, AND STROKES
 
   module _ (profile : Key → Q) (runs : List KeyRun) (i : ℕ) (run : KeyRun) (inside : i < length runs)
-      (is : run ≡ get_or runs i run) (from mid to : Parts) (outcome : Result Closing Fault) (text : List ℕ) where
+      (is : run ≡ get_or runs i run) (from mid to : Parts) (came : LineResult) where
     abbrev Before : Type 0
-    Before = Until (display_keys profile (take i runs)) from (Ok Done) [] mid
+    Before = Until (display_keys profile (take i runs)) from (taken []) mid
 
     abbrev Next : Type 0
-    Next = Until (replicate run.times (profile run.key)) mid outcome text to
+    Next = Until (replicate run.times (profile run.key)) mid came to
 
-    both : Before → Next → Until (display_keys profile (take (i + 1) runs)) from outcome text to
-    both before next = subst (λ (z : List Q). Until z from outcome text to) (keys_more profile runs i run inside is)
-        (until_on (display_keys profile (take i runs)) (replicate run.times (profile run.key)) from mid to outcome []
-        text before next)
+    both : Before → Next → Until (display_keys profile (take (i + 1) runs)) from came to
+    both before next = subst (λ (z : List Q). Until z from came to) (keys_more profile runs i run inside is)
+        (until_on (display_keys profile (take i runs)) (replicate run.times (profile run.key)) from mid to came []
+        before next)
 
     -- one more run whose keys are taken
-    pub run_more : Before → Next → outcome ≡ Ok Done
-        → Until (display_keys profile (take (i + 1) runs)) from (Ok Done) [] to
+    pub run_more : Before → Next → came.outcome ≡ Ok Done
+        → Until (display_keys profile (take (i + 1) runs)) from (taken []) to
     run_more before next e =
         let all = display_keys profile (take (i + 1) runs) in
-        let done : Until all from (Ok Done) text to =
-        subst (λ (o : Result Closing Fault). Until all from o text to) e (both before next) in
-        subst (λ (z : List ℕ). Until all from (Ok Done) z to) (until_quiet all from to text done) done
+        let done : Until all from (taken came.text) to =
+        subst (λ (o : Result Closing Fault). Until all from (line_result o came.text) to) e (both before next) in
+        subst (λ (z : List ℕ). Until all from (taken z) to) (until_quiet all from to came.text done) done
 
     -- one more, of which a key isn't
-    pub run_stops : Before → Next → outcome ≢ Ok Done → Until (display_keys profile runs) from outcome text to
+    pub run_stops : Before → Next → came.outcome ≢ Ok Done → Until (display_keys profile runs) from came to
     run_stops before next other =
-        subst (λ (z : List Q). Until z from outcome text to) (sym (keys_on profile runs (i + 1)))
+        subst (λ (z : List Q). Until z from came to) (sym (keys_on profile runs (i + 1)))
         (until_stopped (display_keys profile (take (i + 1) runs)) (display_keys profile (drop (i + 1) runs)) from to
-        outcome text (both before next) other)
+        came (both before next) other)
 
-  module _ (s : ScreenParts) (stroke : Stroke Q) (from to : Parts) (outcome : Result Closing Fault)
-      (text : List ℕ) where
+  module _ (s : ScreenParts) (stroke : Stroke Q) (from to : Parts) (came : LineResult) where
     abbrev Strokes : Option (List KeyRun) → Type 0
-    Strokes runs = StrokeRuns rules d devices w
-        (option_map (λ runs. map w.profile (keys_of runs) ++ keys_behind stroke) runs) from outcome text to
+    Strokes runs = StrokeRuns display
+        (option_map (λ runs. map display.words.profile (keys_of runs) ++ keys_behind stroke) runs) from came to
 
     -- a stroke whose field there is
     pub stroke_some : (runs : List KeyRun) → Some runs ≡ stroke_runs s stroke
-        → Until (map w.profile (keys_of runs) ++ keys_behind stroke) from outcome text to
-        → StrokeRuns rules d devices w (stroke_keys w s stroke) from outcome text to
+        → Until (map display.words.profile (keys_of runs) ++ keys_behind stroke) from came to
+        → StrokeRuns display (stroke_keys display.words s stroke) from came to
     stroke_some runs e h = subst Strokes e h
 
     -- one whose field there isn't
-    pub stroke_none : None ≡ stroke_runs s stroke → to ≡ from → outcome ≡ Ok Declined → text ≡ no_field_text
-        → StrokeRuns rules d devices w (stroke_keys w s stroke) from outcome text to
+    pub stroke_none : None ≡ stroke_runs s stroke → to ≡ from → came.outcome ≡ Ok Declined
+        → came.text ≡ no_field_text
+        → StrokeRuns display (stroke_keys display.words s stroke) from came to
     stroke_none e same declined printed = subst Strokes e (same, declined, printed)

@@ -4,6 +4,7 @@ pub mod ErrorRow
 pub mod FieldLines
 pub mod PlaceAndReason
 pub mod PlayLines
+pub mod Printouts
 pub mod ReportLines
 pub mod ScreenLines
 pub mod ShownTexts

@@ -1,12 +1,10 @@
-ghost use Rattle.std.specs.Prelude.{◌≡◌, [], false, Bool, List, ℕ, Option, Result, IfOk};
-ghost use Rattle.ws_code.specs.declared.fault.Fault.{Fault as AFault};
+ghost use Rattle.std.specs.Prelude.{◌≡◌, [], false, List, ℕ, Option, IfOk};
 ghost use Rattle.ws_session.specs.attached.Attachments.{AttachedParts};
 ghost use Rattle.ws_live.specs.printing.Buffering.{Buffering, buffered_writer};
 ghost use Rattle.ws_text.specs.Printed.{IsPrinted};
 ghost use Rattle.ws_text.specs.Printing.{IsOut, Prints};
 ghost use Rattle.ws_live.specs.live.LiveText as Spec;
-ghost use Rattle.ws_live.specs.live.Waits.{HasBegunIf, InTime};
-ghost use Rattle.ws_live.specs.declared.live.Closing.{Closing as AClosing};
+ghost use Rattle.ws_live.specs.live.Waits.{HasBegunIf, InTime, WatchTells};
 ghost use Rattle.ws_live.specs.declared.printing.paint.Paint.{Paint as APaint};
 ghost use Rattle.ws_live.specs.declared.live.watch.WaitSpan.{WaitSpan as ASpan};
 
@@ -109,9 +107,7 @@ pub trait LiveMove<E, S, K>: LiveLine {
     // At a watch that may tell this of its waits, and with screens in this paint, the line came to this at the one state,
     // printed this text, and left the other. A state is that of the end, and how many records are ahead: that lines which
     // show something have taken.
-    ghost runs: { (S → Bool → Type 0) → (S → Bool → Type 0) → APaint → Self
-        → (AttachedParts E S K × ℕ) → Result AClosing AFault → List ℕ
-        → (AttachedParts E S K × ℕ) → Type 0 };
+    ghost runs: { WatchTells S → APaint → Spec.LinesDo Self (AttachedParts E S K × ℕ) };
 
     // How long the wait lasts that it begins, if it begins one.
     ghost waits: { Self → Option ASpan };
@@ -128,10 +124,10 @@ pub trait LiveMove<E, S, K>: LiveLine {
     ) -> Carried
         requires works { attached.old.broken ≡ false }
         ensures runs { (text : List ℕ)
-            × runs W.tells W.rests paint self.now
-            (attached.old, ahead.old) result.outcome text (attached.new, ahead.new)
+            × runs W.tells paint self.now (attached.old, ahead.old)
+            (Spec.line_result result.outcome text) (attached.new, ahead.new)
             × Prints O.writer out.old out.new output result.output text }
-        ensures begun { HasBegunIf W.begins W.begun (waits self.now)
+        ensures begun { HasBegunIf W.times (waits self.now)
             attached.old.source watch.old watch.new }
         ensures works { IfOk result.outcome (λ closing.
             Spec.stops closing ≡ false → attached.new.broken ≡ false) };
@@ -158,8 +154,7 @@ pub fn carry_lines<E, S, K, L: LiveMove<E, S, K>, W: Watch<S>, O: Sink>(
     requires empty { out.old.held ≡ [] }
     // What was printed, and how it ended.
     ensures printed { IsPrinted O.writer out.old.sink out.new.sink (Spec.lines_printing
-        (Spec.WithClosing
-        (InTime (L.runs W.tells W.rests paint) L.waits W.begins W.begun) ready)
+        (Spec.WithClosing (InTime (L.runs W.tells paint) L.waits W.times) ready)
         ((attached.old, ahead.old), watch.old) lines.now
         ((attached.new, ahead.new), watch.new)) result }
     // The end works on unless the session is over, and nothing is held back.
@@ -195,8 +190,7 @@ pub fn carry_line<E, S, K, L: LiveMove<E, S, K>, W: Watch<S>, O: Sink>(
     requires empty { out.old.held ≡ [] }
     // What was printed, and how it ended.
     ensures printed { IsPrinted O.writer out.old.sink out.new.sink (Spec.line_printing
-        (Spec.WithClosing
-        (InTime (L.runs W.tells W.rests paint) L.waits W.begins W.begun) ready)
+        (Spec.WithClosing (InTime (L.runs W.tells paint) L.waits W.times) ready)
         ((attached.old, ahead.old), watch.old) line.now
         ((attached.new, ahead.new), watch.new)) result }
     // The end works on unless the session is over, and nothing is held back.

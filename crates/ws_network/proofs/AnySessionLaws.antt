@@ -1,4 +1,4 @@
-use Rattle.std.proofs.Common.{◌≡◌, ℕ, List, [], ◌∷◌, Bool, subst}
+use Rattle.std.proofs.Common.{◌≡◌, ℕ, List, [], ◌∷◌, subst}
 use Rattle.ws_code.specs.Device.{WentOut}
 use Rattle.ws_nego.specs.Host.{opening}
 use Rattle.ws_record.specs.Encode.{plain_spelling}
@@ -10,20 +10,22 @@ use Rattle.ws_any_host.specs.AnyLeads.{AnyParts, AnyLeads}
 use Rattle.ws_any_host.specs.AnyOptions.{new_negotiated, once_opened}
 use Rattle.ws_any_host.specs.declared.any_line.AnyLine.{AnyLine}
 use Rattle.ws_any_host.specs.declared.any_line.AnyLine.TheVariants.{Await}
-use Rattle.ws_network.specs.AnySessions.{IsAnyServed, RunsAny}
-use Rattle.ws_network.specs.SessionPrinting.{IsTextAndOn}
-use Rattle.ws_network.specs.Times.{ConnectionReads, ConnectionWrites, no_reads, no_writes, timed_devices, timed_writer}
-use Rattle.ws_network.specs.Times.{tells, begins}
+use Rattle.ws_any_host.specs.AnyText.{AnyRunsInTime}
+use Rattle.ws_live.specs.live.LiveText.{Account}
+use Rattle.ws_network.specs.AnySessions.{IsAnyServed}
+use Rattle.ws_network.specs.SessionPrinting.{IsTextAndOn, session_lines}
+use Rattle.ws_network.specs.Times.{ConnectionReads, ConnectionWrites, no_reads, no_writes, timed, timed_waits}
+use Rattle.ws_network.specs.Times.{timed_writer}
 use Rattle.ws_network.proofs.SessionLaws.{new_at}
 
 -- A session at a host that takes any record.
 
 -- a host whose opening went out has carried the lines out
-module _ (asked : ServeAsked) (lines : List AnyLine) (all_well : Bool) (text : List ℕ)
+module _ (asked : ServeAsked) (lines : List AnyLine) (came : Account)
     (to : (AttachedParts AnyParts ConnectionReads ConnectionWrites × ℕ) × ℕ) where
   abbrev RanAny : AttachedParts AnyParts ConnectionReads ConnectionWrites → ℕ → Type 0
-  RanAny attached begun = IsTextAndOn (RunsAny timed_devices tells begins (λ n. n)) Await asked.ready
-      ((attached, 0), begun) lines to all_well text
+  RanAny attached begun = IsTextAndOn (session_lines (AnyRunsInTime timed timed_waits) asked.ready
+      ((attached, 0), begun) lines to) Await came
 
   abbrev Told : ConnectionWrites → ConnectionWrites → List ℕ → Type 0
   Told from sink bytes = WentOut timed_writer from sink bytes
@@ -33,7 +35,7 @@ module _ (asked : ServeAsked) (lines : List AnyLine) (all_well : Bool) (text : L
       → AnyLeads host [] [] (once_opened new_negotiated) → Told from sink bytes
       → bytes ≡ plain_spelling raw_rules (Telnet opening ∷ []) → attached ≡ new_at host source sink
       → source ≡ no_reads → from ≡ no_writes → begun ≡ 0 → RanAny attached begun
-      → IsAnyServed asked lines all_well text
+      → IsAnyServed asked lines came
   any_served host source from sink bytes attached begun opened told spelled is read written none ran = record {
     host = host;
     opened = opened;

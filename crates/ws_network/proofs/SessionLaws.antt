@@ -16,19 +16,17 @@ use Rattle.ws_session.specs.station.Stations.{LeadsOn}
 use Rattle.ws_live.specs.declared.asked.live_asked.ConnectAsked.{ConnectAsked}
 use Rattle.ws_live.specs.declared.asked.live_asked.ServeAsked.{ServeAsked}
 use Rattle.ws_live.specs.declared.live.connect_line.StationLine.{StationLine}
-use Rattle.ws_live.specs.declared.live.Ran.{Ran}
 use Rattle.ws_live.specs.declared.live.serve_line.HostLine.{HostLine}
 use Rattle.ws_live.specs.declared.live.serve_line.HostLine.TheVariants.{Await}
-use Rattle.ws_live.specs.live.ConnectText.{StationRuns, station_waits}
-use Rattle.ws_live.specs.live.LiveText.{IsLiveText, WithClosing}
-use Rattle.ws_live.specs.live.LiveScript.{AreLiveLines}
+use Rattle.ws_live.specs.live.ConnectText.{StationRunsInTime}
+use Rattle.ws_live.specs.live.LiveText.{Account, IsLiveText, WithClosing}
+use Rattle.ws_live.specs.live.LiveScript.{AreLiveLines, LineLanguage}
 use Rattle.ws_live.specs.live.Operating.{LiveDisplay}
-use Rattle.ws_live.specs.live.Waits.{InTime, watch_tells}
 use Rattle.ws_live.specs.live.ServeText.{HostRunsInTime}
 use Rattle.ws_network.specs.Sessions.{AreFromScript, IsConnected, IsServed}
-use Rattle.ws_network.specs.SessionPrinting.{IsTextAndOn}
-use Rattle.ws_network.specs.Times.{ConnectionReads, ConnectionWrites, no_reads, no_writes, timed_devices, timed_writer}
-use Rattle.ws_network.specs.Times.{tells, rests, begins}
+use Rattle.ws_network.specs.SessionPrinting.{IsTextAndOn, session_lines}
+use Rattle.ws_network.specs.Times.{ConnectionReads, ConnectionWrites, no_reads, no_writes, timed, timed_waits}
+use Rattle.ws_network.specs.Times.{timed_writer}
 
 -- what follows from what a session came to, of what is told of it
 pub judged : {T E : Type 0} (P Q : T → Type 0) (outcome told : Result T E) → IfOk outcome P
@@ -38,8 +36,7 @@ judged P Q outcome told given same then =
 
 -- The lines of a session are those of the file that is named.
 
-module _ {L V : Type 0} (items : V → List L) (means : List ℕ → List (List ℕ) → L → Type 0)
-    (opener : List ℕ → Type 0) where
+module _ {L V : Type 0} (items : V → List L) (language : LineLanguage L) where
   -- the lines of a slice are those that were read
   abbrev pub IsSliceOf : Option V → Option (Bor (List L)) → Type 0
   IsSliceOf read slice = MatchOption read (is_none slice ≡ true)
@@ -47,15 +44,15 @@ module _ {L V : Type 0} (items : V → List L) (means : List ℕ → List (List 
 
   pub from_script : (script : Option (Bor (List ℕ))) (read : Option V) (slice : Option (Bor (List L)))
       (lines : List L)
-      → MatchOption read (is_none script ≡ true) (λ v. (file : List ℕ) × AreLiveLines means opener file (items v))
+      → MatchOption read (is_none script ≡ true) (λ v. (file : List ℕ) × AreLiveLines language file (items v))
       → IsSliceOf read slice → MatchOption slice (Unit {0}) (λ s. lines ≡ s.now)
-      → AreFromScript means opener script lines
+      → AreFromScript language script lines
   from_script None read slice lines file is all = tt
   from_script (Some path) None slice lines none is all = absurd (false≢true none)
   from_script (Some path) (Some v) None lines file is all = absurd is
   from_script (Some path) (Some v) (Some s) lines file is all = (
     file.0,
-    subst (λ z. AreLiveLines means opener file.0 z) (sym (all ∙ is)) file.1,
+    subst (λ z. AreLiveLines language file.0 z) (sym (all ∙ is)) file.1,
   )
 
 -- an end at a connection, where the devices are new
@@ -64,36 +61,34 @@ abbrev pub new_at : {E : Type 0} → E → ConnectionReads → ConnectionWrites
 new_at end source sink = record { end = end; source = source; sink = sink; waiting = []; broken = false }
 
 -- a station that is new at a connection has carried the lines out
-module _ {D P U H PlaceV V Q R : Type 0} (on : LiveDisplay D P U H PlaceV V Q R) (asked : ConnectAsked)
-    (lines : List (StationLine Q)) (all_well : Bool) (text : List ℕ)
-    (to : (AttachedParts (PartsOn D P) ConnectionReads ConnectionWrites × ℕ) × ℕ) (came : Ran) where
+module _ {D P U H PlaceV V Q R : Type 0} (display : LiveDisplay D P U H PlaceV V Q R) (asked : ConnectAsked)
+    (lines : List (StationLine Q)) (came : Account)
+    (to : (AttachedParts (PartsOn D P) ConnectionReads ConnectionWrites × ℕ) × ℕ) (is_over : Bool) where
   abbrev RanConnect : AttachedParts (PartsOn D P) ConnectionReads ConnectionWrites → ℕ → Type 0
-  RanConnect attached begun = IsLiveText (WithClosing (InTime (StationRuns on timed_devices (watch_tells tells rests)
-      asked.paint) station_waits begins (λ n. n)) asked.ready) ((attached, 0), begun) lines came text to
+  RanConnect attached begun = IsLiveText (WithClosing (StationRunsInTime display timed timed_waits asked.paint)
+      asked.ready) ((attached, 0), begun) lines is_over came to
 
   pub connected : (station : PartsOn D P) (source : ConnectionReads) (sink : ConnectionWrites)
       (attached : AttachedParts (PartsOn D P) ConnectionReads ConnectionWrites) (begun : ℕ)
-      → LeadsOn on.rules on.does station [] [] (new_side_on on.does asked.terminal)
+      → LeadsOn display.rules display.does station [] [] (new_side_on display.does asked.terminal)
       → attached ≡ new_at station source sink → source ≡ no_reads → sink ≡ no_writes → begun ≡ 0
-      → RanConnect attached begun → all_well ≡ came.all_well
-      → IsConnected on asked lines all_well text
-  connected station source sink attached begun new is read written none ran well = record {
+      → RanConnect attached begun → IsConnected display asked lines came
+  connected station source sink attached begun new is read written none ran = record {
     station = station;
     new = new;
     to = to;
-    came = came;
+    is_over = is_over;
     ran = subst (λ z. RanConnect (new_at station no_reads z) 0) written
         (subst (λ z. RanConnect (new_at station z sink) 0) read
         (subst (λ z. RanConnect z 0) is (subst (RanConnect attached) none ran)));
-    well = well;
   }
 
 -- a host end whose opening went out has carried the lines out
-module _ (asked : ServeAsked) (lines : List HostLine) (all_well : Bool) (text : List ℕ)
+module _ (asked : ServeAsked) (lines : List HostLine) (came : Account)
     (to : (AttachedParts HostParts ConnectionReads ConnectionWrites × ℕ) × ℕ) where
   abbrev RanServe : AttachedParts HostParts ConnectionReads ConnectionWrites → ℕ → Type 0
-  RanServe attached begun = IsTextAndOn (HostRunsInTime timed_devices tells begins (λ n. n)) Await asked.ready
-      ((attached, 0), begun) lines to all_well text
+  RanServe attached begun = IsTextAndOn (session_lines (HostRunsInTime timed timed_waits) asked.ready
+      ((attached, 0), begun) lines to) Await came
 
   abbrev Told : ConnectionWrites → ConnectionWrites → List ℕ → Type 0
   Told from sink bytes = WentOut timed_writer from sink bytes
@@ -103,7 +98,7 @@ module _ (asked : ServeAsked) (lines : List HostLine) (all_well : Bool) (text : 
       → HostLeads host [] [] (side_after_open unopened_host_side) → Told from sink bytes
       → bytes ≡ plain_spelling element_rules (Telnet opening ∷ [])
       → attached ≡ new_at host source sink → source ≡ no_reads → from ≡ no_writes → begun ≡ 0
-      → RanServe attached begun → IsServed asked lines all_well text
+      → RanServe attached begun → IsServed asked lines came
   served host source from sink bytes attached begun opened told spelled is read written none ran = record {
     host = host;
     opened = opened;

@@ -7,36 +7,35 @@ use Rattle.ws_code.proofs.DeviceLaws.{went_out_none, went_out_both}
 use Rattle.ws_text.specs.Printed.{Printing, IsPrinted}
 use Rattle.ws_live.specs.asked.RunFaults.{told_fault}
 use Rattle.ws_live.specs.declared.asked.fault.ToldFault.{ToldFault}
-use Rattle.ws_live.specs.declared.live.Closing.{Closing}
 use Rattle.ws_live.specs.declared.live.Ran.{Ran}
 use Rattle.ws_live.specs.live.CarryingOn.{carrying_on}
-use Rattle.ws_live.specs.live.LiveText.{HaveRun, IsLiveText, IsOverAt, WithClosing, lines_printing}
-use Rattle.ws_network.specs.SessionPrinting.{IsPrintedBehind, IsTextAndOn, serve_printing, session_printing}
+use Rattle.ws_live.specs.live.LiveText.{Account, HaveRun, IsLiveText, IsOverAt, LinesDo, account}
+use Rattle.ws_network.specs.SessionPrinting.{HaveLedTo, IsPrintedBehind, IsTextAndOn, SessionLines, all_lines}
+use Rattle.ws_network.specs.SessionPrinting.{prints_closed, serve_printing, session_lines, session_printing}
 
 -- What a session printed by its lines, and behind them by one that is carried on.
 
-module _ {L P : Type 0} (prints : L → P → Result Closing Fault → List ℕ → P → Type 0) (from mid : P) (lines : List L)
-    (ran : Ran) (text : List ℕ) (h : IsLiveText prints from lines ran text mid) where
-  all_run : ran.is_over ≡ false → HaveRun prints from lines ran.all_well text mid
+module _ {L P : Type 0} (session : SessionLines L P) (is_over : Bool) (came : Account)
+    (h : IsLiveText (prints_closed session) session.from session.lines is_over came session.to) where
+  all_run : is_over ≡ false → HaveRun (prints_closed session) session.from session.lines came session.to
   all_run going = elim h [
     | inl all ↦ all.0
-    | inr at ↦ absurd (false≢true (sym going ∙ ap (λ r. r.is_over) at.came))
+    | inr at ↦ absurd (false≢true (sym going ∙ at.1))
   ]
 
-  is_over_at : ran.is_over ≡ true → IsOverAt prints from lines ran text mid
+  is_over_at : is_over ≡ true → IsOverAt (prints_closed session) session.from session.lines came session.to
   is_over_at over = elim h [
     | inl all ↦ absurd (false≢true (sym all.1 ∙ over))
-    | inr at ↦ at
+    | inr at ↦ at.0
   ]
 
 -- a session by its lines alone
-module _ {L P O : Type 0} (prints : L → P → Result Closing Fault → List ℕ → P → Type 0) (ready : Bool)
-    (printer : Writer O) (from : P) (lines : List L) (to : P) (has_script : Bool) (old new : O) where
+module _ {L P O : Type 0} (session : SessionLines L P) (printer : Writer O) (has_script : Bool) (old new : O) where
   abbrev Lines : Printing Ran Fault
-  Lines = lines_printing prints from lines to
+  Lines = all_lines session
 
   abbrev Session : Printing Ran ToldFault
-  Session = session_printing prints ready from lines to has_script (λ ran told. told ≡ ran)
+  Session = session_printing session has_script (λ ran told. told ≡ ran)
 
   pub script_ends : (ran : Ran) → IsPrinted printer old new Lines (Ok ran) → IsPrinted printer old new Session (Ok ran)
   script_ends ran e = (e.0, (ran, e.1, refl), e.2)
@@ -48,7 +47,7 @@ module _ {L P O : Type 0} (prints : L → P → Result Closing Fault → List �
 
   -- of which it is told whether all went well
   abbrev Judged : Printing Bool ToldFault
-  Judged = session_printing prints ready from lines to has_script (λ ran all_well. all_well ≡ ran.all_well)
+  Judged = session_printing session has_script (λ ran all_well. all_well ≡ ran.all_well)
 
   pub judged_well : (outcome : Result Ran ToldFault) (ran : Ran) → outcome ≡ Ok ran
       → IsPrinted printer old new Session outcome → IsPrinted printer old new Judged (Ok ran.all_well)
@@ -62,13 +61,17 @@ module _ {L P O : Type 0} (prints : L → P → Result Closing Fault → List �
       → IsPrinted printer old new Session outcome → IsPrinted printer old new Judged (Err told)
   judged_badly outcome told is printed = subst (IsPrinted printer old new Session) is printed
 
-module _ {L P O : Type 0} (runs : L → P → Result Closing Fault → List ℕ → P → Type 0) (on : L) (ready : Bool)
+module _ {L P O : Type 0} (does : LinesDo L P) (on : L) (ready : Bool)
     (printer : Writer O) (from : P) (lines : List L) (has_script : Bool) where
+  -- the session that comes to there
+  abbrev SessionAt : P → SessionLines L P
+  SessionAt to = session_lines does ready from lines to
+
   abbrev SessionTo : P → Printing Ran ToldFault
-  SessionTo to = session_printing (WithClosing runs ready) ready from lines to has_script (λ ran told. told ≡ ran)
+  SessionTo to = session_printing (SessionAt to) has_script (λ ran told. told ≡ ran)
 
   abbrev Served : P → List ℕ → Printing Bool ToldFault
-  Served to = serve_printing runs on ready from lines to has_script
+  Served to = serve_printing (SessionAt to) has_script on
 
   module _ (to : P) (old new : O) where
     fails : (told : ToldFault) → IsPrinted printer old new (SessionTo to) (Err told)
@@ -104,29 +107,30 @@ module _ {L P O : Type 0} (runs : L → P → Result Closing Fault → List ℕ 
     -- the lines went through, and what came behind them
     module _ (mid : P) (between : O) (outcome : Result Ran ToldFault) (ran : Ran) (is : outcome ≡ Ok ran)
         (printed : IsPrinted printer old between (SessionTo mid) outcome) (going : ran.is_over ≡ false) where
-      through : (text : List ℕ) × HaveRun (WithClosing runs ready) from lines ran.all_well text mid
+      through : (text : List ℕ) × HaveLedTo (SessionAt mid) (account ran.all_well text) mid
           × WentOut printer old between text
       through =
           let e : IsPrinted printer old between (SessionTo mid) (Ok ran) = subst
           (IsPrinted printer old between (SessionTo mid)) is printed in
           let came = e.1 in (
             e.0,
-            all_run (WithClosing runs ready) from mid lines ran e.0
-                (subst (λ r. IsLiveText (WithClosing runs ready) from lines r e.0 mid) (sym came.2) came.1) going,
+            all_run (SessionAt mid) ran.is_over (account ran.all_well e.0)
+                (subst (λ r. IsLiveText (prints_closed (SessionAt mid)) from lines r.is_over (account r.all_well e.0)
+                mid) (sym came.2) came.1) going,
             e.2,
           )
 
       pub goes_on_well : (answered : Result Bool Fault) (well all_well : Bool) → answered ≡ Ok well
-          → IsPrinted printer between new (carrying_on runs on mid to) answered → ran.all_well && well ≡ all_well
+          → IsPrinted printer between new (carrying_on does on mid to) answered → ran.all_well && well ≡ all_well
           → IsPrintedBehind printer old new (Served to) (Ok all_well)
       goes_on_well answered well all_well so behind both =
           let s = through in
-          let c : IsPrinted printer between new (carrying_on runs on mid to) (Ok well) = subst
-          (IsPrinted printer between new (carrying_on runs on mid to)) so behind in
+          let c : IsPrinted printer between new (carrying_on does on mid to) (Ok well) = subst
+          (IsPrinted printer between new (carrying_on does on mid to)) so behind in
           (s.0, between, s.2, (c.0, inr (ran.all_well, mid, s.1, (well, c.1, sym both)), c.2))
 
       fails_behind_lines : (why : Fault) (told : ToldFault) → told ≡ told_fault why
-          → IsPrinted printer between new (carrying_on runs on mid to) (Err why)
+          → IsPrinted printer between new (carrying_on does on mid to) (Err why)
           → IsPrintedBehind printer old new (Served to) (Err told)
       fails_behind_lines why told same (inl c) = let s = through in
           (s.0, between, s.2, inl (c.0, inr (ran.all_well, mid, s.1, (why, c.1, same)), c.2))
@@ -134,51 +138,67 @@ module _ {L P O : Type 0} (runs : L → P → Result Closing Fault → List ℕ 
           (s.0, between, s.2, inr (c.0, inr (ran.all_well, mid, s.1, (why, c.1, same)), c.2))
 
       pub goes_on_badly : (answered : Result Bool Fault) (why : Fault) (told : ToldFault) → answered ≡ Err why
-          → IsPrinted printer between new (carrying_on runs on mid to) answered → told ≡ told_fault why
+          → IsPrinted printer between new (carrying_on does on mid to) answered → told ≡ told_fault why
           → IsPrintedBehind printer old new (Served to) (Err told)
       goes_on_badly answered why told so behind same =
-          fails_behind_lines why told same (subst (IsPrinted printer between new (carrying_on runs on mid to)) so
+          fails_behind_lines why told same (subst (IsPrinted printer between new (carrying_on does on mid to)) so
           behind)
 
     -- what was printed where it ended well
     well_printed : (all_well : Bool) → IsPrintedBehind printer old new (Served to) (Ok all_well)
-        → (text : List ℕ) × IsTextAndOn runs on ready from lines to all_well text × WentOut printer old new text
+        → (text : List ℕ) × IsTextAndOn (SessionAt to) on (account all_well text) × WentOut printer old new text
     well_printed all_well s =
         let e = s.3 in (
           s.0 ++ e.0,
           elim e.1 [
             | inl stopped ↦
                 let came = stopped.1 in
-                let over : IsOverAt (WithClosing runs ready) from lines came.0 e.0 to = is_over_at
-                (WithClosing runs ready) from to lines came.0 e.0 came.1 came.2.0 in
-                subst (λ z. IsTextAndOn runs on ready from lines to all_well z)
-                (sym (ap (λ z. z ++ e.0) stopped.0)) (inr (came.0, over, came.2.1))
+                let ran : Ran = came.0 in
+                let at = is_over_at (SessionAt to) ran.is_over (account ran.all_well e.0) came.1 came.2.0 in
+                subst (λ z. IsTextAndOn (SessionAt to) on (account all_well z))
+                (sym (ap (λ z. z ++ e.0) stopped.0))
+                (subst (λ b. IsTextAndOn (SessionAt to) on (account b e.0)) (sym came.2.1) (inr at))
             | inr behind ↦
                 let came = behind.3 in
-                inl (behind.0, behind.1, s.0, came.0, e.0, behind.2, came.1, came.2, refl)
+                inl (account behind.0 s.0, behind.1, account came.0 e.0, behind.2, came.1, came.2, refl)
           ],
           went_out_both printer old s.1 new s.0 e.0 s.2 e.2,
         )
 
-module _ {L P O : Type 0} (runs : L → P → Result Closing Fault → List ℕ → P → Type 0) (on : L) (ready : Bool)
+module _ {L P O : Type 0} (does : LinesDo L P) (ready : Bool)
     (printer : Writer O) (from to : P) (has_script : Bool) (old new : O) (Read : List L → Type 0) where
-  pub served_well : (outcome : Result Bool ToldFault)
-      → (lines : List L) × Read lines
-      × IsPrintedBehind printer old new (serve_printing runs on ready from lines to has_script) outcome
-      → IfOk outcome (λ all_well. (lines : List L) × (text : List ℕ) × Read lines
-      × IsTextAndOn runs on ready from lines to all_well text × WentOut printer old new text)
-  served_well (Ok all_well) s =
-      let e = well_printed runs on ready printer from s.0 has_script to old new all_well s.2 in
-      (s.0, e.0, s.1, e.1, e.2)
-  served_well (Err told) s = tt
+  -- the session of these lines
+  abbrev SessionOf : List L → SessionLines L P
+  SessionOf lines = session_lines does ready from lines to
 
-module _ {L P O : Type 0} (prints : L → P → Result Closing Fault → List ℕ → P → Type 0) (ready : Bool)
-    (printer : Writer O) (from to : P) (has_script : Bool) (old new : O) (Read : List L → Type 0) where
+  pub served_well : (on : L) (outcome : Result Bool ToldFault)
+      → (lines : List L) × Read lines
+      × IsPrintedBehind printer old new (serve_printing (SessionOf lines) has_script on) outcome
+      → IfOk outcome (λ all_well. (lines : List L) × (text : List ℕ) × Read lines
+      × IsTextAndOn (SessionOf lines) on (account all_well text) × WentOut printer old new text)
+  served_well on (Ok all_well) s =
+      let e = well_printed does on ready printer from s.0 has_script to old new all_well s.2 in
+      (s.0, e.0, s.1, e.1, e.2)
+  served_well on (Err told) s = tt
+
   pub connected_well : (outcome : Result Bool ToldFault)
       → (lines : List L) × Read lines × IsPrinted printer old new
-      (session_printing prints ready from lines to has_script (λ ran all_well. all_well ≡ ran.all_well)) outcome
+      (session_printing (SessionOf lines) has_script (λ ran all_well. all_well ≡ ran.all_well)) outcome
       → IfOk outcome (λ all_well. (lines : List L) × (text : List ℕ) × Read lines
-      × ((ran : Ran) × IsLiveText prints from lines ran text to × (all_well ≡ ran.all_well))
+      × ((is_over : Bool)
+      × IsLiveText (prints_closed (SessionOf lines)) from lines is_over (account all_well text) to)
       × WentOut printer old new text)
-  connected_well (Ok all_well) s = let e = s.2 in (s.0, e.0, s.1, e.1, e.2)
+  connected_well (Ok all_well) s =
+      let e = s.2 in
+      let ran : Ran = e.1.0 in (
+        s.0,
+        e.0,
+        s.1,
+        (
+          ran.is_over,
+          subst (λ b. IsLiveText (prints_closed (SessionOf s.0)) from s.0 ran.is_over (account b e.0) to)
+              (sym e.1.2) e.1.1,
+        ),
+        e.2,
+      )
   connected_well (Err told) s = tt

@@ -5,6 +5,7 @@ use Rattle.std.specs.Global.{Global}
 use Rattle.std_io.specs.declared.io.kind.ErrorKind.{ErrorKind}
 use Rattle.std_io.specs.declared.io.kind.ErrorKind.TheVariants.{OutOfMemory}
 use Rattle.ws_live.specs.cause.ToldCauses.{TellsCause}
+use Rattle.ws_live.specs.live.LiveScript.{IsBadBlock, LineLanguage}
 use Rattle.ws_live.specs.declared.asked.fault.RunFault.TheVariants.{Read, Memory}
 use Rattle.ws_live.specs.declared.asked.fault.ToldFault.{ToldFault}
 use Rattle.ws_live.specs.declared.asked.fault.ToldFault.TheVariants.{Run, Line}
@@ -25,31 +26,26 @@ abbrev pub IsInputFault : Bool → ToldFault → Type 0
 IsInputFault ready told = IsUnreadFault told
     ⊎ ((ready ≡ false) × ((number : ℕ) × (cause : String Global) × (told ≡ Line number cause)))
 
-module _ {L : Type 0} (means : List ℕ → List (List ℕ) → L → Type 0) where
-  -- a line with those that belong to it means nothing
-  abbrev pub IsMeaningless : List ℕ → List (List ℕ) → Type 0
-  IsMeaningless line inside = (read : L) → means line inside read → ⊥
-
+module _ {L : Type 0} (language : LineLanguage L) where
   -- a line that was read, and those that belong to it, mean this
   abbrev pub IsMeant : L → Type 0
-  IsMeant read = (line : List ℕ) × (inside : List (List ℕ)) × means line inside read
+  IsMeant read = (line : List ℕ) × (inside : List (List ℕ)) × language.means line inside read
 
-  module _ (bad_at : List ℕ → List (List ℕ) → ℕ → Type 0) (vocabulary : Vocabulary) where
-    -- A line with those that belong to it means nothing, and this tells why, of the bad one among them.
-    abbrev pub TellsWhyBad : List ℕ → List (List ℕ) → ℕ → List ℕ → Type 0
-    TellsWhyBad line inside at text = IsMeaningless line inside × bad_at line inside at
+  module _ (vocabulary : Vocabulary) where
+    -- A line with those that belong to it means nothing, and this tells why, of the bad one among them, counted from 1.
+    abbrev pub TellsWhyBad : ℕ → List ℕ → Type 0
+    TellsWhyBad at text = (line : List ℕ) × (inside : List (List ℕ)) × IsBadBlock language line inside at
         × TellsCause vocabulary (line ∷ inside) at text
 
     -- What comes of a line that was read: what it means, or where a session tells when it is ready what stands for a bad
     -- line, with its cause.
-    abbrev pub IsNextLine : (String Global → L) → Bool → L → Type 0
-    IsNextLine bad_line ready next = IsMeant next ⊎ ((ready ≡ true) × ((cause : String Global) × (next ≡ bad_line cause)
-        × ((line : List ℕ) × (inside : List (List ℕ)) × ((at : ℕ)
-        × TellsWhyBad line inside at (string_bytes cause)))))
+    abbrev pub IsNextLine : Bool → L → Type 0
+    IsNextLine ready next = IsMeant next ⊎ ((ready ≡ true) × ((cause : String Global)
+        × (next ≡ language.bad_line cause) × ((at : ℕ) × TellsWhyBad at (string_bytes cause))))
 
     -- Where a line is told as bad behind so many, it means nothing with those that belong to it, and the number is that
     -- of the bad one, as far as 64 bits count.
     abbrev pub TellsBadLine : ℕ → ToldFault → Type 0
-    TellsBadLine before (Line number cause) = (line : List ℕ) × (inside : List (List ℕ)) × ((at : ℕ)
-        × TellsWhyBad line inside at (string_bytes cause) × (number ≡ min (before + at) (2 ^ 64 - 1)))
+    TellsBadLine before (Line number cause) = (at : ℕ) × TellsWhyBad at (string_bytes cause)
+        × (number ≡ min (before + at) (2 ^ 64 - 1))
     TellsBadLine before told = Unit {0}

@@ -2,9 +2,9 @@
 
 use Rattle.std.specs.Prelude.{ℕ, List, Bool, true, false, Option}
 use Rattle.std.specs.Borrow.{Bor}
-use Rattle.ws_code.specs.Device.{Writer}
-use Rattle.ws_any_host.specs.AnyLines.{IsAnyLine, OpensAnyBlock}
-use Rattle.ws_live.specs.live.ServeLines.{IsHostLine, OpensHostBlock}
+use Rattle.ws_any_host.specs.AnyLines.{any_language}
+use Rattle.ws_live.specs.live.ServeLines.{host_language}
+use Rattle.ws_live.specs.printing.Printouts.{Printout}
 use Rattle.ws_network.specs.AnySessions.{IsAnyServed}
 use Rattle.ws_network.specs.ManySessions.{HasServedBy}
 use Rattle.ws_network.specs.Sessions.{HasConnected, IsServed}
@@ -17,15 +17,13 @@ abbrev pub script_of : Live → Option (Bor (List ℕ))
 script_of (Connect asked) = asked.script
 script_of (Serve asked) = asked.script
 
-module _ {O : Type 0} (printer : Writer O) (old new : O) where
+module _ {O : Type 0} (out : Printout O) where
   -- what a session of `serve` came to, at a host that takes any record or at one that doesn't
   abbrev pub HasServedAs : Bool → ServeAsked → Bool → Type 0
-  HasServedAs false asked all_well =
-      HasServedBy IsHostLine OpensHostBlock IsServed printer old new asked all_well
-  HasServedAs true asked all_well =
-      HasServedBy IsAnyLine OpensAnyBlock IsAnyServed printer old new asked all_well
+  HasServedAs false asked all_well = HasServedBy host_language IsServed out asked all_well
+  HasServedAs true asked all_well = HasServedBy any_language IsAnyServed out asked all_well
 
   -- what a live session came to that didn't end early, by the words that asked for it
   abbrev pub HasRunLive : Live → Bool → Type 0
-  HasRunLive (Connect asked) all_well = HasConnected printer old new asked all_well
+  HasRunLive (Connect asked) all_well = HasConnected out asked all_well
   HasRunLive (Serve asked) all_well = HasServedAs asked.any asked all_well

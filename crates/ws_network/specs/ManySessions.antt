@@ -3,7 +3,9 @@
 use Rattle.std.specs.Prelude.{◌≡◌, ℕ, zero, suc, ◌+◌, List, [], ◌++◌, Bool, true, ◌&&◌, Option, Some, codes}
 use Rattle.std.specs.Borrow.{Bor}
 use Rattle.std.specs.Fmt.{decimal}
-use Rattle.ws_code.specs.Device.{Writer, WentOut}
+use Rattle.ws_live.specs.live.LiveScript.{LineLanguage}
+use Rattle.ws_live.specs.live.LiveText.{Account, account}
+use Rattle.ws_live.specs.printing.Printouts.{IsPrintedOut, Printout}
 use Rattle.ws_network.specs.Sessions.{AreFromScript}
 use Rattle.ws_live.specs.declared.asked.live_asked.ServeAsked.{ServeAsked}
 
@@ -16,25 +18,24 @@ abbrev pub session_line : ℕ → List ℕ
 session_line zero = []
 session_line (suc before) = number_line (suc before + 1)
 
--- of a session: that all went well, or not, and what it printed
-module _ (IsSession : Bool → List ℕ → Type 0) where
-  -- So many sessions one after another, each as it is from new: that all went well in each, or not, and what they
-  -- printed with the lines between them.
-  abbrev pub AreMany : ℕ → Bool → List ℕ → Type 0
-  AreMany zero all_well text = (all_well ≡ true) × (text ≡ [])
-  AreMany (suc before) all_well text = (well : Bool) × (printed : List ℕ) × (last_well : Bool) × (last : List ℕ)
-      × AreMany before well printed × IsSession last_well last × (all_well ≡ well && last_well)
-      × (text ≡ printed ++ (session_line before ++ last))
+-- Sessions of which each has such an account.
+module _ (IsSession : Account → Type 0) where
+  -- So many sessions one after another, each as it is from new, and the account of them, with the lines between them.
+  abbrev pub AreMany : ℕ → Account → Type 0
+  AreMany zero came = (came.all_well ≡ true) × (came.text ≡ [])
+  AreMany (suc before) came = (so_far : Account) × (last : Account) × AreMany before so_far × IsSession last
+      × (came.all_well ≡ so_far.all_well && last.all_well)
+      × (came.text ≡ so_far.text ++ (session_line before ++ last.text))
 
   -- as many sessions as are asked for, and one where no number is, or no script: standard input can't be read twice
-  abbrev pub AreSessions : Option (Bor (List ℕ)) → Option ℕ → Bool → List ℕ → Type 0
-  AreSessions (Some path) (Some sessions) all_well text = AreMany sessions all_well text
-  AreSessions script sessions all_well text = IsSession all_well text
+  abbrev pub AreSessions : Option (Bor (List ℕ)) → Option ℕ → Account → Type 0
+  AreSessions (Some path) (Some sessions) came = AreMany sessions came
+  AreSessions script sessions came = IsSession came
 
 -- what the sessions of `serve` came to, behind what tells the address at which it listens
-abbrev pub HasServedBy : {L O : Type 0} → (List ℕ → List (List ℕ) → L → Type 0) → (List ℕ → Type 0)
-    → (ServeAsked → List L → Bool → List ℕ → Type 0) → Writer O → O → O → ServeAsked → Bool → Type 0
-HasServedBy {L = L} means opener IsServed printer old new asked all_well = (lines : List L) × (first : List ℕ)
-    × (text : List ℕ) × AreFromScript means opener asked.script lines
-    × AreSessions (IsServed asked lines) asked.script asked.sessions all_well text
-    × WentOut printer old new (first ++ text)
+abbrev pub HasServedBy : {L O : Type 0} → LineLanguage L → (ServeAsked → List L → Account → Type 0) → Printout O
+    → ServeAsked → Bool → Type 0
+HasServedBy {L = L} language IsServed out asked all_well = (lines : List L) × (first : List ℕ) × (text : List ℕ)
+    × AreFromScript language asked.script lines
+    × AreSessions (IsServed asked lines) asked.script asked.sessions (account all_well text)
+    × IsPrintedOut out (first ++ text)

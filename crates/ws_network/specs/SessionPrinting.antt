@@ -7,7 +7,7 @@ use Rattle.ws_code.specs.declared.fault.Fault.{Fault}
 use Rattle.ws_text.specs.Printed.{Printing, IsPrinted}
 use Rattle.ws_live.specs.asked.RunFaults.{told_fault}
 use Rattle.ws_live.specs.live.CarryingOn.{IsCarriedText, carrying_on}
-use Rattle.ws_live.specs.live.LiveText.{HaveRun, IsOverAt, LinesDo, WithClosing, lines_printing}
+use Rattle.ws_live.specs.live.LiveText.{Account, HaveRun, IsOverAt, LinesDo, WithClosing, account, lines_printing}
 use Rattle.ws_live.specs.declared.asked.fault.ToldFault.{ToldFault}
 use Rattle.ws_live.specs.declared.live.Ran.{Ran}
 use Rattle.ws_network.specs.InputLines.{IsInputFault}
@@ -41,56 +41,80 @@ abbrev pub IsPrintedBehind : {S A E : Type 0} → Writer S → S → S → (List
 IsPrintedBehind {S} writer from to printing outcome = (first : List ℕ) × (between : S)
     × WentOut writer from between first × IsPrinted writer between to (printing first) outcome
 
--- the lines of a session, of a script or of standard input, by what each does and prints
-module _ {L P : Type 0} (prints : LinesDo L P) (ready : Bool) (from : P) (lines : List L) (to : P)
-    (has_script : Bool) where
+-- the lines of a session, which lead from there to there, with what each does; and whether the session tells when it is
+-- ready
+pub record SessionLines (L P : Type 0) : Type 1 where
+  pub does : LinesDo L P
+  pub ready : Bool
+  pub from : P
+  pub lines : List L
+  pub to : P
+
+-- lines that do this, told so, from there, these, to there
+abbrev pub session_lines : {L P : Type 0} → LinesDo L P → Bool → P → List L → P → SessionLines L P
+session_lines does ready from lines to =
+    record { does = does; ready = ready; from = from; lines = lines; to = to }
+
+-- a session by its lines, of a script or of standard input
+module _ {L P : Type 0} (session : SessionLines L P) where
+  -- what each line does with what ends its output
+  abbrev pub prints_closed : LinesDo L P
+  prints_closed = WithClosing session.does session.ready
+
+  -- what the lines print
+  abbrev pub all_lines : Printing Ran Fault
+  all_lines = lines_printing prints_closed session.from session.lines session.to
+
   -- all were carried out, and without a script there was none more to be had: it couldn't be read, or is bad
-  abbrev pub IsOutOfLines : List ℕ → ToldFault → Type 0
-  IsOutOfLines text told = (has_script ≡ false) × ((well : Bool) × HaveRun prints from lines well text to)
-      × IsInputFault ready told
+  abbrev pub IsOutOfLines : Bool → List ℕ → ToldFault → Type 0
+  IsOutOfLines has_script text told = (has_script ≡ false)
+      × ((well : Bool) × HaveRun prints_closed session.from session.lines (account well text) session.to)
+      × IsInputFault session.ready told
 
   -- how a session ends of which this is told: its lines do, or without a script there is none more
-  abbrev pub SessionEnds : {A : Type 0} → (Ran → A → Type 0) → List ℕ → Result A ToldFault → Type 0
-  SessionEnds Tells text (Ok told) = ToldEnds Tells (lines_printing prints from lines to) text (Ok told)
-  SessionEnds Tells text (Err told) = ToldEnds Tells (lines_printing prints from lines to) text (Err told)
-      ⊎ IsOutOfLines text told
+  abbrev pub SessionEnds : {A : Type 0} → Bool → (Ran → A → Type 0) → List ℕ → Result A ToldFault → Type 0
+  SessionEnds has_script Tells text (Ok told) = ToldEnds Tells all_lines text (Ok told)
+  SessionEnds has_script Tells text (Err told) = ToldEnds Tells all_lines text (Err told)
+      ⊎ IsOutOfLines has_script text told
 
   -- what is printed by a session of which this is told
-  abbrev pub session_printing : {A : Type 0} → (Ran → A → Type 0) → Printing A ToldFault
-  session_printing Tells = record {
-    Ends = SessionEnds Tells;
-    Cut = (told_as Tells (lines_printing prints from lines to)).Cut;
+  abbrev pub session_printing : {A : Type 0} → Bool → (Ran → A → Type 0) → Printing A ToldFault
+  session_printing has_script Tells = record {
+    Ends = SessionEnds has_script Tells;
+    Cut = (told_as Tells all_lines).Cut;
   }
 
--- lines, by what each does, and behind them one that is carried on
-module _ {L P : Type 0} (runs : LinesDo L P) (on : L) (ready : Bool) (from : P) (lines : List L) (to : P) where
-  -- the lines went so well, printed this, and came to there
-  abbrev pub HaveLedTo : Bool → List ℕ → P → Type 0
-  HaveLedTo well printed mid = HaveRun (WithClosing runs ready) from lines well printed mid
+  -- the lines were carried out, this is the account of them, and they came to there
+  abbrev pub HaveLedTo : Account → P → Type 0
+  HaveLedTo came mid = HaveRun prints_closed session.from session.lines came mid
 
-  -- what such lines print, and whether all went well: where a line stopped the session, nothing stands behind it
-  abbrev pub IsTextAndOn : Bool → List ℕ → Type 0
-  IsTextAndOn all_well text =
-      ((well : Bool) × (mid : P) × (printed : List ℕ) × (on_well : Bool) × (told : List ℕ)
-      × HaveLedTo well printed mid × IsCarriedText runs on mid on_well told to
-      × (all_well ≡ well && on_well) × (text ≡ printed ++ told))
-      ⊎ ((ran : Ran) × IsOverAt (WithClosing runs ready) from lines ran text to × (all_well ≡ ran.all_well))
+  -- the account of the lines and of one behind them that is carried on: where a line stopped the session, nothing
+  -- stands behind it
+  abbrev pub IsTextAndOn : L → Account → Type 0
+  IsTextAndOn on came =
+      ((so_far : Account) × (mid : P) × (behind : Account) × HaveLedTo so_far mid
+      × IsCarriedText session.does on mid behind session.to
+      × (came.all_well ≡ so_far.all_well && behind.all_well) × (came.text ≡ so_far.text ++ behind.text))
+      ⊎ IsOverAt prints_closed session.from session.lines came session.to
 
   -- what is printed by the one that is carried on, behind lines that went so well
-  abbrev pub answering_on : Bool → P → Printing Bool ToldFault
-  answering_on well mid = told_as (λ on_well all_well. all_well ≡ well && on_well) (carrying_on runs on mid to)
+  abbrev pub answering_on : L → Bool → P → Printing Bool ToldFault
+  answering_on on well mid = told_as (λ on_well all_well. all_well ≡ well && on_well)
+      (carrying_on session.does on mid session.to)
 
   -- what is printed by lines that end the session
   abbrev pub ending_lines : Bool → Printing Bool ToldFault
-  ending_lines has_script = session_printing (WithClosing runs ready) ready from lines to has_script
+  ending_lines has_script = session_printing has_script
       (λ ran all_well. (ran.is_over ≡ true) × (all_well ≡ ran.all_well))
 
   -- what is printed by such a session behind a text that is out: by lines that end it, behind nothing; or behind all
   -- that lines print, by the one that is carried on
-  abbrev pub serve_printing : Bool → List ℕ → Printing Bool ToldFault
-  serve_printing has_script first = record {
+  abbrev pub serve_printing : Bool → L → List ℕ → Printing Bool ToldFault
+  serve_printing has_script on first = record {
     Ends = λ text outcome. ((first ≡ []) × (ending_lines has_script).Ends text outcome)
-        ⊎ ((well : Bool) × (mid : P) × HaveLedTo well first mid × (answering_on well mid).Ends text outcome);
+        ⊎ ((well : Bool) × (mid : P) × HaveLedTo (account well first) mid
+        × (answering_on on well mid).Ends text outcome);
     Cut = λ text told. ((first ≡ []) × (ending_lines has_script).Cut text told)
-        ⊎ ((well : Bool) × (mid : P) × HaveLedTo well first mid × (answering_on well mid).Cut text told);
+        ⊎ ((well : Bool) × (mid : P) × HaveLedTo (account well first) mid
+        × (answering_on on well mid).Cut text told);
   }

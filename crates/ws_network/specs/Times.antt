@@ -4,7 +4,7 @@ use Rattle.std.specs.Prelude.{◌≡◌, ℕ, Bool, true, false, Option, None, S
 use Rattle.std.specs.Option.{is_some}
 use Rattle.std_io.specs.declared.io.kind.ErrorKind.{ErrorKind}
 use Rattle.ws_code.specs.Device.{Devices, Reader, Writer, on_devices}
-use Rattle.ws_live.specs.declared.live.watch.WaitSpan.{WaitSpan}
+use Rattle.ws_live.specs.live.Waits.{WatchTells, WatchTimes, WatchedDevices, watch_tells, watch_times, watched_devices}
 use Rattle.std_io.specs.declared.io.kind.ErrorKind.TheVariants.{WouldBlock, TimedOut}
 
 -- what is known of the reads from a connection: how many failed, of what kind the error of the last of these was, and
@@ -56,14 +56,16 @@ is_late (Some kind) = is_want_of_time kind
 abbrev pub was_late : ConnectionReads → Bool
 was_late reads = is_late reads.failure
 
--- what is told of a read that has failed: whether it did so for want of time
-abbrev pub tells : ConnectionReads → Bool → Type 0
-tells reads late = late ≡ was_late reads
+-- what is told of a read that has failed: whether it did so for want of time, and then whether that was since nothing
+-- had come
+abbrev pub timed_tells : WatchTells ConnectionReads
+timed_tells = watch_tells (λ reads late. late ≡ was_late reads) (λ reads quiet. quiet ≡ reads.rested)
 
--- what is told of a read that has failed for want of time: whether that was since nothing had come
-abbrev pub rests : ConnectionReads → Bool → Type 0
-rests reads quiet = quiet ≡ reads.rested
+-- a connection, and what is told of its reads
+abbrev pub timed : WatchedDevices ConnectionReads ConnectionWrites
+timed = watched_devices timed_devices timed_tells
 
--- What the beginning of a wait does at a timer isn't known: no contract says what a clock tells.
-abbrev pub begins : ℕ → ConnectionReads → WaitSpan → ℕ → Type 0
-begins from reads span to = Unit {0}
+-- What the beginning of a wait does at a timer isn't known, but for the number of those that have begun: no contract
+-- says what a clock tells.
+abbrev pub timed_waits : WatchTimes ℕ ConnectionReads
+timed_waits = watch_times (λ from reads span to. Unit {0}) (λ begun. begun)

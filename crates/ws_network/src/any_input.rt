@@ -4,8 +4,9 @@ ghost use Rattle.std.specs.Option.{is_some};
 ghost use Rattle.ws_code.specs.Device.{on_devices};
 ghost use Rattle.ws_any_host.specs.declared.any_line.AnyLine.{AnyLine as AnAnyLine};
 ghost use Rattle.ws_any_host.specs.declared.any_line.AnyLine.TheVariants.{Await};
-ghost use Rattle.ws_network.specs.AnySessions.{RunsAny};
-ghost use Rattle.ws_network.specs.SessionPrinting.{AreScripted, IsPrintedBehind, serve_printing};
+ghost use Rattle.ws_any_host.specs.AnyText.{AnyRunsInTime};
+ghost use Rattle.ws_live.specs.live.Waits.{watched_devices};
+ghost use Rattle.ws_network.specs.SessionPrinting.{AreScripted, IsPrintedBehind, serve_printing, session_lines};
 
 use crate::live_input::carry_session;
 use crate::timer::LineWatch;
@@ -40,10 +41,10 @@ where
     // What was printed, and how it ended.
     ensures printed { (lines : List AnAnyLine)
         × AreScripted script.entry lines
-        × IsPrintedBehind O.writer out.old.sink out.new.sink (serve_printing
-        (RunsAny (on_devices K.writer S.reader) W.tells W.begins W.begun) Await ready
-        ((attached.old, ahead.old), watch.old) lines ((attached.new, ahead.new), watch.new)
-        (is_some script.entry)) result }
+        × IsPrintedBehind O.writer out.old.sink out.new.sink (serve_printing (session_lines
+        (AnyRunsInTime (watched_devices (on_devices K.writer S.reader) W.tells) W.times) ready
+        ((attached.old, ahead.old), watch.old) lines ((attached.new, ahead.new), watch.new))
+        (is_some script.entry) Await) result }
     ensures held { out.new.held ≡ [] }
 {
     let ran = match carry_session(

@@ -20,10 +20,9 @@ pub fn read_script_file<R: Files + AllocGlobal, L: LiveLine>(
     vocabulary: Vocabulary,
 ) -> Result<Option<Vec<L>>, ToldFault>
     ensures lines { IfOk result (λ read. MatchOption read (is_none script.entry ≡ true) (λ lines.
-        (file : List ℕ) × AreLiveLines L.means L.opener file lines.items)) }
+        (file : List ℕ) × AreLiveLines L.language file lines.items)) }
     ensures named { IfOk result (λ read. is_none read ≡ is_none script.entry) }
-    ensures fault { IfErr result
-        (IsFileFault L.means L.opener L.begins L.bad_at vocabulary) }
+    ensures fault { IfErr result (IsFileFault L.language vocabulary) }
 {
     let Some(path) = script else {
         return Ok(None);

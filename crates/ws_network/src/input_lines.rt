@@ -23,9 +23,9 @@ pub fn next_line<B: BufRead + Drop, L: LiveLine>(
     ready: bool,
 ) -> Result<Option<L>, ToldFault>
     ensures line { IfOk result (λ next. IfSome next
-        (IsNextLine L.means L.bad_at vocabulary L.bad_line ready)) }
+        (IsNextLine L.language vocabulary ready)) }
     ensures fault { IfErr result (IsInputFault ready) }
-    ensures bad { IfErr result (TellsBadLine L.means L.bad_at vocabulary input.old) }
+    ensures bad { IfErr result (TellsBadLine L.language vocabulary input.old) }
 {
     let before = input.number;
     let Some(raw) = input.take()? else {

@@ -2,13 +2,14 @@
 ghost use Rattle.std.specs.Prelude.{◌≡◌, [], List, false, IfOk};
 ghost use Rattle.std.specs.Option.{is_some};
 ghost use Rattle.ws_code.specs.Device.{on_devices};
-ghost use Rattle.ws_live.specs.live.ConnectText.{StationDoes};
+ghost use Rattle.ws_live.specs.live.ConnectText.{StationRunsInTime};
 ghost use Rattle.ws_live.specs.live.Operating.{live_display};
-ghost use Rattle.ws_live.specs.live.Waits.{InTime, watch_tells};
+ghost use Rattle.ws_live.specs.live.Waits.{InTime, watched_devices};
 ghost use Rattle.ws_live.specs.live.LiveText as Spec;
-ghost use Rattle.ws_network.specs.SessionPrinting.{AreScripted, TellsWell, IsPrintedBehind, serve_printing, session_printing};
+ghost use Rattle.ws_network.specs.SessionPrinting.{AreScripted, TellsWell, IsPrintedBehind, serve_printing};
+ghost use Rattle.ws_network.specs.SessionPrinting.{session_lines, session_printing};
 ghost use Rattle.ws_live.specs.live.ServeText.{HostRunsInTime};
-ghost use Rattle.ws_live.specs.declared.live.connect_line.StationLine.{StationLine as AStationLine};
+ghost use Rattle.ws_live.specs.declared.live.connect_line.StationLine.{StationLine as ALine};
 ghost use Rattle.ws_live.specs.declared.live.serve_line.HostLine.{HostLine as AHostLine};
 ghost use Rattle.ws_live.specs.declared.live.serve_line.HostLine.TheVariants.{Await};
 ghost use Rattle.ws_text.specs.Printed.{IsPrinted};
@@ -50,12 +51,12 @@ where
     O: Sink,
     requires works { attached.old.broken ≡ false }
     requires empty { out.old.held ≡ [] }
-    ensures printed { (lines : List (AStationLine D.Key))
+    ensures printed { (lines : List (ALine D.Key))
         × AreScripted script.entry lines
-        × IsPrinted O.writer out.old.sink out.new.sink (session_printing (StationDoes
-        (live_display D.Commands.rules D.does D.operated D.Key.words) (on_devices K.writer S.reader)
-        (watch_tells W.tells W.rests) W.begins W.begun paint ready) ready
-        ((attached.old, ahead.old), watch.old) lines ((attached.new, ahead.new), watch.new)
+        × IsPrinted O.writer out.old.sink out.new.sink (session_printing (session_lines
+        (StationRunsInTime (live_display D.Commands.rules D.does D.operated D.Key.words)
+        (watched_devices (on_devices K.writer S.reader) W.tells) W.times paint) ready
+        ((attached.old, ahead.old), watch.old) lines ((attached.new, ahead.new), watch.new))
         (is_some script.entry) TellsWell) result }
     ensures held { out.new.held ≡ [] }
 {
@@ -92,10 +93,10 @@ where
     // What was printed, and how it ended.
     ensures printed { (lines : List AHostLine)
         × AreScripted script.entry lines
-        × IsPrintedBehind O.writer out.old.sink out.new.sink (serve_printing
-        (HostRunsInTime (on_devices K.writer S.reader) W.tells W.begins W.begun) Await ready
-        ((attached.old, ahead.old), watch.old) lines ((attached.new, ahead.new), watch.new)
-        (is_some script.entry)) result }
+        × IsPrintedBehind O.writer out.old.sink out.new.sink (serve_printing (session_lines
+        (HostRunsInTime (watched_devices (on_devices K.writer S.reader) W.tells) W.times) ready
+        ((attached.old, ahead.old), watch.old) lines ((attached.new, ahead.new), watch.new))
+        (is_some script.entry) Await) result }
     ensures held { out.new.held ≡ [] }
 {
     let ran = match carry_session(
@@ -144,9 +145,9 @@ where
     // What was printed, and how it ended.
     ensures printed { (lines : List L)
         × AreScripted script.entry lines
-        × IsPrinted O.writer out.old.sink out.new.sink (session_printing (Spec.WithClosing
-        (InTime (L.runs W.tells W.rests paint) L.waits W.begins W.begun) ready) ready
-        ((attached.old, ahead.old), watch.old) lines ((attached.new, ahead.new), watch.new)
+        × IsPrinted O.writer out.old.sink out.new.sink (session_printing
+        (session_lines (InTime (L.runs W.tells paint) L.waits W.times) ready
+        ((attached.old, ahead.old), watch.old) lines ((attached.new, ahead.new), watch.new))
         (is_some script.entry) (λ ran told. told ≡ ran)) result }
     // The end works on unless the session is over, and nothing is held back.
     ensures works { IfOk result (λ ran. ran.is_over ≡ false → attached.new.broken ≡ false) }
@@ -177,8 +178,7 @@ fn carry_script<E, S, K, L: LiveMove<E, S, K>, W: LineWatch<S>, O: Sink>(
     requires empty { out.old.held ≡ [] }
     // What was printed, and how it ended.
     ensures printed { IsPrinted O.writer out.old.sink out.new.sink (Spec.lines_printing
-        (Spec.WithClosing
-        (InTime (L.runs W.tells W.rests paint) L.waits W.begins W.begun) ready)
+        (Spec.WithClosing (InTime (L.runs W.tells paint) L.waits W.times) ready)
         ((attached.old, ahead.old), watch.old) lines.now
         ((attached.new, ahead.new), watch.new)) result }
     // The end works on unless the session is over, and nothing is held back.
@@ -221,9 +221,9 @@ where
     requires empty { out.old.held ≡ [] }
     // What was printed, and how it ended.
     ensures printed { (lines : List L)
-        × IsPrinted O.writer out.old.sink out.new.sink (session_printing (Spec.WithClosing
-        (InTime (L.runs W.tells W.rests paint) L.waits W.begins W.begun) ready) ready
-        ((attached.old, ahead.old), watch.old) lines ((attached.new, ahead.new), watch.new)
+        × IsPrinted O.writer out.old.sink out.new.sink (session_printing
+        (session_lines (InTime (L.runs W.tells paint) L.waits W.times) ready
+        ((attached.old, ahead.old), watch.old) lines ((attached.new, ahead.new), watch.new))
         false (λ ran told. told ≡ ran)) result }
     // The end works on unless the session is over, and nothing is held back.
     ensures works { IfOk result (λ ran. ran.is_over ≡ false → attached.new.broken ≡ false) }
@@ -270,8 +270,7 @@ fn carry_next<E, S, K, L: LiveMove<E, S, K>, W: LineWatch<S>, O: Sink>(
     requires empty { out.old.held ≡ [] }
     // What was printed, and how it ended.
     ensures printed { IsPrinted O.writer out.old.sink out.new.sink (Spec.line_printing
-        (Spec.WithClosing
-        (InTime (L.runs W.tells W.rests paint) L.waits W.begins W.begun) ready)
+        (Spec.WithClosing (InTime (L.runs W.tells paint) L.waits W.times) ready)
         ((attached.old, ahead.old), watch.old) line.now
         ((attached.new, ahead.new), watch.new)) result }
     // The end works on unless the session is over, and nothing is held back.

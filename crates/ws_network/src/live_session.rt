@@ -4,6 +4,7 @@ ghost use Rattle.std.specs.Prelude.{◌≡◌, [], Some, IfOk, IsErr};
 ghost use Rattle.std.specs.Option.{is_none};
 ghost use Rattle.ws_live.specs.asked.OpenStreams.{missing};
 ghost use Rattle.ws_live.specs.live.Operating.{live_display};
+ghost use Rattle.ws_live.specs.printing.Printouts.{printout};
 ghost use Rattle.ws_live.specs.declared.asked.fault.RunFault.{RunFault as AFault};
 ghost use Rattle.ws_network.specs.LiveSessions.{HasServedAs, HasRunLive, script_of};
 ghost use Rattle.ws_network.specs.Sessions.{HasConnected, HasConnectedOn};
@@ -47,7 +48,7 @@ where
     O: Sink,
     requires empty { out.old.held ≡ [] }
     ensures ran { IfOk result
-        (HasRunLive O.writer out.old.sink out.new.sink asked.entry) }
+        (HasRunLive (printout O.writer out.old.sink out.new.sink) asked.entry) }
     // Where a stream that it needs is closed it isn't begun, and nothing is printed.
     ensures closed { (why : AFault) → missing streams (is_none (script_of asked.entry)) ≡ Some why
         → IsErr result × (out.new.sink ≡ out.old.sink) }
@@ -70,7 +71,7 @@ where
     O: Sink,
     requires empty { out.old.held ≡ [] }
     ensures ran { IfOk result
-        (HasConnected O.writer out.old.sink out.new.sink asked.now) }
+        (HasConnected (printout O.writer out.old.sink out.new.sink) asked.now) }
     ensures closed { (why : AFault) → missing streams (is_none asked.now.script) ≡ Some why
         → IsErr result × (out.new.sink ≡ out.old.sink) }
 {
@@ -94,7 +95,7 @@ where
     R: Runtime + AllocGlobal + Files<File = File> + Net<Listener = TcpListener, Stream = TcpStream>,
     O: Sink,
     requires empty { out.old.held ≡ [] }
-    ensures ran { IfOk result (HasConnectedOn O.writer out.old.sink out.new.sink
+    ensures ran { IfOk result (HasConnectedOn (printout O.writer out.old.sink out.new.sink)
         (live_display D.Commands.rules D.does D.operated D.Key.words) asked.now) }
     ensures closed { (why : AFault) → missing streams (is_none asked.now.script) ≡ Some why
         → IsErr result × (out.new.sink ≡ out.old.sink) }
@@ -148,7 +149,7 @@ where
     R: Runtime + AllocGlobal + Files<File = File> + Net<Listener = TcpListener, Stream = TcpStream>,
     O: Sink,
     requires empty { out.old.held ≡ [] }
-    ensures ran { IfOk result (HasServedAs O.writer out.old.sink out.new.sink
+    ensures ran { IfOk result (HasServedAs (printout O.writer out.old.sink out.new.sink)
         asked.now.any asked.now) }
     ensures closed { (why : AFault) → missing streams (is_none asked.now.script) ≡ Some why
         → IsErr result × (out.new.sink ≡ out.old.sink) }

@@ -1,5 +1,5 @@
 //! `serve`: hosts for stations, one after another at a listener.
-ghost use Rattle.std.specs.Prelude.{◌≡◌, ◌++◌, [], ℕ, List, Bool, Some, IfOk, IsErr, OnOk};
+ghost use Rattle.std.specs.Prelude.{◌≡◌, ◌++◌, [], ℕ, List, Some, IfOk, IsErr, OnOk};
 ghost use Rattle.std.specs.Option.{is_none};
 ghost use Rattle.ws_code.specs.Device.{WentOut};
 ghost use Rattle.ws_network.specs.AnySessions.{IsAnyServed};
@@ -7,6 +7,8 @@ ghost use Rattle.ws_network.specs.SessionPrinting.{AreScripted};
 ghost use Rattle.ws_network.specs.ManySessions.{AreMany, HasServedBy, number_line, session_line};
 ghost use Rattle.ws_network.specs.Sessions.{IsServed};
 ghost use Rattle.ws_text.specs.Printing.{Prints};
+ghost use Rattle.ws_live.specs.live.LiveText.{Account, account};
+ghost use Rattle.ws_live.specs.printing.Printouts.{printout};
 ghost use Rattle.ws_live.specs.asked.OpenStreams.{missing};
 ghost use Rattle.ws_live.specs.declared.asked.fault.RunFault.{RunFault as AFault};
 ghost use Rattle.ws_live.specs.declared.asked.live_asked.ServeAsked.{ServeAsked as AnAsked};
@@ -34,8 +36,8 @@ use ws_text::{Output, put_number, put_text};
 
 /// Lines that are carried out at a host, new for each station.
 pub trait ServedLine: LiveLine {
-    // A host whose opening went out carried these lines out: whether all went well, and what it printed.
-    ghost served: { AnAsked → List Self → Bool → List ℕ → Type 0 };
+    // A host whose opening went out carried these lines out, and this is the account of it.
+    ghost served: { AnAsked → List Self → Account → Type 0 };
 
     /// Carries the lines out at a connection, or without a script those of standard input, and what comes behind them.
     fn serve<R, O>(
@@ -53,7 +55,7 @@ pub trait ServedLine: LiveLine {
         ensures held { out.new.held ≡ [] }
         ensures served { IfOk result (λ all_well. (lines : List Self) × (text : List ℕ)
             × AreScripted script.entry lines
-            × served asked.now lines all_well text
+            × served asked.now lines (account all_well text)
             × WentOut O.writer out.old.sink out.new.sink text) };
 }
 
@@ -70,8 +72,8 @@ where
     L: ServedLine,
     O: Sink,
     requires empty { out.old.held ≡ [] }
-    ensures ran { IfOk result (HasServedBy L.means L.opener L.served O.writer
-        out.old.sink out.new.sink asked.now) }
+    ensures ran { IfOk result (HasServedBy L.language L.served
+        (printout O.writer out.old.sink out.new.sink) asked.now) }
     ensures closed { (why : AFault) → missing streams (is_none asked.now.script) ≡ Some why
         → IsErr result × (out.new.sink ≡ out.old.sink) }
 {
@@ -102,7 +104,7 @@ where
     requires empty { out.old.held ≡ [] }
     ensures { IfOk result (λ all_well. (lines : List L) × (first : List ℕ) × (text : List ℕ)
         × AreScripted script.entry lines
-        × L.served asked.now lines all_well text
+        × L.served asked.now lines (account all_well text)
         × WentOut O.writer out.old.sink out.new.sink (first ++ text)) }
 {
     let stream = take_station(rt, asked.address, out)?;
@@ -124,7 +126,7 @@ where
     O: Sink,
     requires empty { out.old.held ≡ [] }
     ensures { IfOk result (λ all_well. (first : List ℕ) × (text : List ℕ)
-        × AreMany (L.served asked.now script.now) sessions all_well text
+        × AreMany (L.served asked.now script.now) sessions (account all_well text)
         × WentOut O.writer out.old.sink out.new.sink (first ++ text)) }
 {
     let listener = listen(rt, asked.address, out)?;

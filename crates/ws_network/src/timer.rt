@@ -142,13 +142,9 @@ impl<'a, C: Clock> Waits<'a, C> {
 }
 
 impl<'a, C: Clock> Watch<TimedSource<'a, C>> for Waits<'a, C> {
-    ghost begins = { Spec.begins };
+    ghost times = { Spec.timed_waits };
 
-    ghost begun = { λ begun. begun };
-
-    ghost tells = { Spec.tells };
-
-    ghost rests = { Spec.rests };
+    ghost tells = { Spec.timed_tells };
 
     fn begin(&mut self, _source: &TimedSource<'a, C>, span: WaitSpan) {
         self.begun = self.begun.saturating_add(1);

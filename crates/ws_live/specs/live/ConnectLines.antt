@@ -7,6 +7,7 @@ use Rattle.ws_code.specs.Address.{IsRowAndColumn, place_of}
 use Rattle.ws_code.specs.declared.address.TheConstants.{CELLS}
 use Rattle.ws_screen.specs.declared.format_table.TheConstants.{MAX_FIELDS}
 use Rattle.ws_text.specs.Words.{IsCell, IsNumber, IsSmall}
+use Rattle.ws_live.specs.live.LiveScript.{LineLanguage}
 use Rattle.ws_live.specs.script.KeyWords.{KeyWords}
 use Rattle.ws_live.specs.script.Script.{typed_key}
 use Rattle.ws_live.specs.declared.live.connect_line.StationLine.{StationLine}
@@ -180,3 +181,13 @@ module _ {Q : Type 0} (w : KeyWords Q) where
   -- as far as it was read, a line is good: it is a whole one, or one that waits for a text
   abbrev pub IsStationSoFar : List ℕ → Type 0
   IsStationSoFar line = ((read : StationLine Q) × IsStationLine line read) ⊎ BeginsStationLine line
+
+  -- the lines of such scripts: no line belongs to one before it
+  abbrev pub station_language : LineLanguage (StationLine Q)
+  station_language = record {
+    means = λ line inside read. (inside ≡ []) × IsStationLine line read;
+    begins = BeginsStationLine;
+    opener = λ line. ⊥;
+    bad_at = λ line inside at. at ≡ 1;
+    bad_line = λ cause. Bad cause;
+  }

@@ -3,15 +3,12 @@
 use Rattle.std.specs.Prelude.{◌≡◌, ◌≢◌, ℕ, ◌<◌, List, [], ◌∷◌, ◌++◌, ◌⊎◌, Bool, true, false, ◌&&◌, Option, None}
 use Rattle.std.specs.Prelude.{Some, IfSome, IfNone, is_none}
 use Rattle.std.specs.Prelude.{Result, Ok, Err, string_bytes, length, if◌then◌else◌, codes, encode_utf8}
-use Rattle.ws_code.specs.Code.{Rules}
-use Rattle.ws_code.specs.Device.{most_reads, one_more, Devices}
+use Rattle.ws_code.specs.Device.{most_reads, one_more}
 use Rattle.ws_code.specs.declared.fault.Fault.{Fault}
 use Rattle.ws_code.specs.declared.fault.Fault.TheVariants as fault
-use Rattle.ws_nego.specs.Station.{station_allows_records}
 use Rattle.ws_screen.specs.ScreenParts.{ScreenParts}
 use Rattle.ws_session.specs.Acts.{Did}
 use Rattle.ws_session.specs.attached.Attachments.{AttachedParts, HaveLed, HaveLedUnwritten, HasHeard, IsHearFault}
-use Rattle.ws_session.specs.station.Displays.{DisplayOf}
 use Rattle.ws_session.specs.station.PartsOn.{PartsOn}
 use Rattle.ws_session.specs.Conducts.{station_conduct}
 use Rattle.ws_session.specs.station.StationActs.{IsKeyRefusalOn, IsKeyTakenOn}
@@ -20,7 +17,7 @@ use Rattle.ws_session.specs.declared.station.key_fault.KeyFault.{KeyFault}
 use Rattle.ws_session.specs.declared.world.Event.TheVariants.{StationRefused}
 use Rattle.ws_live.specs.printing.FieldLines.{AreFieldLines}
 use Rattle.ws_live.specs.printing.PlayLines.{event_text, key_fault_name}
-use Rattle.ws_live.specs.printing.ReportLines.{IsReportText, note_line}
+use Rattle.ws_live.specs.printing.ReportLines.{IsReportText, note_line, reported_station}
 use Rattle.ws_live.specs.printing.ScreenLines.{IsDisplayText}
 use Rattle.ws_live.specs.printing.ShownTexts.{BeginsAt, ShowsText}
 use Rattle.ws_live.specs.declared.live.connect.Waited.{Waited}
@@ -32,11 +29,11 @@ use Rattle.ws_live.specs.declared.live.connect_line.Awaited.{Awaited}
 use Rattle.ws_live.specs.declared.live.connect_line.Awaited.TheVariants.{Turn, Record, Text, At, Quiet}
 use Rattle.ws_live.specs.declared.live.report.Report.{Report as AReport}
 use Rattle.ws_live.specs.declared.live.report.Report.TheVariants.{Note}
-use Rattle.ws_live.specs.script.KeyWords.{KeyWords}
-use Rattle.ws_live.specs.live.LiveText.{LinesDo, WithClosing, bad_outcome, bad_text}
-use Rattle.ws_live.specs.live.Operating.{LiveDisplay, OperatedOn}
+use Rattle.ws_live.specs.live.LiveText.{Account, LineResult, LinesDo, account, bad_outcome, bad_text, line_result}
+use Rattle.ws_live.specs.live.Operating.{AttachedDisplay, KeyedDisplay, LiveDisplay, OperatedOn, WatchedDisplay}
+use Rattle.ws_live.specs.live.Operating.{keyed, watched}
 use Rattle.ws_live.specs.live.Stroking.{no_field_text, stroke_keys}
-use Rattle.ws_live.specs.live.Waits.{WatchTells, InTime}
+use Rattle.ws_live.specs.live.Waits.{InTime, WatchTimes, WatchedDevices}
 use Rattle.ws_live.specs.declared.live.Closing.{Closing}
 use Rattle.ws_live.specs.declared.printing.paint.Paint.{Paint}
 use Rattle.ws_live.specs.declared.live.Closing.TheVariants.{Nothing, Done, Declined, Late, Ended, Stopped}
@@ -124,189 +121,188 @@ IsMet shown operated (At cell text) display = BeginsAt (shown display).cells cel
 IsMet shown operated Record display = Unit {0}
 IsMet shown operated (Quiet time) display = ⊥
 
-module _ {D P U H PlaceV V Q R : Type 0} (rules : Rules P U) (d : DisplayOf D U H PlaceV V Q R) where
-  module _ {S K : Type 0} (devices : Devices S K) where
-    -- a station on such a display, on a source and a sink
-    abbrev pub AttachedStation : Type 0
-    AttachedStation = AttachedParts (PartsOn D P) S K
+module _ {D P U H PlaceV V Q R S K : Type 0} (at : AttachedDisplay D P U H PlaceV V Q R S K) where
+  -- a station on such a display, on a source and a sink
+  abbrev pub AttachedStation : Type 0
+  AttachedStation = AttachedParts (PartsOn D P) S K
 
-    -- one call of `hear` leads from there to there, and tells this
-    abbrev pub Hears : AttachedStation → Option Applied → AttachedStation → Type 0
-    Hears from heard to = HasHeard (station_conduct rules d) devices from to heard
+  -- one call of `hear` leads from there to there, and tells this
+  abbrev pub Hears : AttachedStation → Option Applied → AttachedStation → Type 0
+  Hears from heard to = HasHeard (station_conduct at.rules at.does) at.devices from to heard
 
-    -- one call of `hear` failed for this
-    abbrev pub HearsFault : AttachedStation → Fault → AttachedStation → Type 0
-    HearsFault from why to =
-        IsHearFault (station_conduct rules d) devices from to why
+  -- one call of `hear` failed for this
+  abbrev pub HearsFault : AttachedStation → Fault → AttachedStation → Type 0
+  HearsFault from why to = IsHearFault (station_conduct at.rules at.does) at.devices from to why
 
-    -- a key was pressed: what it sends went out, or it was refused, and nothing is changed; no byte was read or taken
-    pub record IsKeyPressed (key : Q) (from : AttachedStation) (refused : Option KeyFault)
-        (to : AttachedStation) : Type 0 where
-      pub led : HaveLed (station_conduct rules d) devices from to
-          (Did key ∷ []) []
-      pub same : IfSome refused (λ why. to ≡ from)
-      pub why : IfSome refused (IsKeyRefusalOn rules d from.end key)
-      pub taken : IfNone refused (IsKeyTakenOn rules d from.end key)
-      pub waiting : to.waiting ≡ from.waiting
-      pub unread : to.source ≡ from.source
+  -- a key was pressed: what it sends went out, or it was refused, and nothing is changed; no byte was read or taken
+  pub record IsKeyPressed (key : Q) (from : AttachedStation) (refused : Option KeyFault)
+      (to : AttachedStation) : Type 0 where
+    pub led : HaveLed (station_conduct at.rules at.does) at.devices from to (Did key ∷ []) []
+    pub same : IfSome refused (λ why. to ≡ from)
+    pub why : IfSome refused (IsKeyRefusalOn at.rules at.does from.end key)
+    pub taken : IfNone refused (IsKeyTakenOn at.rules at.does from.end key)
+    pub waiting : to.waiting ≡ from.waiting
+    pub unread : to.source ≡ from.source
 
-    -- a key was pressed, and what it sends didn't go out
-    abbrev pub IsKeyUnwritten : Q → AttachedStation → AttachedStation → Type 0
-    IsKeyUnwritten key from to =
-        HaveLedUnwritten (station_conduct rules d) devices from to (Did key ∷ [])
+  -- a key was pressed, and what it sends didn't go out
+  abbrev pub IsKeyUnwritten : Q → AttachedStation → AttachedStation → Type 0
+  IsKeyUnwritten key from to =
+      HaveLedUnwritten (station_conduct at.rules at.does) at.devices from to (Did key ∷ [])
 
-    -- Keys by these words.
-    module _ (w : KeyWords Q) where
-      -- a key, how its line would close, and what it prints: it was pressed, or what it sends didn't go out
-      abbrev pub KeyRuns : Q → AttachedStation → Result Closing Fault → List ℕ → AttachedStation → Type 0
-      KeyRuns key from outcome text to = ((refused : Option KeyFault) × IsKeyPressed key from refused to
-          × (outcome ≡ Ok (pressed (is_none refused))) × (text ≡ key_refused_text (w.entered key) refused))
-          ⊎ (IsKeyUnwritten key from to × (outcome ≡ Err fault.Write) × (text ≡ []))
+  -- records were applied one after another, and before each it wasn't yet met
+  abbrev pub HasWaited : (D → Type 0) → AttachedStation → List Applied → AttachedStation → Type 0
+  HasWaited Met' from [] to = to ≡ from
+  HasWaited Met' from (told ∷ more) to = (mid : AttachedStation) × (Met' from.end.screen → ⊥)
+      × Hears from (Some told) mid × HasWaited Met' mid more to
 
-      -- keys one after another
-      abbrev pub ArePressed : AttachedStation → List Q → Bool → List ℕ → AttachedStation → Type 0
-      ArePressed from [] well text to = (to ≡ from) × (well ≡ true) × (text ≡ [])
-      ArePressed from (key ∷ keys) well text to = (refused : Option KeyFault) × (mid : AttachedStation)
-          × (rest_well : Bool) × (rest : List ℕ) × IsKeyPressed key from refused mid
-          × ArePressed mid keys rest_well rest to
-          × (well ≡ is_none refused && rest_well) × (text ≡ key_refused_text (w.entered key) refused ++ rest)
+-- Keys by their words.
+module _ {D P U H PlaceV V Q R S K : Type 0} (display : KeyedDisplay D P U H PlaceV V Q R S K) where
+  -- such a station
+  abbrev pub KeyedStation : Type 0
+  KeyedStation = AttachedStation display.at
 
-      -- keys at a station, how their line closes, and what it prints: all were pressed, or up to one that wasn't
-      -- written
-      abbrev pub KeysRun : List Q → AttachedStation → Result Closing Fault → List ℕ → AttachedStation → Type 0
-      KeysRun keys from outcome text to =
-          ((well : Bool) × ArePressed from keys well text to × (outcome ≡ Ok (pressed well)))
-          ⊎ ((before : List Q) × (key : Q) × (after : List Q) × (well : Bool) × (mid : AttachedStation)
-          × (keys ≡ before ++ key ∷ after) × ArePressed from before well text mid × IsKeyUnwritten key mid to
-          × (outcome ≡ Err fault.Write))
+  -- what is printed of a key at it: where it is refused, its line
+  abbrev pub refusal_text : Q → Option KeyFault → List ℕ
+  refusal_text key refused = key_refused_text (display.words.entered key) refused
 
-      -- keys one after another, up to the first that isn't taken, how their line closes, and what it prints
-      abbrev pub KeysUntil : List Q → AttachedStation → Result Closing Fault → List ℕ → AttachedStation → Type 0
-      KeysUntil [] from outcome text to = (to ≡ from) × (outcome ≡ Ok Done) × (text ≡ [])
-      KeysUntil (key ∷ keys) from outcome text to =
-          ((mid : AttachedStation) × KeyRuns key from (Ok Done) [] mid × KeysUntil keys mid outcome text to)
-          ⊎ (KeyRuns key from outcome text to × (outcome ≢ Ok Done))
+  -- what a key comes to: it was pressed, or what it sends didn't go out
+  abbrev pub KeyRuns : LinesDo Q KeyedStation
+  KeyRuns key from came to = ((refused : Option KeyFault) × IsKeyPressed display.at key from refused to
+      × (came.outcome ≡ Ok (pressed (is_none refused))) × (came.text ≡ refusal_text key refused))
+      ⊎ (IsKeyUnwritten display.at key from to × (came.outcome ≡ Err fault.Write) × (came.text ≡ []))
 
-      -- the keys of a stroke, or what is printed where the screen hasn't the field that it names
-      abbrev pub StrokeRuns : Option (List Q) → AttachedStation → Result Closing Fault → List ℕ → AttachedStation
-          → Type 0
-      StrokeRuns None from outcome text to = (to ≡ from) × (outcome ≡ Ok Declined) × (text ≡ no_field_text)
-      StrokeRuns (Some keys) from outcome text to = KeysUntil keys from outcome text to
+  -- the account of keys one after another
+  abbrev pub ArePressed : KeyedStation → List Q → Account → KeyedStation → Type 0
+  ArePressed from [] came to = (to ≡ from) × (came.all_well ≡ true) × (came.text ≡ [])
+  ArePressed from (key ∷ keys) came to = (refused : Option KeyFault) × (mid : KeyedStation) × (rest : Account)
+      × IsKeyPressed display.at key from refused mid × ArePressed mid keys rest to
+      × (came.all_well ≡ is_none refused && rest.all_well) × (came.text ≡ refusal_text key refused ++ rest.text)
 
-    -- records were applied one after another, and before each it wasn't yet met
-    abbrev pub HasWaited : (D → Type 0) → AttachedStation → List Applied → AttachedStation → Type 0
-    HasWaited Met' from [] to = to ≡ from
-    HasWaited Met' from (told ∷ more) to = (mid : AttachedStation) × (Met' from.end.screen → ⊥)
-        × Hears from (Some told) mid × HasWaited Met' mid more to
+  -- what keys at a station come to: all were pressed, or up to one that wasn't written
+  abbrev pub KeysRun : LinesDo (List Q) KeyedStation
+  KeysRun keys from came to =
+      ((well : Bool) × ArePressed from keys (account well came.text) to × (came.outcome ≡ Ok (pressed well)))
+      ⊎ ((before : List Q) × (key : Q) × (after : List Q) × (well : Bool) × (mid : KeyedStation)
+      × (keys ≡ before ++ key ∷ after) × ArePressed from before (account well came.text) mid
+      × IsKeyUnwritten display.at key mid to × (came.outcome ≡ Err fault.Write))
 
-    -- What a wait comes to, at a watch that tells of a source whether the read that failed was late.
-    module _ (tells : S → Bool → Type 0) where
-      -- no record more was applied: the host closed, a read failed, for want of time or otherwise, a byte was refused,
-      -- or a write failed
-      abbrev pub HearsNone : AttachedStation → Waited → AttachedStation → Type 0
-      HearsNone from Met to = ⊥
-      HearsNone from WasLate to = HearsFault from fault.Read to × tells to.source true
-      HearsNone from HasEnded to = Hears from None to
-      HearsNone from (Failed why) to = HearsFault from why to × (why ≡ fault.Read → tells to.source false)
+  -- what keys one after another come to, up to the first that isn't taken
+  abbrev pub KeysUntil : LinesDo (List Q) KeyedStation
+  KeysUntil [] from came to = (to ≡ from) × (came.outcome ≡ Ok Done) × (came.text ≡ [])
+  KeysUntil (key ∷ keys) from came to =
+      ((mid : KeyedStation) × KeyRuns key from (line_result (Ok Done) []) mid × KeysUntil keys mid came to)
+      ⊎ (KeyRuns key from came to × (came.outcome ≢ Ok Done))
 
-      -- the next record, whatever it is
-      abbrev pub HearsOne : AttachedStation → Waited → AttachedStation → Type 0
-      HearsOne from Met to = (told : Applied) × Hears from (Some told) to
-      HearsOne from waited to = HearsNone from waited to
+  -- the keys of a stroke, or what is printed where the screen hasn't the field that it names
+  abbrev pub StrokeRuns : LinesDo (Option (List Q)) KeyedStation
+  StrokeRuns None from came to = (to ≡ from) × (came.outcome ≡ Ok Declined) × (came.text ≡ no_field_text)
+  StrokeRuns (Some keys) from came to = KeysUntil keys from came to
 
-      -- a wait: up to the first record at which it was met, or one that never came; no wait takes more than the most
-      -- records
-      abbrev pub WaitsFor : (D → Type 0) → AttachedStation → Waited → AttachedStation → Type 0
-      WaitsFor Met' from waited to =
-          ((told : List Applied) × HasWaited Met' from told to × Met' to.end.screen × (waited ≡ Met))
-          ⊎ (((told : List Applied) × (mid : AttachedStation) × HasWaited Met' from told mid × (Met' mid.end.screen → ⊥)
-          × HearsNone mid waited to)
-          ⊎ ((told : List Applied) × HasWaited Met' from told to × (length told ≡ most_reads)
-          × (waited ≡ Failed fault.Read)))
+-- What a wait comes to, at a watch that tells of a source whether the read that failed was late.
+module _ {D P U H PlaceV V Q R S K : Type 0} (display : WatchedDisplay D P U H PlaceV V Q R S K) where
+  -- such a station
+  abbrev pub WatchedStation : Type 0
+  WatchedStation = AttachedStation display.at
 
-      -- all records that came in a wait were applied, and this ended it
-      abbrev pub AppliesAll : AttachedStation → List Applied → Waited → AttachedStation → Type 0
-      AppliesAll from told ended to = (mid : AttachedStation) × HasWaited (λ display. ⊥) from told mid
-          × (HearsNone mid ended to ⊎ ((length told ≡ most_reads) × (to ≡ mid) × (ended ≡ Failed fault.Read)))
+  -- no record more was applied: the host closed, a read failed, for want of time or otherwise, a byte was refused,
+  -- or a write failed
+  abbrev pub HearsNone : WatchedStation → Waited → WatchedStation → Type 0
+  HearsNone from Met to = ⊥
+  HearsNone from WasLate to = HearsFault display.at from fault.Read to × display.tells.is_late to.source true
+  HearsNone from HasEnded to = Hears display.at from None to
+  HearsNone from (Failed why) to = HearsFault display.at from why to
+      × (why ≡ fault.Read → display.tells.is_late to.source false)
 
-      -- A line that shows something of a station: the records that have come are applied first, and are ahead then;
-      -- behind its text stands what there was behind them, if not only that no more has come.
-      pub record ShowsStation (IsText : PartsOn D P → List ℕ → Type 0) (from : AttachedStation × ℕ)
-          (outcome : Result Closing Fault) (text : List ℕ) (to : AttachedStation × ℕ) : Type 0 where
-        pub told : List Applied
-        pub ended : Waited
-        pub taken : AppliesAll from.0 told ended to.0
-        pub ahead : to.1 ≡ more_ahead from.1 told
-        pub shown : List ℕ
-        pub is : IsText to.0.end shown
-        pub closes : outcome ≡ waited_outcome (rested true ended)
-        pub all : text ≡ shown ++ waited_text (rested true ended)
+  -- the next record, whatever it is
+  abbrev pub HearsOne : WatchedStation → Waited → WatchedStation → Type 0
+  HearsOne from Met to = (told : Applied) × Hears display.at from (Some told) to
+  HearsOne from waited to = HearsNone from waited to
 
-      -- a line that reports: a note is printed as it is
-      abbrev pub Reports : AReport → (AttachedStation × ℕ) → Result Closing Fault → List ℕ → (AttachedStation × ℕ)
-          → Type 0
-      Reports (Note note) from outcome text to = (to ≡ from) × (outcome ≡ Ok Done) × (text ≡ note_line note)
-      Reports report from outcome text to = ShowsStation (λ station. IsReportText (d.shown station.screen)
-          (station_allows_records station.options) station.records station.live.taken report) from outcome text to
+  -- a wait: up to the first record at which it was met, or one that never came; no wait takes more than the most
+  -- records
+  abbrev pub WaitsFor : (D → Type 0) → WatchedStation → Waited → WatchedStation → Type 0
+  WaitsFor Met' from waited to =
+      ((told : List Applied) × HasWaited display.at Met' from told to × Met' to.end.screen × (waited ≡ Met))
+      ⊎ (((told : List Applied) × (mid : WatchedStation) × HasWaited display.at Met' from told mid
+      × (Met' mid.end.screen → ⊥) × HearsNone mid waited to)
+      ⊎ ((told : List Applied) × HasWaited display.at Met' from told to × (length told ≡ most_reads)
+      × (waited ≡ Failed fault.Read)))
 
-      -- a wait for a record is met at once where one is ahead
-      abbrev pub WaitsForRecord : ℕ → AttachedStation → Waited → AttachedStation → Type 0
-      WaitsForRecord ahead from waited to = ((0 < ahead) × (to ≡ from) × (waited ≡ Met))
-          ⊎ ((ahead ≡ 0) × HearsOne from waited to)
+  -- all records that came in a wait were applied, and this ended it
+  abbrev pub AppliesAll : WatchedStation → List Applied → Waited → WatchedStation → Type 0
+  AppliesAll from told ended to = (mid : WatchedStation) × HasWaited display.at (λ screen. ⊥) from told mid
+      × (HearsNone mid ended to ⊎ ((length told ≡ most_reads) × (to ≡ mid) × (ended ≡ Failed fault.Read)))
 
-      -- The same watch tells whether nothing had come for the time of a quiet wait.
-      module _ (rests : S → Bool → Type 0) where
-        -- a wait for quiet takes all records, and is met where it was over since nothing came
-        abbrev pub IsQuieted : AttachedStation → Waited → AttachedStation → Type 0
-        IsQuieted from waited to = (told : List Applied) × (ended : Waited) × (quiet : Bool)
-            × AppliesAll from told ended to × rests to.source quiet × (waited ≡ rested quiet ended)
+  -- A line that shows something of a station: the records that have come are applied first, and are ahead then;
+  -- behind its text stands what there was behind them, if not only that no more has come.
+  pub record ShowsStation (IsText : PartsOn D P → List ℕ → Type 0) (from : WatchedStation × ℕ)
+      (came : LineResult) (to : WatchedStation × ℕ) : Type 0 where
+    pub told : List Applied
+    pub ended : Waited
+    pub taken : AppliesAll from.0 told ended to.0
+    pub ahead : to.1 ≡ more_ahead from.1 told
+    pub shown : List ℕ
+    pub is : IsText to.0.end shown
+    pub closes : came.outcome ≡ waited_outcome (rested true ended)
+    pub all : came.text ≡ shown ++ waited_text (rested true ended)
 
--- What a watch may tell.
-module _ {D P U H PlaceV V Q R S K : Type 0} (rules : Rules P U) (d : DisplayOf D U H PlaceV V Q R)
-    (operated : OperatedOn D) (devices : Devices S K) (told : WatchTells S) where
+  -- a line that reports: a note is printed as it is
+  abbrev pub Reports : LinesDo AReport (WatchedStation × ℕ)
+  Reports (Note note) from came to = (to ≡ from) × (came.outcome ≡ Ok Done) × (came.text ≡ note_line note)
+  Reports report from came to =
+      ShowsStation (λ station. IsReportText (reported_station display.at.does station) report) from came to
+
+  -- a wait for a record is met at once where one is ahead
+  abbrev pub WaitsForRecord : WatchedStation × ℕ → Waited → WatchedStation → Type 0
+  WaitsForRecord from waited to = ((0 < from.1) × (to ≡ from.0) × (waited ≡ Met))
+      ⊎ ((from.1 ≡ 0) × HearsOne from.0 waited to)
+
+  -- a wait for quiet takes all records, and is met where it was over since nothing came
+  abbrev pub IsQuieted : WatchedStation → Waited → WatchedStation → Type 0
+  IsQuieted from waited to = (told : List Applied) × (ended : Waited) × (quiet : Bool)
+      × AppliesAll from told ended to × display.tells.is_quiet to.source quiet × (waited ≡ rested quiet ended)
+
   -- what is awaited at a display that an operator drives: one more record, quiet, or a display by which it is met
-  abbrev pub IsWaited : Awaited → (AttachedParts (PartsOn D P) S K × ℕ) → Waited → AttachedParts (PartsOn D P) S K
-      → Type 0
-  IsWaited Record from waited to = WaitsForRecord rules d devices told.tells from.1 from.0 waited to
-  IsWaited (Quiet time) from waited to = IsQuieted rules d devices told.tells told.rests from.0 waited to
-  IsWaited awaited from waited to =
-      WaitsFor rules d devices told.tells (IsMet d.shown operated awaited) from.0 waited to
+  abbrev pub IsWaited : OperatedOn D → Awaited → WatchedStation × ℕ → Waited → WatchedStation → Type 0
+  IsWaited operated Record from waited to = WaitsForRecord from waited to
+  IsWaited operated (Quiet time) from waited to = IsQuieted from.0 waited to
+  IsWaited operated awaited from waited to =
+      WaitsFor (IsMet display.at.does.shown operated awaited) from.0 waited to
 
--- A display at which lines are carried out, and its devices.
-module _ {D P U H PlaceV V Q R S K : Type 0} (on : LiveDisplay D P U H PlaceV V Q R) (devices : Devices S K)
-    (told : WatchTells S) where
+-- A display at which lines are carried out, and its devices at a watch.
+module _ {D P U H PlaceV V Q R S K : Type 0} (display : LiveDisplay D P U H PlaceV V Q R)
+    (on : WatchedDevices S K) where
   -- such a station, and how many records are ahead
   abbrev pub StationAndAhead : Type 0
   StationAndAhead = AttachedParts (PartsOn D P) S K × ℕ
 
-  -- a line that shows what is such a text of the station
-  abbrev pub ShowsAsText : (PartsOn D P → List ℕ → Type 0) → StationAndAhead → Result Closing Fault → List ℕ
-      → StationAndAhead → Type 0
-  ShowsAsText IsText from outcome text to = ShowsStation on.rules on.does devices told.tells IsText from outcome text to
+  -- the display where keys are pressed
+  abbrev pub for_keys : KeyedDisplay D P U H PlaceV V Q R S K
+  for_keys = keyed display.rules display.does on.devices display.words
 
-  -- A line at a station, how it closed, and what it printed, with screens in a paint; the keys of a stroke are those at
-  -- the screen that the station then has. Behind a line that waits or presses keys no record is ahead.
-  abbrev pub StationRuns : Paint → StationLine Q → StationAndAhead → Result Closing Fault → List ℕ → StationAndAhead
-      → Type 0
-  StationRuns paint NoLine from outcome text to = (to ≡ from) × (outcome ≡ Ok Nothing) × (text ≡ [])
-  StationRuns paint (Press keys) from outcome text to =
-      KeysRun on.rules on.does devices on.words keys from.0 outcome text to.0 × (to.1 ≡ 0)
-  StationRuns paint (Stroke stroke) from outcome text to = StrokeRuns on.rules on.does devices on.words
-      (stroke_keys on.words (on.does.shown from.0.end.screen) stroke) from.0 outcome text to.0 × (to.1 ≡ 0)
-  StationRuns paint (Await awaited) from outcome text to = (waited : Waited)
-      × IsWaited on.rules on.does on.operated devices told awaited from waited to.0
-      × (outcome ≡ waited_outcome waited) × (text ≡ waited_text waited) × (to.1 ≡ 0)
-  StationRuns paint Fields from outcome text to =
-      ShowsAsText (λ station. AreFieldLines (on.does.shown station.screen)) from outcome text to
-  StationRuns paint Show from outcome text to =
-      ShowsAsText (λ station. IsDisplayText paint (on.does.shown station.screen)
-      (on.operated.behind station.screen)) from outcome text to
-  StationRuns paint (Report report) from outcome text to =
-      Reports on.rules on.does devices told.tells report from outcome text to
-  StationRuns paint (Bad cause) from outcome text to = (to ≡ from) × (outcome ≡ bad_outcome)
-      × (text ≡ bad_text (string_bytes cause))
+  -- the display where something is awaited
+  abbrev pub for_waits : WatchedDisplay D P U H PlaceV V Q R S K
+  for_waits = watched display.rules display.does on.devices on.tells
 
-  -- what a line at a station does and prints, at a watch that begins its waits
-  abbrev pub StationDoes : {W : Type 0} → (W → S → WaitSpan → W → Type 0) → (W → ℕ) → Paint → Bool
-      → LinesDo (StationLine Q) (StationAndAhead × W)
-  StationDoes begins begun paint ready = WithClosing (InTime (StationRuns paint) station_waits begins begun) ready
+  -- What a line at a station comes to, with screens in a paint; the keys of a stroke are those at the screen that the
+  -- station then has. Behind a line that waits or presses keys no record is ahead.
+  abbrev pub StationRuns : Paint → LinesDo (StationLine Q) StationAndAhead
+  StationRuns paint NoLine from came to = (to ≡ from) × (came.outcome ≡ Ok Nothing) × (came.text ≡ [])
+  StationRuns paint (Press keys) from came to = KeysRun for_keys keys from.0 came to.0 × (to.1 ≡ 0)
+  StationRuns paint (Stroke stroke) from came to = StrokeRuns for_keys
+      (stroke_keys display.words (display.does.shown from.0.end.screen) stroke) from.0 came to.0 × (to.1 ≡ 0)
+  StationRuns paint (Await awaited) from came to = (waited : Waited)
+      × IsWaited for_waits display.operated awaited from waited to.0
+      × (came.outcome ≡ waited_outcome waited) × (came.text ≡ waited_text waited) × (to.1 ≡ 0)
+  StationRuns paint Fields from came to =
+      ShowsStation for_waits (λ station. AreFieldLines (display.does.shown station.screen)) from came to
+  StationRuns paint Show from came to =
+      ShowsStation for_waits (λ station. IsDisplayText paint (display.does.shown station.screen)
+      (display.operated.behind station.screen)) from came to
+  StationRuns paint (Report report) from came to = Reports for_waits report from came to
+  StationRuns paint (Bad cause) from came to = (to ≡ from) × (came.outcome ≡ bad_outcome)
+      × (came.text ≡ bad_text (string_bytes cause))
+
+  -- what lines do at a station with screens in a paint, at a watch that keeps its waits so
+  abbrev pub StationRunsInTime : {W : Type 0} → WatchTimes W S → Paint → LinesDo (StationLine Q) (StationAndAhead × W)
+  StationRunsInTime times paint = InTime (StationRuns paint) station_waits times

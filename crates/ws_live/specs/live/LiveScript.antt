@@ -2,7 +2,8 @@
 -- for.
 
 use Rattle.std.specs.Prelude.{◌≡◌, ℕ, ◌+◌, ◌-◌, ◌^◌, ◌≤◌, List, [], ◌∷◌, ◌++◌, ◌⊎◌, length, min, Bool, true, false}
-use Rattle.std.specs.Prelude.{◌==◌, ◌&&◌}
+use Rattle.std.specs.Prelude.{◌==◌, ◌&&◌, String}
+use Rattle.std.specs.Global.{Global}
 use Rattle.std.specs.Str.Lines.{lines}
 use Rattle.ws_live.specs.declared.script.ScriptFault.{ScriptFault}
 use Rattle.ws_live.specs.declared.script.ScriptFault.TheVariants.{Line, Memory}
@@ -23,87 +24,113 @@ abbrev pub BeginsFlush : List (List ℕ) → Type 0
 BeginsFlush [] = Unit {0}
 BeginsFlush (line ∷ more) = is_indented line ≡ false
 
+-- a text that is cut in two: the front, of so many lines, and what is behind it
+pub record TextCut : Type 0 where
+  pub inside : List ℕ
+  pub count : ℕ
+  pub behind : List ℕ
+
+-- this front, of so many lines, and this behind it
+abbrev pub text_cut : List ℕ → ℕ → List ℕ → TextCut
+text_cut inside count behind = record { inside = inside; count = count; behind = behind }
+
 -- the front of a text whose lines begin with two blanks, the number of these, and what is behind it, of which the first
 -- line doesn't
-pub record HasInside (text inside : List ℕ) (count : ℕ) (behind : List ℕ) : Type 0 where
-  pub cut : text ≡ inside ++ behind
-  pub split : lines text ≡ lines inside ++ lines behind
-  pub indented : AreIndented (lines inside)
-  pub whole : BeginsFlush (lines behind)
-  pub counted : count ≡ length (lines inside)
-  pub few : count + length behind ≤ length text
+pub record HasInside (text : List ℕ) (cut : TextCut) : Type 0 where
+  pub whole : text ≡ cut.inside ++ cut.behind
+  pub split : lines text ≡ lines cut.inside ++ lines cut.behind
+  pub indented : AreIndented (lines cut.inside)
+  pub flush : BeginsFlush (lines cut.behind)
+  pub counted : cut.count ≡ length (lines cut.inside)
+  pub few : cut.count + length cut.behind ≤ length text
 
-module _ (opener : List ℕ → Type 0) where
+-- the lines of a kind of script
+pub record LineLanguage (L : Type 0) : Type 1 where
+  -- a line, and those that belong to it, mean this
+  pub means : List ℕ → List (List ℕ) → L → Type 0
+  -- a line is good up to what takes memory
+  pub begins : List ℕ → Type 0
+  -- lines may belong to a line like this
+  pub opener : List ℕ → Type 0
+  -- a line that means nothing with those that belong to it is bad here, counted from 1 for itself
+  pub bad_at : List ℕ → List (List ℕ) → ℕ → Type 0
+  -- what stands for a line that is bad for this cause
+  pub bad_line : String Global → L
+
+module _ {L : Type 0} (language : LineLanguage L) where
   -- a line, those that belong to it, which stand behind one that lines may belong to, and those behind them
   pub record IsBlock (line : List ℕ) (inside after : List (List ℕ)) : Type 0 where
     pub indented : AreIndented inside
-    pub opened : (inside ≡ []) ⊎ opener line
-    pub whole : opener line → BeginsFlush after
+    pub opened : (inside ≡ []) ⊎ language.opener line
+    pub whole : language.opener line → BeginsFlush after
 
   -- of a line and the text behind it: the front of that text whose lines belong to the line, the number of these, and
   -- what is behind them
-  pub record HasBlock (line text inside : List ℕ) (count : ℕ) (behind : List ℕ) : Type 0 where
-    pub cut : text ≡ inside ++ behind
-    pub split : lines text ≡ lines inside ++ lines behind
-    pub block : IsBlock line (lines inside) (lines behind)
-    pub counted : count ≡ length (lines inside)
-    pub few : count + length behind ≤ length text
+  pub record HasBlock (line text : List ℕ) (cut : TextCut) : Type 0 where
+    pub whole : text ≡ cut.inside ++ cut.behind
+    pub split : lines text ≡ lines cut.inside ++ lines cut.behind
+    pub block : IsBlock line (lines cut.inside) (lines cut.behind)
+    pub counted : cut.count ≡ length (lines cut.inside)
+    pub few : cut.count + length cut.behind ≤ length text
 
-module _ {L : Type 0} (means : List ℕ → List (List ℕ) → L → Type 0) (opener : List ℕ → Type 0) where
   -- each of the first lines means one of these, in order, with those that belong to it, and the rest is behind them
   abbrev pub MeanThese : List (List ℕ) → List L → List (List ℕ) → Type 0
   MeanThese all [] rest = all ≡ rest
   MeanThese all (first ∷ read) rest = (line : List ℕ) × (inside : List (List ℕ)) × (after : List (List ℕ))
-      × (all ≡ line ∷ (inside ++ after)) × IsBlock opener line inside after × means line inside first
+      × (all ≡ line ∷ (inside ++ after)) × IsBlock line inside after × language.means line inside first
       × MeanThese after read rest
 
   -- the lines of a text mean these, in order, each with those behind two blanks that belong to it
   abbrev pub AreLiveLines : List ℕ → List L → Type 0
   AreLiveLines text read = MeanThese (lines text) read []
 
-  module _ (bad_at : List ℕ → List (List ℕ) → ℕ → Type 0) where
-    -- the first bad line of a script, counted from 1 as far as 64 bits count: it is one, or belongs to one, that means
-    -- nothing
-    pub record IsFirstBadLiveLine (text : List ℕ) (number : ℕ) : Type 0 where
-      pub before : List (List ℕ)
-      pub line : List ℕ
-      pub inside : List (List ℕ)
-      pub after : List (List ℕ)
-      pub split : lines text ≡ before ++ (line ∷ (inside ++ after))
-      pub read : List L
-      pub good : MeanThese (lines text) read (line ∷ (inside ++ after))
-      pub block : IsBlock opener line inside after
-      pub bad : (x : L) → means line inside x → ⊥
-      pub at : ℕ
-      pub place : bad_at line inside at
-      pub counted : number ≡ min (length before + at) (2 ^ 64 - 1)
+  -- a line with those that belong to it means nothing
+  abbrev pub IsMeaningless : List ℕ → List (List ℕ) → Type 0
+  IsMeaningless line inside = (read : L) → language.means line inside read → ⊥
 
-module _ {L : Type 0} (means : List ℕ → List (List ℕ) → L → Type 0) (begins : List ℕ → Type 0) where
+  -- a line with those that belong to it means nothing, and this one is bad, counted from 1
+  abbrev pub IsBadBlock : List ℕ → List (List ℕ) → ℕ → Type 0
+  IsBadBlock line inside at = IsMeaningless line inside × language.bad_at line inside at
+
+  -- the first bad line of a script, counted from 1 as far as 64 bits count: it is one, or belongs to one, that means
+  -- nothing
+  pub record IsFirstBadLiveLine (text : List ℕ) (number : ℕ) : Type 0 where
+    pub before : List (List ℕ)
+    pub line : List ℕ
+    pub inside : List (List ℕ)
+    pub after : List (List ℕ)
+    pub split : lines text ≡ before ++ (line ∷ (inside ++ after))
+    pub read : List L
+    pub good : MeanThese (lines text) read (line ∷ (inside ++ after))
+    pub block : IsBlock line inside after
+    pub at : ℕ
+    pub bad : IsBadBlock line inside at
+    pub counted : number ≡ min (length before + at) (2 ^ 64 - 1)
+
   -- as far as it was read, a line is good: it is a whole one with those that belong to it; or none belongs to it, and
   -- it is one up to what takes memory
   abbrev pub IsGoodBlockSoFar : List ℕ → List (List ℕ) → Type 0
-  IsGoodBlockSoFar line inside = ((read : L) × means line inside read) ⊎ ((inside ≡ []) × begins line)
+  IsGoodBlockSoFar line inside = ((read : L) × language.means line inside read)
+      ⊎ ((inside ≡ []) × language.begins line)
 
   -- why a line isn't read: with those that belong to it it means nothing, and this one is bad, counted from 1; or it is
   -- good as far as it was read, and a growth was refused
-  abbrev pub IsBlockFault : (List ℕ → List (List ℕ) → ℕ → Type 0) → List ℕ → List (List ℕ) → ScriptFault → Type 0
-  IsBlockFault bad_at line inside (Line at) = ((read : L) → means line inside read → ⊥) × bad_at line inside at
-  IsBlockFault bad_at line inside Memory = IsGoodBlockSoFar line inside
+  abbrev pub IsBlockFault : List ℕ → List (List ℕ) → ScriptFault → Type 0
+  IsBlockFault line inside (Line at) = IsBadBlock line inside at
+  IsBlockFault line inside Memory = IsGoodBlockSoFar line inside
 
-  module _ (opener : List ℕ → Type 0) where
-    -- as far as it was read, a script is good: behind good lines stands one that is good so far, with all that belong
-    -- to it
-    pub record IsLiveScriptSoFar (text : List ℕ) : Type 0 where
-      pub line : List ℕ
-      pub inside : List (List ℕ)
-      pub after : List (List ℕ)
-      pub read : List L
-      pub good : MeanThese means opener (lines text) read (line ∷ (inside ++ after))
-      pub block : IsBlock opener line inside after
-      pub so_far : IsGoodBlockSoFar line inside
+  -- as far as it was read, a script is good: behind good lines stands one that is good so far, with all that belong to
+  -- it
+  pub record IsLiveScriptSoFar (text : List ℕ) : Type 0 where
+    pub line : List ℕ
+    pub inside : List (List ℕ)
+    pub after : List (List ℕ)
+    pub read : List L
+    pub good : MeanThese (lines text) read (line ∷ (inside ++ after))
+    pub block : IsBlock line inside after
+    pub so_far : IsGoodBlockSoFar line inside
 
-module _ {L : Type 0} (means : List ℕ → List (List ℕ) → L → Type 0) (opener begins : List ℕ → Type 0) where
   -- why a script isn't read: its first bad line, or it is good as far as it was read, and a growth was refused
-  abbrev pub IsReadingFault : (List ℕ → List (List ℕ) → ℕ → Type 0) → List ℕ → ScriptFault → Type 0
-  IsReadingFault bad_at text (Line number) = IsFirstBadLiveLine means opener bad_at text number
-  IsReadingFault bad_at text Memory = IsLiveScriptSoFar means begins opener text
+  abbrev pub IsReadingFault : List ℕ → ScriptFault → Type 0
+  IsReadingFault text (Line number) = IsFirstBadLiveLine text number
+  IsReadingFault text Memory = IsLiveScriptSoFar text

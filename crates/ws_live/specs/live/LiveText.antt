@@ -1,6 +1,7 @@
 -- What a live session prints, by its lines. What a line does at an end stands in ConnectText and ServeText.
 
-use Rattle.std.specs.Prelude.{◌≡◌, ℕ, List, [], ◌∷◌, ◌++◌, ◌⊎◌, Bool, true, false, ◌&&◌, Result, Ok, Err, codes}
+use Rattle.std.specs.Prelude.{◌≡◌, ℕ, List, [], ◌∷◌, ◌++◌, ◌⊎◌, Bool, true, false, ◌&&◌, codes}
+use Rattle.std.specs.Prelude.{Result, Ok, Err, MatchResult}
 use Rattle.ws_code.specs.declared.fault.Fault.{Fault}
 use Rattle.ws_code.specs.declared.fault.Fault.TheVariants.{Write}
 use Rattle.ws_text.specs.Printed.{Printing}
@@ -62,73 +63,92 @@ bad_text cause = codes "bad line: " ++ cause ++ codes "\n"
 abbrev pub bad_outcome : Result Closing Fault
 bad_outcome = Ok Declined
 
--- What lines do: by each it leads from there to there, closes in this way or is ended by a fault, and prints this.
+-- what a line came to: how it closed, or the fault that ended it, and what it printed
+pub record LineResult : Type 0 where
+  pub outcome : Result Closing Fault
+  pub text : List ℕ
+
+-- this outcome, and this text
+abbrev pub line_result : Result Closing Fault → List ℕ → LineResult
+line_result outcome text = record { outcome = outcome; text = text }
+
+-- an account of what was carried out: whether all went well, and all that was printed
+pub record Account : Type 0 where
+  pub all_well : Bool
+  pub text : List ℕ
+
+-- so well, and this text
+abbrev pub account : Bool → List ℕ → Account
+account all_well text = record { all_well = all_well; text = text }
+
+-- what lines do: each leads from there to there, and comes to this
 abbrev pub LinesDo : Type 0 → Type 0 → Type 1
-LinesDo L P = L → P → Result Closing Fault → List ℕ → P → Type 0
+LinesDo L P = L → P → LineResult → P → Type 0
 
 -- where a sink fails within what is printed: within what comes to a fault it is that fault, else a write that failed
-abbrev pub IsCutIn : {A : Type 0} → (Result A Fault → List ℕ → Type 0) → List ℕ → Fault → Type 0
-IsCutIn {A} Comes text fault = ((fault ≡ Write) × ((made : A) × Comes (Ok made) text)) ⊎ Comes (Err fault) text
+abbrev pub IsCutIn : (LineResult → Type 0) → List ℕ → Fault → Type 0
+IsCutIn Comes text fault = ((fault ≡ Write) × ((closing : Closing) × Comes (line_result (Ok closing) text)))
+    ⊎ Comes (line_result (Err fault) text)
 
--- what a line prints with what ends its output, where it closed
+-- with what ends its output, where a line closed: it prints what is such a text before that
+abbrev pub IsClosedText : (List ℕ → Type 0) → Bool → Result Closing Fault → List ℕ → Type 0
+IsClosedText IsText ready (Ok closing) text = (told : List ℕ) × IsText told × (text ≡ told
+    ++ closing_text ready closing)
+IsClosedText IsText ready (Err fault) text = IsText text
+
+-- what lines do with what ends their output
 abbrev pub WithClosing : {L P : Type 0} → LinesDo L P → Bool → LinesDo L P
-WithClosing runs ready line from (Ok closing) text to = (told : List ℕ) × runs line from (Ok closing) told to
-    × (text ≡ told ++ closing_text ready closing)
-WithClosing runs ready line from (Err fault) text to = runs line from (Err fault) text to
+WithClosing runs ready line from came to =
+    IsClosedText (λ text. runs line from (line_result came.outcome text) to) ready came.outcome came.text
 
 -- what a line comes to, and all that it prints
 module _ {L P : Type 0} (runs : LinesDo L P) where
   -- what is printed by a line: its text, within which a sink may fail
   abbrev pub line_printing : P → L → P → Printing Closing Fault
   line_printing from line to = record {
-    Ends = λ text outcome. runs line from outcome text to;
-    Cut = IsCutIn (λ outcome text. runs line from outcome text to);
+    Ends = λ text outcome. runs line from (line_result outcome text) to;
+    Cut = IsCutIn (λ came. runs line from came to);
   }
 
-  -- the lines were carried out one after another, none stopped the session, and they printed this
-  abbrev pub HaveRun : P → List L → Bool → List ℕ → P → Type 0
-  HaveRun from [] well text to = (to ≡ from) × (well ≡ true) × (text ≡ [])
-  HaveRun from (line ∷ more) well text to = (closing : Closing) × (first : List ℕ) × (mid : P) × (rest_well : Bool)
-      × (rest : List ℕ) × runs line from (Ok closing) first mid × (stops closing ≡ false)
-      × HaveRun mid more rest_well rest to × (well ≡ is_well closing && rest_well) × (text ≡ first ++ rest)
+  -- the lines were carried out one after another, none stopped the session, and this is the account of them
+  abbrev pub HaveRun : P → List L → Account → P → Type 0
+  HaveRun from [] came to = (to ≡ from) × (came.all_well ≡ true) × (came.text ≡ [])
+  HaveRun from (line ∷ more) came to = (closing : Closing) × (first : List ℕ) × (mid : P) × (rest : Account)
+      × runs line from (line_result (Ok closing) first) mid × (stops closing ≡ false) × HaveRun mid more rest to
+      × (came.all_well ≡ is_well closing && rest.all_well) × (came.text ≡ first ++ rest.text)
 
   -- lines were carried out, the next came to this, and all of them printed this
-  pub record IsStoppedAt (from : P) (lines : List L) (outcome : Result Closing Fault) (text : List ℕ)
-      (to : P) : Type 0 where
+  pub record IsStoppedAt (from : P) (lines : List L) (came : LineResult) (to : P) : Type 0 where
     pub before : List L
     pub line : L
     pub after : List L
     pub split : lines ≡ before ++ line ∷ after
-    pub well : Bool
-    pub printed : List ℕ
+    pub so_far : Account
     pub mid : P
-    pub ran : HaveRun from before well printed mid
+    pub ran : HaveRun from before so_far mid
     pub last : List ℕ
-    pub stopped : runs line mid outcome last to
-    pub all : text ≡ printed ++ last
+    pub stopped : runs line mid (line_result came.outcome last) to
+    pub all : came.text ≡ so_far.text ++ last
 
-  -- lines were carried out, and the next stopped the session: what they came to, and what all of them printed
-  pub record IsOverAt (from : P) (lines : List L) (ran : Ran) (text : List ℕ) (to : P) : Type 0 where
+  -- lines were carried out, and the next stopped the session: this is the account of them all
+  pub record IsOverAt (from : P) (lines : List L) (came : Account) (to : P) : Type 0 where
     pub closing : Closing
-    pub at : IsStoppedAt from lines (Ok closing) text to
+    pub at : IsStoppedAt from lines (line_result (Ok closing) came.text) to
     pub over : stops closing ≡ true
-    pub came : ran ≡ record { all_well = at.well && is_well closing; is_over = true }
+    pub well : came.all_well ≡ at.so_far.all_well && is_well closing
 
-  -- what lines came to, and what they printed: all of them were carried out, or those up to the first that stopped the
-  -- session
-  abbrev pub IsLiveText : P → List L → Ran → List ℕ → P → Type 0
-  IsLiveText from lines ran text to = (HaveRun from lines ran.all_well text to × (ran.is_over ≡ false))
-      ⊎ IsOverAt from lines ran text to
-
-  -- what lines printed, and how they ended: as they came to, or at one that a fault ended
-  abbrev pub LinesEnd : P → List L → P → List ℕ → Result Ran Fault → Type 0
-  LinesEnd from lines to text (Ok ran) = IsLiveText from lines ran text to
-  LinesEnd from lines to text (Err fault) = IsStoppedAt from lines (Err fault) text to
+  -- lines were carried out, and this is the account of them: all of them, or those up to the first that stopped the
+  -- session, which is over then
+  abbrev pub IsLiveText : P → List L → Bool → Account → P → Type 0
+  IsLiveText from lines is_over came to = (HaveRun from lines came to × (is_over ≡ false))
+      ⊎ (IsOverAt from lines came to × (is_over ≡ true))
 
   -- what is printed by lines that are carried out one after another, up to the first that stops the session: a sink
   -- may fail within the text of those so far
   abbrev pub lines_printing : P → List L → P → Printing Ran Fault
   lines_printing from lines to = record {
-    Ends = LinesEnd from lines to;
-    Cut = IsCutIn (λ outcome text. IsStoppedAt from lines outcome text to);
+    Ends = λ text outcome. MatchResult outcome
+        (λ ran. IsLiveText from lines ran.is_over (account ran.all_well text) to)
+        (λ why. IsStoppedAt from lines (line_result (Err why) text) to);
+    Cut = IsCutIn (λ came. IsStoppedAt from lines came to);
   }

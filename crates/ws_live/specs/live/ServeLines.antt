@@ -11,6 +11,7 @@ use Rattle.ws_text.specs.ElementWords.{element_wording}
 use Rattle.ws_text.specs.BodyLines.{AddUnits, IsAddFault, new_record}
 use Rattle.ws_text.specs.declared.items.TextFault.TheVariants as items
 use Rattle.ws_live.specs.live.ConnectLines.{IsNothing}
+use Rattle.ws_live.specs.live.LiveScript.{LineLanguage}
 use Rattle.ws_live.specs.script.KeyNames.{aid_named}
 use Rattle.ws_live.specs.script.Script.{IsSendOpcode, IsRecordText}
 use Rattle.ws_live.specs.script.ScriptFaults.{IsSendLine}
@@ -36,7 +37,8 @@ MeansHostLine line (Give (Send opcode body)) = (words : List ℕ) × (line ≡ c
     × IsRecordText words opcode body
 MeansHostLine line (Give Cancel) = line ≡ codes "cancel"
 MeansHostLine line Await = line ≡ codes "await"
-MeansHostLine line (AwaitAnswer awaited) = (words : List ℕ) × (line ≡ codes "await " ++ words) × IsAnswerAwaited words awaited
+MeansHostLine line (AwaitAnswer awaited) = (words : List ℕ) × (line ≡ codes "await " ++ words)
+    × IsAnswerAwaited words awaited
 MeansHostLine line Show = line ≡ codes "show"
 MeansHostLine line (Wire wire) = MeansWire line wire
 MeansHostLine line (Bad cause) = ⊥
@@ -87,3 +89,13 @@ AreBadAt opcode elements at = (number : ℕ)
 abbrev pub IsBadHostLineAt : List ℕ → List (List ℕ) → ℕ → Type 0
 IsBadHostLineAt line elements at = ((at ≡ 1) × ((elements ≡ []) ⊎ (OpensHostBlock line → ⊥)))
     ⊎ ((number : List ℕ) × (opcode : Opcode) × SendsAlone line number opcode × AreBadAt opcode elements at)
+
+-- the lines of such scripts
+abbrev pub host_language : LineLanguage HostLine
+host_language = record {
+  means = IsHostLine;
+  begins = BeginsHostLine;
+  opener = OpensHostBlock;
+  bad_at = IsBadHostLineAt;
+  bad_line = λ cause. Bad cause;
+}

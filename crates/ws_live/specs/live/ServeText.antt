@@ -1,9 +1,8 @@
 -- What a line of a script for a host does there, and what it prints, by what the host end is told.
 
 use Rattle.std.specs.Prelude.{◌≡◌, ℕ, List, [], ◌∷◌, ◌++◌, ◌⊎◌, Bool, true, false, Option, None, Some}
-use Rattle.std.specs.Prelude.{IfSome, IfNone, ◌==◌, length, string_bytes}
+use Rattle.std.specs.Prelude.{IfSome, IfNone, ◌==◌, length, string_bytes, Result, Ok, Err}
 use Rattle.std.specs.List.{flat_map}
-use Rattle.std.specs.Prelude.{Result, Ok, Err}
 use Rattle.ws_code.specs.Device.{most_reads, Devices}
 use Rattle.ws_code.specs.declared.fault.Fault.{Fault}
 use Rattle.ws_code.specs.declared.fault.Fault.TheVariants as fault
@@ -20,8 +19,8 @@ use Rattle.ws_session.specs.declared.host_end.host_event.HostEvent.{HostEvent}
 use Rattle.ws_session.specs.declared.host_end.host_event.HostEvent.TheVariants.{Answer}
 use Rattle.ws_session.specs.declared.host_end.send_fault.SendFault.{SendFault}
 use Rattle.ws_session.specs.declared.world.Event.TheVariants.{SendRefused, HostRefused}
-use Rattle.ws_live.specs.live.LiveText.{bad_outcome, bad_text}
-use Rattle.ws_live.specs.live.Waits.{InTime}
+use Rattle.ws_live.specs.live.LiveText.{LineResult, LinesDo, bad_outcome, bad_text, line_result}
+use Rattle.ws_live.specs.live.Waits.{InTime, WatchTimes, WatchedDevices}
 use Rattle.ws_live.specs.printing.PlayLines.{event_text}
 use Rattle.ws_live.specs.printing.ToldLines.{told_text}
 use Rattle.ws_live.specs.printing.ScreenLines.{IsScreenText}
@@ -90,10 +89,6 @@ module _ {S K : Type 0} (devices : Devices S K) where
   abbrev pub AttachedHost : Type 0
   AttachedHost = AttachedParts HostParts S K
 
-  -- the same with the number of records that are ahead, which no line of a host takes
-  abbrev pub HostAndAhead : Type 0
-  HostAndAhead = AttachedHost × ℕ
-
   -- the host end did this: it was written, or refused, and nothing is changed; no byte was read or taken
   pub record IsDone (order : Order) (from : AttachedHost) (refused : Option SendFault)
       (to : AttachedHost) : Type 0 where
@@ -117,62 +112,66 @@ module _ {S K : Type 0} (devices : Devices S K) where
       × HasHeard host_conduct devices from mid (Some event)
       × (is_awaited awaited event ≡ false) × HaveToldBeforeAnswer awaited mid more to
 
-  -- What a wait comes to, at a watch that tells of a source whether the read that failed was late.
-  module _ (tells : S → Bool → Type 0) where
-    -- the host end heard the station, and tells nothing more: the station closed, or a fault came
-    abbrev pub HostHearsNone : AttachedHost → Result Closing Fault → List ℕ → AttachedHost → Type 0
-    HostHearsNone from outcome text to =
-        (HasHeard host_conduct devices from to None
-        × (outcome ≡ Ok Ended) × (text ≡ []))
-        ⊎ ((why : Fault) × (late : Bool)
-        × IsHearFault host_conduct devices from to why × (why ≡ fault.Read → tells to.source late)
-        × (outcome ≡ unheard_outcome late why) × (text ≡ unheard_text why))
+-- What a wait comes to, at a watch that tells of a source whether the read that failed was late.
+module _ {S K : Type 0} (on : WatchedDevices S K) where
+  -- such a host end
+  abbrev pub WatchedHost : Type 0
+  WatchedHost = AttachedHost on.devices
 
-    -- the host end heard the station up to the first thing that it tells, which is printed, or none came
-    abbrev pub HostHearsOne : AttachedHost → Result Closing Fault → List ℕ → AttachedHost → Type 0
-    HostHearsOne from outcome text to =
-        ((event : HostEvent) × HasHeard host_conduct devices from to (Some event)
-        × (outcome ≡ Ok Done) × (text ≡ told_text event))
-        ⊎ HostHearsNone from outcome text to
+  -- the same with the number of records that are ahead, which no line of a host takes
+  abbrev pub HostAndAhead : Type 0
+  HostAndAhead = WatchedHost × ℕ
 
-    -- Waits for this answer.
-    module _ (awaited : AnswerAwaited) where
-      -- behind so many things the answer is told; or none more is; or as many were told as one wait takes
-      abbrev pub AnswerComes : ℕ → AttachedHost → Result Closing Fault → List ℕ → AttachedHost → Type 0
-      AnswerComes told from outcome text to =
-          ((event : HostEvent) × HasHeard host_conduct devices from to (Some event)
-          × (is_awaited awaited event ≡ true) × (outcome ≡ Ok Done) × (text ≡ told_text event))
-          ⊎ (HostHearsNone from outcome text to
-          ⊎ ((told ≡ most_reads) × (to ≡ from) × (outcome ≡ Err fault.Read) × (text ≡ [])))
+  -- the host end heard the station, and tells nothing more: the station closed, or a fault came
+  abbrev pub HostHearsNone : WatchedHost → LineResult → WatchedHost → Type 0
+  HostHearsNone from came to =
+      (HasHeard host_conduct on.devices from to None × (came.outcome ≡ Ok Ended) × (came.text ≡ []))
+      ⊎ ((why : Fault) × (late : Bool)
+      × IsHearFault host_conduct on.devices from to why × (why ≡ fault.Read → on.tells.is_late to.source late)
+      × (came.outcome ≡ unheard_outcome late why) × (came.text ≡ unheard_text why))
 
-      -- the host end heard the station up to the answer, and printed all that it told
-      pub record HearsAnswer (from : AttachedHost) (outcome : Result Closing Fault) (text : List ℕ)
-          (to : AttachedHost) : Type 0 where
-        pub told : List HostEvent
-        pub mid : AttachedHost
-        pub before : HaveToldBeforeAnswer awaited from told mid
-        pub last : List ℕ
-        pub came : AnswerComes (length told) mid outcome last to
-        pub all : text ≡ flat_map told_text told ++ last
+  -- the host end heard the station up to the first thing that it tells, which is printed, or none came
+  abbrev pub HostHearsOne : WatchedHost → LineResult → WatchedHost → Type 0
+  HostHearsOne from came to =
+      ((event : HostEvent) × HasHeard host_conduct on.devices from to (Some event)
+      × (came.outcome ≡ Ok Done) × (came.text ≡ told_text event))
+      ⊎ HostHearsNone from came to
 
-    -- what a line does at a host end, how it closed, and what it printed
-    abbrev pub HostDoes : HostLine → AttachedHost → Result Closing Fault → List ℕ → AttachedHost → Type 0
-    HostDoes NoLine from outcome text to = (to ≡ from) × (outcome ≡ Ok Nothing) × (text ≡ [])
-    HostDoes (Give order) from outcome text to = (given : Result (Option SendFault) Fault) × IsGiven order from given to
-        × (outcome ≡ given_outcome given) × (text ≡ given_text given)
-    HostDoes Await from outcome text to = HostHearsOne from outcome text to
-    HostDoes (AwaitAnswer awaited) from outcome text to = HearsAnswer awaited from outcome text to
-    HostDoes Show from outcome text to = (to ≡ from) × (outcome ≡ Ok Done) × IsScreenText Plain from.end.screen text
-    HostDoes (Wire line) from outcome text to = WireRuns devices.writer line from outcome to × (text ≡ [])
-    HostDoes (Bad cause) from outcome text to = (to ≡ from) × (outcome ≡ bad_outcome)
-        × (text ≡ bad_text (string_bytes cause))
+  -- the answer that is awaited is told, and printed
+  abbrev pub AnswerComes : AnswerAwaited → WatchedHost → LineResult → WatchedHost → Type 0
+  AnswerComes awaited from came to = (event : HostEvent) × HasHeard host_conduct on.devices from to (Some event)
+      × (is_awaited awaited event ≡ true) × (came.outcome ≡ Ok Done) × (came.text ≡ told_text event)
 
-    -- a line at it, how it closed, and what it printed
-    abbrev pub HostRuns : HostLine → HostAndAhead → Result Closing Fault → List ℕ → HostAndAhead → Type 0
-    HostRuns line from outcome text to = HostDoes line from.0 outcome text to.0 × (to.1 ≡ from.1)
+  -- The host end heard the station up to the answer, and printed all that it told: behind some things the answer came;
+  -- or none more did; or as many were told as one wait takes.
+  pub record HearsAnswer (awaited : AnswerAwaited) (from : WatchedHost) (came : LineResult)
+      (to : WatchedHost) : Type 0 where
+    pub told : List HostEvent
+    pub mid : WatchedHost
+    pub before : HaveToldBeforeAnswer on.devices awaited from told mid
+    pub last : List ℕ
+    pub ends : AnswerComes awaited mid (line_result came.outcome last) to
+        ⊎ (HostHearsNone mid (line_result came.outcome last) to
+        ⊎ ((length told ≡ most_reads) × (to ≡ mid) × (came.outcome ≡ Err fault.Read) × (last ≡ [])))
+    pub all : came.text ≡ flat_map told_text told ++ last
 
-    module _ {W : Type 0} (begins : W → S → WaitSpan → W → Type 0) (begun : W → ℕ) where
-      -- a line at a host and a watch, how it closed, and what it printed
-      abbrev pub HostRunsInTime : HostLine → (HostAndAhead × W) → Result Closing Fault → List ℕ → (HostAndAhead × W)
-          → Type 0
-      HostRunsInTime = InTime HostRuns host_waits begins begun
+  -- what a line comes to at a host end
+  abbrev pub HostDoes : LinesDo HostLine WatchedHost
+  HostDoes NoLine from came to = (to ≡ from) × (came.outcome ≡ Ok Nothing) × (came.text ≡ [])
+  HostDoes (Give order) from came to = (given : Result (Option SendFault) Fault)
+      × IsGiven on.devices order from given to × (came.outcome ≡ given_outcome given) × (came.text ≡ given_text given)
+  HostDoes Await from came to = HostHearsOne from came to
+  HostDoes (AwaitAnswer awaited) from came to = HearsAnswer awaited from came to
+  HostDoes Show from came to = (to ≡ from) × (came.outcome ≡ Ok Done)
+      × IsScreenText Plain from.end.screen came.text
+  HostDoes (Wire line) from came to = WireRuns on.devices.writer line from came.outcome to × (came.text ≡ [])
+  HostDoes (Bad cause) from came to = (to ≡ from) × (came.outcome ≡ bad_outcome)
+      × (came.text ≡ bad_text (string_bytes cause))
+
+  -- what a line comes to at it, which leaves the records ahead
+  abbrev pub HostRuns : LinesDo HostLine HostAndAhead
+  HostRuns line from came to = HostDoes line from.0 came to.0 × (to.1 ≡ from.1)
+
+  -- what lines do at a host, at a watch that keeps its waits so
+  abbrev pub HostRunsInTime : {W : Type 0} → WatchTimes W S → LinesDo HostLine (HostAndAhead × W)
+  HostRunsInTime times = InTime HostRuns host_waits times

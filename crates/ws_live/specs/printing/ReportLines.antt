@@ -6,9 +6,12 @@ use Rattle.std.specs.Prelude.{if◌then◌else◌, slice_range}
 use Rattle.std.specs.Fmt.{decimal}
 use Rattle.hex.specs.Hex.{encode_upper}
 use Rattle.ws_code.specs.declared.address.TheConstants.{CELLS, COLUMNS}
+use Rattle.ws_nego.specs.Station.{station_allows_records}
 use Rattle.ws_screen.specs.Lines.{shown_row}
 use Rattle.ws_screen.specs.ScreenParts.{ScreenParts, holds}
 use Rattle.ws_screen.specs.declared.shown.Shown.{Shown}
+use Rattle.ws_session.specs.station.Displays.{DisplayOf}
+use Rattle.ws_session.specs.station.PartsOn.{PartsOn}
 use Rattle.ws_text.specs.ItemLines.{cell_text}
 use Rattle.ws_live.specs.printing.FieldLines.{text_of_cells}
 use Rattle.ws_live.specs.printing.ScreenLines.{IsWithoutLastBlanks, lock_name}
@@ -30,10 +33,28 @@ abbrev pub operator_words : ScreenParts → Bool → List ℕ
 operator_words s ready = codes "status " ++ lock_name s.locked ++ ready_name ready ++ cell_text s.cursor
     ++ field_name (position (λ f. holds f s.cursor) s.fields)
 
+-- what a report can tell of a station: its screen, whether it is ready, how many records it has applied, and how many
+-- bytes it has taken
+pub record ReportedStation : Type 0 where
+  pub screen : ScreenParts
+  pub is_ready : Bool
+  pub records : ℕ
+  pub taken : ℕ
+
+-- this of a station on a display
+abbrev pub reported_station : {D P U H PlaceV V Q R : Type 0} → DisplayOf D U H PlaceV V Q R → PartsOn D P
+    → ReportedStation
+reported_station does station = record {
+  screen = does.shown station.screen;
+  is_ready = station_allows_records station.options;
+  records = station.records;
+  taken = station.live.taken;
+}
+
 -- the same with the number of the records that were applied, and of the bytes that were taken
-abbrev pub status_line : ScreenParts → Bool → ℕ → ℕ → List ℕ
-status_line s ready records taken = operator_words s ready ++ codes " records " ++ decimal records ++ codes " bytes "
-    ++ decimal taken ++ codes "\n"
+abbrev pub status_line : ReportedStation → List ℕ
+status_line station = operator_words station.screen station.is_ready ++ codes " records " ++ decimal station.records
+    ++ codes " bytes " ++ decimal station.taken ++ codes "\n"
 
 -- what the cells of a row hold, which counts from 1
 abbrev pub row_bytes : List ℕ → ℕ → List ℕ
@@ -57,10 +78,9 @@ IsTextLine cells span text = (shown : List ℕ)
 abbrev pub note_line : List ℕ → List ℕ
 note_line note = note ++ codes "\n"
 
--- what a report tells of a station: its screen, whether it is ready, how many records it has applied, and how many bytes
--- it has taken
-abbrev pub IsReportText : ScreenParts → Bool → ℕ → ℕ → Report → List ℕ → Type 0
-IsReportText s ready records taken Status text = text ≡ status_line s ready records taken
-IsReportText s ready records taken (Cells cell) text = text ≡ cells_line s.cells cell
-IsReportText s ready records taken (Text span) text = IsTextLine s.cells span text
-IsReportText s ready records taken (Note note) text = text ≡ note_line note
+-- what a report tells of a station
+abbrev pub IsReportText : ReportedStation → Report → List ℕ → Type 0
+IsReportText station Status text = text ≡ status_line station
+IsReportText station (Cells cell) text = text ≡ cells_line station.screen.cells cell
+IsReportText station (Text span) text = IsTextLine station.screen.cells span text
+IsReportText station (Note note) text = text ≡ note_line note

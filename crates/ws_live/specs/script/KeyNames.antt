@@ -1,7 +1,6 @@
 -- The names of keys in a script.
 
-use Rattle.std.specs.Prelude.{ℕ, List, [], ◌∷◌, Option, Some, None, codes, if◌then◌else◌}
-use Rattle.std.specs.Str.{bytes_eq}
+use Rattle.std.specs.Prelude.{ℕ, List, [], ◌∷◌, Option, Some, None, codes}
 use Rattle.ws_code.specs.Aid.{function_aid}
 pub use Rattle.ws_text.specs.Names.{look_up}
 use Rattle.ws_keys.specs.declared.key.Key.{Key}

@@ -1,9 +1,9 @@
 ghost use Rattle.std.specs.Prelude.{◌≡◌, List, ℕ, Bool, true, false, IfOk};
 ghost use Rattle.ws_session.specs.declared.end_step.Applied.{Applied};
 ghost use Rattle.ws_live.specs.live.ConnectText as Spec;
-ghost use Rattle.ws_live.specs.live.LiveText.{stops};
-ghost use Rattle.ws_live.specs.live.Operating.{live_display};
-ghost use Rattle.ws_live.specs.live.Waits.{HasBegun, HasBegunIf, watch_tells};
+ghost use Rattle.ws_live.specs.live.LiveText.{line_result, stops};
+ghost use Rattle.ws_live.specs.live.Operating.{keyed, live_display, watched};
+ghost use Rattle.ws_live.specs.live.Waits.{HasBegun, HasBegunIf, watched_devices};
 ghost use Rattle.ws_live.specs.declared.live.watch.WaitSpan.TheVariants.{AtOnce};
 ghost use Rattle.ws_text.specs.Printing.{Prints};
 ghost use Rattle.ws_code.specs.Device.{on_devices};
@@ -38,9 +38,9 @@ impl<D: OperatedDisplay, S: Source, K: Sink> LiveMove<StationOn<D>, S, K> for St
 where
     D::Key: NamedKey,
 {
-    ghost runs = { λ tells rests. Spec.StationRuns
+    ghost runs = { λ tells. Spec.StationRuns
         (live_display D.Commands.rules D.does D.operated D.Key.words)
-        (on_devices K.writer S.reader) (watch_tells tells rests) };
+        (watched_devices (on_devices K.writer S.reader) tells) };
 
     ghost waits = { Spec.station_waits };
 
@@ -98,10 +98,11 @@ fn put_what<D: OperatedDisplay, S: Source, K: Sink, W: Watch<S>, O: Sink>(
 ) -> Carried
     requires works { attached.old.broken ≡ false }
     ensures runs { (text : List ℕ)
-        × Spec.Reports D.Commands.rules D.does (on_devices K.writer S.reader) W.tells report.now
-        (attached.old, ahead.old) result.outcome text (attached.new, ahead.new)
+        × Spec.Reports (watched D.Commands.rules D.does (on_devices K.writer S.reader) W.tells)
+        report.now (attached.old, ahead.old) (line_result result.outcome text)
+        (attached.new, ahead.new)
         × Prints O.writer out.old out.new output result.output text }
-    ensures begun { HasBegunIf W.begins W.begun (Spec.report_waits report.now)
+    ensures begun { HasBegunIf W.times (Spec.report_waits report.now)
         attached.old.source watch.old watch.new }
     ensures works { IfOk result.outcome (λ closing.
         stops closing ≡ false → attached.new.broken ≡ false) }
@@ -130,9 +131,8 @@ where
     D::Key: NamedKey,
     requires works { attached.old.broken ≡ false }
     ensures runs { (text : List ℕ)
-        × Spec.KeysRun D.Commands.rules D.does
-        (on_devices K.writer S.reader) D.Key.words keys.now attached.old result.outcome text
-        attached.new
+        × Spec.KeysRun (keyed D.Commands.rules D.does (on_devices K.writer S.reader) D.Key.words)
+        keys.now attached.old (line_result result.outcome text) attached.new
         × Prints O.writer out.old out.new output result.output text }
     ensures works { IfOk result.outcome (λ closing. attached.new.broken ≡ false) }
 {
@@ -173,10 +173,10 @@ fn wait<D: OperatedDisplay, S: Source, K: Sink, W: Watch<S>>(
     awaited: &Awaited,
 ) -> Waited
     requires works { attached.old.broken ≡ false }
-    ensures waited { Spec.IsWaited D.Commands.rules D.does D.operated
-        (on_devices K.writer S.reader) (watch_tells W.tells W.rests)
-        awaited.now (attached.old, ahead) result attached.new }
-    ensures begun { HasBegun W.begins W.begun attached.old.source (Spec.span_of awaited.now)
+    ensures waited { Spec.IsWaited
+        (watched D.Commands.rules D.does (on_devices K.writer S.reader) W.tells)
+        D.operated awaited.now (attached.old, ahead) result attached.new }
+    ensures begun { HasBegun W.times attached.old.source (Spec.span_of awaited.now)
         watch.old watch.new }
     ensures works { Spec.IsWorking result attached.new.broken }
 {
@@ -205,8 +205,9 @@ fn hear_next<D: OperatedDisplay, S: Source, K: Sink, W: Watch<S>>(
     watch: &W,
 ) -> Waited
     requires works { attached.old.broken ≡ false }
-    ensures waited { Spec.WaitsForRecord D.Commands.rules D.does (on_devices K.writer S.reader)
-        W.tells ahead attached.old result attached.new }
+    ensures waited { Spec.WaitsForRecord
+        (watched D.Commands.rules D.does (on_devices K.writer S.reader) W.tells)
+        (attached.old, ahead) result attached.new }
     ensures works { Spec.IsWorking result attached.new.broken }
 {
     if ahead > 0 {
@@ -221,8 +222,8 @@ fn wait_for_quiet<D: OperatedDisplay, S: Source, K: Sink, W: Watch<S>>(
     watch: &W,
 ) -> Waited
     requires works { attached.old.broken ≡ false }
-    ensures waited { Spec.IsQuieted D.Commands.rules D.does (on_devices K.writer S.reader)
-        W.tells W.rests attached.old result attached.new }
+    ensures waited { Spec.IsQuieted (watched D.Commands.rules D.does
+        (on_devices K.writer S.reader) W.tells) attached.old result attached.new }
     ensures works { Spec.IsWorking result attached.new.broken }
 {
     let mut ahead = 0;
@@ -239,10 +240,10 @@ fn take_what_came<D: OperatedDisplay, S: Source, K: Sink, W: Watch<S>>(
 ) -> Waited
     requires works { attached.old.broken ≡ false }
     ensures taken { (told : List Applied) × (ended : Waited)
-        × Spec.AppliesAll D.Commands.rules D.does (on_devices K.writer S.reader)
-        W.tells attached.old told ended attached.new
+        × Spec.AppliesAll (watched D.Commands.rules D.does (on_devices K.writer S.reader) W.tells)
+        attached.old told ended attached.new
         × (ahead.new ≡ Spec.more_ahead ahead.old told) × (result ≡ Spec.rested true ended) }
-    ensures begun { HasBegun W.begins W.begun attached.old.source AtOnce watch.old watch.new }
+    ensures begun { HasBegun W.times attached.old.source AtOnce watch.old watch.new }
     ensures works { Spec.IsWorking result attached.new.broken }
 {
     watch.begin(attached.source(), WaitSpan::AtOnce);
@@ -271,8 +272,8 @@ fn take_all<D: OperatedDisplay, S: Source, K: Sink, W: Watch<S>>(
     watch: &W,
 ) -> Waited
     requires works { attached.old.broken ≡ false }
-    ensures taken { (told : List Applied) × Spec.AppliesAll D.Commands.rules D.does
-        (on_devices K.writer S.reader) W.tells attached.old told result attached.new
+    ensures taken { (told : List Applied) × Spec.AppliesAll (watched D.Commands.rules D.does
+        (on_devices K.writer S.reader) W.tells) attached.old told result attached.new
         × (ahead.new ≡ Spec.more_ahead ahead.old told) }
     ensures works { Spec.IsWorking result attached.new.broken }
 {
@@ -292,8 +293,8 @@ fn wait_for<D: OperatedDisplay, S: Source, K: Sink, W: Watch<S>>(
     awaited: &Awaited,
 ) -> Waited
     requires works { attached.old.broken ≡ false }
-    ensures waited { Spec.WaitsFor D.Commands.rules D.does (on_devices K.writer S.reader)
-        W.tells (Spec.IsMet D.does.shown D.operated awaited.now)
+    ensures waited { Spec.WaitsFor (watched D.Commands.rules D.does
+        (on_devices K.writer S.reader) W.tells) (Spec.IsMet D.does.shown D.operated awaited.now)
         attached.old result attached.new }
     ensures same { watch.new ≡ watch.old }
     ensures works { Spec.IsWorking result attached.new.broken }
@@ -332,8 +333,8 @@ fn hear_record<D: OperatedDisplay, S: Source, K: Sink, W: Watch<S>>(
     watch: &W,
 ) -> Waited
     requires works { attached.old.broken ≡ false }
-    ensures heard { Spec.HearsOne D.Commands.rules D.does (on_devices K.writer S.reader)
-        W.tells attached.old result attached.new }
+    ensures heard { Spec.HearsOne (watched D.Commands.rules D.does (on_devices K.writer S.reader)
+        W.tells) attached.old result attached.new }
     ensures works { Spec.IsWorking result attached.new.broken }
 {
     match attached.hear() {
@@ -346,7 +347,7 @@ fn hear_record<D: OperatedDisplay, S: Source, K: Sink, W: Watch<S>>(
 
 // What becomes of a wait at which a read failed.
 fn unread<S, W: Watch<S>>(watch: &W, source: &S) -> Waited
-    ensures { (late : Bool) × W.tells source.now late × (result ≡ Spec.unread_by late) }
+    ensures { (late : Bool) × W.tells.is_late source.now late × (result ≡ Spec.unread_by late) }
 {
     if watch.is_late(source) {
         Waited::Late

@@ -1,9 +1,8 @@
 ghost use Rattle.std.specs.Prelude.{◌≡◌, ◌≢◌, ◌++◌, [], ◌<◌, ℕ, List as Seq, true, length, codes, string_bytes};
 ghost use Rattle.std.specs.Prelude.{IfOk, IfErr, MatchOption};
 ghost use Rattle.ws_live.specs.live.ConnectLines as Spec;
-ghost use Rattle.ws_live.specs.live.ConnectLines.{BeginsStationLine, IsStationLine, IsStationSoFar};
+ghost use Rattle.ws_live.specs.live.ConnectLines.{IsStationLine, IsStationSoFar, station_language};
 ghost use Rattle.ws_live.specs.script.ScriptFaults.{IsLineFault, IsNoComment, has_no_blank};
-ghost use Rattle.ws_live.specs.declared.live.connect_line.StationLine.TheVariants.{Bad};
 
 use crate::live::live_line::LiveLine;
 use crate::live::report::Report;
@@ -57,15 +56,7 @@ pub enum Awaited {
 }
 
 impl<Q: NamedKey> LiveLine for StationLine<Q> {
-    ghost means = { λ line inside read. (inside ≡ []) × IsStationLine Q.words line read };
-
-    ghost begins = { BeginsStationLine };
-
-    ghost opener = { λ line. ⊥ };
-
-    ghost bad_at = { λ line inside at. at ≡ 1 };
-
-    ghost bad_line = { λ cause. Bad cause };
+    ghost language = { station_language Q.words };
 
     fn opens(_line: &[u8]) -> bool {
         false

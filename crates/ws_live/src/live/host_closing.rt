@@ -46,7 +46,7 @@ pub fn put_unheard<S, W: Watch<S>, O: Sink>(
     output: Output,
     fault: Fault,
 ) -> Carried
-    ensures { (late : Bool) × (fault ≡ Fault.Read → W.tells source.now late)
+    ensures { (late : Bool) × (fault ≡ Fault.Read → W.tells.is_late source.now late)
         × (result.outcome ≡ Spec.unheard_outcome late fault)
         × Prints O.writer out.old out.new output result.output
         (Spec.unheard_text fault) }
@@ -69,7 +69,7 @@ pub fn put_unheard<S, W: Watch<S>, O: Sink>(
 
 // How a wait closes at which a read failed.
 fn unread<S, W: Watch<S>>(watch: &W, source: &S) -> Result<Closing, Fault>
-    ensures { (late : Bool) × W.tells source.now late
+    ensures { (late : Bool) × W.tells.is_late source.now late
         × (result ≡ Spec.unheard_outcome late Fault.Read) }
 {
     if watch.is_late(source) {

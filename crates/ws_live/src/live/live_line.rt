@@ -1,8 +1,8 @@
-ghost use Rattle.std.specs.Prelude.{◌≡◌, true, false, IfOk, IfErr, List, String as AString, ℕ};
-ghost use Rattle.std.specs.declared.alloc.Global.{Global as AGlobal};
+ghost use Rattle.std.specs.Prelude.{◌≡◌, true, false, IfOk, IfErr};
 ghost use Rattle.std.specs.Str.Lines.{lines};
 ghost use Rattle.ws_live.specs.live.LiveScript as Spec;
 ghost use Rattle.ws_live.specs.live.LiveScript.{AreLiveLines, HasBlock, HasInside, IsBlockFault, IsReadingFault};
+ghost use Rattle.ws_live.specs.live.LiveScript.{LineLanguage, text_cut};
 
 use crate::script::ScriptFault;
 use std::alloc::Global;
@@ -12,26 +12,14 @@ use ws_text::first_line;
 ///
 /// Those stand directly behind it, and begin with two blanks.
 pub trait LiveLine: Drop {
-    // A line, and those that belong to it, mean this.
-    ghost means: { List ℕ → List (List ℕ) → Self → Type 0 };
-
-    // A line is good up to what takes memory.
-    ghost begins: { List ℕ → Type 0 };
-
-    // Lines may belong to a line like this.
-    ghost opener: { List ℕ → Type 0 };
-
-    // A line that means nothing with those that belong to it is bad here, counted from 1 for itself.
-    ghost bad_at: { List ℕ → List (List ℕ) → ℕ → Type 0 };
-
-    // What stands for a line that is bad for this cause.
-    ghost bad_line: { AString AGlobal → Self };
+    // What such lines mean, how far they are good, which may belong to others, and where they are bad.
+    ghost language: { LineLanguage Self };
 
     /// Whether lines may belong to this one.
     fn opens(line: &[u8]) -> bool
-        ensures begins { result ≡ true → begins line.now }
-        ensures opener { result ≡ true → opener line.now }
-        ensures other { result ≡ false → opener line.now → ⊥ };
+        ensures begins { result ≡ true → language.begins line.now }
+        ensures opener { result ≡ true → language.opener line.now }
+        ensures other { result ≡ false → language.opener line.now → ⊥ };
 
     /// Reads a line, without its line end, with the text of the lines that belong to it.
     ///
@@ -39,13 +27,12 @@ pub trait LiveLine: Drop {
     /// `Memory` where a growth was refused: the line and those that belong to it are good; or none belongs to it, and
     /// what was read of it is good.
     fn read(alloc: Global, line: &[u8], inside: &[u8]) -> Result<Self, ScriptFault>
-        ensures line { IfOk result (means line.now (lines inside.now)) }
-        ensures fault { IfErr result
-            (IsBlockFault means begins bad_at line.now (lines inside.now)) };
+        ensures line { IfOk result (language.means line.now (lines inside.now)) }
+        ensures fault { IfErr result (IsBlockFault language line.now (lines inside.now)) };
 
     /// What stands for a line that is bad for this cause. No line means it. It is carried out by telling the cause.
     fn bad(cause: String) -> Self
-        ensures { result ≡ bad_line cause };
+        ensures { result ≡ language.bad_line cause };
 }
 
 /// The lines of a script, in order.
@@ -53,8 +40,8 @@ pub trait LiveLine: Drop {
 /// `Line` where a line is bad, with the number of the first one. `Memory` where a growth was refused; what was read of
 /// the text is good.
 pub fn read_lines<L: LiveLine>(alloc: Global, text: &[u8]) -> Result<Vec<L>, ScriptFault>
-    ensures lines { IfOk result (λ read. AreLiveLines L.means L.opener text.now read.items) }
-    ensures fault { IfErr result (IsReadingFault L.means L.opener L.begins L.bad_at text.now) }
+    ensures lines { IfOk result (λ read. AreLiveLines L.language text.now read.items) }
+    ensures fault { IfErr result (IsReadingFault L.language text.now) }
 {
     let mut read = Vec::new(alloc);
     let mut rest = text;
@@ -89,8 +76,8 @@ struct Inside<'a> {
 
 // The lines of a text that belong to the line before it.
 fn inside_of<'a, L: LiveLine>(line: &[u8], text: &'a [u8]) -> Inside<'a>
-    ensures { HasBlock L.opener line.now text.now
-        result.text.now result.count result.behind.now }
+    ensures { HasBlock L.language line.now text.now
+        (text_cut result.text.now result.count result.behind.now) }
 {
     if L::opens(line) {
         return indented_front(text);
@@ -104,7 +91,8 @@ fn inside_of<'a, L: LiveLine>(line: &[u8], text: &'a [u8]) -> Inside<'a>
 
 // The lines at the beginning of a text that begin with two blanks.
 fn indented_front(text: &[u8]) -> Inside<'_>
-    ensures { HasInside text.now result.text.now result.count result.behind.now }
+    ensures { HasInside text.now
+        (text_cut result.text.now result.count result.behind.now) }
 {
     let mut rest = text;
     let mut count = 0u64;

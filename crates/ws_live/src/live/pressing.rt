@@ -2,6 +2,8 @@
 ghost use Rattle.std.specs.Prelude.{◌≡◌, ◌≢◌, List, ℕ, Ok, false, true, IfOk, map, replicate};
 ghost use Rattle.ws_keys.specs.Strokes.{keys_of};
 ghost use Rattle.ws_live.specs.live.ConnectText as Spec;
+ghost use Rattle.ws_live.specs.live.LiveText.{line_result};
+ghost use Rattle.ws_live.specs.live.Operating.{keyed};
 ghost use Rattle.ws_live.specs.live.Stroking.{keys_behind, stroke_keys};
 ghost use Rattle.ws_text.specs.Printing.{Prints};
 ghost use Rattle.ws_code.specs.Device.{on_devices};
@@ -27,8 +29,8 @@ where
     D::Key: NamedKey,
     requires works { attached.old.broken ≡ false }
     ensures runs { (text : List ℕ)
-        × Spec.KeyRuns D.Commands.rules D.does (on_devices K.writer S.reader) D.Key.words key
-        attached.old result.outcome text attached.new
+        × Spec.KeyRuns (keyed D.Commands.rules D.does (on_devices K.writer S.reader) D.Key.words)
+        key attached.old (line_result result.outcome text) attached.new
         × Prints O.writer out.old out.new output result.output text }
     ensures works { IfOk result.outcome (λ closing. attached.new.broken ≡ false) }
 {
@@ -89,9 +91,9 @@ where
     D::Key: NamedKey,
     requires works { attached.old.broken ≡ false }
     ensures runs { (text : List ℕ)
-        × Spec.StrokeRuns D.Commands.rules D.does (on_devices K.writer S.reader) D.Key.words
+        × Spec.StrokeRuns (keyed D.Commands.rules D.does (on_devices K.writer S.reader) D.Key.words)
         (stroke_keys D.Key.words (D.does.shown attached.old.end.screen) stroke.now)
-        attached.old result.outcome text attached.new
+        attached.old (line_result result.outcome text) attached.new
         × Prints O.writer out.old out.new output result.output text }
     ensures works { IfOk result.outcome (λ closing. attached.new.broken ≡ false) }
 {
@@ -119,8 +121,8 @@ where
     D::Key: NamedKey,
     requires works { attached.old.broken ≡ false }
     ensures runs { (text : List ℕ)
-        × Spec.KeysUntil D.Commands.rules D.does (on_devices K.writer S.reader) D.Key.words
-        (keys_behind stroke.now) attached.old result.outcome text attached.new
+        × Spec.KeysUntil (keyed D.Commands.rules D.does (on_devices K.writer S.reader) D.Key.words)
+        (keys_behind stroke.now) attached.old (line_result result.outcome text) attached.new
         × Prints O.writer out.old out.new output result.output text }
     ensures works { IfOk result.outcome (λ closing. attached.new.broken ≡ false) }
 {
@@ -144,8 +146,8 @@ where
     D::Key: NamedKey,
     requires works { attached.old.broken ≡ false }
     ensures runs { (text : List ℕ)
-        × Spec.KeysUntil D.Commands.rules D.does (on_devices K.writer S.reader) D.Key.words
-        keys.now attached.old result.outcome text attached.new
+        × Spec.KeysUntil (keyed D.Commands.rules D.does (on_devices K.writer S.reader) D.Key.words)
+        keys.now attached.old (line_result result.outcome text) attached.new
         × Prints O.writer out.old out.new output result.output text }
     ensures works { IfOk result.outcome (λ closing. attached.new.broken ≡ false) }
 {
@@ -174,8 +176,9 @@ where
     D::Key: NamedKey,
     requires works { attached.old.broken ≡ false }
     ensures runs { (text : List ℕ)
-        × Spec.KeysUntil D.Commands.rules D.does (on_devices K.writer S.reader) D.Key.words
-        (map D.Key.words.profile (keys_of runs.now)) attached.old result.outcome text attached.new
+        × Spec.KeysUntil (keyed D.Commands.rules D.does (on_devices K.writer S.reader) D.Key.words)
+        (map D.Key.words.profile (keys_of runs.now)) attached.old
+        (line_result result.outcome text) attached.new
         × Prints O.writer out.old out.new output result.output text }
     ensures works { IfOk result.outcome (λ closing. attached.new.broken ≡ false) }
 {
@@ -206,8 +209,8 @@ where
     D::Key: NamedKey,
     requires works { attached.old.broken ≡ false }
     ensures runs { (text : List ℕ)
-        × Spec.KeysUntil D.Commands.rules D.does (on_devices K.writer S.reader) D.Key.words
-        (replicate times key) attached.old result.outcome text attached.new
+        × Spec.KeysUntil (keyed D.Commands.rules D.does (on_devices K.writer S.reader) D.Key.words)
+        (replicate times key) attached.old (line_result result.outcome text) attached.new
         × Prints O.writer out.old out.new output result.output text }
     ensures works { IfOk result.outcome (λ closing. attached.new.broken ≡ false) }
 {

@@ -31,7 +31,7 @@ pub fn carry_on<E, S, K, L: LiveMove<E, S, K>, W: Watch<S>, O: Sink>(
     requires empty { out.old.held ≡ [] }
     // What was printed, and how it ended.
     ensures printed { IsPrinted O.writer out.old.sink out.new.sink (Spec.carrying_on
-        (InTime (L.runs W.tells W.rests Paint.Plain) L.waits W.begins W.begun) line.now
+        (InTime (L.runs W.tells Paint.Plain) L.waits W.times) line.now
         ((attached.old, ahead.old), watch.old)
         ((attached.new, ahead.new), watch.new)) result }
     ensures held { out.new.held ≡ [] }
@@ -62,7 +62,7 @@ fn carry_once<E, S, K, L: LiveMove<E, S, K>, W: Watch<S>, O: Sink>(
     requires empty { out.old.held ≡ [] }
     // What was printed, and how it ended.
     ensures printed { IsPrinted O.writer out.old.sink out.new.sink (line_printing
-        (InTime (L.runs W.tells W.rests Paint.Plain) L.waits W.begins W.begun)
+        (InTime (L.runs W.tells Paint.Plain) L.waits W.times)
         ((attached.old, ahead.old), watch.old) line.now
         ((attached.new, ahead.new), watch.new)) result }
     // The end works on unless the session is over, and nothing is held back.

@@ -1,9 +1,10 @@
 //! The lines of a script, carried out at a host; and what is told behind them.
-ghost use Rattle.std.specs.Prelude.{◌≡◌, [], false, Bool, List, ℕ, IfOk};
+ghost use Rattle.std.specs.Prelude.{◌≡◌, [], false, List, ℕ, IfOk};
 ghost use Rattle.ws_session.specs.declared.end_step.Order.TheVariants.{Send};
 ghost use Rattle.ws_live.specs.live.ServeText as Spec;
 ghost use Rattle.ws_live.specs.live.CarryingOn.{carrying_on};
-ghost use Rattle.ws_live.specs.live.LiveText.{stops};
+ghost use Rattle.ws_live.specs.live.LiveText.{line_result, stops};
+ghost use Rattle.ws_live.specs.live.Waits.{watched_devices};
 ghost use Rattle.ws_live.specs.declared.live.serve_line.HostLine.TheVariants.{Await};
 ghost use Rattle.ws_text.specs.Printed.{IsPrinted};
 ghost use Rattle.ws_text.specs.Printing.{Prints};
@@ -26,8 +27,8 @@ use ws_stream::Element;
 use ws_text::Output;
 
 impl<S: Source, K: Sink> LiveMove<HostEnd, S, K> for HostLine {
-    ghost runs = { λ tells rests paint.
-        Spec.HostRuns (on_devices K.writer S.reader) tells };
+    ghost runs = { λ tells paint.
+        Spec.HostRuns (watched_devices (on_devices K.writer S.reader) tells) };
 
     ghost waits = { Spec.host_waits };
 
@@ -109,8 +110,9 @@ fn hear_event<S: Source, K: Sink, W: Watch<S>, O: Sink>(
     output: Output,
 ) -> Carried
     requires works { attached.old.broken ≡ false }
-    ensures heard { (text : List ℕ) × Spec.HostHearsOne (on_devices K.writer S.reader)
-        W.tells attached.old result.outcome text attached.new
+    ensures heard { (text : List ℕ) × Spec.HostHearsOne
+        (watched_devices (on_devices K.writer S.reader) W.tells)
+        attached.old (line_result result.outcome text) attached.new
         × Prints O.writer out.old out.new output result.output text }
     ensures works { IfOk result.outcome (λ closing.
         stops closing ≡ false → attached.new.broken ≡ false) }
@@ -137,8 +139,9 @@ fn hear_answer<S: Source, K: Sink, W: Watch<S>, O: Sink>(
     output: Output,
 ) -> Carried
     requires works { attached.old.broken ≡ false }
-    ensures heard { (text : List ℕ) × Spec.HearsAnswer (on_devices K.writer S.reader)
-        W.tells awaited.now attached.old result.outcome text attached.new
+    ensures heard { (text : List ℕ) × Spec.HearsAnswer
+        (watched_devices (on_devices K.writer S.reader) W.tells)
+        awaited.now attached.old (line_result result.outcome text) attached.new
         × Prints O.writer out.old out.new output result.output text }
     ensures works { IfOk result.outcome (λ closing.
         stops closing ≡ false → attached.new.broken ≡ false) }
@@ -197,7 +200,7 @@ pub fn answer_on<S: Source, K: Sink, W: Watch<S>, O: Sink>(
     requires empty { out.old.held ≡ [] }
     // What was printed, and how it ended.
     ensures printed { IsPrinted O.writer out.old.sink out.new.sink (carrying_on
-        (Spec.HostRunsInTime (on_devices K.writer S.reader) W.tells W.begins W.begun) Await
+        (Spec.HostRunsInTime (watched_devices (on_devices K.writer S.reader) W.tells) W.times) Await
         ((attached.old, ahead.old), watch.old)
         ((attached.new, ahead.new), watch.new)) result }
     ensures held { out.new.held ≡ [] }

@@ -1,11 +1,10 @@
 ghost use Rattle.std.specs.Prelude.{◌≡◌, ◌++◌, [], ◌<◌, ℕ, List as Seq, true, length, codes, IfOk, IfErr, MatchOption};
 ghost use Rattle.ws_session.specs.declared.end_step.Order.TheVariants.{Send};
 ghost use Rattle.ws_live.specs.live.LiveScript.{IsBlockFault};
-ghost use Rattle.ws_live.specs.live.ServeLines.{BeginsHostLine, IsBadHostLineAt, IsHostLine, IsOneLine, OpensHostBlock};
+ghost use Rattle.ws_live.specs.live.ServeLines.{IsHostLine, IsOneLine, OpensHostBlock, host_language};
 ghost use Rattle.ws_live.specs.live.ServeLines as Spec;
 ghost use Rattle.ws_live.specs.live.ServeLines.{IsAnswerAwaited};
 ghost use Rattle.ws_live.specs.script.ScriptFaults.{IsLineFault, IsNoComment, has_no_blank};
-ghost use Rattle.ws_live.specs.declared.live.serve_line.HostLine.TheVariants.{Bad};
 
 use crate::live::live_line::LiveLine;
 use crate::live::wire_line::WireLine;
@@ -50,15 +49,7 @@ pub enum HostLine {
 }
 
 impl LiveLine for HostLine {
-    ghost means = { IsHostLine };
-
-    ghost begins = { BeginsHostLine };
-
-    ghost opener = { OpensHostBlock };
-
-    ghost bad_at = { IsBadHostLineAt };
-
-    ghost bad_line = { λ cause. Bad cause };
+    ghost language = { host_language };
 
     fn opens(line: &[u8]) -> bool {
         sent_alone(line).is_some()
@@ -86,8 +77,7 @@ impl LiveLine for HostLine {
 // A line that no other belongs to.
 fn read_alone(alloc: Global, line: &[u8]) -> Result<HostLine, ScriptFault>
     ensures line { IfOk result (IsHostLine line.now []) }
-    ensures fault { IfErr result
-        (IsBlockFault IsHostLine BeginsHostLine IsBadHostLineAt line.now []) }
+    ensures fault { IfErr result (IsBlockFault host_language line.now []) }
 {
     match read_line(alloc, line) {
         Ok(read) => Ok(read),

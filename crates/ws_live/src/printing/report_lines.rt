@@ -1,7 +1,6 @@
 //! The lines that tell a station's state and what is on its screen.
 ghost use Rattle.std.specs.Prelude.{◌≡◌, ◌≤◌, ◌<◌, List, ℕ, IfSome, position};
 ghost use Rattle.ws_live.specs.printing.ReportLines as Spec;
-ghost use Rattle.ws_nego.specs.Station.{station_allows_records};
 ghost use Rattle.ws_screen.specs.ScreenParts.{holds};
 ghost use Rattle.ws_text.specs.Printing.{Prints};
 
@@ -20,9 +19,8 @@ pub fn put_report<D: StationDisplay, O: Sink>(
     station: &StationOn<D>,
     report: &Report,
 ) -> Output
-    ensures { (text : List ℕ) × Spec.IsReportText (D.does.shown station.now.screen)
-        (station_allows_records station.now.options) station.now.records station.now.live.taken
-        report.now text
+    ensures { (text : List ℕ)
+        × Spec.IsReportText (Spec.reported_station D.does station.now) report.now text
         × Prints O.writer out.old out.new output result text }
 {
     match report {
@@ -39,8 +37,7 @@ fn put_status<D: StationDisplay, O: Sink>(
     station: &StationOn<D>,
 ) -> Output
     ensures { Prints O.writer out.old out.new output result
-        (Spec.status_line (D.does.shown station.now.screen)
-        (station_allows_records station.now.options) station.now.records station.now.live.taken) }
+        (Spec.status_line (Spec.reported_station D.does station.now)) }
 {
     let output = put_operator(out, output, station.screen(), station.is_ready());
     let output = put_text(out, output, " records ");

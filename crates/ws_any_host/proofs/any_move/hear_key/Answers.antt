@@ -1,5 +1,5 @@
 use Rattle.std.specs.List.{flat_map}
-use Rattle.std.proofs.Common.{◌≡◌, ◌+◌, ◌++◌, ◌∷◌, [], length, true, false, refl, sym, ◌∙◌, subst, inl, inr, arith}
+use Rattle.std.proofs.Common.{◌≡◌, ◌++◌, ◌∷◌, [], length, true, false, refl, sym, ◌∙◌, subst, inl, inr, arith}
 use Rattle.std.proofs.lemmas.List.{append-nil, flat_map_more, length-append}
 use Rattle.ws_code.specs.Device.{most_reads, on_devices}
 use Rattle.ws_text.proofs.Prints.{prints_none, prints_both, prints_same}
@@ -29,7 +29,7 @@ returns-then-is_by-clause-heard g c =
         mid = c.loop.attached;
         before = so_far.1;
         last = any_event_text event;
-        came = inl (event, heard, by_key, refl, refl);
+        ends = inl (event, heard, by_key, refl, refl);
         all = refl;
       },
       prints_both so_far.3 c.put_any_event-output.ensures,
@@ -45,7 +45,7 @@ returns-in-Ok-None-clause-heard g c =
         mid = c.loop.attached;
         before = so_far.1;
         last = [];
-        came = inr (inl (inl (rw c.in-Ok-None.field-0-is at c.in-Ok-None.ensures.heard, refl, refl)));
+        ends = inr (inl (inl (rw c.in-Ok-None.field-0-is at c.in-Ok-None.ensures.heard, refl, refl)));
         all = refl;
       },
       prints_same (sym (append-nil printed)) so_far.3,
@@ -62,11 +62,11 @@ returns-in-Err-clause-heard g c =
         mid = c.loop.attached;
         before = so_far.1;
         last = unheard_text fault;
-        came = inr (inl (inr (
+        ends = inr (inl (inr (
           fault,
           unheard.0,
           c.in-Err.ensures.fault so_far.4,
-          λ e. subst (λ s. g.W.Watch.tells s unheard.0) c.source.ensures (unheard.1 e),
+          λ e. subst (λ s. g.W.Watch.tells.is_late s unheard.0) c.source.ensures (unheard.1 e),
           unheard.2,
           refl,
         )));
@@ -101,7 +101,7 @@ returns-clause-heard g c =
         mid = c.loop.attached;
         before = so_far.1;
         last = [];
-        came = inr (inr (all, refl, refl, refl));
+        ends = inr (inr (all, refl, refl, refl));
         all = refl;
       },
       prints_same (sym (append-nil printed)) so_far.3,

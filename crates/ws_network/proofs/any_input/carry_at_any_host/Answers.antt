@@ -2,7 +2,8 @@ use Rattle.std.specs.Option.{is_some}
 use Rattle.std.proofs.Common.{◌≡◌, ◌&&◌, Bool, sym, ap, ◌∙◌}
 use Rattle.ws_code.specs.Device.{on_devices}
 use Rattle.ws_any_host.specs.declared.any_line.AnyLine.TheVariants.{Await}
-use Rattle.ws_network.specs.AnySessions.{RunsAny}
+use Rattle.ws_any_host.specs.AnyText.{AnyRunsInTime}
+use Rattle.ws_live.specs.live.Waits.{watched_devices}
 use Rattle.ws_network.proofs.SessionPrinted.{goes_on_badly, goes_on_well, session_fails, session_stops}
 use Rattle.ws_network.proofs.any_input.carry_at_any_host.Goals as goal
 use Rattle.ws_network.proofs.any_input.carry_at_any_host.Goals.{then-ran-2, else-ran-2}
@@ -12,8 +13,8 @@ returns-in-Err-clause-printed g c =
     let e = c.carry_session.ensures.printed in (
       e.0,
       e.1,
-      session_fails (RunsAny (on_devices g.K.Sink.writer g.S.Source.reader) g.W.Watch.tells
-          g.W.Watch.begins g.W.Watch.begun) Await c.args.ready g.O.Sink.writer
+      session_fails (AnyRunsInTime (watched_devices (on_devices g.K.Sink.writer g.S.Source.reader) g.W.Watch.tells)
+          g.W.Watch.times) Await c.args.ready g.O.Sink.writer
           ((c.args.attached.now, c.args.ahead.now), c.args.watch.now) e.0 (is_some c.args.script)
           ((c.carry_session.new.attached, c.carry_session.new.ahead), c.carry_session.new.watch)
           c.args.out.now.sink c.carry_session.new.out.sink c.carry_session.result c.in-Err.fault c.in-Err.is e.2,
@@ -24,8 +25,8 @@ returns-then-ran-clause-printed g c =
     let e = c.carry_session.ensures.printed in (
       e.0,
       e.1,
-      session_stops (RunsAny (on_devices g.K.Sink.writer g.S.Source.reader) g.W.Watch.tells
-          g.W.Watch.begins g.W.Watch.begun) Await c.args.ready g.O.Sink.writer
+      session_stops (AnyRunsInTime (watched_devices (on_devices g.K.Sink.writer g.S.Source.reader) g.W.Watch.tells)
+          g.W.Watch.times) Await c.args.ready g.O.Sink.writer
           ((c.args.attached.now, c.args.ahead.now), c.args.watch.now) e.0 (is_some c.args.script)
           ((c.carry_session.new.attached, c.carry_session.new.ahead), c.carry_session.new.watch)
           c.args.out.now.sink c.carry_session.new.out.sink c.carry_session.result c.in-Ok.ran c.in-Ok.is e.2
@@ -42,8 +43,8 @@ returns-after-ran-2-clause-printed g c =
     ] in (
       e.0,
       e.1,
-      goes_on_well (RunsAny (on_devices g.K.Sink.writer g.S.Source.reader) g.W.Watch.tells
-          g.W.Watch.begins g.W.Watch.begun) Await c.args.ready g.O.Sink.writer
+      goes_on_well (AnyRunsInTime (watched_devices (on_devices g.K.Sink.writer g.S.Source.reader) g.W.Watch.tells)
+          g.W.Watch.times) Await c.args.ready g.O.Sink.writer
           ((c.args.attached.now, c.args.ahead.now), c.args.watch.now) e.0 (is_some c.args.script)
           ((c.carry_on.new.attached, c.carry_on.new.ahead), c.carry_on.new.watch) c.args.out.now.sink
           c.carry_on.new.out.sink
@@ -57,8 +58,8 @@ returns-in-Err-carry_on-clause-printed g c =
     let e = c.carry_session.ensures.printed in (
       e.0,
       e.1,
-      goes_on_badly (RunsAny (on_devices g.K.Sink.writer g.S.Source.reader) g.W.Watch.tells
-          g.W.Watch.begins g.W.Watch.begun) Await c.args.ready g.O.Sink.writer
+      goes_on_badly (AnyRunsInTime (watched_devices (on_devices g.K.Sink.writer g.S.Source.reader) g.W.Watch.tells)
+          g.W.Watch.times) Await c.args.ready g.O.Sink.writer
           ((c.args.attached.now, c.args.ahead.now), c.args.watch.now) e.0 (is_some c.args.script)
           ((c.carry_on.new.attached, c.carry_on.new.ahead), c.carry_on.new.watch) c.args.out.now.sink
           c.carry_on.new.out.sink

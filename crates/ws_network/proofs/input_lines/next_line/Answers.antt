@@ -8,7 +8,7 @@ pub returns-then-ready-clause-line : goal.returns-then-ready-clause-line
 returns-then-ready-clause-line g c =
     let line = c.without_end-line.result.now in
     let inside = lines c.as_slice-2.result.now in
-    let told = subst (IsBlockFault g.L.LiveLine.means g.L.LiveLine.begins g.L.LiveLine.bad_at line inside)
+    let told = subst (IsBlockFault g.L.LiveLine.language line inside)
     c.in-Err-Line.field-0-is c.in-Err-Line.ensures.fault in
     let why = c.cause_in_block-why.result in
     let same = c.as_slice-in-Err-Line.ensures.value ∙ sym c.as_slice-2.ensures.value in (
@@ -18,19 +18,16 @@ returns-then-ready-clause-line g c =
         c.in-Ok-cause_text.cause,
         c.bad.ensures,
         (
-          line,
-          inside,
+          c.in-Err-Line.at,
           (
-            c.in-Err-Line.at,
+            line,
+            inside,
+            told,
             (
-              told.0,
-              told.1,
-              (
-                why,
-                subst (λ (bytes : List ℕ). IsCauseAt c.args.vocabulary (line ∷ lines bytes) c.in-Err-Line.at why) same
-                    c.cause_in_block-why.ensures,
-                c.in-Ok-cause_text.ensures,
-              ),
+              why,
+              subst (λ (bytes : List ℕ). IsCauseAt c.args.vocabulary (line ∷ lines bytes) c.in-Err-Line.at why) same
+                  c.cause_in_block-why.ensures,
+              c.in-Ok-cause_text.ensures,
             ),
           ),
         ),

@@ -3,6 +3,7 @@ use Rattle.std.proofs.Common.{◌≡◌, ◌&&◌, Bool, sym, ap, ◌∙◌}
 use Rattle.ws_code.specs.Device.{on_devices}
 use Rattle.ws_live.specs.declared.live.serve_line.HostLine.TheVariants.{Await}
 use Rattle.ws_live.specs.live.ServeText.{HostRunsInTime}
+use Rattle.ws_live.specs.live.Waits.{watched_devices}
 use Rattle.ws_network.proofs.SessionPrinted.{goes_on_badly, goes_on_well, session_fails, session_stops}
 use Rattle.ws_network.proofs.live_input.carry_at_host.Goals as goal
 use Rattle.ws_network.proofs.live_input.carry_at_host.Goals.{then-ran-2, else-ran-2}
@@ -12,8 +13,8 @@ returns-in-Err-clause-printed g c =
     let e = c.carry_session.ensures.printed in (
       e.0,
       e.1,
-      session_fails (HostRunsInTime (on_devices g.K.Sink.writer g.S.Source.reader) g.W.Watch.tells
-          g.W.Watch.begins g.W.Watch.begun) Await c.args.ready g.O.Sink.writer
+      session_fails (HostRunsInTime (watched_devices (on_devices g.K.Sink.writer g.S.Source.reader) g.W.Watch.tells)
+          g.W.Watch.times) Await c.args.ready g.O.Sink.writer
           ((c.args.attached.now, c.args.ahead.now), c.args.watch.now) e.0 (is_some c.args.script)
           ((c.carry_session.new.attached, c.carry_session.new.ahead), c.carry_session.new.watch)
           c.args.out.now.sink c.carry_session.new.out.sink c.carry_session.result c.in-Err.fault c.in-Err.is e.2,
@@ -24,8 +25,8 @@ returns-then-ran-clause-printed g c =
     let e = c.carry_session.ensures.printed in (
       e.0,
       e.1,
-      session_stops (HostRunsInTime (on_devices g.K.Sink.writer g.S.Source.reader) g.W.Watch.tells
-          g.W.Watch.begins g.W.Watch.begun) Await c.args.ready g.O.Sink.writer
+      session_stops (HostRunsInTime (watched_devices (on_devices g.K.Sink.writer g.S.Source.reader) g.W.Watch.tells)
+          g.W.Watch.times) Await c.args.ready g.O.Sink.writer
           ((c.args.attached.now, c.args.ahead.now), c.args.watch.now) e.0 (is_some c.args.script)
           ((c.carry_session.new.attached, c.carry_session.new.ahead), c.carry_session.new.watch)
           c.args.out.now.sink c.carry_session.new.out.sink c.carry_session.result c.in-Ok.ran c.in-Ok.is e.2
@@ -42,8 +43,8 @@ returns-after-ran-2-clause-printed g c =
     ] in (
       e.0,
       e.1,
-      goes_on_well (HostRunsInTime (on_devices g.K.Sink.writer g.S.Source.reader) g.W.Watch.tells
-          g.W.Watch.begins g.W.Watch.begun) Await c.args.ready g.O.Sink.writer
+      goes_on_well (HostRunsInTime (watched_devices (on_devices g.K.Sink.writer g.S.Source.reader) g.W.Watch.tells)
+          g.W.Watch.times) Await c.args.ready g.O.Sink.writer
           ((c.args.attached.now, c.args.ahead.now), c.args.watch.now) e.0 (is_some c.args.script)
           ((c.answer_on.new.attached, c.answer_on.new.ahead), c.answer_on.new.watch) c.args.out.now.sink
           c.answer_on.new.out.sink
@@ -57,8 +58,8 @@ returns-in-Err-answer_on-clause-printed g c =
     let e = c.carry_session.ensures.printed in (
       e.0,
       e.1,
-      goes_on_badly (HostRunsInTime (on_devices g.K.Sink.writer g.S.Source.reader) g.W.Watch.tells
-          g.W.Watch.begins g.W.Watch.begun) Await c.args.ready g.O.Sink.writer
+      goes_on_badly (HostRunsInTime (watched_devices (on_devices g.K.Sink.writer g.S.Source.reader) g.W.Watch.tells)
+          g.W.Watch.times) Await c.args.ready g.O.Sink.writer
           ((c.args.attached.now, c.args.ahead.now), c.args.watch.now) e.0 (is_some c.args.script)
           ((c.answer_on.new.attached, c.answer_on.new.ahead), c.answer_on.new.watch) c.args.out.now.sink
           c.answer_on.new.out.sink

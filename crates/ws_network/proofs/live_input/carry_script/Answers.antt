@@ -3,7 +3,7 @@ use Rattle.std.specs.Prelude.{Ok}
 use Rattle.ws_code.proofs.DeviceLaws.{went_out_none}
 use Rattle.ws_text.specs.Printed.{IsPrinted}
 use Rattle.ws_live.specs.declared.live.Ran.{Ran}
-use Rattle.ws_live.specs.live.LiveText.{HaveRun, WithClosing, line_printing, lines_printing, ran_and, ran_by}
+use Rattle.ws_live.specs.live.LiveText.{HaveRun, WithClosing, account, line_printing, lines_printing, ran_and, ran_by}
 use Rattle.ws_live.specs.live.Waits.{InTime}
 use Rattle.ws_live.proofs.LiveRuns.{goes_on, ends_here, breaks, split_here, taken_here}
 use Rattle.ws_network.proofs.live_input.carry_script.Goals as goal
@@ -24,8 +24,8 @@ returns-in-Err-clause-printed g c =
     let lines = c.args.lines.now in
     let i = c.loop-line.line-index in
     let line = c.line-item.result in
-    let runs = WithClosing (InTime (g.L.LiveMove.runs g.W.Watch.tells g.W.Watch.rests c.args.paint) g.L.LiveMove.waits
-    g.W.Watch.begins g.W.Watch.begun) c.args.ready in
+    let runs = WithClosing (InTime (g.L.LiveMove.runs g.W.Watch.tells c.args.paint) g.L.LiveMove.waits
+    g.W.Watch.times) c.args.ready in
     breaks runs g.O.Sink.writer ((c.args.attached.now, c.args.ahead.now), c.args.watch.now)
     ((c.loop-line.attached, c.loop-line.ahead), c.loop-line.watch)
     ((c.carry_next.new.attached, c.carry_next.new.ahead), c.carry_next.new.watch)
@@ -43,8 +43,8 @@ returns-then-ran-clause-printed g c =
     let lines = c.args.lines.now in
     let i = c.loop-line.line-index in
     let line = c.line-item.result in
-    let runs = WithClosing (InTime (g.L.LiveMove.runs g.W.Watch.tells g.W.Watch.rests c.args.paint) g.L.LiveMove.waits
-    g.W.Watch.begins g.W.Watch.begun) c.args.ready in
+    let runs = WithClosing (InTime (g.L.LiveMove.runs g.W.Watch.tells c.args.paint) g.L.LiveMove.waits
+    g.W.Watch.times) c.args.ready in
     let same : c.and-ran.result ≡ ran_and c.loop-line.ran (ran_by c.in-Ok.closing) = c.and-ran.ensures
     ∙ ap (λ (r : Ran). ran_and c.loop-line.ran r) c.ran.ensures in
     subst (λ (r : Ran). IsPrinted g.O.Sink.writer c.args.out.now.sink c.carry_next.new.out.sink
@@ -68,8 +68,8 @@ loop-line-preserved g c =
     let lines = c.args.lines.now in
     let i = c.loop-line.line-index in
     let line = c.line-item.result in
-    let runs = WithClosing (InTime (g.L.LiveMove.runs g.W.Watch.tells g.W.Watch.rests c.args.paint) g.L.LiveMove.waits
-    g.W.Watch.begins g.W.Watch.begun) c.args.ready in
+    let runs = WithClosing (InTime (g.L.LiveMove.runs g.W.Watch.tells c.args.paint) g.L.LiveMove.waits
+    g.W.Watch.times) c.args.ready in
     let same : c.and-ran.result ≡ ran_and c.loop-line.ran (ran_by c.in-Ok.closing) = c.and-ran.ensures
     ∙ ap (λ (r : Ran). ran_and c.loop-line.ran r) c.ran.ensures in
     let going = ap (λ (r : Ran). r.is_over) (sym same) ∙ c.if-ran.false in
@@ -86,10 +86,10 @@ loop-line-preserved g c =
     let next = taken_here lines i line c.loop-line-test.true c.line-item.is in (
       more.0,
       subst (λ (b : Bool). HaveRun runs ((c.args.attached.now, c.args.ahead.now), c.args.watch.now)
-          (take (i + 1) lines) b more.0
+          (take (i + 1) lines) (account b more.0)
           ((c.carry_next.new.attached, c.carry_next.new.ahead), c.carry_next.new.watch)) well
           (subst (λ (z : List g.row.L.Denot). HaveRun runs ((c.args.attached.now, c.args.ahead.now), c.args.watch.now) z
-          (ran_and c.loop-line.ran (ran_by c.in-Ok.closing)).all_well more.0
+          (account (ran_and c.loop-line.ran (ran_by c.in-Ok.closing)).all_well more.0)
           ((c.carry_next.new.attached, c.carry_next.new.ahead), c.carry_next.new.watch)) next more.1),
       more.2,
       c.if-ran.false,

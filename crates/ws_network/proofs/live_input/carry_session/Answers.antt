@@ -1,7 +1,7 @@
 use Rattle.std.proofs.Common.{refl, true}
 use Rattle.std.proofs.lemmas.Result.{err_from_is_err_and}
-use Rattle.ws_live.specs.live.LiveText.{WithClosing}
 use Rattle.ws_live.specs.live.Waits.{InTime}
+use Rattle.ws_network.specs.SessionPrinting.{session_lines}
 use Rattle.ws_network.proofs.SessionPrinted.{script_ends, script_fails}
 use Rattle.ws_network.proofs.live_input.carry_session.Goals as goal
 
@@ -12,10 +12,10 @@ returns-in_err-carry_script-in-Some-clause-printed g c =
     rw (p.1, p.2, c.in-Some.is) (
       c.in-Some.lines.now,
       refl,
-      script_fails (WithClosing (InTime (g.L.LiveMove.runs g.W.Watch.tells g.W.Watch.rests c.args.paint)
-          g.L.LiveMove.waits g.W.Watch.begins g.W.Watch.begun) c.args.ready) c.args.ready g.O.Sink.writer
+      script_fails (session_lines (InTime (g.L.LiveMove.runs g.W.Watch.tells c.args.paint)
+          g.L.LiveMove.waits g.W.Watch.times) c.args.ready
           ((c.args.attached.now, c.args.ahead.now), c.args.watch.now) c.in-Some.lines.now
-          ((c.carry_script.new.attached, c.carry_script.new.ahead), c.carry_script.new.watch) true
+          ((c.carry_script.new.attached, c.carry_script.new.ahead), c.carry_script.new.watch)) g.O.Sink.writer true
           c.args.out.now.sink c.carry_script.new.out.sink e.field-0.0 e.ensures.printed,
     )
 
@@ -25,10 +25,10 @@ returns-in_ok-carry_script-in-Some-clause-printed g c =
     rw (c.in-Some.is) (
       c.in-Some.lines.now,
       refl,
-      script_ends (WithClosing (InTime (g.L.LiveMove.runs g.W.Watch.tells g.W.Watch.rests c.args.paint)
-          g.L.LiveMove.waits g.W.Watch.begins g.W.Watch.begun) c.args.ready) c.args.ready g.O.Sink.writer
+      script_ends (session_lines (InTime (g.L.LiveMove.runs g.W.Watch.tells c.args.paint)
+          g.L.LiveMove.waits g.W.Watch.times) c.args.ready
           ((c.args.attached.now, c.args.ahead.now), c.args.watch.now) c.in-Some.lines.now
-          ((c.carry_script.new.attached, c.carry_script.new.ahead), c.carry_script.new.watch) true
+          ((c.carry_script.new.attached, c.carry_script.new.ahead), c.carry_script.new.watch)) g.O.Sink.writer true
           c.args.out.now.sink c.carry_script.new.out.sink e.field-0 e.ensures.printed,
     )
 

@@ -1,12 +1,11 @@
 use Rattle.std.specs.Option.{is_some}
 use Rattle.std.specs.Prelude.{MatchOption}
 use Rattle.std.proofs.Common.{◌≡◌}
-use Rattle.ws_live.specs.live.ConnectText.{StationRuns, station_waits}
-use Rattle.ws_live.specs.live.LiveText.{WithClosing}
+use Rattle.ws_live.specs.live.ConnectLines.{station_language}
+use Rattle.ws_live.specs.live.ConnectText.{StationRunsInTime}
+use Rattle.ws_live.specs.live.LiveText.{account}
 use Rattle.ws_live.specs.live.Operating.{live_display}
-use Rattle.ws_live.specs.live.Waits.{InTime, watch_tells}
-use Rattle.ws_network.specs.Sessions.{station_means}
-use Rattle.ws_network.specs.Times.{timed_devices, tells, rests, begins}
+use Rattle.ws_network.specs.Times.{timed, timed_waits}
 use Rattle.ws_network.proofs.SessionPrinted.{connected_well}
 use Rattle.ws_network.proofs.SessionLaws.{judged, from_script, connected}
 use Rattle.ws_network.proofs.live_session.connect_on.Goals as goal
@@ -14,9 +13,9 @@ use Rattle.ws_network.proofs.live_session.connect_on.Goals as goal
 pub returns-clause-ran : goal.returns-clause-ran
 returns-clause-ran g c =
     judged _ _ c.carry_at_station-outcome.result c.judge.result
-    (connected_well (WithClosing (InTime (StationRuns (live_display g.D.Commands.Code.rules g.D.StationDisplay.does
-    g.D.OperatedDisplay.operated g.D.Key.NamedKey.words) timed_devices (watch_tells tells rests) c.args.asked.now.paint)
-    station_waits begins (λ n. n)) c.args.asked.now.ready) c.args.asked.now.ready g.O.Sink.writer ((c.new-attached.result, 0), c.new-4.result) (
+    (connected_well (StationRunsInTime (live_display g.D.Commands.Code.rules g.D.StationDisplay.does
+    g.D.OperatedDisplay.operated g.D.Key.NamedKey.words) timed timed_waits c.args.asked.now.paint)
+    c.args.asked.now.ready g.O.Sink.writer ((c.new-attached.result, 0), c.new-4.result) (
       (c.carry_at_station-outcome.new.attached, c.carry_at_station-outcome.new.ahead),
       c.carry_at_station-outcome.new.watch,
     )
@@ -26,16 +25,16 @@ returns-clause-ran g c =
     (λ all_well ran. (
       ran.0,
       ran.1,
-      from_script (λ v. v.items) (station_means g.D.Key.NamedKey.words) (λ line. ⊥) c.args.asked.now.script
+      from_script (λ v. v.items) (station_language g.D.Key.NamedKey.words) c.args.asked.now.script
           c.in_ok-script.script c.lines_of.result ran.0 c.in_ok-script.ensures.lines c.lines_of.ensures ran.2,
       connected (live_display g.D.Commands.Code.rules g.D.StationDisplay.does g.D.OperatedDisplay.operated
           g.D.Key.NamedKey.words) c.args.asked.now ran.0
-          all_well ran.1 (
+          (account all_well ran.1) (
             (c.carry_at_station-outcome.new.attached, c.carry_at_station-outcome.new.ahead),
             c.carry_at_station-outcome.new.watch,
           )
           ran.3.0 c.new.result c.new-2.result c.new-3.result c.new-attached.result c.new-4.result c.new.ensures.leads
           c.new-attached.ensures
-          c.new-2.ensures c.new-3.ensures c.new-4.ensures ran.3.1 ran.3.2,
+          c.new-2.ensures c.new-3.ensures c.new-4.ensures ran.3.1,
       ran.4,
     ))

@@ -1,5 +1,4 @@
 use Rattle.std.proofs.Common.{ap, sym, ◌∙◌, ◌≡◌, ℕ, List, ◌++◌, ◌+◌, length}
-use Rattle.ws_code.specs.Device.{Held}
 use Rattle.ws_code.proofs.DeviceLaws.{held_went_out}
 use Rattle.ws_record.specs.Encode.{record_spelling}
 use Rattle.ws_record.specs.Grammar.{header}

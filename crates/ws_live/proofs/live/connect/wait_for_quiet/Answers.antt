@@ -11,7 +11,7 @@ returns-clause-waited g c =
       c.take_all-ended.result,
       c.is_quiet.result,
       t.1,
-      subst (λ s. g.W.Watch.rests s c.is_quiet.result) c.source.ensures c.is_quiet.ensures,
+      subst (λ s. g.W.Watch.tells.is_quiet s c.is_quiet.result) c.source.ensures c.is_quiet.ensures,
       c.rested.ensures,
     )
 

@@ -7,7 +7,7 @@ pub loop-rest-preserved : goal.loop-rest-preserved
 loop-rest-preserved g c =
     let read = c.loop-rest.read.items in
     let x = c.in-Ok.line in
-    reads_more g.L.LiveLine.means g.L.LiveLine.opener c.args.text.now c.loop-rest.rest.now c.first_line.result.1.now
+    reads_more g.L.LiveLine.language c.args.text.now c.loop-rest.rest.now c.first_line.result.1.now
     c.inside_of-inside.result.behind.now c.first_line.result.0.now c.inside_of-inside.result.text.now read
     c.push.new.self.items x c.loop-rest.number c.inside_of-inside.result.count c.loop-rest.invariant
     c.first_line.ensures.line c.first_line.ensures.shorter c.inside_of-inside.ensures c.in-Ok.ensures.line

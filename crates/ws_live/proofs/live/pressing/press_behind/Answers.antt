@@ -4,6 +4,8 @@ use Rattle.ws_code.specs.Device.{on_devices}
 use Rattle.ws_text.proofs.Prints.{prints_none}
 use Rattle.ws_live.specs.declared.live.Closing.TheVariants.{Done}
 use Rattle.ws_live.specs.live.ConnectText.{KeysUntil}
+use Rattle.ws_live.specs.live.LiveText.{line_result}
+use Rattle.ws_live.specs.live.Operating.{keyed}
 use Rattle.ws_live.proofs.StrokeRuns.{no_keys_behind}
 use Rattle.ws_live.proofs.live.pressing.press_behind.Goals as goal
 
@@ -11,7 +13,9 @@ pub returns-in_default : goal.returns-in_default
 returns-in_default g c = record {
   runs = (
     [],
-    subst (λ keys. KeysUntil g.D.Commands.Code.rules g.D.StationDisplay.does (on_devices g.K.Sink.writer g.S.Source.reader) g.D.Key.NamedKey.words keys c.args.attached.now (Ok Done) [] c.args.attached.now)
+    subst (λ keys. KeysUntil (keyed g.D.Commands.Code.rules g.D.StationDisplay.does
+        (on_devices g.K.Sink.writer g.S.Source.reader) g.D.Key.NamedKey.words) keys
+        c.args.attached.now (line_result (Ok Done) []) c.args.attached.now)
         (sym (no_keys_behind c.args.stroke.now c.in_default.not-Fill)) (refl, refl, refl),
     prints_none g.O.Sink.writer c.args.out.now c.args.output,
   );

@@ -6,6 +6,8 @@ use Rattle.ws_text.specs.Printing.{Prints}
 use Rattle.ws_text.proofs.Prints.{prints_both}
 use Rattle.ws_live.specs.declared.live.Closing.{Closing}
 use Rattle.ws_live.specs.live.ConnectText.{KeysUntil}
+use Rattle.ws_live.specs.live.LiveText.{line_result}
+use Rattle.ws_live.specs.live.Operating.{keyed}
 use Rattle.ws_live.proofs.StrokeRuns.{run_more, run_stops, until_quiet}
 use Rattle.ws_live.proofs.live.pressing.press_runs.Goals as goal
 
@@ -16,11 +18,15 @@ returns-then-not-is_done-clause-runs g c =
     let profile = g.D.Key.NamedKey.words.profile in
     let run = c.run-item.result in
     let to = c.press_times-carried.new.attached in
-    let keys = subst (λ k. KeysUntil g.D.Commands.Code.rules g.D.StationDisplay.does (on_devices g.K.Sink.writer g.S.Source.reader) g.D.Key.NamedKey.words (replicate run.times k) c.loop-run.attached
-    c.press_times-carried.result.outcome one.0 to) c.from_profile-key.ensures one.1 in (
+    let keys = subst (λ k. KeysUntil (keyed g.D.Commands.Code.rules g.D.StationDisplay.does
+    (on_devices g.K.Sink.writer g.S.Source.reader) g.D.Key.NamedKey.words)
+    (replicate run.times k) c.loop-run.attached
+    (line_result c.press_times-carried.result.outcome one.0) to) c.from_profile-key.ensures one.1 in (
       one.0,
-      run_stops g.D.Commands.Code.rules g.D.StationDisplay.does (on_devices g.K.Sink.writer g.S.Source.reader) g.D.Key.NamedKey.words profile c.args.runs.now c.loop-run.run-index run c.loop-run-test.true c.run-item.is
-          c.args.attached.now c.loop-run.attached to c.press_times-carried.result.outcome one.0 so_far.0 keys
+      run_stops (keyed g.D.Commands.Code.rules g.D.StationDisplay.does (on_devices g.K.Sink.writer g.S.Source.reader)
+          g.D.Key.NamedKey.words) profile c.args.runs.now c.loop-run.run-index run c.loop-run-test.true c.run-item.is
+          c.args.attached.now c.loop-run.attached to (line_result c.press_times-carried.result.outcome one.0)
+          so_far.0 keys
           (c.is_done.ensures.undone c.if-not-is_done.true),
       prints_both so_far.1 one.2,
     )
@@ -33,13 +39,21 @@ loop-run-preserved g c =
     let run = c.run-item.result in
     let to = c.press_times-carried.new.attached in
     let done = c.is_done.ensures.done c.if-not-is_done.false in
-    let keys = subst (λ k. KeysUntil g.D.Commands.Code.rules g.D.StationDisplay.does (on_devices g.K.Sink.writer g.S.Source.reader) g.D.Key.NamedKey.words (replicate run.times k) c.loop-run.attached
-    c.press_times-carried.result.outcome one.0 to) c.from_profile-key.ensures one.1 in
-    let quiet = until_quiet g.D.Commands.Code.rules g.D.StationDisplay.does (on_devices g.K.Sink.writer g.S.Source.reader) g.D.Key.NamedKey.words (replicate run.times (profile run.key)) c.loop-run.attached to one.0
-    (subst (λ (o : Result Closing Fault). KeysUntil g.D.Commands.Code.rules g.D.StationDisplay.does (on_devices g.K.Sink.writer g.S.Source.reader) g.D.Key.NamedKey.words (replicate run.times (profile run.key)) c.loop-run.attached
-    o one.0 to) done keys) in (
-      run_more g.D.Commands.Code.rules g.D.StationDisplay.does (on_devices g.K.Sink.writer g.S.Source.reader) g.D.Key.NamedKey.words profile c.args.runs.now c.loop-run.run-index run c.loop-run-test.true c.run-item.is
-          c.args.attached.now c.loop-run.attached to c.press_times-carried.result.outcome one.0 so_far.0 keys done,
+    let keys = subst (λ k. KeysUntil (keyed g.D.Commands.Code.rules g.D.StationDisplay.does
+    (on_devices g.K.Sink.writer g.S.Source.reader) g.D.Key.NamedKey.words)
+    (replicate run.times k) c.loop-run.attached
+    (line_result c.press_times-carried.result.outcome one.0) to) c.from_profile-key.ensures one.1 in
+    let quiet = until_quiet (keyed g.D.Commands.Code.rules g.D.StationDisplay.does
+    (on_devices g.K.Sink.writer g.S.Source.reader) g.D.Key.NamedKey.words) (replicate run.times
+    (profile run.key)) c.loop-run.attached to one.0
+    (subst (λ (o : Result Closing Fault). KeysUntil (keyed g.D.Commands.Code.rules g.D.StationDisplay.does
+    (on_devices g.K.Sink.writer g.S.Source.reader) g.D.Key.NamedKey.words) (replicate run.times
+    (profile run.key)) c.loop-run.attached
+    (line_result o one.0) to) done keys) in (
+      run_more (keyed g.D.Commands.Code.rules g.D.StationDisplay.does (on_devices g.K.Sink.writer g.S.Source.reader)
+          g.D.Key.NamedKey.words) profile c.args.runs.now c.loop-run.run-index run c.loop-run-test.true c.run-item.is
+          c.args.attached.now c.loop-run.attached to (line_result c.press_times-carried.result.outcome one.0)
+          so_far.0 keys done,
       prints_both so_far.1 (subst (λ (z : List ℕ). Prints g.O.Sink.writer c.loop-run.out
           c.press_times-carried.new.out c.loop-run.output c.press_times-carried.result.output z) quiet one.2),
       subst (λ (o : Result Closing Fault). IfOk o (λ closing. to.broken ≡ false)) done

@@ -9,6 +9,8 @@ use Rattle.ws_text.proofs.Prints.{prints_both}
 use Rattle.ws_live.specs.declared.live.Closing.{Closing}
 use Rattle.ws_live.specs.live.ConnectText.{KeysUntil}
 use Rattle.ws_live.specs.live.Stroking.{keys_behind, stroke_runs}
+use Rattle.ws_live.specs.live.LiveText.{line_result}
+use Rattle.ws_live.specs.live.Operating.{keyed}
 use Rattle.ws_live.proofs.StrokeRuns.{stroke_some, until_on, until_quiet, until_stopped}
 use Rattle.ws_live.proofs.live.pressing.press_stroke.Goals as goal
 
@@ -24,13 +26,17 @@ returns-then-not-is_done-clause-runs g c =
     let begun = c.press_runs-begun.ensures.runs in
     let has = c.in-Some.ensures ∙ ap (λ s. stroke_runs s stroke) (c.screen.ensures ∙ ap (λ e. shown e.screen)
     c.end.ensures) in
-    let keys = subst (λ (items : List KeyRun). KeysUntil g.D.Commands.Code.rules g.D.StationDisplay.does
-    (on_devices g.K.Sink.writer g.S.Source.reader) g.D.Key.NamedKey.words (map w.profile (keys_of items)) from outcome
-    begun.0 to) c.as_slice.ensures.value begun.1 in (
+    let keys = subst (λ (items : List KeyRun). KeysUntil (keyed g.D.Commands.Code.rules g.D.StationDisplay.does
+    (on_devices g.K.Sink.writer g.S.Source.reader) g.D.Key.NamedKey.words) (map w.profile (keys_of items)) from
+    (line_result outcome begun.0) to) c.as_slice.ensures.value begun.1 in (
       begun.0,
-      stroke_some g.D.Commands.Code.rules g.D.StationDisplay.does (on_devices g.K.Sink.writer g.S.Source.reader) g.D.Key.NamedKey.words (shown from.end.screen) stroke from to outcome begun.0 runs has
-          (until_stopped g.D.Commands.Code.rules g.D.StationDisplay.does (on_devices g.K.Sink.writer g.S.Source.reader) g.D.Key.NamedKey.words (map w.profile (keys_of runs)) (keys_behind stroke) from to outcome
-          begun.0 keys (c.is_done.ensures.undone c.if-not-is_done.true)),
+      stroke_some (keyed g.D.Commands.Code.rules g.D.StationDisplay.does (on_devices g.K.Sink.writer
+          g.S.Source.reader) g.D.Key.NamedKey.words) (shown from.end.screen) stroke from to
+          (line_result outcome begun.0) runs has
+          (until_stopped (keyed g.D.Commands.Code.rules g.D.StationDisplay.does
+          (on_devices g.K.Sink.writer g.S.Source.reader) g.D.Key.NamedKey.words) (map w.profile (keys_of runs))
+          (keys_behind stroke) from to
+          (line_result outcome begun.0) keys (c.is_done.ensures.undone c.if-not-is_done.true)),
       begun.2,
     )
 
@@ -49,17 +55,23 @@ returns-clause-runs g c =
     let done = c.is_done.ensures.done c.if-not-is_done.false in
     let has = c.in-Some.ensures ∙ ap (λ s. stroke_runs s stroke) (c.screen.ensures ∙ ap (λ e. shown e.screen)
     c.end.ensures) in
-    let first = subst (λ (items : List KeyRun). KeysUntil g.D.Commands.Code.rules g.D.StationDisplay.does
-    (on_devices g.K.Sink.writer g.S.Source.reader) g.D.Key.NamedKey.words (map w.profile (keys_of items)) from
-    c.press_runs-begun.result.outcome begun.0 mid) c.as_slice.ensures.value begun.1 in
-    let keys = subst (λ (o : Result Closing Fault). KeysUntil g.D.Commands.Code.rules g.D.StationDisplay.does
-    (on_devices g.K.Sink.writer g.S.Source.reader) g.D.Key.NamedKey.words (map w.profile (keys_of runs)) from o begun.0
-    mid) done first in
-    let quiet = until_quiet g.D.Commands.Code.rules g.D.StationDisplay.does (on_devices g.K.Sink.writer g.S.Source.reader) g.D.Key.NamedKey.words (map w.profile (keys_of runs)) from mid begun.0 keys in (
+    let first = subst (λ (items : List KeyRun). KeysUntil (keyed g.D.Commands.Code.rules g.D.StationDisplay.does
+    (on_devices g.K.Sink.writer g.S.Source.reader) g.D.Key.NamedKey.words) (map w.profile (keys_of items)) from
+    (line_result c.press_runs-begun.result.outcome begun.0) mid) c.as_slice.ensures.value begun.1 in
+    let keys = subst (λ (o : Result Closing Fault). KeysUntil (keyed g.D.Commands.Code.rules g.D.StationDisplay.does
+    (on_devices g.K.Sink.writer g.S.Source.reader) g.D.Key.NamedKey.words) (map w.profile (keys_of runs)) from
+    (line_result o begun.0) mid) done first in
+    let quiet = until_quiet (keyed g.D.Commands.Code.rules g.D.StationDisplay.does
+    (on_devices g.K.Sink.writer g.S.Source.reader) g.D.Key.NamedKey.words) (map w.profile
+    (keys_of runs)) from mid begun.0 keys in (
       behind.0,
-      stroke_some g.D.Commands.Code.rules g.D.StationDisplay.does (on_devices g.K.Sink.writer g.S.Source.reader) g.D.Key.NamedKey.words (shown from.end.screen) stroke from to outcome behind.0 runs has
-          (until_on g.D.Commands.Code.rules g.D.StationDisplay.does (on_devices g.K.Sink.writer g.S.Source.reader) g.D.Key.NamedKey.words (map w.profile (keys_of runs)) (keys_behind stroke) from mid to outcome
-          begun.0 behind.0 keys behind.1),
+      stroke_some (keyed g.D.Commands.Code.rules g.D.StationDisplay.does (on_devices g.K.Sink.writer
+          g.S.Source.reader) g.D.Key.NamedKey.words) (shown from.end.screen) stroke from to
+          (line_result outcome behind.0) runs has
+          (until_on (keyed g.D.Commands.Code.rules g.D.StationDisplay.does
+          (on_devices g.K.Sink.writer g.S.Source.reader) g.D.Key.NamedKey.words) (map w.profile (keys_of runs))
+          (keys_behind stroke) from mid to
+          (line_result outcome behind.0) begun.0 keys behind.1),
       prints_both (subst (λ (z : List ℕ). Prints g.O.Sink.writer c.args.out.now
           c.press_runs-begun.new.out c.args.output c.press_runs-begun.result.output z) quiet begun.2) behind.2,
     )

@@ -7,6 +7,8 @@ use Rattle.ws_text.specs.Printing.{Prints}
 use Rattle.ws_text.proofs.Prints.{prints_both}
 use Rattle.ws_live.specs.declared.live.Closing.{Closing}
 use Rattle.ws_live.specs.live.ConnectText.{KeyRuns}
+use Rattle.ws_live.specs.live.LiveText.{line_result}
+use Rattle.ws_live.specs.live.Operating.{keyed}
 use Rattle.ws_live.proofs.StrokeRuns.{cut_times, prints_nothing, until_more, until_one}
 use Rattle.ws_live.proofs.live.pressing.press_times.Goals as goal
 
@@ -17,9 +19,12 @@ returns-then-not-is_done-clause-runs g c =
     let i = c.loop.counter in
     let key = c.args.key in (
       one.0,
-      until_one g.D.Commands.Code.rules g.D.StationDisplay.does (on_devices g.K.Sink.writer g.S.Source.reader) g.D.Key.NamedKey.words (replicate i key) (replicate (c.args.times - (i + 1)) key) (replicate c.args.times key)
+      until_one (keyed g.D.Commands.Code.rules g.D.StationDisplay.does (on_devices g.K.Sink.writer g.S.Source.reader)
+          g.D.Key.NamedKey.words) (replicate i key) (replicate (c.args.times - (i + 1)) key)
+          (replicate c.args.times key)
           key c.args.attached.now c.loop.attached c.press_key-carried.new.attached
-          c.press_key-carried.result.outcome one.0 (cut_times c.args.times i key c.loop-test.true) so_far.0
+          (line_result c.press_key-carried.result.outcome one.0) (cut_times c.args.times i key c.loop-test.true)
+          so_far.0
           (c.is_done.ensures.undone c.if-not-is_done.true) one.1,
       prints_both so_far.1 one.2,
     )
@@ -32,10 +37,15 @@ loop-preserved g c =
     let key = c.args.key in
     let to = c.press_key-carried.new.attached in
     let done = c.is_done.ensures.done c.if-not-is_done.false in
-    let quiet = prints_nothing g.D.Commands.Code.rules g.D.StationDisplay.does (on_devices g.K.Sink.writer g.S.Source.reader) g.D.Key.NamedKey.words key c.loop.attached to one.0
-    (subst (λ (o : Result Closing Fault). KeyRuns g.D.Commands.Code.rules g.D.StationDisplay.does (on_devices g.K.Sink.writer g.S.Source.reader) g.D.Key.NamedKey.words key c.loop.attached o one.0 to) done one.1) in (
-      until_more g.D.Commands.Code.rules g.D.StationDisplay.does (on_devices g.K.Sink.writer g.S.Source.reader) g.D.Key.NamedKey.words (replicate i key) (replicate (i + 1) key) key c.args.attached.now c.loop.attached to
-          c.press_key-carried.result.outcome one.0 (replicate_more i key) so_far.0 done one.1,
+    let quiet = prints_nothing (keyed g.D.Commands.Code.rules g.D.StationDisplay.does
+    (on_devices g.K.Sink.writer g.S.Source.reader) g.D.Key.NamedKey.words) key c.loop.attached to one.0
+    (subst (λ (o : Result Closing Fault). KeyRuns (keyed g.D.Commands.Code.rules g.D.StationDisplay.does
+    (on_devices g.K.Sink.writer g.S.Source.reader) g.D.Key.NamedKey.words) key c.loop.attached
+    (line_result o one.0) to) done one.1) in (
+      until_more (keyed g.D.Commands.Code.rules g.D.StationDisplay.does (on_devices g.K.Sink.writer
+          g.S.Source.reader) g.D.Key.NamedKey.words) (replicate i key) (replicate
+          (i + 1) key) key c.args.attached.now c.loop.attached to
+          (line_result c.press_key-carried.result.outcome one.0) (replicate_more i key) so_far.0 done one.1,
       prints_both so_far.1 (subst (λ (z : List ℕ). Prints g.O.Sink.writer c.loop.out
           c.press_key-carried.new.out c.loop.output c.press_key-carried.result.output z) quiet one.2),
       subst (λ (o : Result Closing Fault). IfOk o (λ closing. to.broken ≡ false)) done

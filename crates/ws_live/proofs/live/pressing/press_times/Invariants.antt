@@ -4,10 +4,14 @@ use Rattle.ws_code.specs.Device.{on_devices}
 use Rattle.ws_text.specs.Printing.{Prints}
 use Rattle.ws_live.specs.declared.live.Closing.TheVariants.{Done}
 use Rattle.ws_live.specs.live.ConnectText.{KeysUntil}
+use Rattle.ws_live.specs.live.LiveText.{line_result}
+use Rattle.ws_live.specs.live.Operating.{keyed}
 use Rattle.ws_live.proofs.live.pressing.press_times.Given as goal
 
 -- the key was taken so often, and printed nothing
 abbrev pub invariant-loop : goal.invariant-loop
-invariant-loop g l = KeysUntil g.D.Commands.Code.rules g.D.StationDisplay.does (on_devices g.K.Sink.writer g.S.Source.reader) g.D.Key.NamedKey.words (replicate l.counter l.key) l.fn.attached (Ok Done) [] l.attached
+invariant-loop g l = KeysUntil (keyed g.D.Commands.Code.rules g.D.StationDisplay.does
+    (on_devices g.K.Sink.writer g.S.Source.reader) g.D.Key.NamedKey.words) (replicate l.counter l.key) l.fn.attached
+    (line_result (Ok Done) []) l.attached
     × Prints g.O.Sink.writer l.fn.out l.out l.fn.output l.output []
     × (l.attached.broken ≡ false)

@@ -21,8 +21,7 @@ loop-init g c = (
 pub returns-then-not-is_told-clause-printed : goal.returns-then-not-is_told-clause-printed
 returns-then-not-is_told-clause-printed g c =
     let so_far = c.loop.invariant in
-    let runs = InTime (g.L.LiveMove.runs g.W.Watch.tells g.W.Watch.rests Plain) g.L.LiveMove.waits g.W.Watch.begins
-    g.W.Watch.begun in
+    let runs = InTime (g.L.LiveMove.runs g.W.Watch.tells Plain) g.L.LiveMove.waits g.W.Watch.times in
     let untold : is_told c.in-Ok.closing ≡ false = sym c.is_told.ensures ∙ c.if-not-is_told.true in
     none_told runs c.args.line.now g.O.Sink.writer ((c.args.attached.now, c.args.ahead.now), c.args.watch.now)
     ((c.loop.attached, c.loop.ahead), c.loop.watch) (
@@ -38,8 +37,7 @@ returns-then-not-is_told-clause-printed g c =
 pub returns-in-Err-clause-printed : goal.returns-in-Err-clause-printed
 returns-in-Err-clause-printed g c =
     let so_far = c.loop.invariant in
-    let runs = InTime (g.L.LiveMove.runs g.W.Watch.tells g.W.Watch.rests Plain) g.L.LiveMove.waits g.W.Watch.begins
-    g.W.Watch.begun in
+    let runs = InTime (g.L.LiveMove.runs g.W.Watch.tells Plain) g.L.LiveMove.waits g.W.Watch.times in
     once_fails runs c.args.line.now g.O.Sink.writer ((c.args.attached.now, c.args.ahead.now), c.args.watch.now)
     ((c.loop.attached, c.loop.ahead), c.loop.watch) (
       (c.carry_once.new.attached, c.carry_once.new.ahead),
@@ -54,8 +52,7 @@ returns-in-Err-clause-printed g c =
 pub loop-preserved : goal.loop-preserved
 loop-preserved g c =
     let so_far = c.loop.invariant in
-    let runs = InTime (g.L.LiveMove.runs g.W.Watch.tells g.W.Watch.rests Plain) g.L.LiveMove.waits g.W.Watch.begins
-    g.W.Watch.begun in
+    let runs = InTime (g.L.LiveMove.runs g.W.Watch.tells Plain) g.L.LiveMove.waits g.W.Watch.times in
     let told : is_told c.in-Ok.closing ≡ true = sym c.is_told.ensures ∙ c.if-not-is_told.false in
     let more = one_told runs c.args.line.now g.O.Sink.writer ((c.args.attached.now, c.args.ahead.now), c.args.watch.now)
     ((c.loop.attached, c.loop.ahead), c.loop.watch) (
@@ -72,8 +69,7 @@ loop-preserved g c =
 pub returns-clause-printed : goal.returns-clause-printed
 returns-clause-printed g c =
     let so_far = c.loop.invariant in
-    let runs = InTime (g.L.LiveMove.runs g.W.Watch.tells g.W.Watch.rests Plain) g.L.LiveMove.waits g.W.Watch.begins
-    g.W.Watch.begun in
+    let runs = InTime (g.L.LiveMove.runs g.W.Watch.tells Plain) g.L.LiveMove.waits g.W.Watch.times in
     let all : c.loop.counter ≡ most_reads = omega (arith, c.loop-test.false, c.loop.auto.counter-end) in
     too_much_told runs c.args.line.now g.O.Sink.writer ((c.args.attached.now, c.args.ahead.now), c.args.watch.now)
     ((c.loop.attached, c.loop.ahead), c.loop.watch) c.args.out.now.sink c.loop.out.sink so_far.0 c.loop.counter

@@ -6,6 +6,7 @@ use Rattle.ws_text.specs.declared.output.Output.{Output}
 use Rattle.ws_text.proofs.Prints.{whole_out}
 use Rattle.ws_live.specs.declared.live.Closing.{Closing}
 use Rattle.ws_live.specs.declared.printing.paint.Paint.TheVariants.{Plain}
+use Rattle.ws_live.specs.live.LiveText.{line_result}
 use Rattle.ws_live.specs.live.Waits.{InTime}
 use Rattle.ws_live.proofs.LiveRuns.{line_out, line_cut, line_failed}
 use Rattle.ws_live.proofs.live.repeated.carry_once.Goals as goal
@@ -13,10 +14,10 @@ use Rattle.ws_live.proofs.live.repeated.carry_once.Goals as goal
 pub returns-in-Open-clause-printed : goal.returns-in-Open-clause-printed
 returns-in-Open-clause-printed g c =
     let e = c.carry_out-carried.ensures.runs in
-    line_out (InTime (g.L.LiveMove.runs g.W.Watch.tells g.W.Watch.rests Plain) g.L.LiveMove.waits g.W.Watch.begins
-    g.W.Watch.begun) g.O.Sink.writer _ _ c.args.out.now.sink c.hand_on-output.new.out.sink _ c.in-Ok.closing e.0 (
-      subst (λ (o : Result Closing Fault). g.L.LiveMove.runs g.W.Watch.tells g.W.Watch.rests Plain c.args.line.now
-          (c.args.attached.now, c.args.ahead.now) o e.0
+    line_out (InTime (g.L.LiveMove.runs g.W.Watch.tells Plain) g.L.LiveMove.waits g.W.Watch.times) g.O.Sink.writer _
+    _ c.args.out.now.sink c.hand_on-output.new.out.sink _ c.in-Ok.closing e.0 (
+      subst (λ (o : Result Closing Fault). g.L.LiveMove.runs g.W.Watch.tells Plain c.args.line.now
+          (c.args.attached.now, c.args.ahead.now) (line_result o e.0)
           (c.carry_out-carried.new.attached, c.carry_out-carried.new.ahead)) c.in-Ok.is e.1,
       c.carry_out-carried.ensures.begun,
     )
@@ -26,10 +27,10 @@ returns-in-Open-clause-printed g c =
 pub returns-in-Failed-clause-printed : goal.returns-in-Failed-clause-printed
 returns-in-Failed-clause-printed g c =
     let e = c.carry_out-carried.ensures.runs in
-    line_cut (InTime (g.L.LiveMove.runs g.W.Watch.tells g.W.Watch.rests Plain) g.L.LiveMove.waits g.W.Watch.begins
-    g.W.Watch.begun) g.O.Sink.writer _ _ c.args.out.now.sink c.hand_on-output.new.out.sink _ c.in-Ok.closing e.0 (
-      subst (λ (o : Result Closing Fault). g.L.LiveMove.runs g.W.Watch.tells g.W.Watch.rests Plain c.args.line.now
-          (c.args.attached.now, c.args.ahead.now) o e.0
+    line_cut (InTime (g.L.LiveMove.runs g.W.Watch.tells Plain) g.L.LiveMove.waits g.W.Watch.times) g.O.Sink.writer _
+    _ c.args.out.now.sink c.hand_on-output.new.out.sink _ c.in-Ok.closing e.0 (
+      subst (λ (o : Result Closing Fault). g.L.LiveMove.runs g.W.Watch.tells Plain c.args.line.now
+          (c.args.attached.now, c.args.ahead.now) (line_result o e.0)
           (c.carry_out-carried.new.attached, c.carry_out-carried.new.ahead)) c.in-Ok.is e.1,
       c.carry_out-carried.ensures.begun,
     )
@@ -40,11 +41,11 @@ returns-in-Failed-clause-printed g c =
 pub returns-in-Err-clause-printed : goal.returns-in-Err-clause-printed
 returns-in-Err-clause-printed g c =
     let e = c.carry_out-carried.ensures.runs in
-    line_failed (InTime (g.L.LiveMove.runs g.W.Watch.tells g.W.Watch.rests Plain) g.L.LiveMove.waits g.W.Watch.begins
-    g.W.Watch.begun) g.O.Sink.writer _ _ c.args.out.now.sink c.hand_on-output.new.out.sink _ c.in-Err.fault
+    line_failed (InTime (g.L.LiveMove.runs g.W.Watch.tells Plain) g.L.LiveMove.waits g.W.Watch.times) g.O.Sink.writer
+    _ _ c.args.out.now.sink c.hand_on-output.new.out.sink _ c.in-Err.fault
     c.hand_on-output.result e.0 (
-      subst (λ (o : Result Closing Fault). g.L.LiveMove.runs g.W.Watch.tells g.W.Watch.rests Plain c.args.line.now
-          (c.args.attached.now, c.args.ahead.now) o e.0
+      subst (λ (o : Result Closing Fault). g.L.LiveMove.runs g.W.Watch.tells Plain c.args.line.now
+          (c.args.attached.now, c.args.ahead.now) (line_result o e.0)
           (c.carry_out-carried.new.attached, c.carry_out-carried.new.ahead)) c.in-Err.is e.1,
       c.carry_out-carried.ensures.begun,
     )

@@ -29,7 +29,7 @@ returns-then-is_awaited-clause-heard g c =
         mid = c.loop.attached;
         before = so_far.1;
         last = told_text event;
-        came = inl (event, heard, awaited, refl, refl);
+        ends = inl (event, heard, awaited, refl, refl);
         all = refl;
       },
       prints_both so_far.3 c.put_told-output.ensures,
@@ -45,7 +45,7 @@ returns-in-Ok-None-clause-heard g c =
         mid = c.loop.attached;
         before = so_far.1;
         last = [];
-        came = inr (inl (inl (rw c.in-Ok-None.field-0-is at c.in-Ok-None.ensures.heard, refl, refl)));
+        ends = inr (inl (inl (rw c.in-Ok-None.field-0-is at c.in-Ok-None.ensures.heard, refl, refl)));
         all = refl;
       },
       prints_same (sym (append-nil printed)) so_far.3,
@@ -62,11 +62,11 @@ returns-in-Err-clause-heard g c =
         mid = c.loop.attached;
         before = so_far.1;
         last = unheard_text fault;
-        came = inr (inl (inr (
+        ends = inr (inl (inr (
           fault,
           unheard.0,
           c.in-Err.ensures.fault so_far.4,
-          λ e. subst (λ s. g.W.Watch.tells s unheard.0) c.source.ensures (unheard.1 e),
+          λ e. subst (λ s. g.W.Watch.tells.is_late s unheard.0) c.source.ensures (unheard.1 e),
           unheard.2,
           refl,
         )));
@@ -101,7 +101,7 @@ returns-clause-heard g c =
         mid = c.loop.attached;
         before = so_far.1;
         last = [];
-        came = inr (inr (all, refl, refl, refl));
+        ends = inr (inr (all, refl, refl, refl));
         all = refl;
       },
       prints_same (sym (append-nil printed)) so_far.3,

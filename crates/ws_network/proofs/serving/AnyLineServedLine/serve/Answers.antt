@@ -5,27 +5,28 @@ use Rattle.ws_any_host.specs.AnyOptions.{new_negotiated}
 use Rattle.ws_network.proofs.AnySessionLaws.{any_served}
 use Rattle.ws_network.proofs.SessionLaws.{judged}
 use Rattle.ws_any_host.specs.declared.any_line.AnyLine.TheVariants.{Await}
-use Rattle.ws_network.specs.AnySessions.{RunsAny}
-use Rattle.ws_network.specs.Times.{timed_devices, tells, begins}
+use Rattle.ws_any_host.specs.AnyText.{AnyRunsInTime}
+use Rattle.ws_live.specs.live.LiveText.{account}
+use Rattle.ws_network.specs.Times.{timed, timed_waits}
 use Rattle.ws_network.proofs.SessionPrinted.{served_well}
 use Rattle.ws_network.proofs.serving.AnyLineServedLine.serve.Goals as goal
 
 pub returns-clause-served : goal.returns-clause-served
 returns-clause-served g c =
     judged _ _ c.carry_at_any_host-outcome.result c.judge.result
-    (served_well (RunsAny timed_devices tells begins (λ n. n)) Await c.args.asked.now.ready g.O.Sink.writer
+    (served_well (AnyRunsInTime timed timed_waits) c.args.asked.now.ready g.O.Sink.writer
     ((c.new-attached.result, 0), c.new.result) (
       (c.carry_at_any_host-outcome.new.attached, c.carry_at_any_host-outcome.new.ahead),
       c.carry_at_any_host-outcome.new.watch,
     )
     (is_some c.args.script) c.args.out.now.sink c.carry_at_any_host-outcome.new.out.sink
-    (λ lines. MatchOption c.args.script (Unit {0}) (λ read. lines ≡ read.now)) c.carry_at_any_host-outcome.result
+    (λ lines. MatchOption c.args.script (Unit {0}) (λ read. lines ≡ read.now)) Await c.carry_at_any_host-outcome.result
     c.carry_at_any_host-outcome.ensures.printed) c.judge.ensures.done
     (λ all_well ran. (
       ran.0,
       ran.1,
       ran.2,
-      any_served c.args.asked.now ran.0 all_well ran.1 (
+      any_served c.args.asked.now ran.0 (account all_well ran.1) (
         (c.carry_at_any_host-outcome.new.attached, c.carry_at_any_host-outcome.new.ahead),
         c.carry_at_any_host-outcome.new.watch,
       )
