@@ -25,6 +25,7 @@ use Rattle.ws_any_host.specs.AnyOptions.{Negotiated}
 use Rattle.ws_any_host.specs.AnySide.{AnyOutput, any_takes, any_manner, send_fault}
 use Rattle.ws_any_host.specs.declared.any_event.AnyEvent.{AnyEvent}
 use Rattle.ws_session.specs.Conduct.{Conduct}
+use Rattle.ws_session.specs.Acts.{ways}
 
 -- what a host keeps: a receiver, its options, and why it takes no more bytes
 pub record AnyParts : Type 0 where
@@ -108,7 +109,7 @@ IsAnySendFault n r why = send_fault n r ≡ Some why
 
 -- the acts lead from one host to another, which wrote and told this in them
 abbrev pub AnyGoes : AnyParts → List (Act (Record ℕ)) → List ℕ → List AnyEvent → AnyParts → Type 0
-AnyGoes = Goes raw_rules raw_rules any_manner AnyLeads IsAnyShut
+AnyGoes = Goes (ways raw_rules raw_rules any_manner) AnyLeads IsAnyShut
 
 -- the host refuses this byte behind all that came before it; where it is shut, for that alone
 pub record AnyRefusesByte (old : AnyParts) (byte : ℕ) (refusal : Refusal) (new : AnyParts) : Type 0 where

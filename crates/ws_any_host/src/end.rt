@@ -3,6 +3,7 @@ ghost use Rattle.ws_record.specs.RawBody.{raw_rules};
 ghost use Rattle.ws_session.specs.ActLaws.{goes_none, goes_on};
 ghost use Rattle.ws_any_host.specs.AnyLeads.{AnyLeads, any_conduct, IsAnyShut, IsAnySendRefusal, IsAnySendTaken};
 ghost use Rattle.ws_any_host.specs.AnySide.{any_manner};
+ghost use Rattle.ws_session.specs.Acts.{ways};
 
 use crate::{AnyEvent, AnyHost};
 use ws_nego::Reply;
@@ -37,9 +38,9 @@ impl End for AnyHost {
         reply.as_slice()
     }
 
-    ghost stays = { goes_none raw_rules raw_rules any_manner AnyLeads IsAnyShut };
+    ghost stays = { goes_none (ways raw_rules raw_rules any_manner) AnyLeads IsAnyShut };
 
-    ghost follows = { goes_on raw_rules raw_rules any_manner AnyLeads IsAnyShut };
+    ghost follows = { goes_on (ways raw_rules raw_rules any_manner) AnyLeads IsAnyShut };
 }
 
 impl Acting for AnyHost {

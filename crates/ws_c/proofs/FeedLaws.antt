@@ -29,6 +29,7 @@ use Rattle.ws_c.specs.Pushes.{BringsAtMostOn, StationTakesOn, StationRefusesOn, 
 use Rattle.ws_c.specs.Pushes.{place_refused_at}
 use Rattle.ws_c.specs.declared.host.HeldHost.{HeldHost}
 use Rattle.ws_c.proofs.PushLaws.{come_on}
+use Rattle.ws_session.specs.station.Displays.{on_display}
 
 module _ (kind : StationKind) where
   -- none of the bytes was taken
@@ -50,7 +51,7 @@ module _ (kind : StationKind) where
       (ends : Bool) → n ≤ length bytes → 0 < k → StationTakesOn kind old (first_bytes bytes n) written now
       → ((b : List ℕ) (its : List (Item kind.Reads)) (s : SideOn kind.Happened) → LeadsOf kind now b its s
       → length b + length (drop n bytes) + 1 < 2 ^ 64
-      → HasFedOn kind.rules kind.display new b its s (take k (drop n bytes)) reply ends)
+      → HasFedOn (on_display kind.rules kind.display) new b its s (take k (drop n bytes)) reply ends)
       → (now.live.taken + k < 2 ^ 64 → new.live.taken ≡ now.live.taken + k)
       → (IsSome now.ended → ⊥) → (now.live.taken + 1 ≡ 2 ^ 64 → ⊥)
       → StationTakesOn kind old (first_bytes bytes (n + k)) (written ++ reply) new
@@ -78,7 +79,7 @@ module _ (kind : StationKind) where
       → n ≤ length bytes → StationTakesOn kind old (first_bytes bytes n) written now
       → ((b : List ℕ) (its : List (Item kind.Reads)) (s : SideOn kind.Happened) → LeadsOf kind now b its s
       → length b + length (drop n bytes) + 1 < 2 ^ 64
-      → IsSilentOn kind.rules kind.display b its s (take j (drop n bytes)))
+      → IsSilentOn (on_display kind.rules kind.display) b its s (take j (drop n bytes)))
       → length written ≤ most → BringsAtMostOn kind old (first_bytes bytes (n + j)) most
   station_brings old now bytes n j written most inside t silent few = λ before items side l fits.
       (let g = t.taken before items side l fits in (
@@ -101,7 +102,7 @@ stands_behind Failed n before after length is up = omega (arith, is)
 module _ (kind : StationKind) (old new : StationOf kind) (bytes : List ℕ) (after : ℕ) where
   -- how many bytes stand before a refused one
   station_front : (refusal : Refusal) (b : List ℕ) (its : List (Item kind.Reads)) (s : SideOn kind.Happened)
-      → LeadsOf kind old b its s → (r : HasRefusedOn kind.rules kind.display old new b its s bytes refusal)
+      → LeadsOf kind old b its s → (r : HasRefusedOn (on_display kind.rules kind.display) old new b its s bytes refusal)
       → min (place_refused_at refusal old.live.taken after - old.live.taken) (length bytes) ≡ length r.front
   station_front (At place reason) b its s l r =
       let here : place ≡ length (b ++ bytes_of (all_came {Deed = kind.Pressed} r.front)) = r.refused.leads.0 in
@@ -117,7 +118,7 @@ module _ (kind : StationKind) (old new : StationOf kind) (bytes : List ℕ) (aft
   pub station_refuses : (refusal : Refusal) (n : ℕ)
       → n ≡ min (place_refused_at refusal old.live.taken after - old.live.taken) (length bytes)
       → ((b : List ℕ) (its : List (Item kind.Reads)) (s : SideOn kind.Happened) → LeadsOf kind old b its s
-      → length b + length bytes + 1 < 2 ^ 64 → HasRefusedOn kind.rules kind.display old new b its s bytes refusal)
+      → length b + length bytes + 1 < 2 ^ 64 → HasRefusedOn (on_display kind.rules kind.display) old new b its s bytes refusal)
       → (old.live.taken + 1 ≡ 2 ^ 64 → refusal ≡ Failed)
       → (IsSome old.ended → (refusal ≡ Failed) × (new ≡ old))
       → (old.ended ≡ None → new.ended ≡ Some refusal) → new.screen ≡ old.screen → after ≡ new.live.taken

@@ -21,6 +21,7 @@ use Rattle.ws_c.specs.declared.status.Status.{Status}
 use Rattle.ws_c.specs.declared.status.Status.TheVariants.{NoRoom}
 use Rattle.ws_c.specs.declared.told.PushedTold.{PushedTold}
 use Rattle.ws_c.proofs.FeedLaws.{station_brings, station_takes_none}
+use Rattle.ws_session.specs.station.Displays.{on_display}
 
 -- whether something waits, by the length of what does
 pub nothing_waits : (rest l : List ℕ) → rest ≡ l → (length rest == 0) ≡ true → l ≡ []
@@ -100,9 +101,9 @@ pub feeding_on : (old now fed new : HeldStation) (bytes buffer after last : List
     → StationTakesOn extended_kind old.station (first_bytes bytes (told.taken + used)) (f.written ++ waiting fed)
     fed.station
     → ((j : ℕ) → j < used → (b : List ℕ) (its : List (Item ExtendedElement)) (s : ExtendedSide)
-    → LeadsOn extended_rules extended now.station b its s
+    → LeadsOn (on_display extended_rules extended) now.station b its s
     → length b + length (drop told.taken bytes) + 1 < 2 ^ 64
-    → IsSilentOn extended_rules extended b its s (take j (drop told.taken bytes)))
+    → IsSilentOn (on_display extended_rules extended) b its s (take j (drop told.taken bytes)))
     → HandsOut fed new (filling plus after) (filling counts last)
     → HeldFeeding old new bytes buffer last counts
 feeding_on old now fed new bytes buffer after last told plus counts used f none plus_is within takes silent h =

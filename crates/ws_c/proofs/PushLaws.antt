@@ -11,6 +11,7 @@ use Rattle.ws_session.specs.Acts.{Act, Manner, all_came, HasGone}
 use Rattle.ws_c.specs.Calls.{holds_front}
 use Rattle.ws_c.specs.Pushes.{TakesAll, pushed_told}
 use Rattle.ws_c.specs.declared.told.PushedTold.{PushedTold}
+use Rattle.ws_session.specs.Acts.{ways}
 
 module _ {S : Type 0} (Takes : S → ℕ → List ℕ → S → Type 0) where
   -- one more byte
@@ -70,17 +71,17 @@ module _ {Place PlaceV Side U V Deed Event : Type 0} (rules : Rules Place U) (ou
   pub come_on : (bytes : List ℕ) (n k : ℕ) (before : List ℕ) (items : List (Item U)) (side : Side)
       (written reply : List ℕ) (told more : List Event) → n ≤ length bytes
       → length before + length bytes + 1 < 2 ^ 64
-      → HasGone rules out manner Mid before items side (all_came (take n bytes)) written told
+      → HasGone (ways rules out manner) Mid before items side (all_came (take n bytes)) written told
       → ((b : List ℕ) (its : List (Item U)) (s : Side) → Mid b its s → length b + length (drop n bytes) + 1 < 2 ^ 64
-      → HasGone rules out manner End b its s (all_came (take k (drop n bytes))) reply more)
-      → HasGone rules out manner End before items side (all_came (take (n + k) bytes)) (written ++ reply)
+      → HasGone (ways rules out manner) End b its s (all_came (take k (drop n bytes))) reply more)
+      → HasGone (ways rules out manner) End before items side (all_came (take (n + k) bytes)) (written ++ reply)
       (told ++ more)
   come_on bytes n k before items side written reply told more inside fits gone next =
-      subst (λ (acts : List (Act Deed)). HasGone rules out manner End before items side acts (written ++ reply)
+      subst (λ (acts : List (Act Deed)). HasGone (ways rules out manner) End before items side acts (written ++ reply)
       (told ++ more))
       (sym (came_append (take n bytes) (take k (drop n bytes)))
       ∙ ap (λ (x : List ℕ). all_came {Deed = Deed} x) (sym (take-add n k bytes)))
-      (gone_on rules out manner Mid End before items side (all_came (take n bytes)) (all_came (take k (drop n bytes)))
+      (gone_on (ways rules out manner) Mid End before items side (all_came (take n bytes)) (all_came (take k (drop n bytes)))
       written reply told more gone
       (λ b its s l size. next b its s l
       (omega (

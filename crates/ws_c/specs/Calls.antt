@@ -38,6 +38,7 @@ use Rattle.ws_c.specs.declared.status.Status.TheVariants.{Done, Refused, Failed,
 use Rattle.ws_c.specs.declared.status.Status.TheVariants.{BadArgument, NotReady, KeyRefused, Truncated}
 use Rattle.ws_c.specs.declared.status.Status.TheVariants.{ReadOutstanding, NoReadToCancel, TooBig, NoAnswer}
 use Rattle.ws_c.specs.declared.told.Told.{Told}
+use Rattle.ws_session.specs.station.Displays.{on_display}
 
 -- the number of a status
 abbrev pub status_number : Status → ℕ
@@ -114,7 +115,7 @@ pub record StationKeyedOn (kind : StationKind) (old new : StationOf kind) (key :
     (result : Result (Option Answer) KeyFault) : Type 0 where
   pub keyed : (bytes : List ℕ) (items : List (Item kind.Reads)) (side : SideOn kind.Happened)
       → LeadsOf kind old bytes items side → length bytes + 1 < 2 ^ 64
-      → IsKeyedOn kind.rules kind.display old new bytes items side key result
+      → IsKeyedOn (on_display kind.rules kind.display) old new bytes items side key result
   pub full : old.live.taken + 1 ≡ 2 ^ 64 → result ≡ Err KeyFailed
   pub failed : IsSome old.ended → result ≡ Err KeyFailed
   pub same : OnErr result (new ≡ old)

@@ -31,6 +31,7 @@ use Rattle.ws_c.specs.declared.status.Status.{Status}
 use Rattle.ws_c.specs.declared.status.Status.TheVariants.{Done, NoMemory, NothingHeld, InUse, NoRoom, BadArgument}
 use Rattle.ws_c.specs.declared.told.PushedTold.{PushedTold}
 use Rattle.ws_c.specs.declared.told.Told.{Told}
+use Rattle.ws_session.specs.station.Displays.{on_display}
 
 -- what of a station's last answer hasn't gone out yet
 abbrev pub waiting : HeldStation → List ℕ
@@ -42,7 +43,7 @@ abbrev pub IsExtendedNew : List ℕ → Option Machine → Option Machine → St
 IsExtendedNew name (Some held) now status = (status ≡ InUse) × (now ≡ Some held)
 IsExtendedNew name None now Done = (terminal : TerminalType) × (held : HeldStation)
     × (terminal_named name ≡ Some terminal) × (now ≡ Some (ExtendedStation held))
-    × LeadsOn extended_rules extended held.station [] [] (new_side_on extended terminal) × (waiting held ≡ [])
+    × LeadsOn (on_display extended_rules extended) held.station [] [] (new_side_on extended terminal) × (waiting held ≡ [])
 IsExtendedNew name None now BadArgument = (terminal_named name ≡ None) × (now ≡ None)
 IsExtendedNew name None now NoMemory = (terminal : TerminalType) × (terminal_named name ≡ Some terminal)
     × (now ≡ None)

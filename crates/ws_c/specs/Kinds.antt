@@ -20,6 +20,7 @@ use Rattle.ws_session.specs.station.Stations.{LeadsOn}
 use Rattle.ws_extended_station.specs.ExtendedDisplays.{DisplayParts, ExtendedHappened, extended}
 use Rattle.ws_extended_station.specs.declared.extended_key.ExtendedKey.{ExtendedKey}
 use Rattle.ws_extended_station.specs.declared.extended_reply.ExtendedReply.{ExtendedReply}
+use Rattle.ws_session.specs.station.Displays.{on_display}
 
 -- A kind of station: the rules of what it reads, and its display; before them the types of which these speak.
 pub record StationKind : Type 1 where
@@ -41,7 +42,7 @@ StationOf kind = PartsOn kind.Parts kind.Place
 -- bytes and their items lead a station of a kind to what it is, on this side
 abbrev pub LeadsOf : (kind : StationKind) → StationOf kind → List ℕ → List (Item kind.Reads) → SideOn kind.Happened
     → Type 0
-LeadsOf kind = LeadsOn kind.rules kind.display
+LeadsOf kind = LeadsOn (on_display kind.rules kind.display)
 
 -- the stations of the profile
 abbrev pub profile_kind : StationKind

@@ -16,6 +16,7 @@ use Rattle.ws_c.specs.declared.told.PushedTold.{PushedTold}
 use Rattle.ws_c.specs.declared.told.TheConstants.{REPLY_ROOM}
 use Rattle.ws_c.specs.Calls.{Crossed, holds_front}
 use Rattle.ws_c.specs.Kinds.{LeadsOf, StationKind, StationOf, profile_kind}
+use Rattle.ws_session.specs.station.Displays.{on_display}
 
 -- what a push tells where nothing was done
 abbrev pub nothing_pushed : PushedTold
@@ -76,7 +77,7 @@ module _ (kind : StationKind) where
       : Type 0 where
     pub taken : (before : List ℕ) (items : List (Item kind.Reads)) (side : SideOn kind.Happened)
         → LeadsOf kind old before items side → length before + length front.bytes + 1 < 2 ^ 64
-        → (told : List Applied) × HasTakenAllOn kind.rules kind.display (LeadsOf kind new) before items side
+        → (told : List Applied) × HasTakenAllOn (on_display kind.rules kind.display) (LeadsOf kind new) before items side
         (take front.count front.bytes) written told
     pub counted : old.live.taken + front.count < 2 ^ 64 → new.live.taken ≡ old.live.taken + front.count
     pub works : 0 < front.count → IsSome old.ended → ⊥
@@ -89,7 +90,7 @@ module _ (kind : StationKind) where
       : Type 0 where
     pub refused : (before : List ℕ) (items : List (Item kind.Reads)) (side : SideOn kind.Happened)
         → LeadsOf kind old before items side → length before + length front.bytes + 1 < 2 ^ 64
-        → (r : HasRefusedOn kind.rules kind.display old new before items side front.bytes refusal)
+        → (r : HasRefusedOn (on_display kind.rules kind.display) old new before items side front.bytes refusal)
         × (front.count ≡ length r.front)
     pub counted : old.live.taken + length front.bytes < 2 ^ 64
         → StandsBehind refusal front.count old.live.taken new.live.taken (length front.bytes)
@@ -104,7 +105,7 @@ module _ (kind : StationKind) where
   BringsAtMostOn old front most = (before : List ℕ) (items : List (Item kind.Reads)) (side : SideOn kind.Happened)
       → LeadsOf kind old before items side → length before + length front.bytes + 1 < 2 ^ 64
       → (written : List ℕ) × (told : List Applied)
-      × HasTakenAllOn kind.rules kind.display (λ before' items' side'. Unit {0}) before items side
+      × HasTakenAllOn (on_display kind.rules kind.display) (λ before' items' side'. Unit {0}) before items side
       (take front.count front.bytes) written told
       × (length written ≤ most)
 

@@ -37,6 +37,7 @@ use Rattle.ws_extended_station.specs.ExtendedDisplays.{ExtendedSide, as_profile,
 use Rattle.ws_extended_station.specs.declared.extended_key.ExtendedKey.{ExtendedKey}
 use Rattle.ws_extended_station.specs.declared.extended_key.ExtendedKey.TheVariants.{Profile as ProfileKey}
 use Rattle.ws_extended_station.proofs.Beside.{items_there, keys_there}
+use Rattle.ws_session.specs.Acts.{ways}
 
 -- THE SAME BYTES HOLD THE SAME ITEMS
 
@@ -220,9 +221,9 @@ doing_there s (h ∷ hs) none =
 
 pub runs_there : (bytes : List ℕ) (items arrived : List (Item Element)) (s : ExtendedSide) (next : StationSide)
     (acts : List (Act Key)) (written : List ℕ) (told : List Applied) → NoErrorStands s
-    → HasGone element_rules answer_rules (manner_on profile) (HaveJustArrived arrived next) bytes items (profile_side s) acts
+    → HasGone (ways element_rules answer_rules (manner_on profile)) (HaveJustArrived arrived next) bytes items (profile_side s) acts
     written told
-    → HasGone extended_rules raw_rules (manner_on extended) (HaveJustArrived (map item_there arrived) (with_profile s next))
+    → HasGone (ways extended_rules raw_rules (manner_on extended)) (HaveJustArrived (map item_there arrived) (with_profile s next))
     bytes (map item_there items) s (map act_there acts) written told
 runs_there bytes items arrived s next acts written told none gone =
     let hs = gone.happened in

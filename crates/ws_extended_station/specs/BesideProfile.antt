@@ -22,6 +22,7 @@ use Rattle.ws_extended_station.specs.Bytewise.{by_bytes}
 use Rattle.ws_extended_station.specs.ExtendedDisplays.{ExtendedSide, extended, with_profile}
 use Rattle.ws_extended_station.specs.declared.extended_key.ExtendedKey.{ExtendedKey}
 use Rattle.ws_extended_station.specs.declared.extended_key.ExtendedKey.TheVariants.{Profile as ProfileKey}
+use Rattle.ws_session.specs.Acts.{ways}
 
 -- a record of the profile as a record of live hosts
 abbrev pub record_there : Record Element → Record ExtendedElement
@@ -56,10 +57,10 @@ HaveJustArrived arrived next bytes items side = (items ≡ arrived) × (side ≡
 abbrev pub ProfileGoes : StationSide → StationSide → List (Item Element) → List ℕ → List (Item Element)
     → List (Act Key) → List ℕ → List Applied → Type 0
 ProfileGoes side next arrived bytes items acts written told =
-    HasGone element_rules answer_rules (manner_on profile) (HaveJustArrived arrived next) bytes items side acts written told
+    HasGone (ways element_rules answer_rules (manner_on profile)) (HaveJustArrived arrived next) bytes items side acts written told
 
 -- the same at a station that live hosts use
 abbrev pub ExtendedGoes : ExtendedSide → ExtendedSide → List (Item ExtendedElement) → List ℕ
     → List (Item ExtendedElement) → List (Act ExtendedKey) → List ℕ → List Applied → Type 0
 ExtendedGoes side next arrived bytes items acts written told =
-    HasGone extended_rules raw_rules (manner_on extended) (HaveJustArrived arrived next) bytes items side acts written told
+    HasGone (ways extended_rules raw_rules (manner_on extended)) (HaveJustArrived arrived next) bytes items side acts written told

@@ -1,5 +1,5 @@
 use Rattle.std.specs.Prelude.{Result, Ok, Err, Option, Some, IfOk, IfErr, IfSome, IfNone}
-use Rattle.std.proofs.Common.{◌≡◌, ◌≢◌, ℕ, List, [], ◌∷◌, ◌++◌, true, false, refl, sym}
+use Rattle.std.proofs.Common.{◌≡◌, ◌≢◌, ℕ, List, [], ◌∷◌, ◌++◌, false, refl, sym}
 use Rattle.std.proofs.Common.{subst}
 use Rattle.ws_code.specs.Device.{Devices}
 use Rattle.ws_code.specs.declared.fault.Fault.{Fault}
@@ -12,7 +12,7 @@ use Rattle.ws_stream.specs.declared.element.Element.{Element}
 use Rattle.ws_session.specs.Acts.{Did}
 use Rattle.ws_session.specs.Conducts.{host_conduct}
 use Rattle.ws_session.specs.Manners.{IsSendRefusal, IsSendTaken}
-use Rattle.ws_session.specs.attached.Attachments.{AttachedParts, HasHeard, HaveLed, HaveLedUnwritten, IsSendFailure}
+use Rattle.ws_session.specs.attached.Attachments.{AttachedParts, HasHeard, HaveLed, IsSendFailure}
 use Rattle.ws_session.specs.declared.end_step.Order.{Order}
 use Rattle.ws_session.specs.declared.end_step.Order.TheVariants.{Send}
 use Rattle.ws_session.specs.declared.host_end.host_event.HostEvent.{HostEvent}
@@ -68,13 +68,6 @@ module _ {S K : Type 0} (devices : Devices S K) where
         } in
         subst (λ (d : Order). IsDone devices d from refused to) (sym is) done
     is_given (Err why) led same told taken failure waiting unread = subst (λ (d : Order). Unsent d why) (sym is) failure
-
-    pub cancel_fails : (given : Result (Option SendFault) Fault)
-        → IfErr given (λ why. (why ≡ fault.Write) × HaveLedUnwritten host_conduct devices
-        from to (Did deed ∷ []))
-        → IfErr given (λ why. to.broken ≡ true) → IfErr given (Unsent deed)
-    cancel_fails (Ok refused) h b = tt
-    cancel_fails (Err why) h b = subst (Unsent deed) (sym h.0) (h.1, b)
 
   -- one thing more is told that isn't the answer
   pub told_behind : (awaited : AnswerAwaited) (from mid to : Parts) (told : List HostEvent) (one : HostEvent)

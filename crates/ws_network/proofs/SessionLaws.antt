@@ -27,6 +27,7 @@ use Rattle.ws_network.specs.Sessions.{AreFromScript, IsConnected, IsServed}
 use Rattle.ws_network.specs.SessionPrinting.{IsTextAndOn, session_lines}
 use Rattle.ws_network.specs.Times.{ConnectionReads, ConnectionWrites, no_reads, no_writes, timed, timed_waits}
 use Rattle.ws_network.specs.Times.{timed_writer}
+use Rattle.ws_session.specs.station.Displays.{on_display}
 
 -- what follows from what a session came to, of what is told of it
 pub judged : {T E : Type 0} (P Q : T → Type 0) (outcome told : Result T E) → IfOk outcome P
@@ -70,7 +71,7 @@ module _ {D P U H PlaceV V Q R : Type 0} (display : LiveDisplay D P U H PlaceV V
 
   pub connected : (station : PartsOn D P) (source : ConnectionReads) (sink : ConnectionWrites)
       (attached : AttachedParts (PartsOn D P) ConnectionReads ConnectionWrites) (begun : ℕ)
-      → LeadsOn display.rules display.does station [] [] (new_side_on display.does asked.terminal)
+      → LeadsOn (on_display display.rules display.does) station [] [] (new_side_on display.does asked.terminal)
       → attached ≡ new_at station source sink → source ≡ no_reads → sink ≡ no_writes → begun ≡ 0
       → RanConnect attached begun → IsConnected display asked lines came
   connected station source sink attached begun new is read written none ran = record {

@@ -33,6 +33,7 @@ use Rattle.ws_network.specs.Times.{ConnectionReads, ConnectionWrites, no_reads, 
 use Rattle.ws_network.specs.Times.{timed_writer}
 use Rattle.ws_live.specs.declared.asked.live_asked.ConnectAsked.{ConnectAsked}
 use Rattle.ws_live.specs.declared.asked.live_asked.ServeAsked.{ServeAsked}
+use Rattle.ws_session.specs.station.Displays.{on_display}
 
 -- where a script is named, the lines are those that its file, whatever it holds, means
 abbrev pub AreFromScript : {L : Type 0} → LineLanguage L → Option (Bor (List ℕ)) → List L → Type 0
@@ -48,7 +49,7 @@ module _ {D P U H PlaceV V Q R : Type 0} (display : LiveDisplay D P U H PlaceV V
   -- this is the account.
   pub record IsConnected (asked : ConnectAsked) (lines : List (StationLine Q)) (came : Account) : Type 0 where
     pub station : PartsOn D P
-    pub new : LeadsOn display.rules display.does station [] [] (new_side_on display.does asked.terminal)
+    pub new : LeadsOn (on_display display.rules display.does) station [] [] (new_side_on display.does asked.terminal)
     pub to : (AttachedParts (PartsOn D P) ConnectionReads ConnectionWrites × ℕ) × ℕ
     pub is_over : Bool
     pub ran : IsLiveText (WithClosing (StationRunsInTime display timed timed_waits asked.paint) asked.ready)

@@ -39,6 +39,7 @@ use Rattle.ws_live.specs.declared.printing.paint.Paint.{Paint}
 use Rattle.ws_live.specs.declared.live.Closing.TheVariants.{Nothing, Done, Declined, Late, Ended, Stopped}
 use Rattle.ws_live.specs.declared.live.watch.WaitSpan.{WaitSpan}
 use Rattle.ws_live.specs.declared.live.watch.WaitSpan.TheVariants.{Whole, AtOnce, Quiet as UntilQuiet}
+use Rattle.ws_session.specs.station.Displays.{on_display}
 
 -- how long a wait for this lasts
 abbrev pub span_of : Awaited → WaitSpan
@@ -128,26 +129,26 @@ module _ {D P U H PlaceV V Q R S K : Type 0} (at : AttachedDisplay D P U H Place
 
   -- one call of `hear` leads from there to there, and tells this
   abbrev pub Hears : AttachedStation → Option Applied → AttachedStation → Type 0
-  Hears from heard to = HasHeard (station_conduct at.rules at.does) at.devices from to heard
+  Hears from heard to = HasHeard (station_conduct (on_display at.rules at.does)) at.devices from to heard
 
   -- one call of `hear` failed for this
   abbrev pub HearsFault : AttachedStation → Fault → AttachedStation → Type 0
-  HearsFault from why to = IsHearFault (station_conduct at.rules at.does) at.devices from to why
+  HearsFault from why to = IsHearFault (station_conduct (on_display at.rules at.does)) at.devices from to why
 
   -- a key was pressed: what it sends went out, or it was refused, and nothing is changed; no byte was read or taken
   pub record IsKeyPressed (key : Q) (from : AttachedStation) (refused : Option KeyFault)
       (to : AttachedStation) : Type 0 where
-    pub led : HaveLed (station_conduct at.rules at.does) at.devices from to (Did key ∷ []) []
+    pub led : HaveLed (station_conduct (on_display at.rules at.does)) at.devices from to (Did key ∷ []) []
     pub same : IfSome refused (λ why. to ≡ from)
-    pub why : IfSome refused (IsKeyRefusalOn at.rules at.does from.end key)
-    pub taken : IfNone refused (IsKeyTakenOn at.rules at.does from.end key)
+    pub why : IfSome refused (IsKeyRefusalOn (on_display at.rules at.does) from.end key)
+    pub taken : IfNone refused (IsKeyTakenOn (on_display at.rules at.does) from.end key)
     pub waiting : to.waiting ≡ from.waiting
     pub unread : to.source ≡ from.source
 
   -- a key was pressed, and what it sends didn't go out
   abbrev pub IsKeyUnwritten : Q → AttachedStation → AttachedStation → Type 0
   IsKeyUnwritten key from to =
-      HaveLedUnwritten (station_conduct at.rules at.does) at.devices from to (Did key ∷ [])
+      HaveLedUnwritten (station_conduct (on_display at.rules at.does)) at.devices from to (Did key ∷ [])
 
   -- records were applied one after another, and before each it wasn't yet met
   abbrev pub HasWaited : (D → Type 0) → AttachedStation → List Applied → AttachedStation → Type 0

@@ -3,13 +3,14 @@ use Rattle.std.proofs.Common.{◌≡◌, ◌+◌, ◌-◌, ◌<◌, ◌≤◌, �
 use Rattle.std.proofs.Common.{◌∙◌, arith}
 use Rattle.std.proofs.lemmas.List.{length-drop}
 use Rattle.ws_session.specs.Ends.{CountsUpTo}
-use Rattle.ws_session.specs.station.StationFeeds.{HasFed, HasRefused}
 use Rattle.ws_c.specs.Kinds.{profile_kind}
 use Rattle.ws_c.specs.Pushes.{StationTakes, StationRefusesWithin, first_bytes, place_refused_at}
 use Rattle.ws_c.specs.declared.told.PushedTold.{PushedTold}
 use Rattle.ws_c.proofs.FeedLaws.{station_takes_none, station_takes_on, station_refuses}
 use Rattle.ws_c.proofs.PushLaws.{feeding_more, rest_is, told_again}
 use Rattle.ws_c.proofs.station.push_all.Goals as goal
+use Rattle.ws_session.specs.station.StationActs.{HasFedOn, HasRefusedOn}
+use Rattle.ws_session.specs.station.StationSide.{on_profile}
 
 pub loop-told-init : goal.loop-told-init
 loop-told-init c =
@@ -53,7 +54,7 @@ loop-told-preserved c =
           (station_takes_on profile_kind c.args.station.now now.station c.feed.new.self bytes n k f.written fed.reply
           fed.ends_record f.inside some f.takes
           (λ b its s l fits. subst
-          (λ (x : List ℕ). HasFed c.feed.new.self b its s (take k x) fed.reply fed.ends_record) is
+          (λ (x : List ℕ). HasFedOn on_profile c.feed.new.self b its s (take k x) fed.reply fed.ends_record) is
           (e.fed b its s l (subst (λ (x : List ℕ). length b + length x + 1 < 2 ^ 64) (sym is) fits)))
           e.counted (λ ended. (let x = (e.failed ended).0 in cc)) (λ full. (let x = e.full full in cc))))
           (c.put_behind.ensures f.written c.args.buffer.now (sym f.replied_is) f.put);
@@ -121,7 +122,7 @@ returns-in-Err c =
     (length x)) is c.front_length.ensures) in
     let refuses : StationRefusesWithin now.station (first_bytes (drop n bytes) m) refusal new =
     station_refuses profile_kind now.station new (drop n bytes) last refusal m few
-    (λ b its s l fits. subst (λ (x : List ℕ). HasRefused now.station new b its s x refusal) is
+    (λ b its s l fits. subst (λ (x : List ℕ). HasRefusedOn on_profile now.station new b its s x refusal) is
     (e.refused b its s l (subst (λ (x : List ℕ). length b + length x + 1 < 2 ^ 64) (sym is) fits)))
     (λ h. (let x = e.full h in cc)) (λ h. ((let x = (e.failed h).0 in cc), (e.failed h).1)) e.after e.seen
     c.taken.ensures.count

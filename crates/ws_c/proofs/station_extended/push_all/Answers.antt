@@ -15,6 +15,7 @@ use Rattle.ws_c.proofs.FeedLaws.{station_takes_on, station_refuses}
 use Rattle.ws_c.proofs.HeldLaws.{ends_plainly, feeding_on, feeding_start, nothing_waits}
 use Rattle.ws_c.proofs.PushLaws.{rest_is}
 use Rattle.ws_c.proofs.station_extended.push_all.Goals as goal
+use Rattle.ws_session.specs.station.Displays.{on_display}
 
 pub loop-told-init : goal.loop-told-init
 loop-told-init c = feeding_start c.args.held.now c.hand_out.new.self c.args.bytes.now c.args.buffer.now
@@ -42,11 +43,11 @@ loop-told-preserved c =
     (omega (arith, within, length-drop n bytes, f.inside))
     (station_takes_on extended_kind c.args.held.now.station now.held.station new bytes n k f.written reply
     fed.ends_record f.inside some f.takes
-    (λ b its s l fits. subst (λ (x : List ℕ). HasFedOn extended_rules extended new b its s (take k x) reply
+    (λ b its s l fits. subst (λ (x : List ℕ). HasFedOn (on_display extended_rules extended) new b its s (take k x) reply
     fed.ends_record) is
     (e.fed b its s l (subst (λ (x : List ℕ). length b + length x + 1 < 2 ^ 64) (sym is) fits)))
     e.counted (λ ended. (let x = (e.failed ended).0 in cc)) (λ full. (let x = e.full full in cc)))
-    (λ j less b its s l fits. subst (λ (x : List ℕ). IsSilentOn extended_rules extended b its s (take j x)) is
+    (λ j less b its s l fits. subst (λ (x : List ℕ). IsSilentOn (on_display extended_rules extended) b its s (take j x)) is
     (e.first b its s l (subst (λ (x : List ℕ). length b + length x + 1 < 2 ^ 64) (sym is) fits) j less))
     c.hand_out-in-Ok.ensures
 
@@ -87,7 +88,7 @@ returns-in-Err c =
     (length x)) is c.front_length.ensures) in
     let refuses : StationRefusesOn extended_kind old (first_bytes (drop n bytes) m) refusal new =
     station_refuses extended_kind old new (drop n bytes) last refusal m few
-    (λ b its s l fits. subst (λ (x : List ℕ). HasRefusedOn extended_rules extended old new b its s x refusal) is
+    (λ b its s l fits. subst (λ (x : List ℕ). HasRefusedOn (on_display extended_rules extended) old new b its s x refusal) is
     (e.refused b its s l (subst (λ (x : List ℕ). length b + length x + 1 < 2 ^ 64) (sym is) fits)))
     (λ h. (let x = e.full h in cc)) (λ h. ((let x = (e.failed h).0 in cc), (e.failed h).1)) e.after e.seen
     c.taken.ensures.count

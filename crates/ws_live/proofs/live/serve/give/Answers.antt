@@ -4,7 +4,7 @@ use Rattle.ws_stream.specs.declared.element.Element.{Element}
 use Rattle.ws_session.specs.declared.end_step.Order.{Order}
 use Rattle.ws_session.specs.declared.end_step.Order.TheVariants.{Send, Cancel}
 use Rattle.ws_live.specs.live.ServeText.{deed_of, IsGiven}
-use Rattle.ws_live.proofs.ServeRuns.{is_given, cancel_fails}
+use Rattle.ws_live.proofs.ServeRuns.{is_given}
 use Rattle.ws_live.proofs.live.serve.give.Goals as goal
 
 pub returns-in-Cancel-clause-given : goal.returns-in-Cancel-clause-given
@@ -13,9 +13,8 @@ returns-in-Cancel-clause-given g c =
     let to = c.cancel.new.self in
     let e = c.cancel.ensures in
     is_given (on_devices g.K.Sink.writer g.S.Source.reader) c.args.order.now Cancel
-    (ap deed_of c.in-Cancel.is) from to c.cancel.result e.sent e.refused e.told e.taken
-    (cancel_fails (on_devices g.K.Sink.writer g.S.Source.reader) c.args.order.now Cancel
-    (ap deed_of c.in-Cancel.is) from to c.cancel.result (e.fault c.requires.works) e.breaks) e.waiting e.source
+    (ap deed_of c.in-Cancel.is) from to c.cancel.result e.done e.refused e.told e.taken
+    (e.fault c.requires.works) e.waiting e.source
 
 pub returns-in-Send-clause-given : goal.returns-in-Send-clause-given
 returns-in-Send-clause-given g c =
