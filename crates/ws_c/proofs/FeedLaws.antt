@@ -18,27 +18,26 @@ use Rattle.ws_session.specs.declared.refusal.Refusal.TheVariants.{At, Failed, Me
 use Rattle.ws_session.specs.host_end.HostFeeds.{HasHostFed, HasHostRefused}
 use Rattle.ws_session.specs.host_end.HostLeads.{HostParts, HostLeads}
 use Rattle.ws_session.specs.host_end.HostSide.{HostSide}
-use Rattle.ws_session.specs.station.Displays.{SideOn}
 use Rattle.ws_session.specs.station.StationActs.{HasFedOn, HasRefusedOn, IsSilentOn}
 use Rattle.ws_session.specs.station.StationManners.{manner_on}
 use Rattle.ws_session.proofs.Counts.{counted_on}
 use Rattle.ws_session.proofs.Feedings.{none_come}
 use Rattle.ws_c.specs.Hosts.{HostTakes, HostRefusesWithin}
-use Rattle.ws_c.specs.Kinds.{LeadsOf, StationKind, StationOf}
 use Rattle.ws_c.specs.Pushes.{BringsAtMostOn, StationTakesOn, StationRefusesOn, StandsBehind, first_bytes}
 use Rattle.ws_c.specs.Pushes.{place_refused_at}
 use Rattle.ws_c.specs.declared.host.HeldHost.{HeldHost}
 use Rattle.ws_c.proofs.PushLaws.{come_on}
-use Rattle.ws_session.specs.station.Displays.{on_display}
+use Rattle.ws_session.specs.station.Displays.{OnDisplay}
+use Rattle.ws_session.specs.station.Stations.{StationOf, ItemsOf, SideOf, LeadsOn}
 
-module _ (kind : StationKind) where
+module _ (kind : OnDisplay) where
   -- none of the bytes was taken
   pub station_takes_none : (station : StationOf kind) (bytes : List ℕ)
       → StationTakesOn kind station (first_bytes bytes 0) [] station
   station_takes_none station bytes = record {
     taken = λ before items side l fits. (
       [],
-      none_come kind.rules kind.display.out (manner_on kind.display) (LeadsOf kind station) before items side l,
+      none_come kind.rules kind.does.out (manner_on kind.does) (LeadsOn kind station) before items side l,
     );
     counted = λ fits. omega arith;
     works = λ some e. absurd (omega (arith, some));
@@ -49,9 +48,9 @@ module _ (kind : StationKind) where
   -- more of them are
   pub station_takes_on : (old now new : StationOf kind) (bytes : List ℕ) (n k : ℕ) (written reply : List ℕ)
       (ends : Bool) → n ≤ length bytes → 0 < k → StationTakesOn kind old (first_bytes bytes n) written now
-      → ((b : List ℕ) (its : List (Item kind.Reads)) (s : SideOn kind.Happened) → LeadsOf kind now b its s
+      → ((b : List ℕ) (its : ItemsOf kind) (s : SideOf kind) → LeadsOn kind now b its s
       → length b + length (drop n bytes) + 1 < 2 ^ 64
-      → HasFedOn (on_display kind.rules kind.display) new b its s (take k (drop n bytes)) reply ends)
+      → HasFedOn kind new b its s (take k (drop n bytes)) reply ends)
       → (now.live.taken + k < 2 ^ 64 → new.live.taken ≡ now.live.taken + k)
       → (IsSome now.ended → ⊥) → (now.live.taken + 1 ≡ 2 ^ 64 → ⊥)
       → StationTakesOn kind old (first_bytes bytes (n + k)) (written ++ reply) new
@@ -59,7 +58,7 @@ module _ (kind : StationKind) where
     counted = counted_on old.live.taken now.live.taken new.live.taken n k t.counted counted;
     taken = λ before items side l fits. (let g = t.taken before items side l fits in (
       g.0 ++ as_list (told_by ends),
-      come_on kind.rules kind.display.out (manner_on kind.display) (LeadsOf kind now) (LeadsOf kind new) bytes n k
+      come_on kind.rules kind.does.out (manner_on kind.does) (LeadsOn kind now) (LeadsOn kind new) bytes n k
           before items side written reply g.0 (as_list (told_by ends)) inside fits g.1 fed,
     ));
     works = λ _ e. elim (cases_lt 0 n) [
@@ -77,15 +76,15 @@ module _ (kind : StationKind) where
   -- what bytes bring behind these that bring nothing
   pub station_brings : (old now : StationOf kind) (bytes : List ℕ) (n j : ℕ) (written : List ℕ) (most : ℕ)
       → n ≤ length bytes → StationTakesOn kind old (first_bytes bytes n) written now
-      → ((b : List ℕ) (its : List (Item kind.Reads)) (s : SideOn kind.Happened) → LeadsOf kind now b its s
+      → ((b : List ℕ) (its : ItemsOf kind) (s : SideOf kind) → LeadsOn kind now b its s
       → length b + length (drop n bytes) + 1 < 2 ^ 64
-      → IsSilentOn (on_display kind.rules kind.display) b its s (take j (drop n bytes)))
+      → IsSilentOn kind b its s (take j (drop n bytes)))
       → length written ≤ most → BringsAtMostOn kind old (first_bytes bytes (n + j)) most
   station_brings old now bytes n j written most inside t silent few = λ before items side l fits.
       (let g = t.taken before items side l fits in (
         written ++ [],
         g.0 ++ [],
-        come_on kind.rules kind.display.out (manner_on kind.display) (LeadsOf kind now) (λ b its s. Unit {0}) bytes n j
+        come_on kind.rules kind.does.out (manner_on kind.does) (LeadsOn kind now) (λ b its s. Unit {0}) bytes n j
             before items side written [] g.0 [] inside fits g.1 silent,
         omega (arith, few, length-append written []),
       ))
@@ -99,10 +98,10 @@ stands_behind (At place reason) n before after length is up =
 stands_behind Memory n before after length is up = (omega (arith, is, up), omega (arith, is, up))
 stands_behind Failed n before after length is up = omega (arith, is)
 
-module _ (kind : StationKind) (old new : StationOf kind) (bytes : List ℕ) (after : ℕ) where
+module _ (kind : OnDisplay) (old new : StationOf kind) (bytes : List ℕ) (after : ℕ) where
   -- how many bytes stand before a refused one
-  station_front : (refusal : Refusal) (b : List ℕ) (its : List (Item kind.Reads)) (s : SideOn kind.Happened)
-      → LeadsOf kind old b its s → (r : HasRefusedOn (on_display kind.rules kind.display) old new b its s bytes refusal)
+  station_front : (refusal : Refusal) (b : List ℕ) (its : ItemsOf kind) (s : SideOf kind)
+      → LeadsOn kind old b its s → (r : HasRefusedOn kind old new b its s bytes refusal)
       → min (place_refused_at refusal old.live.taken after - old.live.taken) (length bytes) ≡ length r.front
   station_front (At place reason) b its s l r =
       let here : place ≡ length (b ++ bytes_of (all_came {Deed = kind.Pressed} r.front)) = r.refused.leads.0 in
@@ -117,8 +116,8 @@ module _ (kind : StationKind) (old new : StationOf kind) (bytes : List ℕ) (aft
 
   pub station_refuses : (refusal : Refusal) (n : ℕ)
       → n ≡ min (place_refused_at refusal old.live.taken after - old.live.taken) (length bytes)
-      → ((b : List ℕ) (its : List (Item kind.Reads)) (s : SideOn kind.Happened) → LeadsOf kind old b its s
-      → length b + length bytes + 1 < 2 ^ 64 → HasRefusedOn (on_display kind.rules kind.display) old new b its s bytes refusal)
+      → ((b : List ℕ) (its : ItemsOf kind) (s : SideOf kind) → LeadsOn kind old b its s
+      → length b + length bytes + 1 < 2 ^ 64 → HasRefusedOn kind old new b its s bytes refusal)
       → (old.live.taken + 1 ≡ 2 ^ 64 → refusal ≡ Failed)
       → (IsSome old.ended → (refusal ≡ Failed) × (new ≡ old))
       → (old.ended ≡ None → new.ended ≡ Some refusal) → new.screen ≡ old.screen → after ≡ new.live.taken

@@ -7,21 +7,20 @@ use Rattle.std.proofs.lemmas.Bool.{cases_lt}
 use Rattle.std.proofs.lemmas.List.{append-nil, drop_all, length-drop, nil_from_length}
 use borrow.Author.Tests.{eqb-true, eqb-false}
 use Rattle.ws_record.specs.declared.record.Item.{Item}
-use Rattle.ws_extended.specs.ExtendedElements.{extended_rules}
 use Rattle.ws_extended.specs.declared.extended_element.ExtendedElement.{ExtendedElement}
 use Rattle.ws_session.specs.station.StationActs.{IsSilentOn}
 use Rattle.ws_session.specs.station.Stations.{LeadsOn}
-use Rattle.ws_extended_station.specs.ExtendedDisplays.{ExtendedSide, extended}
+use Rattle.ws_extended_station.specs.ExtendedDisplays.{ExtendedSide}
 use Rattle.ws_c.specs.Calls.{crossed, holds_front}
 use Rattle.ws_c.specs.HeldStations.{HandsOut, IsHeldPush, filling, waiting}
-use Rattle.ws_c.specs.Kinds.{StationOf, extended_kind}
 use Rattle.ws_c.specs.Pushes.{BringsAtMostOn, IsEndOn, StationTakesOn, first_bytes, nothing_pushed, pushed_told}
 use Rattle.ws_c.specs.declared.held_station.HeldStation.{HeldStation}
 use Rattle.ws_c.specs.declared.status.Status.{Status}
 use Rattle.ws_c.specs.declared.status.Status.TheVariants.{NoRoom}
 use Rattle.ws_c.specs.declared.told.PushedTold.{PushedTold}
 use Rattle.ws_c.proofs.FeedLaws.{station_brings, station_takes_none}
-use Rattle.ws_session.specs.station.Displays.{on_display}
+use Rattle.ws_extended_station.specs.ExtendedDisplays.{on_extended}
+use Rattle.ws_session.specs.station.Stations.{StationOf}
 
 -- whether something waits, by the length of what does
 pub nothing_waits : (rest l : List ℕ) → rest ≡ l → (length rest == 0) ≡ true → l ≡ []
@@ -42,11 +41,11 @@ pub record HeldFeeding (old now : HeldStation) (bytes buffer after : List ℕ) (
   pub inside : told.taken ≤ length bytes
   pub written : List ℕ
   pub out : List ℕ
-  pub takes : StationTakesOn extended_kind old.station (first_bytes bytes told.taken) written now.station
+  pub takes : StationTakesOn on_extended old.station (first_bytes bytes told.taken) written now.station
   pub whole : waiting old ++ written ≡ out ++ waiting now
   pub first : length out < length (waiting old) → told.taken ≡ 0
   pub in_time : (n : ℕ) → n < told.taken
-      → BringsAtMostOn extended_kind old.station (first_bytes bytes n) (length out - length (waiting old))
+      → BringsAtMostOn on_extended old.station (first_bytes bytes n) (length out - length (waiting old))
   pub replied : told.replied ≡ length out
   pub fits : told.replied ≤ length buffer
   pub put : after ≡ holds_front out buffer
@@ -67,10 +66,10 @@ feeding_start old new bytes buffer after told counts fresh h =
       inside = omega (arith, taken_is);
       written = [];
       out = h.out;
-      takes = subst (λ (n : ℕ). StationTakesOn extended_kind old.station (first_bytes bytes n) [] new.station)
+      takes = subst (λ (n : ℕ). StationTakesOn on_extended old.station (first_bytes bytes n) [] new.station)
           (sym taken_is)
-          (subst (λ s. StationTakesOn extended_kind old.station (first_bytes bytes 0) [] s) (sym h.station)
-          (station_takes_none extended_kind old.station bytes));
+          (subst (λ s. StationTakesOn on_extended old.station (first_bytes bytes 0) [] s) (sym h.station)
+          (station_takes_none on_extended old.station bytes));
       whole = append-nil (waiting old) ∙ h.whole;
       first = λ few. taken_is;
       in_time = λ n lt. absurd (omega (arith, lt, taken_is));
@@ -88,9 +87,9 @@ all_out old now bytes buffer after told f none =
     f.whole ∙ ap (λ (l : List ℕ). f.out ++ l) none ∙ append-nil f.out
 
 -- what is at most so long is at most longer
-brings_more : (old : StationOf extended_kind) (bytes : List ℕ) (n few most : ℕ) → few ≤ most
-    → BringsAtMostOn extended_kind old (first_bytes bytes n) few
-    → BringsAtMostOn extended_kind old (first_bytes bytes n) most
+brings_more : (old : StationOf on_extended) (bytes : List ℕ) (n few most : ℕ) → few ≤ most
+    → BringsAtMostOn on_extended old (first_bytes bytes n) few
+    → BringsAtMostOn on_extended old (first_bytes bytes n) most
 brings_more old bytes n few most le b = λ before items side l fits.
     (let g = b before items side l fits in (g.0, g.1, g.2, omega (arith, le, g.3)))
 
@@ -98,12 +97,12 @@ brings_more old bytes n few most le b = λ before items side l fits.
 pub feeding_on : (old now fed new : HeldStation) (bytes buffer after last : List ℕ) (told plus counts : PushedTold)
     (used : ℕ) (f : HeldFeeding old now bytes buffer after told) → waiting now ≡ []
     → plus ≡ record told { taken = told.taken + used } → told.taken + used ≤ length bytes
-    → StationTakesOn extended_kind old.station (first_bytes bytes (told.taken + used)) (f.written ++ waiting fed)
+    → StationTakesOn on_extended old.station (first_bytes bytes (told.taken + used)) (f.written ++ waiting fed)
     fed.station
     → ((j : ℕ) → j < used → (b : List ℕ) (its : List (Item ExtendedElement)) (s : ExtendedSide)
-    → LeadsOn (on_display extended_rules extended) now.station b its s
+    → LeadsOn on_extended now.station b its s
     → length b + length (drop told.taken bytes) + 1 < 2 ^ 64
-    → IsSilentOn (on_display extended_rules extended) b its s (take j (drop told.taken bytes)))
+    → IsSilentOn on_extended b its s (take j (drop told.taken bytes)))
     → HandsOut fed new (filling plus after) (filling counts last)
     → HeldFeeding old new bytes buffer last counts
 feeding_on old now fed new bytes buffer after last told plus counts used f none plus_is within takes silent h =
@@ -127,9 +126,9 @@ feeding_on old now fed new bytes buffer after last told plus counts used f none 
       inside = omega (arith, taken_is, within);
       written = f.written ++ waiting fed;
       out = f.out ++ h.out;
-      takes = subst (λ (n : ℕ). StationTakesOn extended_kind old.station (first_bytes bytes n)
+      takes = subst (λ (n : ℕ). StationTakesOn on_extended old.station (first_bytes bytes n)
           (f.written ++ waiting fed) new.station) (sym taken_is)
-          (subst (λ s. StationTakesOn extended_kind old.station (first_bytes bytes (told.taken + used))
+          (subst (λ s. StationTakesOn on_extended old.station (first_bytes bytes (told.taken + used))
           (f.written ++ waiting fed) s) (sym h.station) takes);
       whole = sym (append_assoc (waiting old) f.written (waiting fed)) ∙ ap (λ (l : List ℕ). l ++ waiting fed) all
           ∙ ap (λ (l : List ℕ). f.out ++ l) h.whole ∙ sym (append_assoc f.out h.out (waiting new));
@@ -137,9 +136,9 @@ feeding_on old now fed new bytes buffer after last told plus counts used f none 
       in_time = λ n lt. elim (cases_lt n told.taken) [
         | inl less ↦ brings_more old.station bytes n _ _
             (omega (arith, length-append f.out h.out)) (f.in_time n less)
-        | inr ge ↦ subst (λ (z : ℕ). BringsAtMostOn extended_kind old.station (first_bytes bytes z)
+        | inr ge ↦ subst (λ (z : ℕ). BringsAtMostOn on_extended old.station (first_bytes bytes z)
             (length (f.out ++ h.out) - length (waiting old))) (omega (arith, ge))
-            (station_brings extended_kind old.station now.station bytes told.taken (n - told.taken) f.written _
+            (station_brings on_extended old.station now.station bytes told.taken (n - told.taken) f.written _
             f.inside f.takes (silent (n - told.taken) (omega (arith, ge, lt, taken_is)))
             (omega (arith, out_is, length-append f.out h.out)))
       ];
@@ -178,7 +177,7 @@ module _ (old now : HeldStation) (bytes buffer after : List ℕ) (told : PushedT
   -- or where nothing does
   pub ends_plainly : (new : HeldStation) (status : Status) (last : PushedTold) → waiting now ≡ [] → waiting new ≡ []
       → last.taken ≤ length bytes → last.replied ≡ told.replied
-      → IsEndOn extended_kind (first_bytes bytes told.taken) (crossed buffer after status last) now.station new.station
+      → IsEndOn on_extended (first_bytes bytes told.taken) (crossed buffer after status last) now.station new.station
       → IsHeldPush bytes (crossed buffer after status last) old new
   ends_plainly new status last none still inside same ends = record {
     counted = inside;

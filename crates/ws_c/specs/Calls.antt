@@ -9,14 +9,12 @@ use Rattle.ws_code.specs.declared.reason.Reason.{Reason}
 use Rattle.ws_nego.specs.Station.{station_allows_records}
 use Rattle.ws_nego.specs.Terminal.{terminal_named}
 use Rattle.ws_nego.specs.declared.terminal.TerminalType.{TerminalType}
-use Rattle.ws_record.specs.declared.record.Item.{Item}
 use Rattle.ws_screen.specs.Lines.{row_chars}
 use Rattle.ws_screen.specs.ScreenParts.{ScreenParts, holds}
 use Rattle.ws_screen.specs.declared.field.Field.{Field}
 use Rattle.ws_screen.specs.declared.read_kind.ReadKind.{ReadKind}
 use Rattle.ws_screen.specs.declared.read_kind.ReadKind.TheVariants.{Input, Mdt, MdtAlternate}
 use Rattle.ws_session.specs.station.AnswerSpelling.{answer_spelling}
-use Rattle.ws_session.specs.station.Displays.{SideOn}
 use Rattle.ws_session.specs.Ends.{refused_byte}
 use Rattle.ws_session.specs.station.StationLeads.{StationParts, StationLeads}
 use Rattle.ws_session.specs.station.StationSide.{new_station_side}
@@ -27,7 +25,6 @@ use Rattle.ws_session.specs.declared.station.key_fault.KeyFault.TheVariants.{Key
 use Rattle.ws_keys.specs.declared.answer.Answer.{Answer}
 use Rattle.ws_keys.specs.declared.key.Key.{Key}
 use Rattle.ws_c.specs.Keys.{refusal_number}
-use Rattle.ws_c.specs.Kinds.{LeadsOf, StationKind, StationOf, profile_kind}
 use Rattle.ws_c.specs.declared.field_told.FieldTold.{FieldTold}
 use Rattle.ws_c.specs.declared.machine.Machine.{Machine}
 use Rattle.ws_c.specs.declared.machine.Machine.TheVariants.{Station}
@@ -38,7 +35,9 @@ use Rattle.ws_c.specs.declared.status.Status.TheVariants.{Done, Refused, Failed,
 use Rattle.ws_c.specs.declared.status.Status.TheVariants.{BadArgument, NotReady, KeyRefused, Truncated}
 use Rattle.ws_c.specs.declared.status.Status.TheVariants.{ReadOutstanding, NoReadToCancel, TooBig, NoAnswer}
 use Rattle.ws_c.specs.declared.told.Told.{Told}
-use Rattle.ws_session.specs.station.Displays.{on_display}
+use Rattle.ws_session.specs.station.Displays.{OnDisplay}
+use Rattle.ws_session.specs.station.StationSide.{on_profile}
+use Rattle.ws_session.specs.station.Stations.{StationOf, ItemsOf, SideOf, LeadsOn}
 
 -- the number of a status
 abbrev pub status_number : Status → ℕ
@@ -111,18 +110,18 @@ IsStationNew name None now NoMemory = (terminal : TerminalType) × (terminal_nam
 IsStationNew name None now status = ⊥
 
 -- a station of any kind at a key
-pub record StationKeyedOn (kind : StationKind) (old new : StationOf kind) (key : kind.Pressed)
+pub record StationKeyedOn (kind : OnDisplay) (old new : StationOf kind) (key : kind.Pressed)
     (result : Result (Option Answer) KeyFault) : Type 0 where
-  pub keyed : (bytes : List ℕ) (items : List (Item kind.Reads)) (side : SideOn kind.Happened)
-      → LeadsOf kind old bytes items side → length bytes + 1 < 2 ^ 64
-      → IsKeyedOn (on_display kind.rules kind.display) old new bytes items side key result
+  pub keyed : (bytes : List ℕ) (items : ItemsOf kind) (side : SideOf kind)
+      → LeadsOn kind old bytes items side → length bytes + 1 < 2 ^ 64
+      → IsKeyedOn kind old new bytes items side key result
   pub full : old.live.taken + 1 ≡ 2 ^ 64 → result ≡ Err KeyFailed
   pub failed : IsSome old.ended → result ≡ Err KeyFailed
   pub same : OnErr result (new ≡ old)
 
 -- a station of the profile at a key
 abbrev pub StationKeyed : StationParts → StationParts → Key → Result (Option Answer) KeyFault → Type 0
-StationKeyed = StationKeyedOn profile_kind
+StationKeyed = StationKeyedOn on_profile
 
 -- what a key's fault crosses as
 abbrev pub IsKeyFaultTold : KeyFault → Status → Told → Type 0

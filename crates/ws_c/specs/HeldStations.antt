@@ -6,7 +6,6 @@ use Rattle.ws_nego.specs.Terminal.{terminal_named}
 use Rattle.ws_nego.specs.declared.terminal.TerminalType.{TerminalType}
 use Rattle.ws_keys.specs.declared.answer.Answer.{Answer}
 use Rattle.ws_keys.specs.declared.key.Key.{Key}
-use Rattle.ws_extended.specs.ExtendedElements.{extended_rules}
 use Rattle.ws_extended.specs.declared.extended_place.ExtendedPlace.{ExtendedPlace}
 use Rattle.ws_extended_station.specs.ExtendedDisplays.{DisplayParts, extended, extended_written, standing_row}
 use Rattle.ws_extended_station.specs.declared.extended_key.ExtendedKey.{ExtendedKey}
@@ -20,7 +19,6 @@ use Rattle.ws_c.specs.Calls.{Crossed, IsKeyTold, IsPress, StationKeyedOn, TellsO
 use Rattle.ws_c.specs.Calls.{row_number, state_of_screen, told_length}
 use Rattle.ws_c.specs.Held.{OnExtended, OnStations}
 use Rattle.ws_c.specs.Keys.{IsKeyFrom}
-use Rattle.ws_c.specs.Kinds.{extended_kind}
 use Rattle.ws_c.specs.Pushes.{BringsAtMostOn, IsEndOn, StationTakesOn, first_bytes, pushed_told}
 use Rattle.ws_c.specs.declared.held_station.HeldStation.{HeldStation}
 use Rattle.ws_c.specs.declared.key_kind.TheConstants.{RESET_KIND}
@@ -31,7 +29,7 @@ use Rattle.ws_c.specs.declared.status.Status.{Status}
 use Rattle.ws_c.specs.declared.status.Status.TheVariants.{Done, NoMemory, NothingHeld, InUse, NoRoom, BadArgument}
 use Rattle.ws_c.specs.declared.told.PushedTold.{PushedTold}
 use Rattle.ws_c.specs.declared.told.Told.{Told}
-use Rattle.ws_session.specs.station.Displays.{on_display}
+use Rattle.ws_extended_station.specs.ExtendedDisplays.{on_extended}
 
 -- what of a station's last answer hasn't gone out yet
 abbrev pub waiting : HeldStation → List ℕ
@@ -43,7 +41,7 @@ abbrev pub IsExtendedNew : List ℕ → Option Machine → Option Machine → St
 IsExtendedNew name (Some held) now status = (status ≡ InUse) × (now ≡ Some held)
 IsExtendedNew name None now Done = (terminal : TerminalType) × (held : HeldStation)
     × (terminal_named name ≡ Some terminal) × (now ≡ Some (ExtendedStation held))
-    × LeadsOn (on_display extended_rules extended) held.station [] [] (new_side_on extended terminal) × (waiting held ≡ [])
+    × LeadsOn on_extended held.station [] [] (new_side_on extended terminal) × (waiting held ≡ [])
 IsExtendedNew name None now BadArgument = (terminal_named name ≡ None) × (now ≡ None)
 IsExtendedNew name None now NoMemory = (terminal : TerminalType) × (terminal_named name ≡ Some terminal)
     × (now ≡ None)
@@ -79,18 +77,18 @@ pub record IsHeldPush (bytes : List ℕ) (call : Crossed PushedTold) (old new : 
   pub written : List ℕ
   pub out : List ℕ
   pub before : HeldStation
-  pub takes : StationTakesOn extended_kind old.station (first_bytes bytes fed) written before.station
+  pub takes : StationTakesOn on_extended old.station (first_bytes bytes fed) written before.station
   pub whole : waiting old ++ written ≡ out ++ waiting before
   pub first : length out < length (waiting old) → fed ≡ 0
   pub in_time : (n : ℕ) → n < fed
-      → BringsAtMostOn extended_kind old.station (first_bytes bytes n) (length out - length (waiting old))
+      → BringsAtMostOn on_extended old.station (first_bytes bytes n) (length out - length (waiting old))
   pub replied : call.told.replied ≡ length out
   pub fits : call.told.replied ≤ length call.buffer
   pub put : call.after ≡ holds_front out call.buffer
   pub waits : waiting before ≢ []
       → (call.status ≡ NoRoom) × (call.told ≡ pushed_told fed (length call.buffer)) × (new ≡ before)
   pub ends : waiting before ≡ [] → (waiting new ≡ [])
-      × IsEndOn extended_kind (first_bytes bytes fed) call before.station new.station
+      × IsEndOn on_extended (first_bytes bytes fed) call before.station new.station
 
 -- a key of the profile, or Reset where there is none
 abbrev pub key_or_reset : Option Key → ExtendedKey
@@ -100,7 +98,7 @@ key_or_reset None = Reset
 -- what a key crosses as that is pressed at a station as live hosts use it; nothing waits then
 abbrev pub IsHeldKeyed : ExtendedKey → Crossed Told → HeldStation → HeldStation → Type 0
 IsHeldKeyed key call old new = (result : Result (Option Answer) KeyFault)
-    × StationKeyedOn extended_kind old.station new.station key result × IsKeyTold result call × (waiting new ≡ [])
+    × StationKeyedOn on_extended old.station new.station key result × IsKeyTold result call × (waiting new ≡ [])
 
 -- What a key crosses as at a station as live hosts use it: where something waits it isn't pressed, since its record
 -- could get between the bytes of another.

@@ -8,7 +8,6 @@ pub mod HeldStations
 pub mod HostScreens
 pub mod Hosts
 pub mod Keys
-pub mod Kinds
 pub mod Looks
 pub mod Owned
 pub mod Pushes

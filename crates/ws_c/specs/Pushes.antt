@@ -3,8 +3,6 @@
 use Rattle.std.specs.Prelude.{◌≡◌, ℕ, ◌+◌, ◌-◌, ◌^◌, ◌<◌, ◌≤◌, List, [], ◌∷◌, ◌++◌, length, take, drop, Some, None}
 use Rattle.std.specs.Prelude.{IsSome}
 use Rattle.ws_code.specs.Reason.{number_of as reason_number}
-use Rattle.ws_record.specs.declared.record.Item.{Item}
-use Rattle.ws_session.specs.station.Displays.{SideOn}
 use Rattle.ws_session.specs.station.StationActs.{HasTakenAllOn, HasRefusedOn}
 use Rattle.ws_session.specs.station.StationLeads.{StationParts}
 use Rattle.ws_session.specs.declared.end_step.Applied.{Applied}
@@ -15,8 +13,9 @@ use Rattle.ws_c.specs.declared.status.Status.TheVariants.{Done, Refused, Failed,
 use Rattle.ws_c.specs.declared.told.PushedTold.{PushedTold}
 use Rattle.ws_c.specs.declared.told.TheConstants.{REPLY_ROOM}
 use Rattle.ws_c.specs.Calls.{Crossed, holds_front}
-use Rattle.ws_c.specs.Kinds.{LeadsOf, StationKind, StationOf, profile_kind}
-use Rattle.ws_session.specs.station.Displays.{on_display}
+use Rattle.ws_session.specs.station.Displays.{OnDisplay}
+use Rattle.ws_session.specs.station.StationSide.{on_profile}
+use Rattle.ws_session.specs.station.Stations.{StationOf, ItemsOf, SideOf, LeadsOn}
 
 -- what a push tells where nothing was done
 abbrev pub nothing_pushed : PushedTold
@@ -70,14 +69,14 @@ StandsBehind (At place reason) n before after length = (place ≡ before + n) ×
 StandsBehind Memory n before after length = (after ≡ before + n + 1) × (n < length)
 StandsBehind HasFailed n before after length = n ≡ 0
 
-module _ (kind : StationKind) where
+module _ (kind : OnDisplay) where
   -- A front of bytes is taken, one after another, to come from the one station to the other: none of their items is
   -- refused, this is written, and the station counts them. A station that has ended takes none.
   pub record StationTakesOn (old : StationOf kind) (front : Front) (written : List ℕ) (new : StationOf kind)
       : Type 0 where
-    pub taken : (before : List ℕ) (items : List (Item kind.Reads)) (side : SideOn kind.Happened)
-        → LeadsOf kind old before items side → length before + length front.bytes + 1 < 2 ^ 64
-        → (told : List Applied) × HasTakenAllOn (on_display kind.rules kind.display) (LeadsOf kind new) before items side
+    pub taken : (before : List ℕ) (items : ItemsOf kind) (side : SideOf kind)
+        → LeadsOn kind old before items side → length before + length front.bytes + 1 < 2 ^ 64
+        → (told : List Applied) × HasTakenAllOn kind (LeadsOn kind new) before items side
         (take front.count front.bytes) written told
     pub counted : old.live.taken + front.count < 2 ^ 64 → new.live.taken ≡ old.live.taken + front.count
     pub works : 0 < front.count → IsSome old.ended → ⊥
@@ -88,9 +87,9 @@ module _ (kind : StationKind) where
   -- so they are in all bytes that it has taken.
   pub record StationRefusesOn (old : StationOf kind) (front : Front) (refusal : Refusal) (new : StationOf kind)
       : Type 0 where
-    pub refused : (before : List ℕ) (items : List (Item kind.Reads)) (side : SideOn kind.Happened)
-        → LeadsOf kind old before items side → length before + length front.bytes + 1 < 2 ^ 64
-        → (r : HasRefusedOn (on_display kind.rules kind.display) old new before items side front.bytes refusal)
+    pub refused : (before : List ℕ) (items : ItemsOf kind) (side : SideOf kind)
+        → LeadsOn kind old before items side → length before + length front.bytes + 1 < 2 ^ 64
+        → (r : HasRefusedOn kind old new before items side front.bytes refusal)
         × (front.count ≡ length r.front)
     pub counted : old.live.taken + length front.bytes < 2 ^ 64
         → StandsBehind refusal front.count old.live.taken new.live.taken (length front.bytes)
@@ -102,10 +101,10 @@ module _ (kind : StationKind) where
 
   -- What a front of bytes brings is at most so long.
   abbrev pub BringsAtMostOn : StationOf kind → Front → ℕ → Type 0
-  BringsAtMostOn old front most = (before : List ℕ) (items : List (Item kind.Reads)) (side : SideOn kind.Happened)
-      → LeadsOf kind old before items side → length before + length front.bytes + 1 < 2 ^ 64
+  BringsAtMostOn old front most = (before : List ℕ) (items : ItemsOf kind) (side : SideOf kind)
+      → LeadsOn kind old before items side → length before + length front.bytes + 1 < 2 ^ 64
       → (written : List ℕ) × (told : List Applied)
-      × HasTakenAllOn (on_display kind.rules kind.display) (λ before' items' side'. Unit {0}) before items side
+      × HasTakenAllOn kind (λ before' items' side'. Unit {0}) before items side
       (take front.count front.bytes) written told
       × (length written ≤ most)
 
@@ -121,15 +120,15 @@ module _ (kind : StationKind) where
 
 -- a front of bytes leads a station of the profile to another, which wrote this and counts them
 abbrev pub StationTakes : StationParts → Front → List ℕ → StationParts → Type 0
-StationTakes = StationTakesOn profile_kind
+StationTakes = StationTakesOn on_profile
 
 -- a station of the profile refuses the byte behind a front that brings nothing
 abbrev pub StationRefusesWithin : StationParts → Front → Refusal → StationParts → Type 0
-StationRefusesWithin = StationRefusesOn profile_kind
+StationRefusesWithin = StationRefusesOn on_profile
 
 -- where a push of bytes into a station of the profile ends
 abbrev pub IsStationEnd : Front → Crossed PushedTold → StationParts → StationParts → Type 0
-IsStationEnd = IsEndOn profile_kind
+IsStationEnd = IsEndOn on_profile
 
 -- what a push of bytes into a station of the profile crosses as: what it writes is put at the buffer's front
 pub record IsStationPush (bytes : List ℕ) (call : Crossed PushedTold) (old new : StationParts) : Type 0 where

@@ -16,8 +16,9 @@ use Rattle.ws_c.specs.declared.stroke.Stroke.{Stroke}
 use Rattle.ws_c.specs.declared.stroke.Stroke.TheVariants.{MoveTo, NewLine, EraseEof}
 use Rattle.ws_c.specs.declared.told.Told.{Told}
 use Rattle.ws_c.specs.Calls.{IsKeyFaultTold, Returned, StationKeyed, StationKeyedOn, returned, told_length}
-use Rattle.ws_c.specs.Kinds.{StationOf, extended_kind}
 use Rattle.ws_c.specs.HeldStations.{waiting}
+use Rattle.ws_extended_station.specs.ExtendedDisplays.{on_extended}
+use Rattle.ws_session.specs.station.Stations.{StationOf}
 
 -- the keys of a stroke at a screen, in runs
 abbrev pub stroke_key_runs : Stroke → ScreenParts → List KeyRun
@@ -59,9 +60,9 @@ IsStroke stroke status told old new =
     AreStruck StationKeyed (keys_of_stroke stroke old.screen.screen) (returned status told) old new
 
 -- a key of the profile at a station as live hosts use it
-abbrev pub ExtendedKeyed : StationOf extended_kind → StationOf extended_kind → Key → Result (Option Answer) KeyFault
+abbrev pub ExtendedKeyed : StationOf on_extended → StationOf on_extended → Key → Result (Option Answer) KeyFault
     → Type 0
-ExtendedKeyed old new key result = StationKeyedOn extended_kind old new (Profile key) result
+ExtendedKeyed old new key result = StationKeyedOn on_extended old new (Profile key) result
 
 -- what a stroke at a station as live hosts use it crosses as; where something waits no key is pressed
 pub record IsHeldStroke (stroke : Stroke) (status : Status) (told : Told) (old new : HeldStation) : Type 0 where

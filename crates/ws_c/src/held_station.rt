@@ -2,12 +2,11 @@
 ghost use Rattle.std.specs.Prelude.{◌≡◌, ◌≤◌, ◌<◌, ◌+◌, ◌^◌, [], length};
 ghost use Rattle.ws_session.specs.station.StationManners.{new_side_on};
 ghost use Rattle.ws_session.specs.station.Stations.{LeadsOn};
-ghost use Rattle.ws_extended.specs.ExtendedElements.{extended_rules};
 ghost use Rattle.ws_extended_station.specs.ExtendedDisplays.{extended};
 ghost use Rattle.ws_c.specs.HeldStations.{HandsOut, IsHeldKeyed, filling, key_or_reset, waiting};
 ghost use Rattle.ws_c.specs.Strokes.{AreStruck, ExtendedKeyed, keys_of_stroke};
 ghost use Rattle.ws_c.specs.Calls.{crossed, returned};
-ghost use Rattle.ws_session.specs.station.Displays.{on_display};
+ghost use Rattle.ws_extended_station.specs.ExtendedDisplays.{on_extended};
 
 use crate::station::put_behind;
 use crate::station_keys::tell_key;
@@ -50,7 +49,7 @@ fn or_reset(key: Option<Key>) -> ExtendedKey
 impl HeldStation {
     /// A station that has taken no byte and no key; nothing waits.
     pub fn new(terminal: TerminalType) -> Self
-        ensures leads { LeadsOn (on_display extended_rules extended) result.station [] []
+        ensures leads { LeadsOn on_extended result.station [] []
             (new_side_on extended terminal) }
         ensures waits { waiting result ≡ [] }
     {

@@ -24,6 +24,8 @@ use Rattle.ws_extended_station.specs.declared.extended_key.ExtendedKey.{Extended
 use Rattle.ws_extended_station.specs.declared.extended_key.ExtendedKey.TheVariants.{Profile, Reset}
 use Rattle.ws_extended_station.specs.declared.extended_reply.ExtendedReply.{ExtendedReply}
 use Rattle.ws_extended_station.specs.declared.extended_reply.ExtendedReply.TheVariants.{Bytes, Kept as IsKept}
+use Rattle.ws_extended.specs.ExtendedElements.{extended_rules}
+use Rattle.ws_session.specs.station.Displays.{OnDisplay, on_display}
 
 -- a display that live hosts use, how many alarms have sounded, its terminal, and the bytes that its last record had it
 -- write
@@ -119,3 +121,7 @@ extended = record {
   answer = λ screen kind aid. by_bytes (answer_record screen kind aid);
   written = extended_written;
 }
+
+-- what a station at a live host stands on
+abbrev pub on_extended : OnDisplay
+on_extended = on_display extended_rules extended

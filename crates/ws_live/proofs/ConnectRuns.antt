@@ -11,7 +11,6 @@ use Rattle.ws_code.specs.declared.fault.Fault.TheVariants as fault
 use Rattle.ws_session.specs.attached.Attachments.{AttachedParts}
 use Rattle.ws_session.specs.declared.end_step.Applied.{Applied}
 use Rattle.ws_session.specs.declared.station.key_fault.KeyFault.{KeyFault}
-use Rattle.ws_session.specs.station.PartsOn.{PartsOn}
 use Rattle.ws_live.specs.declared.live.Closing.{Closing}
 use Rattle.ws_live.specs.declared.live.connect.Waited.{Waited}
 use Rattle.ws_live.specs.declared.live.connect.Waited.TheVariants as waits
@@ -27,6 +26,8 @@ use Rattle.ws_live.specs.live.ConnectText.{IsWaited, IsKeyUnwritten, IsWorking, 
 use Rattle.ws_live.specs.live.ConnectText.{refusal_text, report_waits, rested}
 use Rattle.ws_live.specs.live.Operating.{AttachedDisplay, KeyedDisplay, OperatedOn, WatchedDisplay}
 use Rattle.ws_live.specs.printing.ReportLines.{IsReportText, reported_station}
+use Rattle.ws_session.specs.station.Stations.{StationOf}
+use Rattle.ws_live.specs.live.Operating.{KeyAt}
 
 -- Keys and records at a station, one more at a time.
 
@@ -77,15 +78,15 @@ both_pressed : (a b : Bool) → closing_of_both (pressed a) (pressed b) ≡ pres
 both_pressed true b = refl
 both_pressed false b = refl
 
-module _ {D P U H PlaceV V Q R S K : Type 0} (display : KeyedDisplay D P U H PlaceV V Q R S K) where
+module _ {S K : Type 0} (display : KeyedDisplay S K) where
   abbrev Ends : Type 0
-  Ends = AttachedParts (PartsOn D P) S K
+  Ends = AttachedParts (StationOf display.at.on) S K
 
   -- what is printed of one key behind others
-  abbrev Refused : Q → Option KeyFault → List ℕ
+  abbrev Refused : KeyAt display.at → Option KeyFault → List ℕ
   Refused key refused = refusal_text display key refused
 
-  pub pressed_more : (from mid to : Ends) (keys : List Q) (key : Q) (refused : Option KeyFault) (came : Account)
+  pub pressed_more : (from mid to : Ends) (keys : List (KeyAt display.at)) (key : KeyAt display.at) (refused : Option KeyFault) (came : Account)
       → ArePressed display from keys came mid → IsKeyPressed display.at key mid refused to
       → ArePressed display from (keys ++ key ∷ []) (account (came.all_well && is_none refused)
       (came.text ++ Refused key refused)) to
@@ -109,7 +110,7 @@ module _ {D P U H PlaceV V Q R S K : Type 0} (display : KeyedDisplay D P U H Pla
   )
 
   -- the keys of a list, of which so many are pressed
-  module _ (from mid to : Ends) (keys : List Q) (i : ℕ) (key : Q) (inside : i < length keys)
+  module _ (from mid to : Ends) (keys : List (KeyAt display.at)) (i : ℕ) (key : KeyAt display.at) (inside : i < length keys)
       (is : key ≡ get_or keys i key) where
     pub pressed_on : (refused : Option KeyFault) (came : Account)
         → ArePressed display from (take i keys) came mid → IsKeyPressed display.at key mid refused to
@@ -118,7 +119,7 @@ module _ {D P U H PlaceV V Q R S K : Type 0} (display : KeyedDisplay D P U H Pla
     pressed_on refused came h p =
         let next : take i keys ++ key ∷ [] ≡ take (i + 1) keys = ap (λ z. take i keys ++ z ∷ []) is
         ∙ sym (take_more keys i key inside) in
-        subst (λ (z : List Q). ArePressed display from z (account (came.all_well && is_none refused)
+        subst (λ (z : List (KeyAt display.at)). ArePressed display from z (account (came.all_well && is_none refused)
         (came.text ++ Refused key refused)) to) next (pressed_more from mid to (take i keys) key refused came h p)
 
     pub unwritten_at : (well : Bool) (text : List ℕ) → ArePressed display from (take i keys) (account well text) mid
@@ -165,9 +166,9 @@ module _ {D P U H PlaceV V Q R S K : Type 0} (display : KeyedDisplay D P U H Pla
         subst (λ (o : Result Closing Fault). KeysRun display keys from (line_result o (text ++ last)) to) (sym r.1)
         written
 
-module _ {D P U H PlaceV V Q R S K : Type 0} (at : AttachedDisplay D P U H PlaceV V Q R S K) (Met : D → Type 0) where
+module _ {S K : Type 0} (at : AttachedDisplay S K) (Met : at.on.Parts → Type 0) where
   abbrev Parts : Type 0
-  Parts = AttachedParts (PartsOn D P) S K
+  Parts = AttachedParts (StationOf at.on) S K
 
   pub waited_more : (from mid to : Parts) (told : List Applied) (one : Applied) → HasWaited at Met from told mid
       → (Met mid.end.screen → ⊥) → Hears at mid (Some one) to → HasWaited at Met from (told ++ one ∷ []) to
@@ -184,14 +185,14 @@ pub waits_on : (told : List Applied) (one : Applied) (count : ℕ) → length to
     → length (told ++ one ∷ []) ≡ count + 1
 waits_on told one count e = omega (arith, e, length-append told (one ∷ []))
 
-module _ {D P U H PlaceV V Q R S K : Type 0} (display : WatchedDisplay D P U H PlaceV V Q R S K) where
+module _ {S K : Type 0} (display : WatchedDisplay S K) where
   abbrev Watched : Type 0
-  Watched = AttachedParts (PartsOn D P) S K
+  Watched = AttachedParts (StationOf display.at.on) S K
 
-  pub is_waited : (operated : OperatedOn D) (from to : Watched) (ahead : ℕ)
+  pub is_waited : (operated : OperatedOn display.at.on.Parts) (from to : Watched) (ahead : ℕ)
       (awaited : Awaited) (waited : Waited) → (awaited ≡ awaits.Record → ⊥)
       → ((time : ℕ) → awaited ≡ awaits.Quiet time → ⊥)
-      → WaitsFor display (IsMet display.at.does.shown operated awaited) from waited to
+      → WaitsFor display (IsMet display.at.on.does.shown operated awaited) from waited to
       → IsWaited display operated awaited (from, ahead) waited to
   is_waited operated from to ahead awaits.Turn waited other loud h = h
   is_waited operated from to ahead (awaits.Text text) waited other loud h = h
@@ -202,7 +203,7 @@ module _ {D P U H PlaceV V Q R S K : Type 0} (display : WatchedDisplay D P U H P
   -- a report that is no note
   pub reports : (report : Report) (from to : Watched × ℕ) (came : LineResult)
       → ((note : List ℕ) → report ≡ reported.Note note → ⊥)
-      → ShowsStation display (λ station. IsReportText (reported_station display.at.does station) report) from came to
+      → ShowsStation display (λ station. IsReportText (reported_station display.at.on.does station) report) from came to
       → Reports display report from came to
   reports reported.Status from to came other h = h
   reports (reported.Cells cell) from to came other h = h

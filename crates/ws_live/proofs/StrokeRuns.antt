@@ -12,7 +12,6 @@ use Rattle.ws_keys.specs.declared.key.Key.{Key}
 use Rattle.ws_keys.specs.declared.key_run.KeyRun.{KeyRun}
 use Rattle.ws_session.specs.attached.Attachments.{AttachedParts}
 use Rattle.ws_session.specs.declared.station.key_fault.KeyFault.{KeyFault}
-use Rattle.ws_session.specs.station.PartsOn.{PartsOn}
 use Rattle.ws_live.specs.declared.live.Closing.{Closing}
 use Rattle.ws_live.specs.declared.live.Closing.TheVariants.{Declined, Done}
 use Rattle.ws_live.specs.declared.live.stroke.Filling.{Filling}
@@ -22,6 +21,8 @@ use Rattle.ws_live.specs.live.ConnectText.{key_refused_text, pressed, KeyRuns, K
 use Rattle.ws_live.specs.live.Stroking.{keys_behind, no_field_text, stroke_keys, stroke_runs}
 use Rattle.ws_live.specs.live.LiveText.{LineResult, LinesDo, line_result}
 use Rattle.ws_live.specs.live.Operating.{KeyedDisplay}
+use Rattle.ws_session.specs.station.Stations.{StationOf}
+use Rattle.ws_live.specs.live.Operating.{KeyAt}
 
 -- Keys one after another, up to the first that isn't taken.
 
@@ -81,14 +82,14 @@ no_keys_behind (Fill f) other = absurd (other f refl)
 
 -- KEYS THAT ARE PRESSED
 
-module _ {D P U H PlaceV V Q R S K : Type 0} (display : KeyedDisplay D P U H PlaceV V Q R S K) where
+module _ {S K : Type 0} (display : KeyedDisplay S K) where
   abbrev Parts : Type 0
-  Parts = AttachedParts (PartsOn D P) S K
+  Parts = AttachedParts (StationOf display.at.on) S K
 
-  abbrev Runs : LinesDo Q Parts
+  abbrev Runs : LinesDo (KeyAt display.at) Parts
   Runs = KeyRuns display
 
-  abbrev Until : LinesDo (List Q) Parts
+  abbrev Until : LinesDo (List (KeyAt display.at)) Parts
   Until = KeysUntil display
 
   -- a key or keys that were taken, and printed this
@@ -102,11 +103,11 @@ module _ {D P U H PlaceV V Q R S K : Type 0} (display : KeyedDisplay D P U H Pla
   quiet entered None e = refl
   quiet entered (Some why) e = cc
 
-  pub prints_nothing : (key : Q) (from to : Parts) (text : List ℕ) → Runs key from (taken text) to → text ≡ []
+  pub prints_nothing : (key : KeyAt display.at) (from to : Parts) (text : List ℕ) → Runs key from (taken text) to → text ≡ []
   prints_nothing key from to text (inl r) = r.3 ∙ quiet (display.words.entered key) r.0 r.2
   prints_nothing key from to text (inr r) = r.2
 
-  pub silent : (key : Q) (from to : Parts) (came : LineResult) → came.outcome ≡ Ok Done
+  pub silent : (key : KeyAt display.at) (from to : Parts) (came : LineResult) → came.outcome ≡ Ok Done
       → Runs key from came to → Runs key from (taken []) to
   silent key from to came e r =
       let done : Runs key from (taken came.text) to =
@@ -114,7 +115,7 @@ module _ {D P U H PlaceV V Q R S K : Type 0} (display : KeyedDisplay D P U H Pla
       subst (λ (z : List ℕ). Runs key from (taken z) to) (prints_nothing key from to came.text done) done
 
   -- keys that were all taken, and those behind them
-  pub until_on : (a b : List Q) (from mid to : Parts) (came : LineResult) (first : List ℕ)
+  pub until_on : (a b : List (KeyAt display.at)) (from mid to : Parts) (came : LineResult) (first : List ℕ)
       → Until a from (taken first) mid → Until b mid came to → Until (a ++ b) from came to
   until_on [] b from mid to came first h more = subst (λ (z : Parts). Until b z came to) h.0 more
   until_on (key ∷ a) b from mid to came first (inl h) more =
@@ -122,13 +123,13 @@ module _ {D P U H PlaceV V Q R S K : Type 0} (display : KeyedDisplay D P U H Pla
   until_on (key ∷ a) b from mid to came first (inr h) more = absurd (h.1 refl)
 
   -- all that were taken print nothing
-  pub until_quiet : (a : List Q) (from to : Parts) (text : List ℕ) → Until a from (taken text) to → text ≡ []
+  pub until_quiet : (a : List (KeyAt display.at)) (from to : Parts) (text : List ℕ) → Until a from (taken text) to → text ≡ []
   until_quiet [] from to text h = h.2
   until_quiet (key ∷ a) from to text (inl h) = until_quiet a h.0 to text h.2
   until_quiet (key ∷ a) from to text (inr h) = absurd (h.1 refl)
 
   -- keys of which one wasn't taken
-  pub until_stopped : (a b : List Q) (from to : Parts) (came : LineResult)
+  pub until_stopped : (a b : List (KeyAt display.at)) (from to : Parts) (came : LineResult)
       → Until a from came to → came.outcome ≢ Ok Done → Until (a ++ b) from came to
   until_stopped [] b from to came h other = absurd (other h.1)
   until_stopped (key ∷ a) b from to came (inl h) other =
@@ -136,25 +137,25 @@ module _ {D P U H PlaceV V Q R S K : Type 0} (display : KeyedDisplay D P U H Pla
   until_stopped (key ∷ a) b from to came (inr h) other = inr h
 
   -- a key more that is taken
-  pub until_more : (a all : List Q) (key : Q) (from mid to : Parts) (came : LineResult)
+  pub until_more : (a all : List (KeyAt display.at)) (key : KeyAt display.at) (from mid to : Parts) (came : LineResult)
       → a ++ key ∷ [] ≡ all → Until a from (taken []) mid → came.outcome ≡ Ok Done → Runs key mid came to
       → Until all from (taken []) to
   until_more a all key from mid to came is h done r =
-      subst (λ (z : List Q). Until z from (taken []) to) is
+      subst (λ (z : List (KeyAt display.at)). Until z from (taken []) to) is
       (until_on a (key ∷ []) from mid to (taken []) [] h
       (inl (to, silent key mid to came done r, (refl, refl, refl))))
 
   -- a key more that isn't
-  pub until_one : (a b all : List Q) (key : Q) (from mid to : Parts) (came : LineResult)
+  pub until_one : (a b all : List (KeyAt display.at)) (key : KeyAt display.at) (from mid to : Parts) (came : LineResult)
       → all ≡ a ++ key ∷ b → Until a from (taken []) mid → came.outcome ≢ Ok Done → Runs key mid came to
       → Until all from came to
   until_one a b all key from mid to came is h other r =
-      subst (λ (z : List Q). Until z from came to) (sym is)
+      subst (λ (z : List (KeyAt display.at)). Until z from came to) (sym is)
       (until_on a (key ∷ b) from mid to came [] h (inr (r, other)))
 
   -- RUNS, AND STROKES
 
-  module _ (profile : Key → Q) (runs : List KeyRun) (i : ℕ) (run : KeyRun) (inside : i < length runs)
+  module _ (profile : Key → KeyAt display.at) (runs : List KeyRun) (i : ℕ) (run : KeyRun) (inside : i < length runs)
       (is : run ≡ get_or runs i run) (from mid to : Parts) (came : LineResult) where
     abbrev Before : Type 0
     Before = Until (display_keys profile (take i runs)) from (taken []) mid
@@ -163,7 +164,7 @@ module _ {D P U H PlaceV V Q R S K : Type 0} (display : KeyedDisplay D P U H Pla
     Next = Until (replicate run.times (profile run.key)) mid came to
 
     both : Before → Next → Until (display_keys profile (take (i + 1) runs)) from came to
-    both before next = subst (λ (z : List Q). Until z from came to) (keys_more profile runs i run inside is)
+    both before next = subst (λ (z : List (KeyAt display.at)). Until z from came to) (keys_more profile runs i run inside is)
         (until_on (display_keys profile (take i runs)) (replicate run.times (profile run.key)) from mid to came []
         before next)
 
@@ -179,11 +180,11 @@ module _ {D P U H PlaceV V Q R S K : Type 0} (display : KeyedDisplay D P U H Pla
     -- one more, of which a key isn't
     pub run_stops : Before → Next → came.outcome ≢ Ok Done → Until (display_keys profile runs) from came to
     run_stops before next other =
-        subst (λ (z : List Q). Until z from came to) (sym (keys_on profile runs (i + 1)))
+        subst (λ (z : List (KeyAt display.at)). Until z from came to) (sym (keys_on profile runs (i + 1)))
         (until_stopped (display_keys profile (take (i + 1) runs)) (display_keys profile (drop (i + 1) runs)) from to
         came (both before next) other)
 
-  module _ (s : ScreenParts) (stroke : Stroke Q) (from to : Parts) (came : LineResult) where
+  module _ (s : ScreenParts) (stroke : Stroke (KeyAt display.at)) (from to : Parts) (came : LineResult) where
     abbrev Strokes : Option (List KeyRun) → Type 0
     Strokes runs = StrokeRuns display
         (option_map (λ runs. map display.words.profile (keys_of runs) ++ keys_behind stroke) runs) from came to

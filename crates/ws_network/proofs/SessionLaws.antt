@@ -10,7 +10,6 @@ use Rattle.ws_record.specs.declared.record.Item.TheVariants.{Telnet}
 use Rattle.ws_stream.specs.Elements.{element_rules}
 use Rattle.ws_session.specs.attached.Attachments.{AttachedParts}
 use Rattle.ws_session.specs.host_end.HostLeads.{HostParts, HostLeads, unopened_host_side, side_after_open}
-use Rattle.ws_session.specs.station.PartsOn.{PartsOn}
 use Rattle.ws_session.specs.station.StationManners.{new_side_on}
 use Rattle.ws_session.specs.station.Stations.{LeadsOn}
 use Rattle.ws_live.specs.declared.asked.live_asked.ConnectAsked.{ConnectAsked}
@@ -27,7 +26,7 @@ use Rattle.ws_network.specs.Sessions.{AreFromScript, IsConnected, IsServed}
 use Rattle.ws_network.specs.SessionPrinting.{IsTextAndOn, session_lines}
 use Rattle.ws_network.specs.Times.{ConnectionReads, ConnectionWrites, no_reads, no_writes, timed, timed_waits}
 use Rattle.ws_network.specs.Times.{timed_writer}
-use Rattle.ws_session.specs.station.Displays.{on_display}
+use Rattle.ws_session.specs.station.Stations.{StationOf}
 
 -- what follows from what a session came to, of what is told of it
 pub judged : {T E : Type 0} (P Q : T → Type 0) (outcome told : Result T E) → IfOk outcome P
@@ -62,16 +61,16 @@ abbrev pub new_at : {E : Type 0} → E → ConnectionReads → ConnectionWrites
 new_at end source sink = record { end = end; source = source; sink = sink; waiting = []; broken = false }
 
 -- a station that is new at a connection has carried the lines out
-module _ {D P U H PlaceV V Q R : Type 0} (display : LiveDisplay D P U H PlaceV V Q R) (asked : ConnectAsked)
-    (lines : List (StationLine Q)) (came : Account)
-    (to : (AttachedParts (PartsOn D P) ConnectionReads ConnectionWrites × ℕ) × ℕ) (is_over : Bool) where
-  abbrev RanConnect : AttachedParts (PartsOn D P) ConnectionReads ConnectionWrites → ℕ → Type 0
+module _ (display : LiveDisplay) (asked : ConnectAsked)
+    (lines : List (StationLine display.on.Pressed)) (came : Account)
+    (to : (AttachedParts (StationOf display.on) ConnectionReads ConnectionWrites × ℕ) × ℕ) (is_over : Bool) where
+  abbrev RanConnect : AttachedParts (StationOf display.on) ConnectionReads ConnectionWrites → ℕ → Type 0
   RanConnect attached begun = IsLiveText (WithClosing (StationRunsInTime display timed timed_waits asked.paint)
       asked.ready) ((attached, 0), begun) lines is_over came to
 
-  pub connected : (station : PartsOn D P) (source : ConnectionReads) (sink : ConnectionWrites)
-      (attached : AttachedParts (PartsOn D P) ConnectionReads ConnectionWrites) (begun : ℕ)
-      → LeadsOn (on_display display.rules display.does) station [] [] (new_side_on display.does asked.terminal)
+  pub connected : (station : StationOf display.on) (source : ConnectionReads) (sink : ConnectionWrites)
+      (attached : AttachedParts (StationOf display.on) ConnectionReads ConnectionWrites) (begun : ℕ)
+      → LeadsOn display.on station [] [] (new_side_on display.on.does asked.terminal)
       → attached ≡ new_at station source sink → source ≡ no_reads → sink ≡ no_writes → begun ≡ 0
       → RanConnect attached begun → IsConnected display asked lines came
   connected station source sink attached begun new is read written none ran = record {

@@ -10,7 +10,6 @@ use Rattle.ws_extended.specs.ExtendedElements.{extended_rules}
 use Rattle.ws_extended_station.specs.ExtendedDisplays.{extended}
 use Rattle.ws_session.specs.attached.Attachments.{AttachedParts}
 use Rattle.ws_session.specs.host_end.HostLeads.{HostParts, HostLeads, unopened_host_side, side_after_open}
-use Rattle.ws_session.specs.station.PartsOn.{PartsOn}
 use Rattle.ws_session.specs.station.StationManners.{new_side_on}
 use Rattle.ws_session.specs.station.StationSide.{profile}
 use Rattle.ws_session.specs.station.Stations.{LeadsOn}
@@ -33,7 +32,7 @@ use Rattle.ws_network.specs.Times.{ConnectionReads, ConnectionWrites, no_reads, 
 use Rattle.ws_network.specs.Times.{timed_writer}
 use Rattle.ws_live.specs.declared.asked.live_asked.ConnectAsked.{ConnectAsked}
 use Rattle.ws_live.specs.declared.asked.live_asked.ServeAsked.{ServeAsked}
-use Rattle.ws_session.specs.station.Displays.{on_display}
+use Rattle.ws_session.specs.station.Stations.{StationOf}
 
 -- where a script is named, the lines are those that its file, whatever it holds, means
 abbrev pub AreFromScript : {L : Type 0} → LineLanguage L → Option (Bor (List ℕ)) → List L → Type 0
@@ -44,13 +43,13 @@ AreFromScript language script lines = MatchOption script (Unit {0})
 abbrev pub at_connection : {E : Type 0} → E → ConnectionWrites → AttachedParts E ConnectionReads ConnectionWrites
 at_connection end written = record { end = end; source = no_reads; sink = written; waiting = []; broken = false }
 
-module _ {D P U H PlaceV V Q R : Type 0} (display : LiveDisplay D P U H PlaceV V Q R) where
+module _ (display : LiveDisplay) where
   -- A station on this display, of the terminal that is asked for, new at a connection, carried out the lines, of which
   -- this is the account.
-  pub record IsConnected (asked : ConnectAsked) (lines : List (StationLine Q)) (came : Account) : Type 0 where
-    pub station : PartsOn D P
-    pub new : LeadsOn (on_display display.rules display.does) station [] [] (new_side_on display.does asked.terminal)
-    pub to : (AttachedParts (PartsOn D P) ConnectionReads ConnectionWrites × ℕ) × ℕ
+  pub record IsConnected (asked : ConnectAsked) (lines : List (StationLine display.on.Pressed)) (came : Account) : Type 0 where
+    pub station : StationOf display.on
+    pub new : LeadsOn display.on station [] [] (new_side_on display.on.does asked.terminal)
+    pub to : (AttachedParts (StationOf display.on) ConnectionReads ConnectionWrites × ℕ) × ℕ
     pub is_over : Bool
     pub ran : IsLiveText (WithClosing (StationRunsInTime display timed timed_waits asked.paint) asked.ready)
         ((at_connection station no_writes, 0), 0) lines is_over came to

@@ -9,15 +9,14 @@ use Rattle.ws_session.specs.Conduct.{Conduct}
 use Rattle.ws_session.specs.host_end.HostFeeds.{HostStaysSilent}
 use Rattle.ws_session.specs.host_end.HostLeads.{HostParts}
 use Rattle.ws_session.specs.Manners.{HostGoes, HostRefuses}
-use Rattle.ws_session.specs.station.PartsOn.{PartsOn}
 use Rattle.ws_session.specs.station.StationActs.{GoesOnDisplay, RefusesOn, StaysSilentOn}
 use Rattle.ws_session.specs.station.StationLeads.{StationParts}
 use Rattle.ws_session.specs.station.Displays.{OnDisplay}
 use Rattle.ws_session.specs.station.StationSide.{on_profile}
+use Rattle.ws_session.specs.station.Stations.{StationOf}
 
 -- a station on any display
-abbrev pub station_conduct : {D P U H PlaceV V K R : Type 0} → OnDisplay D P U H PlaceV V K R
-    → Conduct (PartsOn D P) K Applied
+abbrev pub station_conduct : (on : OnDisplay) → Conduct (StationOf on) on.Pressed Applied
 station_conduct on = record {
   goes = GoesOnDisplay on;
   refuses = RefusesOn on;

@@ -9,7 +9,6 @@ use Rattle.ws_code.specs.declared.fault.Fault.TheVariants as fault
 use Rattle.ws_screen.specs.ScreenParts.{ScreenParts}
 use Rattle.ws_session.specs.Acts.{Did}
 use Rattle.ws_session.specs.attached.Attachments.{AttachedParts, HaveLed, HaveLedUnwritten, HasHeard, IsHearFault}
-use Rattle.ws_session.specs.station.PartsOn.{PartsOn}
 use Rattle.ws_session.specs.Conducts.{station_conduct}
 use Rattle.ws_session.specs.station.StationActs.{IsKeyRefusalOn, IsKeyTakenOn}
 use Rattle.ws_session.specs.declared.end_step.Applied.{Applied}
@@ -31,7 +30,6 @@ use Rattle.ws_live.specs.declared.live.report.Report.{Report as AReport}
 use Rattle.ws_live.specs.declared.live.report.Report.TheVariants.{Note}
 use Rattle.ws_live.specs.live.LiveText.{Account, LineResult, LinesDo, account, bad_outcome, bad_text, line_result}
 use Rattle.ws_live.specs.live.Operating.{AttachedDisplay, KeyedDisplay, LiveDisplay, OperatedOn, WatchedDisplay}
-use Rattle.ws_live.specs.live.Operating.{keyed, watched}
 use Rattle.ws_live.specs.live.Stroking.{no_field_text, stroke_keys}
 use Rattle.ws_live.specs.live.Waits.{InTime, WatchTimes, WatchedDevices}
 use Rattle.ws_live.specs.declared.live.Closing.{Closing}
@@ -39,7 +37,8 @@ use Rattle.ws_live.specs.declared.printing.paint.Paint.{Paint}
 use Rattle.ws_live.specs.declared.live.Closing.TheVariants.{Nothing, Done, Declined, Late, Ended, Stopped}
 use Rattle.ws_live.specs.declared.live.watch.WaitSpan.{WaitSpan}
 use Rattle.ws_live.specs.declared.live.watch.WaitSpan.TheVariants.{Whole, AtOnce, Quiet as UntilQuiet}
-use Rattle.ws_session.specs.station.Displays.{on_display}
+use Rattle.ws_session.specs.station.Stations.{StationOf}
+use Rattle.ws_live.specs.live.Operating.{KeyAt}
 
 -- how long a wait for this lasts
 abbrev pub span_of : Awaited → WaitSpan
@@ -122,85 +121,85 @@ IsMet shown operated (At cell text) display = BeginsAt (shown display).cells cel
 IsMet shown operated Record display = Unit {0}
 IsMet shown operated (Quiet time) display = ⊥
 
-module _ {D P U H PlaceV V Q R S K : Type 0} (at : AttachedDisplay D P U H PlaceV V Q R S K) where
+module _ {S K : Type 0} (at : AttachedDisplay S K) where
   -- a station on such a display, on a source and a sink
   abbrev pub AttachedStation : Type 0
-  AttachedStation = AttachedParts (PartsOn D P) S K
+  AttachedStation = AttachedParts (StationOf at.on) S K
 
   -- one call of `hear` leads from there to there, and tells this
   abbrev pub Hears : AttachedStation → Option Applied → AttachedStation → Type 0
-  Hears from heard to = HasHeard (station_conduct (on_display at.rules at.does)) at.devices from to heard
+  Hears from heard to = HasHeard (station_conduct at.on) at.devices from to heard
 
   -- one call of `hear` failed for this
   abbrev pub HearsFault : AttachedStation → Fault → AttachedStation → Type 0
-  HearsFault from why to = IsHearFault (station_conduct (on_display at.rules at.does)) at.devices from to why
+  HearsFault from why to = IsHearFault (station_conduct at.on) at.devices from to why
 
   -- a key was pressed: what it sends went out, or it was refused, and nothing is changed; no byte was read or taken
-  pub record IsKeyPressed (key : Q) (from : AttachedStation) (refused : Option KeyFault)
+  pub record IsKeyPressed (key : KeyAt at) (from : AttachedStation) (refused : Option KeyFault)
       (to : AttachedStation) : Type 0 where
-    pub led : HaveLed (station_conduct (on_display at.rules at.does)) at.devices from to (Did key ∷ []) []
+    pub led : HaveLed (station_conduct at.on) at.devices from to (Did key ∷ []) []
     pub same : IfSome refused (λ why. to ≡ from)
-    pub why : IfSome refused (IsKeyRefusalOn (on_display at.rules at.does) from.end key)
-    pub taken : IfNone refused (IsKeyTakenOn (on_display at.rules at.does) from.end key)
+    pub why : IfSome refused (IsKeyRefusalOn at.on from.end key)
+    pub taken : IfNone refused (IsKeyTakenOn at.on from.end key)
     pub waiting : to.waiting ≡ from.waiting
     pub unread : to.source ≡ from.source
 
   -- a key was pressed, and what it sends didn't go out
-  abbrev pub IsKeyUnwritten : Q → AttachedStation → AttachedStation → Type 0
+  abbrev pub IsKeyUnwritten : KeyAt at → AttachedStation → AttachedStation → Type 0
   IsKeyUnwritten key from to =
-      HaveLedUnwritten (station_conduct (on_display at.rules at.does)) at.devices from to (Did key ∷ [])
+      HaveLedUnwritten (station_conduct at.on) at.devices from to (Did key ∷ [])
 
   -- records were applied one after another, and before each it wasn't yet met
-  abbrev pub HasWaited : (D → Type 0) → AttachedStation → List Applied → AttachedStation → Type 0
+  abbrev pub HasWaited : (at.on.Parts → Type 0) → AttachedStation → List Applied → AttachedStation → Type 0
   HasWaited Met' from [] to = to ≡ from
   HasWaited Met' from (told ∷ more) to = (mid : AttachedStation) × (Met' from.end.screen → ⊥)
       × Hears from (Some told) mid × HasWaited Met' mid more to
 
 -- Keys by their words.
-module _ {D P U H PlaceV V Q R S K : Type 0} (display : KeyedDisplay D P U H PlaceV V Q R S K) where
+module _ {S K : Type 0} (display : KeyedDisplay S K) where
   -- such a station
   abbrev pub KeyedStation : Type 0
   KeyedStation = AttachedStation display.at
 
   -- what is printed of a key at it: where it is refused, its line
-  abbrev pub refusal_text : Q → Option KeyFault → List ℕ
+  abbrev pub refusal_text : KeyAt display.at → Option KeyFault → List ℕ
   refusal_text key refused = key_refused_text (display.words.entered key) refused
 
   -- what a key comes to: it was pressed, or what it sends didn't go out
-  abbrev pub KeyRuns : LinesDo Q KeyedStation
+  abbrev pub KeyRuns : LinesDo (KeyAt display.at) KeyedStation
   KeyRuns key from came to = ((refused : Option KeyFault) × IsKeyPressed display.at key from refused to
       × (came.outcome ≡ Ok (pressed (is_none refused))) × (came.text ≡ refusal_text key refused))
       ⊎ (IsKeyUnwritten display.at key from to × (came.outcome ≡ Err fault.Write) × (came.text ≡ []))
 
   -- the account of keys one after another
-  abbrev pub ArePressed : KeyedStation → List Q → Account → KeyedStation → Type 0
+  abbrev pub ArePressed : KeyedStation → List (KeyAt display.at) → Account → KeyedStation → Type 0
   ArePressed from [] came to = (to ≡ from) × (came.all_well ≡ true) × (came.text ≡ [])
   ArePressed from (key ∷ keys) came to = (refused : Option KeyFault) × (mid : KeyedStation) × (rest : Account)
       × IsKeyPressed display.at key from refused mid × ArePressed mid keys rest to
       × (came.all_well ≡ is_none refused && rest.all_well) × (came.text ≡ refusal_text key refused ++ rest.text)
 
   -- what keys at a station come to: all were pressed, or up to one that wasn't written
-  abbrev pub KeysRun : LinesDo (List Q) KeyedStation
+  abbrev pub KeysRun : LinesDo (List (KeyAt display.at)) KeyedStation
   KeysRun keys from came to =
       ((well : Bool) × ArePressed from keys (account well came.text) to × (came.outcome ≡ Ok (pressed well)))
-      ⊎ ((before : List Q) × (key : Q) × (after : List Q) × (well : Bool) × (mid : KeyedStation)
+      ⊎ ((before : List (KeyAt display.at)) × (key : KeyAt display.at) × (after : List (KeyAt display.at)) × (well : Bool) × (mid : KeyedStation)
       × (keys ≡ before ++ key ∷ after) × ArePressed from before (account well came.text) mid
       × IsKeyUnwritten display.at key mid to × (came.outcome ≡ Err fault.Write))
 
   -- what keys one after another come to, up to the first that isn't taken
-  abbrev pub KeysUntil : LinesDo (List Q) KeyedStation
+  abbrev pub KeysUntil : LinesDo (List (KeyAt display.at)) KeyedStation
   KeysUntil [] from came to = (to ≡ from) × (came.outcome ≡ Ok Done) × (came.text ≡ [])
   KeysUntil (key ∷ keys) from came to =
       ((mid : KeyedStation) × KeyRuns key from (line_result (Ok Done) []) mid × KeysUntil keys mid came to)
       ⊎ (KeyRuns key from came to × (came.outcome ≢ Ok Done))
 
   -- the keys of a stroke, or what is printed where the screen hasn't the field that it names
-  abbrev pub StrokeRuns : LinesDo (Option (List Q)) KeyedStation
+  abbrev pub StrokeRuns : LinesDo (Option (List (KeyAt display.at))) KeyedStation
   StrokeRuns None from came to = (to ≡ from) × (came.outcome ≡ Ok Declined) × (came.text ≡ no_field_text)
   StrokeRuns (Some keys) from came to = KeysUntil keys from came to
 
 -- What a wait comes to, at a watch that tells of a source whether the read that failed was late.
-module _ {D P U H PlaceV V Q R S K : Type 0} (display : WatchedDisplay D P U H PlaceV V Q R S K) where
+module _ {S K : Type 0} (display : WatchedDisplay S K) where
   -- such a station
   abbrev pub WatchedStation : Type 0
   WatchedStation = AttachedStation display.at
@@ -221,7 +220,7 @@ module _ {D P U H PlaceV V Q R S K : Type 0} (display : WatchedDisplay D P U H P
 
   -- a wait: up to the first record at which it was met, or one that never came; no wait takes more than the most
   -- records
-  abbrev pub WaitsFor : (D → Type 0) → WatchedStation → Waited → WatchedStation → Type 0
+  abbrev pub WaitsFor : (display.at.on.Parts → Type 0) → WatchedStation → Waited → WatchedStation → Type 0
   WaitsFor Met' from waited to =
       ((told : List Applied) × HasWaited display.at Met' from told to × Met' to.end.screen × (waited ≡ Met))
       ⊎ (((told : List Applied) × (mid : WatchedStation) × HasWaited display.at Met' from told mid
@@ -236,7 +235,7 @@ module _ {D P U H PlaceV V Q R S K : Type 0} (display : WatchedDisplay D P U H P
 
   -- A line that shows something of a station: the records that have come are applied first, and are ahead then;
   -- behind its text stands what there was behind them, if not only that no more has come.
-  pub record ShowsStation (IsText : PartsOn D P → List ℕ → Type 0) (from : WatchedStation × ℕ)
+  pub record ShowsStation (IsText : StationOf display.at.on → List ℕ → Type 0) (from : WatchedStation × ℕ)
       (came : LineResult) (to : WatchedStation × ℕ) : Type 0 where
     pub told : List Applied
     pub ended : Waited
@@ -251,7 +250,7 @@ module _ {D P U H PlaceV V Q R S K : Type 0} (display : WatchedDisplay D P U H P
   abbrev pub Reports : LinesDo AReport (WatchedStation × ℕ)
   Reports (Note note) from came to = (to ≡ from) × (came.outcome ≡ Ok Done) × (came.text ≡ note_line note)
   Reports report from came to =
-      ShowsStation (λ station. IsReportText (reported_station display.at.does station) report) from came to
+      ShowsStation (λ station. IsReportText (reported_station display.at.on.does station) report) from came to
 
   -- a wait for a record is met at once where one is ahead
   abbrev pub WaitsForRecord : WatchedStation × ℕ → Waited → WatchedStation → Type 0
@@ -264,46 +263,46 @@ module _ {D P U H PlaceV V Q R S K : Type 0} (display : WatchedDisplay D P U H P
       × AppliesAll from told ended to × display.tells.is_quiet to.source quiet × (waited ≡ rested quiet ended)
 
   -- what is awaited at a display that an operator drives: one more record, quiet, or a display by which it is met
-  abbrev pub IsWaited : OperatedOn D → Awaited → WatchedStation × ℕ → Waited → WatchedStation → Type 0
+  abbrev pub IsWaited : OperatedOn display.at.on.Parts → Awaited → WatchedStation × ℕ → Waited → WatchedStation → Type 0
   IsWaited operated Record from waited to = WaitsForRecord from waited to
   IsWaited operated (Quiet time) from waited to = IsQuieted from.0 waited to
   IsWaited operated awaited from waited to =
-      WaitsFor (IsMet display.at.does.shown operated awaited) from.0 waited to
+      WaitsFor (IsMet display.at.on.does.shown operated awaited) from.0 waited to
 
 -- A display at which lines are carried out, and its devices at a watch.
-module _ {D P U H PlaceV V Q R S K : Type 0} (display : LiveDisplay D P U H PlaceV V Q R)
+module _ {S K : Type 0} (display : LiveDisplay)
     (on : WatchedDevices S K) where
   -- such a station, and how many records are ahead
   abbrev pub StationAndAhead : Type 0
-  StationAndAhead = AttachedParts (PartsOn D P) S K × ℕ
+  StationAndAhead = AttachedParts (StationOf display.on) S K × ℕ
 
   -- the display where keys are pressed
-  abbrev pub for_keys : KeyedDisplay D P U H PlaceV V Q R S K
-  for_keys = keyed display.rules display.does on.devices display.words
+  abbrev pub for_keys : KeyedDisplay S K
+  for_keys = record { at = record { on = display.on; devices = on.devices }; words = display.words }
 
   -- the display where something is awaited
-  abbrev pub for_waits : WatchedDisplay D P U H PlaceV V Q R S K
-  for_waits = watched display.rules display.does on.devices on.tells
+  abbrev pub for_waits : WatchedDisplay S K
+  for_waits = record { at = record { on = display.on; devices = on.devices }; tells = on.tells }
 
   -- What a line at a station comes to, with screens in a paint; the keys of a stroke are those at the screen that the
   -- station then has. Behind a line that waits or presses keys no record is ahead.
-  abbrev pub StationRuns : Paint → LinesDo (StationLine Q) StationAndAhead
+  abbrev pub StationRuns : Paint → LinesDo (StationLine display.on.Pressed) StationAndAhead
   StationRuns paint NoLine from came to = (to ≡ from) × (came.outcome ≡ Ok Nothing) × (came.text ≡ [])
   StationRuns paint (Press keys) from came to = KeysRun for_keys keys from.0 came to.0 × (to.1 ≡ 0)
   StationRuns paint (Stroke stroke) from came to = StrokeRuns for_keys
-      (stroke_keys display.words (display.does.shown from.0.end.screen) stroke) from.0 came to.0 × (to.1 ≡ 0)
+      (stroke_keys display.words (display.on.does.shown from.0.end.screen) stroke) from.0 came to.0 × (to.1 ≡ 0)
   StationRuns paint (Await awaited) from came to = (waited : Waited)
       × IsWaited for_waits display.operated awaited from waited to.0
       × (came.outcome ≡ waited_outcome waited) × (came.text ≡ waited_text waited) × (to.1 ≡ 0)
   StationRuns paint Fields from came to =
-      ShowsStation for_waits (λ station. AreFieldLines (display.does.shown station.screen)) from came to
+      ShowsStation for_waits (λ station. AreFieldLines (display.on.does.shown station.screen)) from came to
   StationRuns paint Show from came to =
-      ShowsStation for_waits (λ station. IsDisplayText paint (display.does.shown station.screen)
+      ShowsStation for_waits (λ station. IsDisplayText paint (display.on.does.shown station.screen)
       (display.operated.behind station.screen)) from came to
   StationRuns paint (Report report) from came to = Reports for_waits report from came to
   StationRuns paint (Bad cause) from came to = (to ≡ from) × (came.outcome ≡ bad_outcome)
       × (came.text ≡ bad_text (string_bytes cause))
 
   -- what lines do at a station with screens in a paint, at a watch that keeps its waits so
-  abbrev pub StationRunsInTime : {W : Type 0} → WatchTimes W S → Paint → LinesDo (StationLine Q) (StationAndAhead × W)
+  abbrev pub StationRunsInTime : {W : Type 0} → WatchTimes W S → Paint → LinesDo (StationLine display.on.Pressed) (StationAndAhead × W)
   StationRunsInTime times paint = InTime (StationRuns paint) station_waits times

@@ -1,6 +1,6 @@
 -- A deed at an end on devices: whether it was done, and what a fault leaves
 
-use Rattle.std.specs.Prelude.{◌≡◌, List, [], ◌∷◌, Bool, true, false, Option, Result, Err, OnOk, IfOk, IfErr, IfSome, IfNone}
+use Rattle.std.specs.Prelude.{◌≡◌, List, [], ◌∷◌, true, false, Option, Result, Err, OnOk, IfOk, IfErr, IfSome, IfNone}
 use Rattle.ws_code.specs.Device.{Devices}
 use Rattle.ws_code.specs.declared.fault.Fault.{Fault}
 use Rattle.ws_code.specs.declared.fault.Fault.TheVariants.{Failed, Memory}
@@ -20,8 +20,8 @@ use Rattle.ws_session.specs.attached.Attachments.{AttachedParts, HaveLed, IsSend
 use Rattle.ws_session.specs.host_end.HostLeads.{HostParts}
 use Rattle.ws_session.specs.host_end.HostSide.{host_send, host_cancel}
 use Rattle.ws_session.specs.station.Displays.{OnDisplay}
-use Rattle.ws_session.specs.station.PartsOn.{PartsOn}
 use Rattle.ws_session.specs.station.StationActs.{IsKeyRefusalOn, IsKeyTakenOn}
+use Rattle.ws_session.specs.station.Stations.{StationOf}
 
 -- A deed at an end of this conduct: for which reasons the end refuses it, when it has no reason to, and when memory may
 -- be wanting for it.
@@ -44,8 +44,8 @@ judged conduct refrains acts deed = record {
 }
 
 -- a key at a station, which takes no memory
-abbrev pub key_judged : {D P U H PlaceV V K R : Type 0} → OnDisplay D P U H PlaceV V K R → K
-    → Judged (PartsOn D P) K Applied KeyFault
+abbrev pub key_judged : (on : OnDisplay) → on.Pressed
+    → Judged (StationOf on) on.Pressed Applied KeyFault
 key_judged on key = record {
   conduct = station_conduct on;
   deed = key;

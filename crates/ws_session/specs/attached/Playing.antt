@@ -54,4 +54,3 @@ module _ {S : Type 0} (writer : Writer S) where
       (start : S) (terminal : TerminalType) (bytes : List ℕ) (items : List (Item Element))
       → HaveBroughtPlayer (asked terminal keys) (outflow writer start now) player bytes items
       → length bytes + more + 1 < 2 ^ 64 → Holds (asked terminal keys) start bytes
-

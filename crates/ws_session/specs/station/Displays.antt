@@ -52,15 +52,33 @@ pub record DisplayOf (D U H PlaceV V K R : Type 0) : Type 1 where
   pub answer : ScreenParts → ReadKind → ℕ → Item V
   pub written : D → R → List ℕ
 
--- what a station stands on: the rules of what comes to it, and its display
-pub record OnDisplay (D P U H PlaceV V K R : Type 0) : Type 1 where
-  pub rules : Rules P U
-  pub does : DisplayOf D U H PlaceV V K R
+-- What a station stands on: the rules of what comes to it, and its display; before them the types of which these speak.
+pub record OnDisplay : Type 1 where
+  pub Parts : Type 0
+  pub Place : Type 0
+  pub Reads : Type 0
+  pub Happened : Type 0
+  pub WritePlace : Type 0
+  pub Writes : Type 0
+  pub Pressed : Type 0
+  pub Replied : Type 0
+  pub rules : Rules Place Reads
+  pub does : DisplayOf Parts Reads Happened WritePlace Writes Pressed Replied
 
 -- it stands on a display, by these rules
-abbrev pub on_display : {D P U H PlaceV V K R : Type 0} → Rules P U → DisplayOf D U H PlaceV V K R
-    → OnDisplay D P U H PlaceV V K R
-on_display rules does = record { rules = rules; does = does }
+abbrev pub on_display : {D P U H PlaceV V K R : Type 0} → Rules P U → DisplayOf D U H PlaceV V K R → OnDisplay
+on_display {D} {P} {U} {H} {PlaceV} {V} {K} {R} rules does = record {
+  Parts = D;
+  Place = P;
+  Reads = U;
+  Happened = H;
+  WritePlace = PlaceV;
+  Writes = V;
+  Pressed = K;
+  Replied = R;
+  rules = rules;
+  does = does;
+}
 
 module _ {D U H PlaceV V K R : Type 0} (d : DisplayOf D U H PlaceV V K R) where
   -- what a record gives a display: the display that it comes to and what is written; or the reason for which the record

@@ -8,7 +8,6 @@ use Rattle.ws_telnet.specs.declared.token.Telnet.{Telnet}
 use Rattle.ws_telnet.specs.declared.token.Telnet.TheVariants as telnet
 use Rattle.ws_nego.specs.Options.{telnet_bytes}
 use Rattle.ws_nego.specs.Station.{station_answer}
-use Rattle.ws_record.specs.declared.record.Item.{Item}
 use Rattle.ws_record.specs.declared.news.News.{News}
 use Rattle.ws_record.specs.declared.news.News.TheVariants as news
 use Rattle.ws_record.specs.DataStep.{record_of}
@@ -17,36 +16,36 @@ use Rattle.ws_session.specs.declared.refusal.Refusal.{Refusal}
 use Rattle.ws_session.specs.declared.refusal.Refusal.TheVariants.{At, Failed, Memory}
 use Rattle.ws_session.specs.declared.station.StationStep.{StationStep}
 use Rattle.ws_session.specs.Ends.{HasSettled}
-use Rattle.ws_session.specs.station.Displays.{SideOn}
 use Rattle.ws_session.specs.station.StationCounts.{is_record}
 use Rattle.ws_session.specs.station.PartsOn.{PartsOn}
 use Rattle.ws_session.specs.station.Stations.{StaysInsideOn, TakesItemOn, RefusesItemOn, IsClosedOn, HasStoppedOn, AtStationOn}
 use Rattle.ws_session.specs.station.Stations.{IsPushedOn}
 use Rattle.ws_session.specs.station.StationActs.{HasTakenAllOn}
 use Rattle.ws_session.specs.station.Displays.{OnDisplay}
+use Rattle.ws_session.specs.station.Stations.{StationOf, ItemsOf, SideOf}
 
 -- how a station stands with the last byte taken: its display changes with a record's end alone
 abbrev pub HasSettledOn : {D P R : Type 0} → PartsOn D P → PartsOn D P → ℕ → Result (StationStep R) Refusal → Type 0
 HasSettledOn {R = R} old new place result =
     HasSettled (λ (step : StationStep R). step.ends_record ≡ false) place new.ended (new.screen ≡ old.screen) result
 
-module _ {D P U H PlaceV V K R : Type 0} (on : OnDisplay D P U H PlaceV V K R) where
+module _ (on : OnDisplay) where
   -- what a station answers where these bytes are written, and no record ends
-  abbrev pub IsMid : PartsOn D P → Result (StationStep R) Refusal → List ℕ → Type 0
-  IsMid new result bytes = (step : StationStep R) × (result ≡ Ok step) × (on.does.written new.screen step.reply ≡ bytes)
+  abbrev pub IsMid : StationOf on → Result (StationStep on.Replied) Refusal → List ℕ → Type 0
+  IsMid new result bytes = (step : StationStep on.Replied) × (result ≡ Ok step) × (on.does.written new.screen step.reply ≡ bytes)
       × (step.ends_record ≡ false)
 
   -- what a station makes of a Telnet command: it answers it
-  abbrev pub IsAnsweredOn : PartsOn D P → Telnet → PartsOn D P → Result (StationStep R) Refusal → Type 0
+  abbrev pub IsAnsweredOn : StationOf on → Telnet → StationOf on → Result (StationStep on.Replied) Refusal → Type 0
   IsAnsweredOn old token new result = IsMid new result (telnet_bytes (station_answer old.options token).reply)
       × (new ≡ record old { options = (station_answer old.options token).after })
 
   -- what a station makes of news that came with the last byte taken; a subnegotiation is taken out
-  abbrev pub IsNewsTakenOn : PartsOn D P → News → PartsOn D P → Result (StationStep R) Refusal → Type 0
+  abbrev pub IsNewsTakenOn : StationOf on → News → StationOf on → Result (StationStep on.Replied) Refusal → Type 0
   IsNewsTakenOn old news.More new result = IsMid new result [] × (new ≡ old)
   IsNewsTakenOn old news.Unit new result = IsMid new result [] × (new ≡ old)
   IsNewsTakenOn old (news.Open head) new result = IsMid new result [] × (new ≡ old)
-  IsNewsTakenOn old (news.Close head) new result = (side : SideOn H) (units : List U)
+  IsNewsTakenOn old (news.Close head) new result = (side : SideOf on) (units : List on.Reads)
       → IsChain on.rules on.rules.first units → old.body_bytes ≡ spelling_of on.rules units
       → old.options ≡ side.options → on.does.gives side.happened old.screen
       → IsClosedOn on old new side (record_of head units) (old.live.taken - 1) result
@@ -61,7 +60,7 @@ module _ {D P U H PlaceV V K R : Type 0} (on : OnDisplay D P U H PlaceV V K R) w
 
   -- the station refuses the byte behind so many of the piece, as it refuses that byte alone; at those it writes and
   -- tells nothing
-  pub record StopsWithinOn (old new : PartsOn D P) (piece : List ℕ) (used : ℕ) (why : Refusal) : Type 0 where
+  pub record StopsWithinOn (old new : StationOf on) (piece : List ℕ) (used : ℕ) (why : Refusal) : Type 0 where
     pub byte : ℕ
     pub rest : List ℕ
     pub split : piece ≡ take used piece ++ byte ∷ rest
@@ -70,8 +69,8 @@ module _ {D P U H PlaceV V K R : Type 0} (on : OnDisplay D P U H PlaceV V K R) w
         bytes items side (take used piece) [] [])
 
   -- what the last of these bytes gives, where no item is complete before it
-  abbrev pub IsFrontedOn : PartsOn D P → PartsOn D P → List ℕ → List (Item U) → SideOn H
-      → Result (StationStep R) Refusal → Type 0
+  abbrev pub IsFrontedOn : StationOf on → StationOf on → List ℕ → ItemsOf on → SideOf on
+      → Result (StationStep on.Replied) Refusal → Type 0
   IsFrontedOn old new bytes items side (Ok step) =
       (StaysInsideOn on old new bytes items side step.reply × (step.ends_record ≡ false))
       ⊎ ((taken : TakesItemOn on new bytes items side step.reply) × (step.ends_record ≡ is_record taken.item))

@@ -34,7 +34,6 @@ use Rattle.ws_screen.specs.Given.{Gives}
 use Rattle.ws_session.specs.declared.station.answer.TheConstants.{ATN, SRQ}
 use Rattle.ws_session.specs.station.Displays.{OnDisplay, on_display}
 use Rattle.ws_stream.specs.Elements.{element_rules}
-use Rattle.ws_stream.specs.declared.place.Place.{Place}
 
 -- what a station has become: its options, and the events of its screen
 abbrev pub StationSide : Type 0
@@ -146,7 +145,7 @@ abbrev pub station_key : StationSide → Key → KeyReaction
 station_key = key_on profile
 
 -- what a station of the profile stands on
-abbrev pub on_profile : OnDisplay ProfileParts Place Element History AnswerPlace AnswerPart Key (List ℕ)
+abbrev pub on_profile : OnDisplay
 on_profile = on_display element_rules profile
 
 -- this holds of the body that these bytes spell

@@ -9,15 +9,15 @@ use Rattle.ws_session.specs.declared.station.station_fed.StationFront.{StationFr
 use Rattle.ws_session.specs.Acts.{HoldsItems}
 use Rattle.ws_session.specs.Ends.{CountsUpTo}
 use Rattle.ws_session.specs.station.Displays.{OnDisplay}
-use Rattle.ws_session.specs.station.PartsOn.{PartsOn}
 use Rattle.ws_session.specs.station.StationActs.{HasFedOn, HasRefusedOn, IsSilentOn}
 use Rattle.ws_session.specs.station.StationNews.{IsFrontedOn, HasSettledOn, StopsWithinOn}
 use Rattle.ws_session.specs.station.Stations.{AtStationOn, IsPushedOn}
+use Rattle.ws_session.specs.station.Stations.{StationOf}
 
-module _ {D P U H PlaceV V K R : Type 0} (on : OnDisplay D P U H PlaceV V K R) (old : PartsOn D P) where
+module _ (on : OnDisplay) (old : StationOf on) where
   -- What a byte gives. At the greatest count, and behind a refusal, nothing; and a refusal leaves the screen as it was,
   -- and is told from then on.
-  pub record TakesByteOn (byte : ℕ) (new : PartsOn D P) (result : Result R Refusal) : Type 0 where
+  pub record TakesByteOn (byte : ℕ) (new : StationOf on) (result : Result on.Replied Refusal) : Type 0 where
     pub pushed : AtStationOn on old (λ bytes items side. length bytes + 1 < 2 ^ 64
         → IsPushedOn on old new bytes items side byte result)
     pub full : old.live.taken + 1 ≡ 2 ^ 64 → result ≡ Err Failed
@@ -26,7 +26,7 @@ module _ {D P U H PlaceV V K R : Type 0} (on : OnDisplay D P U H PlaceV V K R) (
     pub seen : OnErr result (new.screen ≡ old.screen)
 
   -- What a piece gives.
-  pub record TakesBytesOn (piece : List ℕ) (new : PartsOn D P) (result : Result (StationFed R) Refusal) : Type 0 where
+  pub record TakesBytesOn (piece : List ℕ) (new : StationOf on) (result : Result (StationFed on.Replied) Refusal) : Type 0 where
     -- how much of the piece is used: all, unless something comes of it, and no less than a byte
     pub within : IfOk result (λ fed. fed.used ≤ length piece)
     pub some : IfOk result (λ fed. 0 < length piece → 0 < fed.used)
@@ -51,7 +51,7 @@ module _ {D P U H PlaceV V K R : Type 0} (on : OnDisplay D P U H PlaceV V K R) (
     pub seen : OnErr result (new.screen ≡ old.screen)
 
   -- What a piece gives one that goes on. Where a byte is refused, it is the next behind those used.
-  pub record TakesPieceOn (piece : List ℕ) (new : PartsOn D P) (front : StationFront R) : Type 0 where
+  pub record TakesPieceOn (piece : List ℕ) (new : StationOf on) (front : StationFront on.Replied) : Type 0 where
     -- how much of the piece is used: all, unless something comes of it, and no less than a byte
     pub within : front.used ≤ length piece
     pub some : IfOk front.step (λ step. 0 < length piece → 0 < front.used)
@@ -74,7 +74,7 @@ module _ {D P U H PlaceV V K R : Type 0} (on : OnDisplay D P U H PlaceV V K R) (
     pub quiet : IfOk front.step (λ step. step.ends_record ≡ false → new.screen ≡ old.screen)
 
   -- What a front of a piece gives, of which no item is complete before its last byte.
-  pub record TakesFrontOn (piece : List ℕ) (new : PartsOn D P) (front : StationFront R) : Type 0 where
+  pub record TakesFrontOn (piece : List ℕ) (new : StationOf on) (front : StationFront on.Replied) : Type 0 where
     pub within : front.used ≤ length piece
     pub used : front.step ≢ Err Failed → 0 < front.used
     pub fronted : AtStationOn on old (λ bytes items side. length bytes + length piece < 2 ^ 64

@@ -30,12 +30,24 @@ use Rattle.ws_session.specs.station.PartsOn.{PartsOn}
 use Rattle.ws_session.specs.station.StationManners.{new_side_on, takes_on, key_on}
 use Rattle.ws_session.specs.station.Displays.{OnDisplay}
 
-module _ {D P U H PlaceV V K R : Type 0} (on : OnDisplay D P U H PlaceV V K R) where
+-- a station that stands on this
+abbrev pub StationOf : OnDisplay → Type 0
+StationOf on = PartsOn on.Parts on.Place
+
+-- the items that come to it
+abbrev pub ItemsOf : OnDisplay → Type 0
+ItemsOf on = List (Item on.Reads)
+
+-- the sides on which it may stand
+abbrev pub SideOf : OnDisplay → Type 0
+SideOf on = SideOn on.Happened
+
+module _ (on : OnDisplay) where
   -- The bytes lead to the station: they hold these items, none of them is refused, and what the station did at them and
   -- at the keys between them left it on this side.
-  pub record LeadsOn (station : PartsOn D P) (bytes : List ℕ) (items : List (Item U)) (side : SideOn H) : Type 0 where
+  pub record LeadsOn (station : StationOf on) (bytes : List ℕ) (items : ItemsOf on) (side : SideOf on) : Type 0 where
     pub head : Option Head
-    pub units : List U
+    pub units : List on.Reads
     pub leads : LeadsWith on.rules station.live bytes items head units
     pub body : station.body_bytes ≡ drop 10 leads.0
     pub options : station.options ≡ side.options
@@ -44,57 +56,57 @@ module _ {D P U H PlaceV V K R : Type 0} (on : OnDisplay D P U H PlaceV V K R) w
     pub works : station.ended ≡ None
 
   -- this holds of whatever led to the station: the bytes, their items, and the side on which they left it
-  abbrev pub AtStationOn : PartsOn D P → (List ℕ → List (Item U) → SideOn H → Type 0) → Type 0
-  AtStationOn station Holds = (bytes : List ℕ) (items : List (Item U)) (side : SideOn H)
+  abbrev pub AtStationOn : StationOf on → (List ℕ → ItemsOf on → SideOf on → Type 0) → Type 0
+  AtStationOn station Holds = (bytes : List ℕ) (items : ItemsOf on) (side : SideOf on)
       → LeadsOn station bytes items side → Holds bytes items side
 
   -- this holds of whatever the open record of the station has so far: the side on which it came, and its units
-  abbrev pub AtOpenRecord : PartsOn D P → (SideOn H → List U → Type 0) → Type 0
-  AtOpenRecord station Holds = (side : SideOn H) (units : List U) → IsChain on.rules on.rules.first units
+  abbrev pub AtOpenRecord : StationOf on → (SideOf on → List on.Reads → Type 0) → Type 0
+  AtOpenRecord station Holds = (side : SideOf on) (units : List on.Reads) → IsChain on.rules on.rules.first units
       → station.body_bytes ≡ spelling_of on.rules units → station.options ≡ side.options
       → on.does.gives side.happened station.screen → Holds side units
 
   -- the station has taken no byte and no key
-  pub record FreshOn (station : PartsOn D P) : Type 0 where
+  pub record FreshOn (station : StationOf on) : Type 0 where
     pub terminal : TerminalType
     pub leads : LeadsOn station [] [] (new_side_on on.does terminal)
 
   -- the last of these bytes completes no item: nothing is written, and the screen is as it was
-  pub record StaysInsideOn (old new : PartsOn D P) (bytes : List ℕ) (items : List (Item U)) (side : SideOn H)
-      (reply : R) : Type 0 where
+  pub record StaysInsideOn (old new : StationOf on) (bytes : List ℕ) (items : ItemsOf on) (side : SideOf on)
+      (reply : on.Replied) : Type 0 where
     pub silent : on.does.written new.screen reply ≡ []
     pub same : new.screen ≡ old.screen
     pub leads : LeadsOn new bytes items side
 
   -- the last of these bytes completes an item, at which the station goes on with this reply
-  pub record TakesItemOn (new : PartsOn D P) (bytes : List ℕ) (items : List (Item U)) (side : SideOn H) (reply : R)
+  pub record TakesItemOn (new : StationOf on) (bytes : List ℕ) (items : ItemsOf on) (side : SideOf on) (reply : on.Replied)
       : Type 0 where
-    pub item : Item U
-    pub next : SideOn H
-    pub writes : List (Item V)
+    pub item : Item on.Reads
+    pub next : SideOf on
+    pub writes : List (Item on.Writes)
     pub goes_on : takes_on on.does side item ≡ GoesOn next writes
     pub spelled : on.does.written new.screen reply ≡ plain_spelling on.does.out writes
     pub leads : LeadsOn new bytes (items ++ item ∷ []) next
 
   -- behind a refused byte: the station has taken so many bytes, that one too, and its options, its screen and its count
   -- are those that the items left
-  pub record HasStoppedOn (station : PartsOn D P) (count : ℕ) (items : List (Item U)) (side : SideOn H) : Type 0 where
+  pub record HasStoppedOn (station : StationOf on) (count : ℕ) (items : ItemsOf on) (side : SideOf on) : Type 0 where
     pub taken : station.live.taken ≡ count
     pub options : station.options ≡ side.options
     pub given : on.does.gives side.happened station.screen
     pub counted : station.records ≡ records_in items
 
   -- the last of these bytes completes an item that the station refuses for this reason
-  pub record RefusesItemOn (bytes : List ℕ) (items : List (Item U)) (side : SideOn H) (reason : Reason) : Type 0 where
-    pub item : Item U
+  pub record RefusesItemOn (bytes : List ℕ) (items : ItemsOf on) (side : SideOf on) (reason : Reason) : Type 0 where
+    pub item : Item on.Reads
     pub so_far : List ℕ
     pub begun : List ℕ
     pub holds : Holds on.rules bytes (items ++ item ∷ []) so_far begun
     pub refuses : takes_on on.does side item ≡ Refuses reason
 
   -- what the end of a record gives, whose elements are these: the reply, or the refusal of the record
-  abbrev pub IsClosedOn : PartsOn D P → PartsOn D P → SideOn H → Record U → ℕ → Result (StationStep R) Refusal → Type 0
-  IsClosedOn old new side r place (Ok step) = (next : SideOn H) × (writes : List (Item V))
+  abbrev pub IsClosedOn : StationOf on → StationOf on → SideOf on → Record on.Reads → ℕ → Result (StationStep on.Replied) Refusal → Type 0
+  IsClosedOn old new side r place (Ok step) = (next : SideOf on) × (writes : List (Item on.Writes))
       × (takes_on on.does side (RecordItem r) ≡ GoesOn next writes)
       × (on.does.written new.screen step.reply ≡ plain_spelling on.does.out writes) × (step.ends_record ≡ true)
       × (new ≡ record old { body_bytes = []; screen = new.screen; records = min (old.records + 1) (2 ^ 64 - 1) })
@@ -107,7 +119,7 @@ module _ {D P U H PlaceV V K R : Type 0} (on : OnDisplay D P U H PlaceV V K R) w
 
   -- what a byte gives: nothing, the reply to the item that it completes, or a refusal at this byte, of the byte or of
   -- its item
-  abbrev pub IsPushedOn : PartsOn D P → PartsOn D P → List ℕ → List (Item U) → SideOn H → ℕ → Result R Refusal → Type 0
+  abbrev pub IsPushedOn : StationOf on → StationOf on → List ℕ → ItemsOf on → SideOf on → ℕ → Result on.Replied Refusal → Type 0
   IsPushedOn old new bytes items side byte (Ok reply) = StaysInsideOn old new (bytes ++ byte ∷ []) items side reply
       ⊎ TakesItemOn new (bytes ++ byte ∷ []) items side reply
   IsPushedOn old new bytes items side byte (Err (At place reason)) =
@@ -119,12 +131,12 @@ module _ {D P U H PlaceV V K R : Type 0} (on : OnDisplay D P U H PlaceV V K R) w
 
   -- what a key gives: its refusal, with the station as it was; or what it sends: nothing, a read's answer, Attention or
   -- System Request
-  abbrev pub IsKeyedOn : PartsOn D P → PartsOn D P → List ℕ → List (Item U) → SideOn H → K
+  abbrev pub IsKeyedOn : StationOf on → StationOf on → List ℕ → ItemsOf on → SideOf on → on.Pressed
       → Result (Option Answer) KeyFault → Type 0
   IsKeyedOn old new bytes items side key (Err fault) = (key_on on.does side key ≡ RefusesKey fault) × (new ≡ old)
-  IsKeyedOn old new bytes items side key (Ok None) = (next : SideOn H) × (key_on on.does side key ≡ Silent next)
+  IsKeyedOn old new bytes items side key (Ok None) = (next : SideOf on) × (key_on on.does side key ≡ Silent next)
       × LeadsOn new bytes items next
-  IsKeyedOn old new bytes items side key (Ok (Some (Read body))) = (next : SideOn H) × (kind : ReadKind) × (aid : ℕ)
+  IsKeyedOn old new bytes items side key (Ok (Some (Read body))) = (next : SideOf on) × (kind : ReadKind) × (aid : ℕ)
       × (key_on on.does side key ≡ Answers next kind aid)
       × (body ≡ answer_bytes kind (on.does.shows side.happened) aid) × LeadsOn new bytes items next
   IsKeyedOn old new bytes items side key (Ok (Some Attention)) = (key_on on.does side key ≡ Signals NoOperation ATN)

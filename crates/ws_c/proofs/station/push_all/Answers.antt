@@ -3,7 +3,6 @@ use Rattle.std.proofs.Common.{◌≡◌, ◌+◌, ◌-◌, ◌<◌, ◌≤◌, �
 use Rattle.std.proofs.Common.{◌∙◌, arith}
 use Rattle.std.proofs.lemmas.List.{length-drop}
 use Rattle.ws_session.specs.Ends.{CountsUpTo}
-use Rattle.ws_c.specs.Kinds.{profile_kind}
 use Rattle.ws_c.specs.Pushes.{StationTakes, StationRefusesWithin, first_bytes, place_refused_at}
 use Rattle.ws_c.specs.declared.told.PushedTold.{PushedTold}
 use Rattle.ws_c.proofs.FeedLaws.{station_takes_none, station_takes_on, station_refuses}
@@ -22,7 +21,7 @@ loop-told-init c =
         inside = omega (arith, ap (λ (t : PushedTold). t.taken) c.requires);
         written = [];
         takes = subst (λ (n : ℕ). StationTakes station (first_bytes bytes n) [] station)
-            (sym (ap (λ (t : PushedTold). t.taken) c.requires)) (station_takes_none profile_kind station bytes);
+            (sym (ap (λ (t : PushedTold). t.taken) c.requires)) (station_takes_none on_profile station bytes);
         put = refl;
         fits = omega (arith, ap (λ (t : PushedTold). t.replied) c.requires);
         replied_is = ap (λ (t : PushedTold). t.replied) c.requires;
@@ -51,7 +50,7 @@ loop-told-preserved c =
           (omega (arith, c.as_slice-text.ensures.fits, ap length same)) f
           (subst (λ (r : List ℕ). StationTakes c.args.station.now (first_bytes bytes (n + k)) (f.written ++ r)
           c.feed.new.self) (sym same)
-          (station_takes_on profile_kind c.args.station.now now.station c.feed.new.self bytes n k f.written fed.reply
+          (station_takes_on on_profile c.args.station.now now.station c.feed.new.self bytes n k f.written fed.reply
           fed.ends_record f.inside some f.takes
           (λ b its s l fits. subst
           (λ (x : List ℕ). HasFedOn on_profile c.feed.new.self b its s (take k x) fed.reply fed.ends_record) is
@@ -121,7 +120,7 @@ returns-in-Err c =
     (subst (λ (x : List ℕ). m ≡ min (place_refused_at refusal c.taken-before.result last - c.taken-before.result)
     (length x)) is c.front_length.ensures) in
     let refuses : StationRefusesWithin now.station (first_bytes (drop n bytes) m) refusal new =
-    station_refuses profile_kind now.station new (drop n bytes) last refusal m few
+    station_refuses on_profile now.station new (drop n bytes) last refusal m few
     (λ b its s l fits. subst (λ (x : List ℕ). HasRefusedOn on_profile now.station new b its s x refusal) is
     (e.refused b its s l (subst (λ (x : List ℕ). length b + length x + 1 < 2 ^ 64) (sym is) fits)))
     (λ h. (let x = e.full h in cc)) (λ h. ((let x = (e.failed h).0 in cc), (e.failed h).1)) e.after e.seen

@@ -2,12 +2,10 @@ use Rattle.std.specs.Prelude.{min}
 use Rattle.std.proofs.Common.{◌≡◌, ℕ, ◌+◌, ◌-◌, ◌^◌, ◌<◌, ◌≤◌, List, length, take, drop, refl, sym, subst, ap, ◌∙◌}
 use Rattle.std.proofs.Common.{arith}
 use Rattle.std.proofs.lemmas.List.{length-drop}
-use Rattle.ws_extended.specs.ExtendedElements.{extended_rules}
 use Rattle.ws_session.specs.Ends.{CountsUpTo}
 use Rattle.ws_session.specs.station.StationActs.{HasFedOn, HasRefusedOn, IsSilentOn}
-use Rattle.ws_extended_station.specs.ExtendedDisplays.{DisplayParts, extended, extended_written}
+use Rattle.ws_extended_station.specs.ExtendedDisplays.{DisplayParts, extended_written}
 use Rattle.ws_c.specs.HeldStations.{waiting}
-use Rattle.ws_c.specs.Kinds.{extended_kind}
 use Rattle.ws_c.specs.Pushes.{StationRefusesOn, first_bytes, place_refused_at}
 use Rattle.ws_c.specs.declared.held_station.HeldStation.{HeldStation}
 use Rattle.ws_c.specs.declared.status.Status.TheVariants.{Done}
@@ -15,7 +13,7 @@ use Rattle.ws_c.proofs.FeedLaws.{station_takes_on, station_refuses}
 use Rattle.ws_c.proofs.HeldLaws.{ends_plainly, feeding_on, feeding_start, nothing_waits}
 use Rattle.ws_c.proofs.PushLaws.{rest_is}
 use Rattle.ws_c.proofs.station_extended.push_all.Goals as goal
-use Rattle.ws_session.specs.station.Displays.{on_display}
+use Rattle.ws_extended_station.specs.ExtendedDisplays.{on_extended}
 
 pub loop-told-init : goal.loop-told-init
 loop-told-init c = feeding_start c.args.held.now c.hand_out.new.self c.args.bytes.now c.args.buffer.now
@@ -41,13 +39,13 @@ loop-told-preserved c =
     feeding_on c.args.held.now now.held mid c.hand_out-in-Ok.new.self bytes c.args.buffer.now now.buffer
     c.hand_out-in-Ok.new.buffer now.told _ c.hand_out-in-Ok.new.told k f none refl
     (omega (arith, within, length-drop n bytes, f.inside))
-    (station_takes_on extended_kind c.args.held.now.station now.held.station new bytes n k f.written reply
+    (station_takes_on on_extended c.args.held.now.station now.held.station new bytes n k f.written reply
     fed.ends_record f.inside some f.takes
-    (λ b its s l fits. subst (λ (x : List ℕ). HasFedOn (on_display extended_rules extended) new b its s (take k x) reply
+    (λ b its s l fits. subst (λ (x : List ℕ). HasFedOn on_extended new b its s (take k x) reply
     fed.ends_record) is
     (e.fed b its s l (subst (λ (x : List ℕ). length b + length x + 1 < 2 ^ 64) (sym is) fits)))
     e.counted (λ ended. (let x = (e.failed ended).0 in cc)) (λ full. (let x = e.full full in cc)))
-    (λ j less b its s l fits. subst (λ (x : List ℕ). IsSilentOn (on_display extended_rules extended) b its s (take j x)) is
+    (λ j less b its s l fits. subst (λ (x : List ℕ). IsSilentOn on_extended b its s (take j x)) is
     (e.first b its s l (subst (λ (x : List ℕ). length b + length x + 1 < 2 ^ 64) (sym is) fits) j less))
     c.hand_out-in-Ok.ensures
 
@@ -86,9 +84,9 @@ returns-in-Err c =
     c.taken-before.ensures.count
     (subst (λ (x : List ℕ). m ≡ min (place_refused_at refusal c.taken-before.result last - c.taken-before.result)
     (length x)) is c.front_length.ensures) in
-    let refuses : StationRefusesOn extended_kind old (first_bytes (drop n bytes) m) refusal new =
-    station_refuses extended_kind old new (drop n bytes) last refusal m few
-    (λ b its s l fits. subst (λ (x : List ℕ). HasRefusedOn (on_display extended_rules extended) old new b its s x refusal) is
+    let refuses : StationRefusesOn on_extended old (first_bytes (drop n bytes) m) refusal new =
+    station_refuses on_extended old new (drop n bytes) last refusal m few
+    (λ b its s l fits. subst (λ (x : List ℕ). HasRefusedOn on_extended old new b its s x refusal) is
     (e.refused b its s l (subst (λ (x : List ℕ). length b + length x + 1 < 2 ^ 64) (sym is) fits)))
     (λ h. (let x = e.full h in cc)) (λ h. ((let x = (e.failed h).0 in cc), (e.failed h).1)) e.after e.seen
     c.taken.ensures.count

@@ -1,4 +1,5 @@
 use Rattle.ws_session.proofs.Common as C
+use C.{◌∙◌}
 use Rattle.ws_session.specs.contracts.station.StationOn.{the_view}
 use Rattle.ws_session.proofs.station.StationOn.take_front.Goals as goal
 use Rattle.ws_session.proofs.station.StationSteps.{front_count, fronted, so_far, is_led}
@@ -13,8 +14,8 @@ returns g c =
     let piece = c.args.piece.now in
     let a = c.advance-used in
     rw (← c.self.view_is) (record {
-      within = search C.rules;
-      used = search C.rules;
+      within = a.ensures.within;
+      used = λ other. a.ensures.used (λ e. other (let r = rw e at c.react-step.ensures.reacted in r.0));
       fronted = λ bytes items side l fits.
           let led = is_led rules d old bytes items side l in
           let n = front_count bytes piece _ s.live.taken a.new.self.taken led.count a.ensures.within fits
@@ -24,7 +25,7 @@ returns g c =
           (λ works. n.2 (a.ensures.used works)) n.1 _ _ c.react-step.ensures.reacted;
       first = λ bytes items side l. a.ensures.first bytes items (so_far rules d old bytes items side l)
           (is_led rules d old bytes items side l);
-      counted = search C.rules;
-      full = search C.rules;
-      settled = search C.rules;
+      counted = λ room. c.react-step.ensures.counted ∙ a.ensures.counted room;
+      full = λ full. (let r = rw (a.ensures.full full) at c.react-step.ensures.reacted in r.0);
+      settled = rw c.react-step.ensures.counted c.react-step.ensures.settled;
     })
