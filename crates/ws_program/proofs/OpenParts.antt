@@ -6,7 +6,6 @@ use Rattle.std.proofs.lemmas.List.{append-nil}
 use Rattle.ws_code.specs.Code.{Rules, IsPrefix, IsCut, IsSpelled, IsUnfinished, spelling_of}
 use Rattle.ws_code.specs.Keep.{list_keeper}
 use Rattle.ws_code.specs.Run.{intake, with_keep}
-use Rattle.ws_code.specs.declared.keep.Kept.TheVariants as answer
 use Rattle.ws_code.proofs.CodeLaws.{chain_more, cut_bad, cut_more, cut_unit, one_cut}
 use Rattle.ws_telnet.specs.Streams.{HasNoEor, carried, joined}
 use Rattle.ws_telnet.specs.Token.{token_rules}
