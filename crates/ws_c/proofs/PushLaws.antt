@@ -81,7 +81,8 @@ module _ {Place PlaceV Side U V Deed Event : Type 0} (rules : Rules Place U) (ou
       (told ++ more))
       (sym (came_append (take n bytes) (take k (drop n bytes)))
       ∙ ap (λ (x : List ℕ). all_came {Deed = Deed} x) (sym (take-add n k bytes)))
-      (gone_on (ways rules out manner) Mid End before items side (all_came (take n bytes)) (all_came (take k (drop n bytes)))
+      (gone_on (ways rules out manner) Mid End before items side (all_came (take n bytes))
+      (all_came (take k (drop n bytes)))
       written reply told more gone
       (λ b its s l size. next b its s l
       (omega (

@@ -22,7 +22,8 @@ module _ {S : Type 0} (takes : S → S → Key → Result (Option Answer) KeyFau
   keyed_on (x ∷ xs) ys old mid new r (next, pressed, keyed, goes) k =
       (next, pressed, keyed, go pressed goes (λ g. keyed_on xs ys next mid new r g k))
     where
-      go : (p : Result (Option Answer) KeyFault) → GoesOnBehindKey p (AreKeyed takes xs next mid (Ok tt)) next mid (Ok tt)
+      go : (p : Result (Option Answer) KeyFault)
+          → GoesOnBehindKey p (AreKeyed takes xs next mid (Ok tt)) next mid (Ok tt)
           → (AreKeyed takes xs next mid (Ok tt) → AreKeyed takes (xs ++ ys) next new r)
           → GoesOnBehindKey p (AreKeyed takes (xs ++ ys) next new r) next new r
       go (Ok answer) g later = later g
@@ -35,7 +36,8 @@ module _ {S : Type 0} (takes : S → S → Key → Result (Option Answer) KeyFau
   keyed_stop (x ∷ xs) ys old new f (next, pressed, keyed, goes) =
       (next, pressed, keyed, go pressed goes (λ g. keyed_stop xs ys next new f g))
     where
-      go : (p : Result (Option Answer) KeyFault) → GoesOnBehindKey p (AreKeyed takes xs next new (Err f)) next new (Err f)
+      go : (p : Result (Option Answer) KeyFault)
+          → GoesOnBehindKey p (AreKeyed takes xs next new (Err f)) next new (Err f)
           → (AreKeyed takes xs next new (Err f) → AreKeyed takes (xs ++ ys) next new (Err f))
           → GoesOnBehindKey p (AreKeyed takes (xs ++ ys) next new (Err f)) next new (Err f)
       go (Ok answer) g later = later g

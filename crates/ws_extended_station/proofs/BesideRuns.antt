@@ -188,7 +188,8 @@ goes_on_there s (Refuses reason) = refl
 goes_on_there s (GoesOn next items) = refl
 
 taken_there : (s : ExtendedSide) (h : Happening Element Key) → NoErrorStands s
-    → IsHappeningTaken (manner_on profile) (profile_side s) h → IsHappeningTaken (manner_on extended) s (happening_there h)
+    → IsHappeningTaken (manner_on profile) (profile_side s) h
+    → IsHappeningTaken (manner_on extended) s (happening_there h)
 taken_there s (Arrives item) none taken = ap goes_on (items_there s item none)
     ∙ goes_on_there s (takes_on profile (profile_side s) item) ∙ taken
 taken_there s (Does key) none taken = tt
@@ -221,9 +222,11 @@ doing_there s (h ∷ hs) none =
 
 pub runs_there : (bytes : List ℕ) (items arrived : List (Item Element)) (s : ExtendedSide) (next : StationSide)
     (acts : List (Act Key)) (written : List ℕ) (told : List Applied) → NoErrorStands s
-    → HasGone (ways element_rules answer_rules (manner_on profile)) (HaveJustArrived arrived next) bytes items (profile_side s) acts
+    → HasGone (ways element_rules answer_rules (manner_on profile)) (HaveJustArrived arrived next) bytes items
+    (profile_side s) acts
     written told
-    → HasGone (ways extended_rules raw_rules (manner_on extended)) (HaveJustArrived (map item_there arrived) (with_profile s next))
+    → HasGone (ways extended_rules raw_rules (manner_on extended))
+    (HaveJustArrived (map item_there arrived) (with_profile s next))
     bytes (map item_there items) s (map act_there acts) written told
 runs_there bytes items arrived s next acts written told none gone =
     let hs = gone.happened in

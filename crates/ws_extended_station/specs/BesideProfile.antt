@@ -57,10 +57,12 @@ HaveJustArrived arrived next bytes items side = (items ≡ arrived) × (side ≡
 abbrev pub ProfileGoes : StationSide → StationSide → List (Item Element) → List ℕ → List (Item Element)
     → List (Act Key) → List ℕ → List Applied → Type 0
 ProfileGoes side next arrived bytes items acts written told =
-    HasGone (ways element_rules answer_rules (manner_on profile)) (HaveJustArrived arrived next) bytes items side acts written told
+    HasGone (ways element_rules answer_rules (manner_on profile)) (HaveJustArrived arrived next) bytes items side acts
+    written told
 
 -- the same at a station that live hosts use
 abbrev pub ExtendedGoes : ExtendedSide → ExtendedSide → List (Item ExtendedElement) → List ℕ
     → List (Item ExtendedElement) → List (Act ExtendedKey) → List ℕ → List Applied → Type 0
 ExtendedGoes side next arrived bytes items acts written told =
-    HasGone (ways extended_rules raw_rules (manner_on extended)) (HaveJustArrived arrived next) bytes items side acts written told
+    HasGone (ways extended_rules raw_rules (manner_on extended)) (HaveJustArrived arrived next) bytes items side acts
+    written told

@@ -86,7 +86,8 @@ module _ {S K : Type 0} (display : KeyedDisplay S K) where
   abbrev Refused : KeyAt display.at → Option KeyFault → List ℕ
   Refused key refused = refusal_text display key refused
 
-  pub pressed_more : (from mid to : Ends) (keys : List (KeyAt display.at)) (key : KeyAt display.at) (refused : Option KeyFault) (came : Account)
+  pub pressed_more : (from mid to : Ends) (keys : List (KeyAt display.at)) (key : KeyAt display.at)
+      (refused : Option KeyFault) (came : Account)
       → ArePressed display from keys came mid → IsKeyPressed display.at key mid refused to
       → ArePressed display from (keys ++ key ∷ []) (account (came.all_well && is_none refused)
       (came.text ++ Refused key refused)) to
@@ -110,7 +111,8 @@ module _ {S K : Type 0} (display : KeyedDisplay S K) where
   )
 
   -- the keys of a list, of which so many are pressed
-  module _ (from mid to : Ends) (keys : List (KeyAt display.at)) (i : ℕ) (key : KeyAt display.at) (inside : i < length keys)
+  module _ (from mid to : Ends) (keys : List (KeyAt display.at)) (i : ℕ) (key : KeyAt display.at)
+      (inside : i < length keys)
       (is : key ≡ get_or keys i key) where
     pub pressed_on : (refused : Option KeyFault) (came : Account)
         → ArePressed display from (take i keys) came mid → IsKeyPressed display.at key mid refused to

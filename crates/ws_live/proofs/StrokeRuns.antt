@@ -103,7 +103,8 @@ module _ {S K : Type 0} (display : KeyedDisplay S K) where
   quiet entered None e = refl
   quiet entered (Some why) e = cc
 
-  pub prints_nothing : (key : KeyAt display.at) (from to : Parts) (text : List ℕ) → Runs key from (taken text) to → text ≡ []
+  pub prints_nothing : (key : KeyAt display.at) (from to : Parts) (text : List ℕ) → Runs key from (taken text) to
+      → text ≡ []
   prints_nothing key from to text (inl r) = r.3 ∙ quiet (display.words.entered key) r.0 r.2
   prints_nothing key from to text (inr r) = r.2
 
@@ -123,7 +124,8 @@ module _ {S K : Type 0} (display : KeyedDisplay S K) where
   until_on (key ∷ a) b from mid to came first (inr h) more = absurd (h.1 refl)
 
   -- all that were taken print nothing
-  pub until_quiet : (a : List (KeyAt display.at)) (from to : Parts) (text : List ℕ) → Until a from (taken text) to → text ≡ []
+  pub until_quiet : (a : List (KeyAt display.at)) (from to : Parts) (text : List ℕ) → Until a from (taken text) to
+      → text ≡ []
   until_quiet [] from to text h = h.2
   until_quiet (key ∷ a) from to text (inl h) = until_quiet a h.0 to text h.2
   until_quiet (key ∷ a) from to text (inr h) = absurd (h.1 refl)
@@ -164,7 +166,8 @@ module _ {S K : Type 0} (display : KeyedDisplay S K) where
     Next = Until (replicate run.times (profile run.key)) mid came to
 
     both : Before → Next → Until (display_keys profile (take (i + 1) runs)) from came to
-    both before next = subst (λ (z : List (KeyAt display.at)). Until z from came to) (keys_more profile runs i run inside is)
+    both before next = subst (λ (z : List (KeyAt display.at)). Until z from came to)
+        (keys_more profile runs i run inside is)
         (until_on (display_keys profile (take i runs)) (replicate run.times (profile run.key)) from mid to came []
         before next)
 

@@ -46,7 +46,8 @@ at_connection end written = record { end = end; source = no_reads; sink = writte
 module _ (display : LiveDisplay) where
   -- A station on this display, of the terminal that is asked for, new at a connection, carried out the lines, of which
   -- this is the account.
-  pub record IsConnected (asked : ConnectAsked) (lines : List (StationLine display.on.Pressed)) (came : Account) : Type 0 where
+  pub record IsConnected (asked : ConnectAsked) (lines : List (StationLine display.on.Pressed)) (came : Account) : Type
+      0 where
     pub station : StationOf display.on
     pub new : LeadsOn display.on station [] [] (new_side_on display.on.does asked.terminal)
     pub to : (AttachedParts (StationOf display.on) ConnectionReads ConnectionWrites × ℕ) × ℕ

@@ -146,7 +146,8 @@ module _ {D P U H PlaceV V K R : Type 0} (rules : Rules P U) (d : DisplayOf D U 
     s.rest ++ more,
     front_split piece part more whole used s.byte s.rest within s.split,
     record {
-      led = stops_by rules d.out (manner_on d) (LeadsOn (on_display rules d)) IsShutOn (λ (z : PartsOn D P). z.live.taken)
+      led = stops_by rules d.out (manner_on d) (LeadsOn (on_display rules d)) IsShutOn
+          (λ (z : PartsOn D P). z.live.taken)
           station_count old piece part more whole used within fits _ s.refused;
       shut = λ shut. absurd (works shut);
     },
@@ -156,10 +157,12 @@ module _ {D P U H PlaceV V K R : Type 0} (rules : Rules P U) (d : DisplayOf D U 
   pub station_silent : (old : PartsOn D P) (piece part more : List ℕ) → piece ≡ part ++ more → (used : ℕ)
       → used ≤ length part → old.live.taken + length part < 2 ^ 64 → (IsShutOn old → ⊥)
       → ((bytes : List ℕ) (items : List (Item U)) (side : SideOn H) → LeadsOn (on_display rules d) old bytes items side
-      → length bytes + length part < 2 ^ 64 → (n : ℕ) → n < used → IsSilentOn (on_display rules d) bytes items side (take n part))
+      → length bytes + length part < 2 ^ 64 → (n : ℕ) → n < used
+      → IsSilentOn (on_display rules d) bytes items side (take n part))
       → (n : ℕ) → n < used → StaysSilentOn (on_display rules d) old (take n piece)
   station_silent old piece part more whole used within fits works quiet n lt = record {
-    led = silent_by rules d.out (manner_on d) (LeadsOn (on_display rules d)) IsShutOn (λ (z : PartsOn D P). z.live.taken)
+    led = silent_by rules d.out (manner_on d) (LeadsOn (on_display rules d)) IsShutOn
+        (λ (z : PartsOn D P). z.live.taken)
         station_count old piece part more whole used within fits _ n lt
         (λ bytes items side l room. quiet bytes items side l room n lt);
     shut = λ shut. absurd (works shut);

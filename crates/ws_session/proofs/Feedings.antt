@@ -80,7 +80,8 @@ module _ {Place PlaceV Side U V Deed Event : Type 0} (rules : Rules Place U) (ou
   -- the bytes come one after another, and then this holds
   abbrev pub AllCome : (List ℕ → List (Item U) → Side → Type 0) → List ℕ → List (Item U) → Side → List ℕ → List ℕ
       → List Event → Type 0
-  AllCome Then bytes items side came = HasGone (ways rules out manner) Then bytes items side (all_came {Deed = Deed} came)
+  AllCome Then bytes items side came = HasGone (ways rules out manner) Then bytes items side
+      (all_came {Deed = Deed} came)
 
   -- what then holds, where nothing happens in a front
   silent_then : (Then : List ℕ → List (Item U) → Side → Type 0) (bytes : List ℕ) (items : List (Item U)) (side : Side)

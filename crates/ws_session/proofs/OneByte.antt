@@ -25,7 +25,8 @@ module _ {D P U H PlaceV V K R : Type 0} (rules : Rules P U) (d : DisplayOf D U 
 
   pub one_fed : (byte : ℕ) (step : StationStep R) → (step.ends_record ≡ false → new.screen ≡ old.screen)
       → (bytes : List ℕ) (items : List (Item U)) (side : SideOn H)
-      → HasFedOn (on_display rules d) new bytes items side (byte ∷ []) (d.written new.screen step.reply) step.ends_record
+      → HasFedOn (on_display rules d) new bytes items side (byte ∷ []) (d.written new.screen step.reply)
+      step.ends_record
       → IsPushedOn (on_display rules d) old new bytes items side byte (Ok step.reply)
   one_fed byte step quiet bytes items side fed = elim (gone_one fed) [
     | inl q ↦ inl (record { silent = q.0; same = quiet (untold _ q.1); leads = q.2 })
@@ -48,7 +49,8 @@ module _ {D P U H PlaceV V K R : Type 0} (rules : Rules P U) (d : DisplayOf D U 
   one_stopped byte used why s = λ bytes items side l few.
       let at = alone (take used (byte ∷ [])) s.rest byte s.byte s.split in
       subst (λ (b : ℕ). IsPushedOn (on_display rules d) old new bytes items side b (Err why)) at.1
-      (gone_none (subst (λ (front : List ℕ). HasTakenAllOn (on_display rules d) (λ bytes' items' side'. IsPushedOn (on_display rules d) old
+      (gone_none (subst (λ (front : List ℕ). HasTakenAllOn (on_display rules d)
+      (λ bytes' items' side'. IsPushedOn (on_display rules d) old
       new bytes' items' side' s.byte (Err why)) bytes items side front [] []) at.0
       (s.refused bytes items side l few)))
 

@@ -182,7 +182,8 @@ module _ {S K : Type 0} (display : KeyedDisplay S K) where
   abbrev pub KeysRun : LinesDo (List (KeyAt display.at)) KeyedStation
   KeysRun keys from came to =
       ((well : Bool) × ArePressed from keys (account well came.text) to × (came.outcome ≡ Ok (pressed well)))
-      ⊎ ((before : List (KeyAt display.at)) × (key : KeyAt display.at) × (after : List (KeyAt display.at)) × (well : Bool) × (mid : KeyedStation)
+      ⊎ ((before : List (KeyAt display.at)) × (key : KeyAt display.at) × (after : List (KeyAt display.at))
+      × (well : Bool) × (mid : KeyedStation)
       × (keys ≡ before ++ key ∷ after) × ArePressed from before (account well came.text) mid
       × IsKeyUnwritten display.at key mid to × (came.outcome ≡ Err fault.Write))
 
@@ -304,5 +305,6 @@ module _ {S K : Type 0} (display : LiveDisplay)
       × (came.text ≡ bad_text (string_bytes cause))
 
   -- what lines do at a station with screens in a paint, at a watch that keeps its waits so
-  abbrev pub StationRunsInTime : {W : Type 0} → WatchTimes W S → Paint → LinesDo (StationLine display.on.Pressed) (StationAndAhead × W)
+  abbrev pub StationRunsInTime : {W : Type 0} → WatchTimes W S → Paint
+      → LinesDo (StationLine display.on.Pressed) (StationAndAhead × W)
   StationRunsInTime times paint = InTime (StationRuns paint) station_waits times

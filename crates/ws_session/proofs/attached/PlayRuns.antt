@@ -15,7 +15,8 @@ use Rattle.ws_session.specs.world.Carrying.{passage, line_with}
 -- What the reads of a run make of its player.
 
 -- what the loop over a source keeps: the bytes that it gave have brought the player here, and are at most 4,096 a read
-pub record Reading {R S : Type 0} (reader : Reader R) (source now : R) (reads : ℕ) (writer : Writer S) (t : TerminalType) (keys : List (ℕ × Key)) (sink here : S) (player : Player) : Type 0 where
+pub record Reading {R S : Type 0} (reader : Reader R) (source now : R) (reads : ℕ) (writer : Writer S)
+    (t : TerminalType) (keys : List (ℕ × Key)) (sink here : S) (player : Player) : Type 0 where
   pub bytes : List ℕ
   pub items : List (Item Element)
   pub gave : Gave reader source now reads bytes
@@ -49,7 +50,8 @@ module _ {R S : Type 0} (reader : Reader R) (writer : Writer S) (t : TerminalTyp
 
   pub start_fails : (station : StationParts) (source : R) (sink here : S) → StationLeads station [] [] (new_station_side
       t) → FailedWithin writer sink here (text_of (outcome (new_station_side t) (due 0 keys)).written)
-      → IsRun (asked t keys) (passage (on_devices writer reader) (line_with sink source) (line_with here source)) (Err Write)
+      → IsRun (asked t keys) (passage (on_devices writer reader) (line_with sink source) (line_with here source))
+      (Err Write)
   start_fails station source sink here l failed = record {
     bytes = [];
     reads = 0;
@@ -70,8 +72,10 @@ module _ {R S : Type 0} (reader : Reader R) (writer : Writer S) (t : TerminalTyp
   module _ (source now : R) (reads : ℕ) (sink here : S) (player : Player) (r : Reading
       reader source now reads writer t keys sink here player) (one_left : reads < most_reads) where
     -- the source's end
-    pub run_ends : (now' : R) (room : ℕ) (result : Result Played Fault) → 0 < room → reader.gives now room (Some []) now'
-        → reader.failures now' ≡ reader.failures now → IfOk result (λ played. (played.station ≡ player.station) × (played.keys_refused
+    pub run_ends : (now' : R) (room : ℕ) (result : Result Played Fault) → 0 < room
+        → reader.gives now room (Some []) now'
+        → reader.failures now' ≡ reader.failures now
+        → IfOk result (λ played. (played.station ≡ player.station) × (played.keys_refused
         ≡ player.keys_refused) × AtStation player.station (λ bytes items side. IsInGrammar element_rules bytes items))
         → IfErr result (λ fault. (bytes : List ℕ) (items : List (Item Element)) (side : StationSide)
         → StationLeads player.station bytes items side → length bytes + 1 < 2 ^ 64
@@ -101,8 +105,10 @@ module _ {R S : Type 0} (reader : Reader R) (writer : Writer S) (t : TerminalTyp
         })
 
     -- a read that failed
-    pub run_unread : (now' : R) (room : ℕ) → reader.gives now room None now' → reader.failures now' ≡ one_more (reader.failures now)
-        → IsRun (asked t keys) (passage (on_devices writer reader) (line_with sink source) (line_with here now')) (Err Read)
+    pub run_unread : (now' : R) (room : ℕ) → reader.gives now room None now'
+        → reader.failures now' ≡ one_more (reader.failures now)
+        → IsRun (asked t keys) (passage (on_devices writer reader) (line_with sink source) (line_with here now'))
+        (Err Read)
     run_unread now' room made counted = record {
       bytes = r.bytes;
       items = r.items;
@@ -129,7 +135,10 @@ module _ {R S : Type 0} (reader : Reader R) (writer : Writer S) (t : TerminalTyp
       fits = omega (arith, r.few, one_left, small)
 
       -- a piece that is taken
-      pub reads_on : (next : Player) (to : S) → ((items : List (Item Element)) × HaveBroughtPlayer (asked t keys) (outflow writer sink to) next (r.bytes ++ given) items) → Reading reader source now' (reads + 1) writer t keys sink to next
+      pub reads_on : (next : Player) (to : S)
+          → ((items : List (Item Element))
+          × HaveBroughtPlayer (asked t keys) (outflow writer sink to) next (r.bytes ++ given) items)
+          → Reading reader source now' (reads + 1) writer t keys sink to next
       reads_on next to come = record {
         bytes = r.bytes ++ given;
         items = come.0;
@@ -140,7 +149,9 @@ module _ {R S : Type 0} (reader : Reader R) (writer : Writer S) (t : TerminalTyp
 
       -- and one that isn't
       pub run_stops : (to : S) (fault : Fault) → IsRunFault (asked t keys) (outflow writer sink to) (length r.bytes)
-          (r.bytes ++ given) fault → IsRun (asked t keys) (passage (on_devices writer reader) (line_with sink source) (line_with to now')) (Err fault)
+          (r.bytes ++ given) fault
+          → IsRun (asked t keys) (passage (on_devices writer reader) (line_with sink source) (line_with to now'))
+          (Err fault)
       run_stops to (Refused place reason) f = (
         record {
           first = r.bytes;
@@ -162,7 +173,8 @@ module _ {R S : Type 0} (reader : Reader R) (writer : Writer S) (t : TerminalTyp
 pub run_endless : {R S : Type 0} (reader : Reader R) (writer : Writer S)
     (t : TerminalType) (keys : List (ℕ × Key)) (source now : R) (reads : ℕ) (sink here : S) (player : Player)
     → Reading reader source now reads writer t keys sink here player
-    → reads ≡ most_reads → IsRun (asked t keys) (passage (on_devices writer reader) (line_with sink source) (line_with here now)) (Err Read)
+    → reads ≡ most_reads
+    → IsRun (asked t keys) (passage (on_devices writer reader) (line_with sink source) (line_with here now)) (Err Read)
 run_endless reader writer t keys source now reads sink here player r is = record {
   bytes = r.bytes;
   items = r.items;

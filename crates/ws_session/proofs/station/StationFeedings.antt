@@ -24,8 +24,10 @@ module _ {D P U H PlaceV V K R : Type 0} (rules : Rules P U) (d : DisplayOf D U 
       (bytes : List ℕ) (items : List (Item U)) (side : SideOn H) (left : List ℕ) (used : ℕ)
       (within : used ≤ length left) (some : 0 < used) (held : AreHeld rules K bytes items left used) where
     -- what its last byte gives
-    front_fed : (step : StationStep R) → IsFrontedOn (on_display rules d) old new (bytes ++ take used left) items side (Ok step)
-        → HasFedOn (on_display rules d) new bytes items side (take used left) (d.written new.screen step.reply) step.ends_record
+    front_fed : (step : StationStep R)
+        → IsFrontedOn (on_display rules d) old new (bytes ++ take used left) items side (Ok step)
+        → HasFedOn (on_display rules d) new bytes items side (take used left) (d.written new.screen step.reply)
+        step.ends_record
     front_fed step (inl q) = none_went (bytes_came K (take used left)) (front_silent rules K bytes items
         left used within held (on_holds rules d q.0.leads)) q.0.silent (ap (λ (b : Bool). as_list (told_by b)) q.1)
         q.0.leads
@@ -36,8 +38,10 @@ module _ {D P U H PlaceV V K R : Type 0} (rules : Rules P U) (d : DisplayOf D U 
         q.0.leads
 
   pushed_at_last : (old mid new : PartsOn D P) (bytes : List ℕ) (items : List (Item U))
-      (side : SideOn H) (byte : ℕ) (refusal : Refusal) → mid.screen ≡ old.screen → IsFrontedOn (on_display rules d) mid new
-      (bytes ++ byte ∷ []) items side (Err refusal) → IsPushedOn (on_display rules d) old new bytes items side byte (Err refusal)
+      (side : SideOn H) (byte : ℕ) (refusal : Refusal) → mid.screen ≡ old.screen
+      → IsFrontedOn (on_display rules d) mid new
+      (bytes ++ byte ∷ []) items side (Err refusal)
+      → IsPushedOn (on_display rules d) old new bytes items side byte (Err refusal)
   pushed_at_last old mid new bytes items side byte (At place reason) same f =
       (omega (arith, f.0, length-append bytes (byte ∷ [])), f.1 ∙ same, f.2, f.3)
   pushed_at_last old mid new bytes items side byte why same f = f
@@ -46,11 +50,14 @@ module _ {D P U H PlaceV V K R : Type 0} (rules : Rules P U) (d : DisplayOf D U 
       (now : PartsOn D P) (before : HasFedOn (on_display rules d) now bytes items side (take i piece) [] false) where
     -- a front more is fed
     pub fed_on : (new : PartsOn D P) (k : ℕ) (step : StationStep R)
-        → k ≤ length (left_of piece i) → 0 < k → AtStationOn (on_display rules d) now (λ b its s. length b + length (left_of piece i) < 2 ^ 64
-        → IsFrontedOn (on_display rules d) now new (b ++ take k (left_of piece i)) its s (Ok step)) → AtStationOn (on_display rules d) now
+        → k ≤ length (left_of piece i) → 0 < k
+        → AtStationOn (on_display rules d) now (λ b its s. length b + length (left_of piece i) < 2 ^ 64
+        → IsFrontedOn (on_display rules d) now new (b ++ take k (left_of piece i)) its s (Ok step))
+        → AtStationOn (on_display rules d) now
         (λ b its s. AreHeld rules K b its (left_of piece i) k) → length bytes + length piece < 2 ^ 64
         → i ≤ length piece
-        → HasFedOn (on_display rules d) new bytes items side (take (i + k) piece) (d.written new.screen step.reply) step.ends_record
+        → HasFedOn (on_display rules d) new bytes items side (take (i + k) piece) (d.written new.screen step.reply)
+        step.ends_record
     fed_on new k step within some fronted held fits inside = front_on _ _ _ bytes items side piece i
         (LeadsOn (on_display rules d) now) before _ k _ _ (λ b its s l room. front_fed now new b its s _ k within some
         (held b its s l) step (fronted b its s l room)) fits inside
@@ -60,16 +67,22 @@ module _ {D P U H PlaceV V K R : Type 0} (rules : Rules P U) (d : DisplayOf D U 
         → k ≤ length (left_of piece i)
         → take (suc (k - 1)) (left_of piece i) ≡ take (k - 1) (left_of piece i) ++ byte ∷ []
         → ((refusal ≡ Failed → ⊥) → 0 < k) → AtStationOn (on_display rules d) now (λ b its s. length b + length
-        (left_of piece i) < 2 ^ 64 → IsFrontedOn (on_display rules d) now new (b ++ take k (left_of piece i)) its s (Err refusal))
+        (left_of piece i) < 2 ^ 64
+        → IsFrontedOn (on_display rules d) now new (b ++ take k (left_of piece i)) its s (Err refusal))
         → AtStationOn (on_display rules d) now (λ b its s. AreHeld rules K b its (left_of piece i) k)
         → length bytes + length piece < 2 ^ 64 → i ≤ length piece
-        → HasTakenAllOn (on_display rules d) (λ b its s. IsPushedOn (on_display rules d) old new b its s byte (Err refusal)) bytes items side
+        → HasTakenAllOn (on_display rules d)
+        (λ b its s. IsPushedOn (on_display rules d) old new b its s byte (Err refusal)) bytes items side
         (take (i + (k - 1)) piece) [] []
     refused_on old new k byte refusal same within upto when fronted held fits inside =
         let left = left_of piece i in
         fails_on _ _ _ bytes items side piece i _ before (λ b its s. IsPushedOn (on_display rules d) old new b its s
-        byte (Err refusal)) k byte within upto (λ b its s l room. when (λ e. subst (λ (r : Refusal). IsFrontedOn (on_display rules d) now new (b ++ take k left) its s (Err r)) e (fronted b its s l room))) (λ b its s front l room upto.
-        pushed_at_last old now new _ its s byte _ same (subst (λ (x : List ℕ). IsFrontedOn (on_display rules d) now new x its s
+        byte (Err refusal)) k byte within upto
+        (λ b its s l room. when (λ e. subst
+        (λ (r : Refusal). IsFrontedOn (on_display rules d) now new (b ++ take k left) its s (Err r)) e
+        (fronted b its s l room))) (λ b its s front l room upto.
+        pushed_at_last old now new _ its s byte _ same
+        (subst (λ (x : List ℕ). IsFrontedOn (on_display rules d) now new x its s
         (Err refusal))
         (ap (λ z. b ++ z) upto ∙ sym (append_assoc b front (byte ∷ []))) (fronted b its s l room))) held fits inside
 

@@ -97,7 +97,8 @@ module _ {D P U H PlaceV V K R : Type 0} (rules : Rules P U) (d : DisplayOf D U 
       -- no item is complete
       stays : (head : Option Head) (units : List U)
           (n : LeadsWith rules live (bytes ++ front) items head units) → kept ≡ drop 10 n.0 → (new : PartsOn D P)
-          (result : Result (StationStep R) Refusal) → IsMid (on_display rules d) new result [] × (new ≡ Mid) → Fronted new result
+          (result : Result (StationStep R) Refusal) → IsMid (on_display rules d) new result [] × (new ≡ Mid)
+          → Fronted new result
       stays head units n body new result r = rw r.0.1 (inl (
         record {
           silent = r.0.2;
@@ -118,7 +119,8 @@ module _ {D P U H PlaceV V K R : Type 0} (rules : Rules P U) (d : DisplayOf D U 
 
       -- its last byte is refused
       stopped : (new : PartsOn D P) (why : Option Refusal) → live.taken ≡ length (bytes ++ front)
-          → new ≡ record Mid { ended = why } → HasStoppedOn (on_display rules d) new (length (bytes ++ front)) items side
+          → new ≡ record Mid { ended = why }
+          → HasStoppedOn (on_display rules d) new (length (bytes ++ front)) items side
       stopped new why count is =
           rw is (record { taken = count; options = l.options; given = l.given; counted = l.counted })
 
@@ -203,7 +205,8 @@ module _ {D P U H PlaceV V K R : Type 0} (rules : Rules P U) (d : DisplayOf D U 
       pub fronted : (news : News) → IsBodyAdvance news → live.taken ≡ length (bytes ++ front)
           → ((news ≡ told.Failed → ⊥) → 0 < length (bytes ++ front)) → length (bytes ++ front) < 2 ^ 64 →
           (new : PartsOn D P)
-          (result : Result (StationStep R) Refusal) → IsNewsTakenOn (on_display rules d) Mid news new result → Fronted new result
+          (result : Result (StationStep R) Refusal) → IsNewsTakenOn (on_display rules d) Mid news new result
+          → Fronted new result
       fronted told.More a count some few new result r =
           let on = a.2 in
           let body : kept ≡ drop 10 on.grown = a.3 l.units (drop 10 l.leads.0) (λ _. l.body)
@@ -244,7 +247,8 @@ module _ {D P U H PlaceV V K R : Type 0} (rules : Rules P U) (d : DisplayOf D U 
       → d.written new.screen step.reply ≡ telnet_bytes (station_answer old.options (telnet.Sub sub)).reply
       → step.ends_record ≡ false
       → new ≡ record old { live = live; options = (station_answer old.options (telnet.Sub sub)).after }
-      → IsAnsweredOn (on_display rules d) (record old { live = record old.live { sub = left } }) (telnet.Sub old.live.sub) new
+      → IsAnsweredOn (on_display rules d) (record old { live = record old.live { sub = left } })
+      (telnet.Sub old.live.sub) new
       (Ok step)
   sub_answered old live left sub step new kept same reply ends options = (
     (step, refl, reply ∙ ap (λ z. telnet_bytes (station_answer old.options (telnet.Sub z)).reply) same, ends),
@@ -299,7 +303,8 @@ module _ {D P U H PlaceV V K R : Type 0} (rules : Rules P U) (d : DisplayOf D U 
       works = l.works;
     }
 
-    led_on : (new : D) → d.gives side.happened new → LeadsOn (on_display rules d) (record old { screen = new }) bytes items side
+    led_on : (new : D) → d.gives side.happened new
+        → LeadsOn (on_display rules d) (record old { screen = new }) bytes items side
     led_on new given = led_to new side (record { options = refl; given = given })
 
     -- where it may send, it does as its display

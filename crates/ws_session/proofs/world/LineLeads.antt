@@ -20,10 +20,16 @@ use Rattle.ws_session.specs.station.StationSide.{on_profile}
 
 module _ {Place PlaceV Side U V Deed Told E : Type 0} (rules : Rules Place U) (out : Rules PlaceV V)
     (manner : Manner Side U V Deed Told)
-    (leads : E → List ℕ → List (Item U) → Side → Type 0) (refuses : E → List ℕ → ℕ → Refusal → E → Type 0) (silent : E → List ℕ → Type 0)
+    (leads : E → List ℕ → List (Item U) → Side → Type 0) (refuses : E → List ℕ → ℕ → Refusal → E → Type 0) (silent : E
+    → List ℕ → Type 0)
     (over : E → Type 0) (telling : Telling Told) (is_shut : E → Type 0) where
   abbrev conduct : Conduct E Deed Told
-  conduct = record { goes = Goes (ways rules out manner) leads is_shut; refuses = refuses; silent = silent; over = over }
+  conduct = record {
+    goes = Goes (ways rules out manner) leads is_shut;
+    refuses = refuses;
+    silent = silent;
+    over = over;
+  }
 
   abbrev Led : E → List ℕ → Type 0
   Led e bytes = ((items : List (Item U)) × (side : Side) × leads e bytes items side) ⊎ over e
@@ -74,7 +80,8 @@ station_moved a b Cancel ds us front p few l = stays StationIsLed a.station b.st
 station_moved a b (ToHost n) ds us front p few l = stays StationIsLed a.station b.station ds front p.0 p.1.1 l
 station_moved a b (ToStation n) ds us front p few l = bytes_led element_rules answer_rules station_manner StationLeads
     StationRefuses
-    (StaysSilentOn on_profile) (λ (s : StationParts). IsSome s.ended) station_telling IsShutOn a.station b.station (all_read ds) p.1.0.written p.1.0.told front
+    (StaysSilentOn on_profile) (λ (s : StationParts). IsSome s.ended) station_telling IsShutOn a.station b.station
+    (all_read ds) p.1.0.written p.1.0.told front
     p.1.0.come few l
 station_moved a b (Press key) ds us front p few l = stays StationIsLed b.station b.station ds front p.0 refl
     (act_led element_rules answer_rules station_manner StationLeads StationRefuses
@@ -86,7 +93,8 @@ host_moved : (a b : TwoEnds) (move : Move) (ds us : List Crossing) (front : List
 host_moved a b (Press key) ds us front p few l = stays HostIsLed a.host b.host us front p.1
     (ap (λ (z : TwoEnds). z.host) p.2.3) l
 host_moved a b (ToStation n) ds us front p few l = stays HostIsLed a.host b.host us front p.0 p.1.1 l
-host_moved a b (ToHost n) ds us front p few l = bytes_led answer_rules element_rules host_manner HostLeads HostRefuses HostStaysSilent
+host_moved a b (ToHost n) ds us front p few l = bytes_led answer_rules element_rules host_manner HostLeads HostRefuses
+    HostStaysSilent
     (λ (h : HostParts). IsSome h.ended) host_telling IsHostShut a.host b.host (all_read us) p.1.0.written p.1.0.told
     front p.1.0.come few l
 host_moved a b (Send opcode body) ds us front p few l = stays HostIsLed b.host b.host us front p.1 refl

@@ -216,7 +216,8 @@ module _ {S R : Type 0} (devices : Devices R S) where
   crossed_behind a b c cs p q = (cs ++ q.0, crossed_on a b c cs q.0 p q.1)
 
   -- a stop behind pieces that crossed
-  pub stop_behind : (a b c : Line S R) (cs : List Crossing) (fault : Fault) → HaveCrossed devices a cs b → IsStopped devices b c fault → IsStopped devices a c fault
+  pub stop_behind : (a b c : Line S R) (cs : List Crossing) (fault : Fault) → HaveCrossed devices a cs b
+      → IsStopped devices b c fault → IsStopped devices a c fault
   stop_behind a b c cs fault p q = record {
     crossings = cs ++ q.crossings;
     last = q.last;
@@ -274,7 +275,8 @@ module _ {S R T Q : Type 0} (lines : Passages S R T Q) where
   ]
   break_ends old move fault m = want_ends fault m
 
-  moves_end : (now : TwoEnds) (moves : List Move) (fault : Fault) → BreaksAt lines now moves fault → AreEnded lines fault
+  moves_end : (now : TwoEnds) (moves : List Move) (fault : Fault) → BreaksAt lines now moves fault
+      → AreEnded lines fault
   moves_end now [] fault m = want_ends fault m
   moves_end now (move ∷ moves) fault b = break_ends now move fault b
 

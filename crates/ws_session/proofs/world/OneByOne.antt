@@ -122,19 +122,22 @@ module _ (one : World → World) (many : ℕ → World → World) (none : (w : W
       (manner : Manner Side U V Deed Told) (tells : Told → List Event) (bytes : List ℕ)
       (Stands : (List ℕ → List (Item U) → Side → Type 0) → ℕ → List ℕ → List Event → World → Type 0)
       (with : (A B : List ℕ → List (Item U) → Side → Type 0) (at : ℕ) (wrote : List ℕ) (said : List Event) (w : World)
-      → Stands A at wrote said w → ((b : List ℕ) (i : List (Item U)) (s : Side) → length b ≤ min at (length bytes) → A b i s
+      → Stands A at wrote said w
+      → ((b : List ℕ) (i : List (Item U)) (s : Side) → length b ≤ min at (length bytes) → A b i s
       → B b i s)
       → Stands B at wrote said w)
       (known : (A : List ℕ → List (Item U) → Side → Type 0) (at : ℕ) (wrote : List ℕ) (said : List Event) (w : World)
       → Stands A at wrote said w → (b : List ℕ) × (i : List (Item U)) × (s : Side) × A b i s)
       (comes : (Then : List ℕ → List (Item U) → Side → Type 0) (x : ℕ) (xs v : List ℕ) (t : List Told) (at : ℕ)
-      (wrote : List ℕ) (said : List Event) (w : World) → Stands (Later rules out manner Then (x ∷ xs) v t) at wrote said w
+      (wrote : List ℕ) (said : List Event) (w : World)
+      → Stands (Later rules out manner Then (x ∷ xs) v t) at wrote said w
       → at < length bytes → x ≡ get_or bytes at x
       → (v' : List ℕ) × (later : List ℕ) × (t' : List Told) × (more : List Told) × (v ≡ v' ++ later) × (t ≡ t' ++ more)
       × Stands (Later rules out manner Then xs later more) (at + 1) (wrote ++ v') (said ++ flat_map tells t') (one w))
       (stays : (A : List ℕ → List (Item U) → Side → Type 0) (at : ℕ) (wrote : List ℕ) (said : List Event) (w : World)
       → Stands A at wrote said w → length bytes ≤ at → one w ≡ w) where
-    one_by_one : (xs rest : List ℕ) (Then : List ℕ → List (Item U) → Side → Type 0) (v : List ℕ) (t : List Told) (at : ℕ)
+    one_by_one : (xs rest : List ℕ) (Then : List ℕ → List (Item U) → Side
+        → Type 0) (v : List ℕ) (t : List Told) (at : ℕ)
         (wrote : List ℕ) (said : List Event) (w : World) → Stands (Later rules out manner Then xs v t) at wrote said w
         → drop at bytes ≡ xs ++ rest → Stands Then (at + length xs) (wrote ++ v) (said ++ flat_map tells t)
         (many (length xs) w)
@@ -161,7 +164,8 @@ module _ (one : World → World) (many : ℕ → World → World) (none : (w : W
         says all))
 
     module _ {E : Type 0} (leads : E → List ℕ → List (Item U) → Side → Type 0) (is_shut : E → Type 0)
-        (refuses : E → List ℕ → ℕ → Refusal → E → Type 0) (silent : E → List ℕ → Type 0) (over : E → Type 0) (refusal : ℕ → Reason → Event)
+        (refuses : E → List ℕ → ℕ → Refusal → E → Type 0) (silent : E → List ℕ → Type 0) (over : E
+        → Type 0) (refusal : ℕ → Reason → Event)
         (AtLast : E → ℕ → Refusal → E → List ℕ → List (Item U) → Side → Type 0)
         (stops : (e : E) (front : List ℕ) (byte : ℕ) (why : Refusal) (e' : E) → refuses e front byte why e'
         → (b : List ℕ) (i : List (Item U)) (s : Side) → leads e b i s → length b + length front + 1 < 2 ^ 64
@@ -170,7 +174,13 @@ module _ (one : World → World) (many : ℕ → World → World) (none : (w : W
         → Stands (AtLast e byte why e') at wrote said w → at < length bytes → byte ≡ get_or bytes at byte
         → HasMemory (Some why) → ⊥) where
       abbrev conduct : Conduct E Deed Told
-      conduct = record { goes = Goes (ways rules out manner) leads is_shut; refuses = refuses; silent = silent; over = over }
+      conduct = record {
+        goes = Goes (ways rules out manner) leads is_shut;
+        refuses = refuses;
+        silent = silent;
+        over =
+            over;
+      }
 
       abbrev telling : Telling Told
       telling = record { tells = tells; refusal = refusal }
@@ -181,7 +191,8 @@ module _ (one : World → World) (many : ℕ → World → World) (none : (w : W
           → Goes (ways rules out manner) leads is_shut e (all_came xs) v t e'
           → Stands (leads e') (at + length xs) (wrote ++ v) (said ++ flat_map tells t) (many (length xs) w)
       led_by e e' xs rest v t at wrote said w few h split g =
-          one_by_one xs rest (leads e') v t at wrote said w (with (leads e) (Later rules out manner (leads e') xs v t) at
+          one_by_one xs rest (leads e') v t at wrote said w
+          (with (leads e) (Later rules out manner (leads e') xs v t) at
           wrote said w h (λ b i s count l. g.led b i s l (omega (
             arith,
             count,
@@ -204,7 +215,8 @@ module _ (one : World → World) (many : ℕ → World → World) (none : (w : W
           let here = at + length r.before in
           let there = here + length r.front in
           let mid = led_by e r.last r.before _ v t at wrote said w few h whole r.led in
-          let left : drop here bytes ≡ r.front ++ ((r.byte ∷ r.after) ++ rest) = sym (drop-drop (length r.before) at bytes)
+          let left : drop here bytes ≡ r.front ++ ((r.byte ∷ r.after) ++ rest) = sym
+          (drop-drop (length r.before) at bytes)
           ∙ ap (drop (length r.before)) whole ∙ drop-append_seam r.before (r.front ++ ((r.byte ∷ r.after) ++ rest)) in
           let last : drop there bytes ≡ (r.byte ∷ r.after) ++ rest = sym (drop-drop (length r.front) here bytes)
           ∙ ap (drop (length r.front)) left ∙ drop-append_seam r.front ((r.byte ∷ r.after) ++ rest) in
@@ -212,11 +224,13 @@ module _ (one : World → World) (many : ℕ → World → World) (none : (w : W
           omega (arith, ap (λ (z : List ℕ). length z) last, length-drop there bytes) in
           let end = one_by_one r.front _ (AtLast r.last r.byte why e') [] [] here _ _ _
           (with (leads r.last) (Later rules out manner (AtLast r.last r.byte why e') r.front [] []) here _ _ _ mid
-          (λ b i s count l. stops r.last r.front r.byte why e' r.refused b i s l (omega (arith, count, few, room)))) left in
+          (λ b i s count l. stops r.last r.front r.byte why e' r.refused b i s l (omega (arith, count, few, room))))
+          left in
           never r.last r.byte why e' there _ _ _ end room (some_first bytes there r.byte _ last room) memory
 
       -- so many of the bytes in flight, or all that are
-      pub delivered : (e : E) (at : ℕ) (wrote : List ℕ) (said : List Event) (w : World) → Stands (leads e) at wrote said w
+      pub delivered : (e : E) (at : ℕ) (wrote : List ℕ) (said : List Event) (w : World)
+          → Stands (leads e) at wrote said w
           → (e' : E) (from to : WireParts) (k : ℕ) (said' : List Event) (count : ℕ)
           → (d : AreDelivered conduct telling
           (at_end e (record { bytes = bytes; at = at }) (record { bytes = wrote; at = k }) said) count
@@ -227,7 +241,8 @@ module _ (one : World → World) (many : ℕ → World → World) (none : (w : W
           let split : waiting ≡ d.bytes ++ drop count waiting = sym (take-append-drop count waiting)
           ∙ ap (λ z. z ++ drop count waiting) (sym d.first) in
           let Now : World → Type 0 = Stands (leads e') (at + length d.bytes) (wrote ++ d.written) (said ++ d.events) in
-          let now : Now (many (length d.bytes) w) = by d.come.why d.come.through d.come.reports d.come.has_memory split in
+          let now : Now (many (length d.bytes) w) = by d.come.why d.come.through d.come.reports d.come.has_memory split
+          in
           let size : length d.bytes ≡ min count (length waiting) = ap (λ z. length z) d.first
           ∙ length-take count waiting in
           elim (cases_lt (length d.bytes) count) [
@@ -241,6 +256,7 @@ module _ (one : World → World) (many : ℕ → World → World) (none : (w : W
                 → HasMemory why → drop at bytes ≡ d.bytes ++ drop count (drop at bytes)
                 → Stands (leads e') (at + length d.bytes) (wrote ++ d.written) (said ++ d.events)
                 (many (length d.bytes) w)
-            by None g same memory split = rw same (led_by e _ d.bytes _ d.written d.come.told at wrote said w d.few h split g)
+            by None g same memory split = rw same
+                (led_by e _ d.bytes _ d.written d.come.told at wrote said w d.few h split g)
             by (Some why) r told memory split =
                 absurd (none_refused e _ d.bytes _ d.written d.come.told why at wrote said w d.few h split memory r)

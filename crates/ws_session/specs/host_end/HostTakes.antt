@@ -66,7 +66,8 @@ module _ (old : HostParts) where
         → n < front.used → IsHostSilent bytes items side (take n piece)))
     -- where it stops, and how many bytes were taken
     pub refused : IfErr front.step (HostStopsWithin old new piece front.used)
-    pub counted : IfOk front.step (λ step. taken_by old + front.used < 2 ^ 64 → taken_by new ≡ taken_by old + front.used)
+    pub counted : IfOk front.step (λ step. taken_by old + front.used < 2 ^ 64
+        → taken_by new ≡ taken_by old + front.used)
     pub counted_up : IfErr front.step (λ why. taken_by old + length piece < 2 ^ 64
         → CountsUpTo why (taken_by old) (taken_by new) (length piece))
     -- what a refusal leaves, and that the screen changes with an event alone

@@ -26,7 +26,8 @@ module _ (on : OnDisplay) where
   -- and then this holds of all bytes, their items, and the side that it has come to.
   abbrev pub HasTakenAllOn : (List ℕ → ItemsOf on → SideOf on → Type 0) → List ℕ → ItemsOf on
       → SideOf on → List ℕ → List ℕ → List Applied → Type 0
-  HasTakenAllOn Then bytes items side came = HasGone (ways on.rules on.does.out (manner_on on.does)) Then bytes items side
+  HasTakenAllOn Then bytes items side came = HasGone (ways on.rules on.does.out (manner_on on.does)) Then bytes items
+      side
       (all_came {Deed = on.Pressed} came)
 
   -- bytes of a piece come to a station one after another: they lead it to this one, which wrote and told this
@@ -58,7 +59,8 @@ module _ (on : OnDisplay) where
   pub record RefusesOn (old : StationOf on) (front : List ℕ) (byte : ℕ) (refusal : Refusal) (new : StationOf on)
       : Type 0 where
     pub led : AtStationOn on old (λ bytes items side. length bytes + length front + 1 < 2 ^ 64
-        → HasTakenAllOn (λ bytes' items' side'. IsPushedOn on old new bytes' items' side' byte (Err refusal)) bytes items side front [] [])
+        → HasTakenAllOn (λ bytes' items' side'. IsPushedOn on old new bytes' items' side' byte (Err refusal)) bytes
+        items side front [] [])
     pub shut : IsShutOn old → (front ≡ []) × (refusal ≡ Failed) × (new.screen ≡ old.screen)
 
   -- The station takes these bytes, and writes and tells nothing at them. One that is shut takes none.

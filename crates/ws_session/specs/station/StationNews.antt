@@ -32,7 +32,8 @@ HasSettledOn {R = R} old new place result =
 module _ (on : OnDisplay) where
   -- what a station answers where these bytes are written, and no record ends
   abbrev pub IsMid : StationOf on → Result (StationStep on.Replied) Refusal → List ℕ → Type 0
-  IsMid new result bytes = (step : StationStep on.Replied) × (result ≡ Ok step) × (on.does.written new.screen step.reply ≡ bytes)
+  IsMid new result bytes = (step : StationStep on.Replied) × (result ≡ Ok step)
+      × (on.does.written new.screen step.reply ≡ bytes)
       × (step.ends_record ≡ false)
 
   -- what a station makes of a Telnet command: it answers it

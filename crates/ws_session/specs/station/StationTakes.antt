@@ -26,16 +26,19 @@ module _ (on : OnDisplay) (old : StationOf on) where
     pub seen : OnErr result (new.screen ≡ old.screen)
 
   -- What a piece gives.
-  pub record TakesBytesOn (piece : List ℕ) (new : StationOf on) (result : Result (StationFed on.Replied) Refusal) : Type 0 where
+  pub record TakesBytesOn (piece : List ℕ) (new : StationOf on) (result : Result (StationFed on.Replied) Refusal) :
+      Type 0 where
     -- how much of the piece is used: all, unless something comes of it, and no less than a byte
     pub within : IfOk result (λ fed. fed.used ≤ length piece)
     pub some : IfOk result (λ fed. 0 < length piece → 0 < fed.used)
-    pub whole : IfOk result (λ fed. on.does.written new.screen fed.reply ≡ [] → fed.ends_record ≡ false → fed.used ≡ length piece)
+    pub whole : IfOk result (λ fed. on.does.written new.screen fed.reply ≡ [] → fed.ends_record ≡ false
+        → fed.used ≡ length piece)
     -- what it brings, and that nothing was written, and no record ended, before the last byte that was used
     pub fed : IfOk result (λ fed. AtStationOn on old (λ bytes items side. length bytes + length piece + 1 < 2 ^ 64
         → HasFedOn on new bytes items side (take fed.used piece) (on.does.written new.screen fed.reply)
         fed.ends_record))
-    pub first : IfOk result (λ fed. AtStationOn on old (λ bytes items side. length bytes + length piece + 1 < 2 ^ 64 → (n : ℕ)
+    pub first : IfOk result (λ fed. AtStationOn on old (λ bytes items side. length bytes + length piece + 1 < 2 ^ 64
+        → (n : ℕ)
         → n < fed.used → IsSilentOn on bytes items side (take n piece)))
     -- at which byte it is refused
     pub refused : IfErr result (λ why. AtStationOn on old (λ bytes items side. length bytes + length piece + 1 < 2 ^ 64
@@ -61,11 +64,13 @@ module _ (on : OnDisplay) (old : StationOf on) where
     pub fed : IfOk front.step (λ step. AtStationOn on old (λ bytes items side. length bytes + length piece < 2 ^ 64
         → HasFedOn on new bytes items side (take front.used piece) (on.does.written new.screen step.reply)
         step.ends_record))
-    pub first : IfOk front.step (λ step. AtStationOn on old (λ bytes items side. length bytes + length piece < 2 ^ 64 → (n : ℕ)
+    pub first : IfOk front.step (λ step. AtStationOn on old (λ bytes items side. length bytes + length piece < 2 ^ 64
+        → (n : ℕ)
         → n < front.used → IsSilentOn on bytes items side (take n piece)))
     -- where it stops, and how many bytes were taken
     pub refused : IfErr front.step (StopsWithinOn on old new piece front.used)
-    pub counted : IfOk front.step (λ step. old.live.taken + front.used < 2 ^ 64 → new.live.taken ≡ old.live.taken + front.used)
+    pub counted : IfOk front.step (λ step. old.live.taken + front.used < 2 ^ 64
+        → new.live.taken ≡ old.live.taken + front.used)
     pub counted_up : IfErr front.step (λ why. old.live.taken + length piece < 2 ^ 64
         → CountsUpTo why old.live.taken new.live.taken (length piece))
     -- what a refusal leaves, and that the screen changes with a record's end alone

@@ -79,7 +79,8 @@ module _ (on : OnDisplay) where
     pub leads : LeadsOn new bytes items side
 
   -- the last of these bytes completes an item, at which the station goes on with this reply
-  pub record TakesItemOn (new : StationOf on) (bytes : List ℕ) (items : ItemsOf on) (side : SideOf on) (reply : on.Replied)
+  pub record TakesItemOn (new : StationOf on) (bytes : List ℕ) (items : ItemsOf on) (side : SideOf on)
+      (reply : on.Replied)
       : Type 0 where
     pub item : Item on.Reads
     pub next : SideOf on
@@ -105,21 +106,24 @@ module _ (on : OnDisplay) where
     pub refuses : takes_on on.does side item ≡ Refuses reason
 
   -- what the end of a record gives, whose elements are these: the reply, or the refusal of the record
-  abbrev pub IsClosedOn : StationOf on → StationOf on → SideOf on → Record on.Reads → ℕ → Result (StationStep on.Replied) Refusal → Type 0
+  abbrev pub IsClosedOn : StationOf on → StationOf on → SideOf on → Record on.Reads → ℕ
+      → Result (StationStep on.Replied) Refusal → Type 0
   IsClosedOn old new side r place (Ok step) = (next : SideOf on) × (writes : List (Item on.Writes))
       × (takes_on on.does side (RecordItem r) ≡ GoesOn next writes)
       × (on.does.written new.screen step.reply ≡ plain_spelling on.does.out writes) × (step.ends_record ≡ true)
       × (new ≡ record old { body_bytes = []; screen = new.screen; records = min (old.records + 1) (2 ^ 64 - 1) })
       × (old.options ≡ next.options)
       × on.does.gives next.happened new.screen
-  IsClosedOn old new side r place (Err (At p reason)) = (p ≡ place) × (takes_on on.does side (RecordItem r) ≡ Refuses reason)
+  IsClosedOn old new side r place (Err (At p reason)) = (p ≡ place)
+      × (takes_on on.does side (RecordItem r) ≡ Refuses reason)
       × (new ≡ record old { ended = Some (At p reason) })
   IsClosedOn old new side r place (Err Failed) = ⊥
   IsClosedOn old new side r place (Err Memory) = ⊥
 
   -- what a byte gives: nothing, the reply to the item that it completes, or a refusal at this byte, of the byte or of
   -- its item
-  abbrev pub IsPushedOn : StationOf on → StationOf on → List ℕ → ItemsOf on → SideOf on → ℕ → Result on.Replied Refusal → Type 0
+  abbrev pub IsPushedOn : StationOf on → StationOf on → List ℕ → ItemsOf on → SideOf on → ℕ → Result on.Replied Refusal
+      → Type 0
   IsPushedOn old new bytes items side byte (Ok reply) = StaysInsideOn old new (bytes ++ byte ∷ []) items side reply
       ⊎ TakesItemOn new (bytes ++ byte ∷ []) items side reply
   IsPushedOn old new bytes items side byte (Err (At place reason)) =

@@ -7,7 +7,7 @@ ghost use Rattle.ws_session.specs.attached.Attachments.{breaks, IfTold, TellsAtL
 ghost use Rattle.ws_session.specs.Conducts.{station_conduct};
 ghost use Rattle.ws_session.specs.station.StationActs.{IsKeyRefusalOn, IsKeyTakenOn};
 ghost use Rattle.ws_session.specs.attached.Written.{HasWritten, HasWrittenFront, IsUnheard};
-ghost use Rattle.ws_session.specs.station.Displays.{on_display};
+ghost use Rattle.ws_session.specs.station.Displays.{on_display as on};
 
 use crate::end::End;
 use crate::end_step::EndFed;
@@ -80,18 +80,18 @@ pub(crate) fn press_key<D: StationDisplay, K: Sink>(
 ) -> Result<Option<KeyFault>, Fault>
     // What is written of a key that is taken.
     ensures pressed { IfOk result (λ refused.
-        HasWritten (station_conduct (on_display D.Commands.rules D.does)) K.writer
+        HasWritten (station_conduct (on D.Commands.rules D.does)) K.writer
         station.old station.new sink.old sink.new (Did key ∷ []) []) }
     // Which keys are refused, and why, and which are taken.
     ensures refused { IfOk result (λ refused. IfSome refused
         (λ fault. (station.new ≡ station.old) × (sink.new ≡ sink.old))) }
     ensures told { IfOk result (λ refused. IfSome refused
-        (IsKeyRefusalOn (on_display D.Commands.rules D.does) station.old key)) }
+        (IsKeyRefusalOn (on D.Commands.rules D.does) station.old key)) }
     ensures taken { IfOk result (λ refused. IfNone refused
-        (IsKeyTakenOn (on_display D.Commands.rules D.does) station.old key)) }
+        (IsKeyTakenOn (on D.Commands.rules D.does) station.old key)) }
     // What a failed write leaves.
     ensures fault { IfErr result (λ fault. (fault ≡ Fault.Write)
-        × HasWrittenFront (station_conduct (on_display D.Commands.rules D.does)) K.writer
+        × HasWrittenFront (station_conduct (on D.Commands.rules D.does)) K.writer
         station.old station.new sink.old sink.new (Did key ∷ [])) }
 {
     match station.key(key) {

@@ -3,7 +3,7 @@ ghost use Rattle.std.specs.Prelude.{◌≡◌, ◌<◌, ◌+◌, Err, length};
 ghost use Rattle.ws_session.specs.Conduct.{TakesSome};
 ghost use Rattle.ws_session.specs.Conducts.{station_conduct};
 ghost use Rattle.ws_session.specs.station.StationManners.{told_by};
-ghost use Rattle.ws_session.specs.station.Displays.{on_display};
+ghost use Rattle.ws_session.specs.station.Displays.{on_display as on};
 ghost use Rattle.ws_session.specs.station.StationTakes.{TakesPieceOn};
 
 use super::{StationStep, silence};
@@ -15,8 +15,7 @@ impl<D: StationDisplay> StationOn<D> {
     // Takes bytes of the piece up to and with the first at which the station writes or a record ends, or all. One that
     // is refused is the next behind those used.
     pub(crate) fn take_piece(&mut self, piece: &[u8]) -> StationFront<D::Reply>
-        ensures { TakesPieceOn (on_display D.Commands.rules D.does)
-            self.old piece.now self.new result }
+        ensures { TakesPieceOn (on D.Commands.rules D.does) self.old piece.now self.new result }
     {
         let mut used = 0;
         while used < piece.len() {
@@ -47,7 +46,7 @@ impl<D: StationDisplay> StationOn<D> {
     // Takes bytes as `take_piece` does, as many as can be counted. Where it takes no more, the first is refused.
     pub(crate) fn take_countable(&mut self, piece: &[u8]) -> EndFed<Applied, D::Reply>
         requires { 0 < length piece.now }
-        ensures { TakesSome (station_conduct (on_display D.Commands.rules D.does))
+        ensures { TakesSome (station_conduct (on D.Commands.rules D.does))
             (λ station reply. D.does.written station.screen reply)
             self.old piece.now self.new result }
     {

@@ -7,7 +7,7 @@ ghost use Rattle.ws_session.specs.station.Stations.{AtStationOn, HasStoppedOn};
 ghost use Rattle.ws_session.specs.station.StationCounts.{records_in};
 ghost use Rattle.ws_session.specs.Ends.{refused_byte};
 ghost use Rattle.ws_session.specs.station.Displays.{SideOn};
-ghost use Rattle.ws_session.specs.station.Displays.{on_display};
+ghost use Rattle.ws_session.specs.station.Displays.{on_display as on};
 
 use crate::{Refusal, StationDisplay, StationOn};
 use ws_code::Reason;
@@ -38,7 +38,7 @@ impl<D: StationDisplay> StationOn<D> {
     /// How many records it has applied to its screen.
     pub fn records(&self) -> u64
         ensures count { result ≡ self.now.records }
-        ensures applied { AtStationOn (on_display D.Commands.rules D.does) self.now (λ bytes items side.
+        ensures applied { AtStationOn (on D.Commands.rules D.does) self.now (λ bytes items side.
             result ≡ records_in items) }
     {
         self.records
@@ -49,12 +49,12 @@ impl<D: StationDisplay> StationOn<D> {
     /// station's whole life, and stops at 18,446,744,073,709,551,615.
     pub fn alarms(&self) -> u64
         ensures count { result ≡ D.does.sounded self.now.screen }
-        ensures sounded { AtStationOn (on_display D.Commands.rules D.does) self.now (λ bytes items side.
+        ensures sounded { AtStationOn (on D.Commands.rules D.does) self.now (λ bytes items side.
             result ≡ alarm_count (D.does.sounds side.happened)) }
         // So too behind a byte that it refused.
         ensures stopped { (taken : ℕ) (items : List (Item D.Commands.Unit))
             (side : SideOn D.Happened)
-            → HasStoppedOn (on_display D.Commands.rules D.does) self.now taken items side
+            → HasStoppedOn (on D.Commands.rules D.does) self.now taken items side
             → result ≡ alarm_count (D.does.sounds side.happened) }
     {
         self.display.alarms()
@@ -63,7 +63,7 @@ impl<D: StationDisplay> StationOn<D> {
     /// How many bytes it has taken, one that it refused among them.
     pub fn taken(&self) -> u64
         ensures count { result ≡ self.now.live.taken }
-        ensures led { AtStationOn (on_display D.Commands.rules D.does) self.now (λ bytes items side.
+        ensures led { AtStationOn (on D.Commands.rules D.does) self.now (λ bytes items side.
             result ≡ length bytes) }
     {
         self.live.taken()

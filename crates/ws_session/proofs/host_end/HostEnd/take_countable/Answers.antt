@@ -64,7 +64,8 @@ returns-in-Ok c =
     rw c.takes.ensures (record {
       within = search rules;
       some = search rules;
-      fed = goes_by answer_rules element_rules host_manner HostLeads IsHostShut (λ (z : HostParts). z.receiver.live.taken)
+      fed = goes_by answer_rules element_rules host_manner HostLeads IsHostShut
+          (λ (z : HostParts). z.receiver.live.taken)
           host_count now piece part (drop room piece) whole f.result.used f.ensures.within few to
           c.in-Ok.field-0.reply (as_list c.in-Ok.field-0.event) works
           (rw c.in-Ok.is at f.ensures.fed);

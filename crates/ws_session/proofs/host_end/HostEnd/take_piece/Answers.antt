@@ -86,7 +86,8 @@ returns-then-is_some c =
 
 pub returns : goal.returns
 returns c =
-    let all : c.loop-used.used ≡ length c.args.piece.now = omega (arith, c.loop-used.invariant.0, c.loop-used-test.false) in
+    let all : c.loop-used.used ≡ length c.args.piece.now = omega
+    (arith, c.loop-used.invariant.0, c.loop-used-test.false) in
     rw c.silence.ensures (record {
       within = c.loop-used.invariant.0;
       some = λ any. omega (arith, all, any);

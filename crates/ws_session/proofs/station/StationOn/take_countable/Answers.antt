@@ -69,7 +69,8 @@ returns-in-Ok g c =
     rw (c.takes.ensures, c.told.ensures) (record {
       within = search rules;
       some = search rules;
-      fed = goes_by reads d.out (manner_on d) (LeadsOn (on_display reads d)) IsShutOn (λ (z : PartsOn _ _). z.live.taken)
+      fed = goes_by reads d.out (manner_on d) (LeadsOn (on_display reads d)) IsShutOn
+          (λ (z : PartsOn _ _). z.live.taken)
           (station_count reads d) now piece part (drop room piece) whole f.result.used f.ensures.within few to
           (d.written to.screen c.in-Ok.field-0.reply) (as_list (told_by c.in-Ok.field-0.ends_record)) works
           (rw c.in-Ok.is at f.ensures.fed);
@@ -108,7 +109,8 @@ returns-in-Err g c =
       some = tt;
       fed = tt;
       first = tt;
-      refused = station_stops reads d now to piece part (drop room piece) whole f.result.used f.ensures.within few works why
+      refused = station_stops reads d now to piece part (drop room piece) whole f.result.used f.ensures.within few
+          works why
           (rw c.in-Err.is at f.ensures.refused);
       over = search rules;
       after = search rules;

@@ -85,7 +85,8 @@ returns-then-step g c =
 
 pub returns : goal.returns
 returns g c =
-    let all : c.loop-used.used ≡ length c.args.piece.now = omega (arith, c.loop-used.invariant.0, c.loop-used-test.false) in
+    let all : c.loop-used.used ≡ length c.args.piece.now = omega
+    (arith, c.loop-used.invariant.0, c.loop-used-test.false) in
     let silent = c.silence.ensures in
     record {
       within = c.loop-used.invariant.0;

@@ -9,7 +9,8 @@ invariant-loop-used g l = (l.used ≤ length l.piece)
     × ((start : g.row.S.Denot) (t : TerminalType) (bytes : List ℕ) (items : List (Item Element))
     → HaveBroughtPlayer (asked t l.keys) (outflow g.S.Sink.writer start l.fn.sink) l.fn.self bytes items
     → length bytes + length l.piece + 1 < 2 ^ 64 → (next : List (Item Element))
-    × HaveBroughtPlayer (asked t l.keys) (outflow g.S.Sink.writer start l.sink) l.self (bytes ++ take l.used l.piece) next)
+    × HaveBroughtPlayer (asked t l.keys) (outflow g.S.Sink.writer start l.sink) l.self (bytes ++ take l.used l.piece)
+    next)
 
 abbrev pub decreases-loop-used : goal.decreases-loop-used
 decreases-loop-used g l = length l.piece - l.used
