@@ -29,7 +29,7 @@ pub record Showing (Place U : Type 0) : Type 1 where
   pub rules : Rules Place U
   pub view : View U
 
--- bodies of these rules, and items in this way
+-- bodies of these rules, and their items in this view
 abbrev pub showing : {Place U : Type 0} → Rules Place U → View U → Showing Place U
 showing rules view = record { rules = rules; view = view }
 
