@@ -1,5 +1,6 @@
 //! Rows of scripts for a host that takes any record: what their lines say, do and print.
 ghost use Rattle.std.specs.Prelude.{◌≡◌, false};
+ghost use Rattle.ws_live.specs.live.Waits.{watch_tells, watch_times};
 
 use crate::any_rows::{OPENED, OPENING};
 use crate::{same, same_at};
@@ -100,13 +101,9 @@ pub(crate) struct Counter {
 }
 
 impl<S> Watch<S> for Counter {
-    ghost begins = { λ from source span to. Unit {0} };
+    ghost times = { watch_times (λ from source span to. Unit {0}) (λ counter. counter.begun) };
 
-    ghost begun = { λ counter. counter.begun };
-
-    ghost tells = { λ source late. Unit {0} };
-
-    ghost rests = { λ source quiet. Unit {0} };
+    ghost tells = { watch_tells (λ source late. Unit {0}) (λ source quiet. Unit {0}) };
 
     fn begin(&mut self, _source: &S, _span: WaitSpan) {
         self.begun = self.begun.saturating_add(1);

@@ -1,6 +1,7 @@
 //! Rows of live sessions at a station, over devices in memory: what their lines print, whether all went well, and how
 //! many waits have begun.
 ghost use Rattle.std.specs.Prelude.{◌≡◌, false};
+ghost use Rattle.ws_live.specs.live.Waits.{watch_tells, watch_times};
 
 use crate::end_rows::{OPENING_AND_BOB, new_station};
 use crate::same_at;
@@ -22,13 +23,9 @@ pub(crate) struct Counter {
 }
 
 impl<S> Watch<S> for Counter {
-    ghost begins = { λ from source span to. Unit {0} };
+    ghost times = { watch_times (λ from source span to. Unit {0}) (λ counter. counter.begun) };
 
-    ghost begun = { λ counter. counter.begun };
-
-    ghost tells = { λ source late. Unit {0} };
-
-    ghost rests = { λ source quiet. Unit {0} };
+    ghost tells = { watch_tells (λ source late. Unit {0}) (λ source quiet. Unit {0}) };
 
     fn begin(&mut self, _source: &S, _span: WaitSpan) {
         self.begun = self.begun.saturating_add(1);

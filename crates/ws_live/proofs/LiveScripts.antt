@@ -4,8 +4,9 @@ use Rattle.std.proofs.Common.{◌≡◌, ℕ, ◌+◌, ◌-◌, ◌^◌, ◌<◌
 use Rattle.std.proofs.Common.{arith, append_assoc, length-append, take, true, inl}
 use Rattle.std.proofs.Math.Seq.{take-append_seam}
 use Rattle.ws_text.specs.FirstLine.{IsBehindLines}
-use Rattle.ws_live.specs.live.LiveScript.{is_indented, AreIndented, BeginsFlush, HasInside, IsBadBlock, IsBlock, HasBlock}
-use Rattle.ws_live.specs.live.LiveScript.{LineLanguage, text_cut, MeanThese, AreLiveLines, IsFirstBadLiveLine, IsGoodBlockSoFar, IsLiveScriptSoFar}
+use Rattle.ws_live.specs.live.LiveScript.{is_indented, AreIndented, BeginsFlush, HasInside, IsBadBlock, IsBlock}
+use Rattle.ws_live.specs.live.LiveScript.{HasBlock, LineLanguage, text_cut, MeanThese, AreLiveLines}
+use Rattle.ws_live.specs.live.LiveScript.{IsFirstBadLiveLine, IsGoodBlockSoFar, IsLiveScriptSoFar}
 use Rattle.ws_live.proofs.LineFronts.{behind_more, lines_behind}
 
 -- The lines of a live script, one more at a time.

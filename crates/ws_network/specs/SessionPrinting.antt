@@ -50,7 +50,7 @@ pub record SessionLines (L P : Type 0) : Type 1 where
   pub lines : List L
   pub to : P
 
--- lines that do this, told so, from there, these, to there
+-- the lines of a session by what each does: told when they are ready or not, from there, these, to there
 abbrev pub session_lines : {L P : Type 0} → LinesDo L P → Bool → P → List L → P → SessionLines L P
 session_lines does ready from lines to =
     record { does = does; ready = ready; from = from; lines = lines; to = to }

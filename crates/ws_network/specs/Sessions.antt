@@ -68,9 +68,8 @@ pub record IsServed (asked : ServeAsked) (lines : List HostLine) (came : Account
 
 module _ {O : Type 0} (out : Printout O) where
   -- the lines of `connect` were carried out at a station on this display, and what they printed went out
-  abbrev pub HasConnectedOn : {D P U H PlaceV V Q R : Type 0} → LiveDisplay D P U H PlaceV V Q R → ConnectAsked → Bool
-      → Type 0
-  HasConnectedOn {Q = Q} display asked all_well = (lines : List (StationLine Q)) × (text : List ℕ)
+  abbrev pub HasConnectedOn : LiveDisplay → ConnectAsked → Bool → Type 0
+  HasConnectedOn display asked all_well = (lines : List (StationLine display.on.Pressed)) × (text : List ℕ)
       × AreFromScript (station_language display.words) asked.script lines
       × IsConnected display asked lines (account all_well text)
       × IsPrintedOut out text

@@ -12,9 +12,9 @@ use Rattle.ws_record.specs.Refusal.{Layer, IsRight, IsOpen, IsFirstClosed, IsRef
 use Rattle.ws_record.specs.Refusal.Layer.{Tokens, Header, Body}
 use Rattle.ws_record.specs.declared.record.Item.{Item}
 use Rattle.ws_record.proofs.Fronts.{one_holding}
+use Rattle.ws_program.specs.StreamText.{showing, View, Placed, items_without_places, lines_of, lines_with, HoldsItems}
 use Rattle.ws_program.specs.CheckLine.{line_of}
 use Rattle.ws_program.specs.SoFar.{IsShownSoFar, IsSoFarEnd}
-use Rattle.ws_program.specs.StreamText.{View, Placed, items_without_places, lines_of, lines_with, HoldsItems}
 use Rattle.ws_program.specs.StreamText.{IsComplete, AreShown, IsShown, AreFirstLines, IsEnd}
 use Rattle.ws_program.specs.declared.verdict.Verdict.TheVariants.{Refused}
 use Rattle.ws_program.proofs.FrontItems.{front_items}
@@ -129,14 +129,17 @@ module _ {Place U : Type 0} (rules : Rules Place U) (prefix_free : IsPrefixFree 
 
   -- the end of a whole text
   ends_behind : (bytes : List ℕ) (placed : List (Placed U)) (accepted : Bool) (end : List ℕ)
-      → IsEnd rules view bytes placed accepted end → EndsBehind bytes (items_without_places placed) end
+      → IsEnd (showing rules view) bytes placed accepted end → EndsBehind bytes (items_without_places placed) end
   ends_behind bytes placed true end e x c = none_complete bytes (length bytes) (items_without_places placed) x
-      (subst (λ (z : List ℕ). HoldsItems rules z (items_without_places placed)) (sym (take_all (length bytes) bytes (omega arith)))
+      (subst (λ (z : List ℕ). HoldsItems rules z (items_without_places placed)) (sym (take_all (length bytes) bytes
+      (omega arith)))
       ([], [], e.0)) (omega (arith, c.within)) c
   ends_behind bytes placed false end (inl e) x c = none_complete bytes e.0 (items_without_places placed) x e.3
       (before_refused bytes e.0 e.1 (items_without_places placed) x e.2 c) c
-  ends_behind bytes placed false end (inr (inl e)) x c = none_complete bytes (length bytes) (items_without_places placed) x
-      (subst (λ (z : List ℕ). HoldsItems rules z (items_without_places placed)) (sym (take_all (length bytes) bytes (omega arith)))
+  ends_behind bytes placed false end (inr (inl e)) x c = none_complete bytes (length bytes)
+      (items_without_places placed) x
+      (subst (λ (z : List ℕ). HoldsItems rules z (items_without_places placed)) (sym (take_all (length bytes) bytes
+      (omega arith)))
       e.1) (omega (arith, c.within)) c
   ends_behind bytes placed false end (inr (inr e)) x c =
       let same : e.0 ≡ x = one_next bytes (items_without_places placed) e.0 x e.2 c in (
@@ -151,12 +154,15 @@ module _ {Place U : Type 0} (rules : Rules Place U) (prefix_free : IsPrefixFree 
 
   -- and of one with what has come of an open record
   ends_behind_so_far : (bytes : List ℕ) (placed : List (Placed U)) (accepted : Bool) (end : List ℕ)
-      → IsSoFarEnd rules view bytes placed accepted end → EndsBehind bytes (items_without_places placed) end
+      → IsSoFarEnd (showing rules view) bytes placed accepted end → EndsBehind bytes (items_without_places placed) end
   ends_behind_so_far bytes placed true end e x c = ends_behind bytes placed true end e x c
-  ends_behind_so_far bytes placed false end (inl e) x c = none_complete bytes e.2.0 (items_without_places placed) x e.2.3
+  ends_behind_so_far bytes placed false end (inl e) x c = none_complete bytes e.2.0
+      (items_without_places placed) x e.2.3
       (before_refused bytes e.2.0 e.2.1 (items_without_places placed) x e.2.2 c) c
-  ends_behind_so_far bytes placed false end (inr (inl e)) x c = none_complete bytes (length bytes) (items_without_places placed) x
-      (subst (λ (z : List ℕ). HoldsItems rules z (items_without_places placed)) (sym (take_all (length bytes) bytes (omega arith)))
+  ends_behind_so_far bytes placed false end (inr (inl e)) x c = none_complete bytes (length bytes)
+      (items_without_places placed) x
+      (subst (λ (z : List ℕ). HoldsItems rules z (items_without_places placed)) (sym (take_all (length bytes) bytes
+      (omega arith)))
       e.2.1) (omega (arith, c.within)) c
   ends_behind_so_far bytes placed false end (inr (inr e)) x c = ends_behind bytes placed false end (inr (inr e)) x c
 
@@ -174,8 +180,9 @@ module _ {Place U : Type 0} (rules : Rules Place U) (prefix_free : IsPrefixFree 
 
   -- so the items of a part, and one more that it may have, begin those of the whole
   begins : (bytes : List ℕ) (before : List (Item U)) (part whole : List (Placed U)) (last : Option (Placed U))
-      (end : List ℕ) → AreShown rules view bytes before part
-      → IfSome last (IsComplete rules bytes (before ++ items_without_places part)) → AreShown rules view bytes before whole
+      (end : List ℕ) → AreShown (showing rules view) bytes before part
+      → IfSome last (IsComplete rules bytes (before ++ items_without_places part)) → AreShown
+      (showing rules view) bytes before whole
       → EndsBehind bytes (before ++ items_without_places whole) end
       → (rest : List ℕ) × (lines_of view whole ++ end ≡ lines_with view part last ++ rest)
   begins bytes before [] whole None end p c w e = (lines_of view whole ++ end, refl)
@@ -194,11 +201,13 @@ module _ {Place U : Type 0} (rules : Rules Place U) (prefix_free : IsPrefixFree 
       (sym (append-nil before)) ∙ found.1 in cc
   begins bytes before (x ∷ part) (y ∷ whole) last end p c w e =
       let same : y ≡ x = one_next bytes before y x w.0 p.0 in
-      let on : (z : Placed U) → y ≡ z → AreShown rules view bytes (before ++ z.1 ∷ []) whole = λ z same. subst
-      (λ (z : Placed U). AreShown rules view bytes (before ++ z.1 ∷ []) whole) same w.2 in
-      let ends : (z : Placed U) → y ≡ z → EndsBehind bytes ((before ++ z.1 ∷ []) ++ items_without_places whole) end = λ z same.
+      let on : (z : Placed U) → y ≡ z → AreShown (showing rules view) bytes (before ++ z.1 ∷ []) whole = λ z same. subst
+      (λ (z : Placed U). AreShown (showing rules view) bytes (before ++ z.1 ∷ []) whole) same w.2 in
+      let ends : (z : Placed U) → y ≡ z → EndsBehind bytes ((before ++ z.1 ∷ [])
+      ++ items_without_places whole) end = λ z same.
       subst (λ (z : Placed U). EndsBehind bytes ((before ++ z.1 ∷ []) ++ items_without_places whole) end) same
-      (subst (λ (k : List (Item U)). EndsBehind bytes k end) (sym (append_assoc before (y.1 ∷ []) (items_without_places whole))) e)
+      (subst (λ (k : List (Item U)). EndsBehind bytes k end) (sym (append_assoc before (y.1 ∷ [])
+      (items_without_places whole))) e)
       in
       let found = begins bytes (before ++ x.1 ∷ []) part whole last end p.2 (complete_on bytes before x part last c)
       (on x same) (ends x same) in (
@@ -210,15 +219,16 @@ module _ {Place U : Type 0} (rules : Rules Place U) (prefix_free : IsPrefixFree 
       )
 
   -- a part of what is shown begins the whole
-  pub part_begins : (bytes : List ℕ) (accepted : Bool) (whole part : List ℕ) → IsShown rules view bytes accepted whole
-      → AreFirstLines rules view bytes part → (rest : List ℕ) × (whole ≡ part ++ rest)
+  pub part_begins : (bytes : List ℕ) (accepted : Bool) (whole part : List ℕ) → IsShown
+      (showing rules view) bytes accepted whole
+      → AreFirstLines (showing rules view) bytes part → (rest : List ℕ) × (whole ≡ part ++ rest)
   part_begins bytes accepted whole part w p =
       let found = begins bytes [] p.placed w.placed p.last w.end p.shown p.complete w.shown
       (ends_behind bytes w.placed accepted w.end w.ends) in
       (found.0, w.lines ∙ found.1 ∙ ap (λ z. z ++ found.0) (sym p.lines))
 
   pub part_begins_so_far : (bytes : List ℕ) (accepted : Bool) (whole part : List ℕ)
-      → IsShownSoFar rules view bytes accepted whole → AreFirstLines rules view bytes part
+      → IsShownSoFar (showing rules view) bytes accepted whole → AreFirstLines (showing rules view) bytes part
       → (rest : List ℕ) × (whole ≡ part ++ rest)
   part_begins_so_far bytes accepted whole part w p =
       let found = begins bytes [] p.placed w.placed p.last w.end p.shown p.complete w.shown

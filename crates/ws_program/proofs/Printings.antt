@@ -11,13 +11,13 @@ use Rattle.ws_text.specs.Printing.{Prints}
 use Rattle.ws_text.specs.declared.output.Output.{Output}
 use Rattle.ws_text.specs.declared.output.Output.TheVariants.{Open, Failed}
 use Rattle.ws_text.proofs.Prints.{prints_same, whole_out}
+use Rattle.ws_program.specs.StreamText.{showing, View}
 use Rattle.ws_program.specs.Actions.{Action, IsCarriedOut, print_made}
 use Rattle.ws_program.specs.Answering.{answer_action, of_bytes, run_outcome, sender_parts}
 use Rattle.ws_program.specs.CheckLine.{IsVerdict, is_accepted, line_of}
 use Rattle.ws_program.specs.Checking.{check_printing}
 use Rattle.ws_program.specs.SoFar.{show_printing}
 use Rattle.ws_program.specs.StreamBytes.{AreBytesOf}
-use Rattle.ws_program.specs.StreamText.{View}
 use Rattle.ws_program.specs.Streams.{closed_outcome, into_closed}
 use Rattle.ws_program.specs.declared.verdict.Verdict.{Verdict}
 use Rattle.ws_program.specs.declared.words.command_line.Asked.{Asked}
@@ -27,7 +27,8 @@ use Rattle.ws_program.proofs.Buffers.{CanBeCut}
 
 -- What commands print, and what of it may be cut.
 
-pub whole_cut : {A E : Type 0} (failed : E) (Ends : List ℕ → Result A E → Type 0) → CanBeCut (in_whole failed Ends) failed
+pub whole_cut : {A E : Type 0} (failed : E) (Ends : List ℕ → Result A E → Type 0) → CanBeCut
+    (in_whole failed Ends) failed
 whole_cut failed Ends text outcome h = (refl, (outcome, h))
 
 pub check_cut : {Place U : Type 0} (rules : Rules Place U) (bytes : List ℕ)
@@ -35,7 +36,7 @@ pub check_cut : {Place U : Type 0} (rules : Rules Place U) (bytes : List ℕ)
 check_cut rules bytes text outcome h = (refl, (outcome, h))
 
 show_cut : {Place U : Type 0} (so_far : Bool) (rules : Rules Place U) (view : View U) (bytes : List ℕ)
-    → CanBeCut (show_printing so_far rules view bytes) device.Write
+    → CanBeCut (show_printing so_far (showing rules view) bytes) device.Write
 show_cut so_far rules view bytes text (Ok accepted) h = (refl, inr (accepted, h))
 show_cut so_far rules view bytes text (Err device.Memory) h =
     (refl, inl (record { placed = h.0; shown = h.1; last = None; complete = tt; lines = h.3 }))
@@ -54,7 +55,7 @@ pub answer_cut : (asked : Asked) (input : List ℕ) → CanBeCut (answer_action 
 answer_cut (Check file form cut sender) input = bytes_cut form
     (λ bytes. check_printing (sender_parts sender).rules bytes) input (check_cut (sender_parts sender).rules)
 answer_cut (Show file form sender paint so_far) input = bytes_cut form
-    (show_printing so_far (sender_parts sender).rules ((sender_parts sender).view paint)) input
+    (show_printing so_far (showing (sender_parts sender).rules ((sender_parts sender).view paint))) input
     (show_cut so_far (sender_parts sender).rules ((sender_parts sender).view paint))
 answer_cut (Play file screen false paint) input = λ text outcome h. (refl, (outcome, h))
 answer_cut (Play file screen true paint) input = λ text outcome h. (refl, (outcome, h))

@@ -8,6 +8,7 @@ use Rattle.ws_live.specs.declared.asked.fault.ToldFault.{ToldFault}
 use Rattle.ws_live.specs.declared.asked.fault.ToldFault.TheVariants as told
 use Rattle.ws_live.specs.declared.asked.open_streams.OpenStreams.{OpenStreams}
 use Rattle.ws_live.specs.declared.asked.sender.Sender.{Sender}
+use Rattle.ws_live.specs.printing.Printouts.{printout}
 use Rattle.ws_program.specs.Actions.{IsCarriedOut}
 use Rattle.ws_program.specs.Runs.{HasRunInput, IsFaultOfInput, IsInputUnread}
 use Rattle.ws_program.specs.Streams.{openly}
@@ -47,32 +48,33 @@ module _ {S : Type 0} (writer : Writer S) (from to : S) (streams : OpenStreams) 
       same = is ∙ ap (λ z. Check file z cut sender) raw
 
       pub raw_done : (accepted : Bool) → IsInputDone (Check file Raw cut sender) (Ok accepted)
-          → HasRunInput writer from to streams asked accepted
+          → HasRunInput (printout writer from to) streams asked accepted
       raw_done accepted (inl h) = absurd h
       raw_done accepted (inr h) = rw same h
 
       pub raw_told : (why : RunFault) → IsInputDone (Check file Raw cut sender) (Err why) → (fault : ToldFault)
-          → fault ≡ told.Run why → IsFaultOfInput writer from to streams asked fault
+          → fault ≡ told.Run why → IsFaultOfInput (printout writer from to) streams asked fault
       raw_told why h fault e =
-          let P : Asked → Type 0 = λ z. IsFaultOfInput writer from to streams z fault in
+          let P : Asked → Type 0 = λ z. IsFaultOfInput (printout writer from to) streams z fault in
           subst P (sym same) (on h)
         where
           on : IsInputDone (Check file Raw cut sender) (Err why)
-              → IsFaultOfInput writer from to streams (Check file Raw cut sender) fault
+              → IsFaultOfInput (printout writer from to) streams (Check file Raw cut sender) fault
           on (inl h) = inl (why, h.0, h.1, e)
           on (inr h) = inr (why, (h.0, h.1, e))
 
   -- of one that was read before
   pub read_done : (asked : Asked) (input : List ℕ) (outcome : Result Bool RunFault) (result : Result Bool ToldFault)
       → IsCarriedOut writer from to (openly streams.output asked input) outcome
-      → IfOk result (λ accepted. outcome ≡ Ok accepted) → IfOk result (HasRunInput writer from to streams asked)
+      → IfOk result (λ accepted. outcome ≡ Ok accepted) → IfOk result (HasRunInput
+      (printout writer from to) streams asked)
   read_done asked input outcome (Ok accepted) h e = (input, rw e at h)
   read_done asked input outcome (Err fault) h e = tt
 
   pub read_told : (asked : Asked) (input : List ℕ) (outcome : Result Bool RunFault) (result : Result Bool ToldFault)
       → IsCarriedOut writer from to (openly streams.output asked input) outcome
       → IfErr result (λ fault. IsErrAnd outcome (IsToldOf asked input fault))
-      → IfErr result (IsFaultOfInput writer from to streams asked)
+      → IfErr result (IsFaultOfInput (printout writer from to) streams asked)
   read_told asked input outcome (Ok accepted) h told = tt
   read_told asked input (Ok accepted) (Err fault) h told = absurd told
   read_told asked input (Err why) (Err fault) h told = inr (why, (input, h, told))

@@ -22,7 +22,7 @@ use Rattle.ws_text.proofs.ShownBytes.{literal, line_from, lines_back}
 use Rattle.ws_live.specs.declared.printing.paint.Paint.{Paint}
 use Rattle.ws_live.specs.declared.printing.paint.Paint.TheVariants.{Plain}
 use Rattle.ws_live.specs.printing.ScreenLines.{state_line}
-use Rattle.ws_program.specs.StreamText.{View, Placed, items_without_places, AreShown, IsShown}
+use Rattle.ws_program.specs.StreamText.{showing, View, Placed, items_without_places, AreShown, IsShown}
 use Rattle.ws_program.specs.Views.{host_view, IsScreenEnd}
 
 -- What is shown of a stream shows its items.
@@ -84,7 +84,8 @@ module _ {Place U : Type 0} (rules : Rules Place U) where
 
   -- each place is one of the bytes
   all_places : (view : View U) (bytes : List ℕ) (before : List (Item U)) (placed : List (Placed U))
-      → length bytes < 2 ^ 64 → AreShown rules view bytes before placed → AllByRecursion (λ x. x.0 < 2 ^ 64) placed
+      → length bytes < 2 ^ 64 → AreShown (showing rules view) bytes before placed → AllByRecursion
+      (λ x. x.0 < 2 ^ 64) placed
   all_places view bytes before [] fits h = tt
   all_places view bytes before (x ∷ placed) fits h =
       let within = h.0.within in
@@ -99,7 +100,8 @@ screen_ends paint items text h =
     ∙ lines_back (codes "screen" ∷ []) rest (line_from (codes "screen") [] (literal (codes "screen") refl) tt, tt) in
     subst (λ (z : List (List ℕ)). EndsHere z) (sym first) refl
 
-pub shows_items : (bytes text : List ℕ) → length bytes < 2 ^ 64 → IsShown element_rules host_view bytes true text
+pub shows_items : (bytes text : List ℕ) → length bytes < 2 ^ 64 → IsShown (showing element_rules host_view) bytes
+    true text
     → (items : List (Item Element)) × IsInGrammar element_rules bytes items × ShowsElements text items
 shows_items bytes text fits s =
     let right = grammar_right element_rules bytes (items_without_places s.placed) s.ends.0 in (

@@ -17,6 +17,8 @@ use Rattle.ws_record.specs.Receiver.{Receiving, HasReceived, HasUnit, IsFeedFaul
 use Rattle.ws_record.specs.Refusal.{IsOpen, IsRefused, IsTruncated}
 use Rattle.ws_record.specs.declared.record.Item.{Item}
 use Rattle.ws_text.specs.Printed.{IsPrinted}
+use Rattle.ws_live.specs.printing.Printouts.{printout}
+use Rattle.ws_program.specs.StreamText.{showing}
 use Rattle.ws_program.specs.CheckLine.{line_of, verdict_by}
 use Rattle.ws_program.specs.SoFar.{IsStop, show_printing}
 use Rattle.ws_program.specs.StreamText.{View, Placed, items_without_places, lines_of, HoldsItems, IsComplete, AreShown}
@@ -27,7 +29,8 @@ use Rattle.ws_program.specs.declared.verdict.Verdict.TheVariants.{Refused, Trunc
 -- Items that are shown one after another.
 
 module _ {U : Type 0} where
-  items_more : (placed : List (Placed U)) (x : Placed U) → items_without_places (placed ++ x ∷ []) ≡ items_without_places placed ++ x.1 ∷ []
+  items_more : (placed : List (Placed U)) (x : Placed U) → items_without_places (placed
+      ++ x ∷ []) ≡ items_without_places placed ++ x.1 ∷ []
   items_more [] x = refl
   items_more (y ∷ ys) x = ap (λ z. y.1 ∷ z) (items_more ys x)
 
@@ -38,16 +41,18 @@ module _ {U : Type 0} where
 
 module _ {Place U : Type 0} where
   shown_more : (rules : Rules Place U) (view : View U) (bytes : List ℕ) (before : List (Item U))
-      (placed : List (Placed U)) (x : Placed U) → AreShown rules view bytes before placed → IsComplete rules bytes
+      (placed : List (Placed U)) (x : Placed U) → AreShown (showing rules view) bytes before placed
+      → IsComplete rules bytes
       (before ++ items_without_places placed) x → view.fault (before ++ items_without_places placed) x.1 ≡ None
-      → AreShown rules view bytes before (placed ++ x ∷ [])
+      → AreShown (showing rules view) bytes before (placed ++ x ∷ [])
   shown_more rules view bytes before [] x s c none = (
     subst (λ (z : List (Item U)). IsComplete rules bytes z x) (append-nil before) c,
     ap (λ (z : List (Item U)). view.fault z x.1) (sym (append-nil before)) ∙ none,
     tt,
   )
   shown_more rules view bytes before (y ∷ ys) x s c none =
-      let on : before ++ items_without_places (y ∷ ys) ≡ (before ++ y.1 ∷ []) ++ items_without_places ys = sym (append_assoc before (y.1 ∷ [])
+      let on : before ++ items_without_places (y ∷ ys) ≡ (before ++ y.1 ∷ []) ++ items_without_places ys = sym
+      (append_assoc before (y.1 ∷ [])
       (items_without_places ys)) in (
         s.0,
         s.1,
@@ -190,7 +195,7 @@ next_fault rules bytes rest old is fits begun faults.Failed faulted none =
 pub record Shows {Place U Made : Type 0} (rules : Rules Place U) (view : View U) (makes : List (Item U) → Made
     → Type 0) (bytes : List ℕ) (receiver : Receiving Place U) (made : Made) (lines : List ℕ) : Type 0 where
   pub placed : List (Placed U)
-  pub shown : AreShown rules view bytes [] placed
+  pub shown : AreShown (showing rules view) bytes [] placed
   pub taken : HasTaken rules bytes receiver (items_without_places placed)
   pub makes_it : makes (items_without_places placed) made
   pub are_lines : lines ≡ lines_of view placed
@@ -223,7 +228,8 @@ module _ {Place U Made : Type 0} {rules : Rules Place U} {view : View U} {makes 
   -- and its lines
   shows_next : (x : Placed U) (new : Receiving Place U) (next : Made) → IsNextItem rules bytes
       (items_without_places w.placed) receiver new x → view.fault (items_without_places w.placed) x.1 ≡ None
-      → makes (items_without_places w.placed ++ x.1 ∷ []) next → Shows rules view makes bytes new next (lines ++ view.lines x.0 x.1)
+      → makes (items_without_places w.placed ++ x.1 ∷ []) next → Shows rules view makes bytes new next (lines
+      ++ view.lines x.0 x.1)
   shows_next x new next is none more = record {
     placed = w.placed ++ x ∷ [];
     shown = shown_more rules view bytes [] w.placed x w.shown is.complete none;
@@ -232,11 +238,12 @@ module _ {Place U Made : Type 0} {rules : Rules Place U} {view : View U} {makes 
     are_lines = ap (λ z. z ++ view.lines x.0 x.1) w.are_lines ∙ sym (lines_more view w.placed x);
   }
 
-  pub part : AreFirstLines rules view bytes lines
+  pub part : AreFirstLines (showing rules view) bytes lines
   part = record { placed = w.placed; shown = w.shown; last = None; complete = tt; lines = w.are_lines }
 
   -- the lines of an item more
-  pub part_more : (x : Placed U) → IsComplete rules bytes (items_without_places w.placed) x → AreFirstLines rules view bytes
+  pub part_more : (x : Placed U) → IsComplete rules bytes (items_without_places w.placed) x → AreFirstLines
+      (showing rules view) bytes
       (lines ++ view.lines x.0 x.1)
   part_more x c = record {
     placed = w.placed;
@@ -248,7 +255,8 @@ module _ {Place U Made : Type 0} {rules : Rules Place U} {view : View U} {makes 
 
   -- a byte is refused behind them
   refused_behind : (place : ℕ) (reason : Reason) → IsRefused rules bytes place reason → HoldsItems rules
-      (take place bytes) (items_without_places w.placed) → IsShown rules view bytes false (lines ++ line_of (Refused place reason)
+      (take place bytes) (items_without_places w.placed) → IsShown (showing rules view) bytes false (lines
+      ++ line_of (Refused place reason)
       (length bytes))
   refused_behind place reason r held =
       let line : List ℕ = line_of (Refused place reason) (length bytes) in
@@ -262,7 +270,7 @@ module _ {Place U Made : Type 0} {rules : Rules Place U} {view : View U} {makes 
 
   -- they end too early
   truncated_behind : IsTruncated rules bytes → HoldsItems rules bytes (items_without_places w.placed)
-      → IsShown rules view bytes false (lines ++ line_of (Truncated (length bytes)) (length bytes))
+      → IsShown (showing rules view) bytes false (lines ++ line_of (Truncated (length bytes)) (length bytes))
   truncated_behind t held =
       let line : List ℕ = line_of (Truncated (length bytes)) (length bytes) in
       record {
@@ -275,7 +283,7 @@ module _ {Place U Made : Type 0} {rules : Rules Place U} {view : View U} {makes 
 
   -- the next item isn't carried out
   pub unapplied : (x : Placed U) (reason : Reason) → IsComplete rules bytes (items_without_places w.placed) x
-      → view.fault (items_without_places w.placed) x.1 ≡ Some reason → IsShown rules view bytes false
+      → view.fault (items_without_places w.placed) x.1 ≡ Some reason → IsShown (showing rules view) bytes false
       ((lines ++ view.lines x.0 x.1) ++ line_of (Refused x.0 reason) (length bytes))
   unapplied x reason c found =
       let line : List ℕ = line_of (Refused x.0 reason) (length bytes) in
@@ -289,7 +297,7 @@ module _ {Place U Made : Type 0} {rules : Rules Place U} {view : View U} {makes 
 
   -- they are accepted
   pub accepted_behind : IsInGrammar rules bytes (items_without_places w.placed) → (text : List ℕ)
-      → ((items : List (Item U)) → makes items made → view.Ends items text) → IsShown rules view bytes true
+      → ((items : List (Item U)) → makes items made → view.Ends items text) → IsShown (showing rules view) bytes true
       (lines ++ text)
   accepted_behind a text ends = record {
     placed = w.placed;
@@ -302,10 +310,10 @@ module _ {Place U Made : Type 0} {rules : Rules Place U} {view : View U} {makes 
 module _ {S : Type 0} (writer : Writer S) (from : S) where
   -- what comes behind lines that went out doesn't go out whole
   pub text_fails : {Place U : Type 0} (rules : Rules Place U) (view : View U) (bytes lines text : List ℕ) (mid to : S)
-      → WentOut writer from mid lines → AreFirstLines rules view bytes (lines ++ text)
-      ⊎ ((accepted : Bool) × IsShown rules view bytes accepted (lines ++ text))
+      → WentOut writer from mid lines → AreFirstLines (showing rules view) bytes (lines ++ text)
+      ⊎ ((accepted : Bool) × IsShown (showing rules view) bytes accepted (lines ++ text))
       → (fault : Fault) → (fault ≡ faults.Write) × FailedWithin writer mid to text
-      → IsPrinted writer from to (show_printing false rules view bytes) (Err fault)
+      → IsPrinted writer from to (show_printing false (showing rules view) bytes) (Err fault)
   text_fails rules view bytes lines text mid to w shown fault f =
       inr (lines ++ text, (f.0, shown), fails_last writer from mid to lines text w f.1)
 
@@ -314,7 +322,7 @@ module _ {S : Type 0} (writer : Writer S) (from : S) where
       (w : Shows rules view makes bytes receiver made lines) (to : S) where
     -- nothing comes next
     pub stops_next : WentOut writer from to lines → (fault : Fault) → IsNextFault rules bytes receiver fault
-        → IsStop writer from to rules view bytes (verdict_by fault)
+        → IsStop (printout writer from to) (showing rules view) bytes (verdict_by fault)
     stops_next went (faults.Refused place reason) f =
         (refl, (lines, part w, went, refused_behind w place reason f.0 (f.1 (items_without_places w.placed) w.taken)))
     stops_next went (faults.Truncated n) f = absurd f
@@ -326,8 +334,9 @@ module _ {S : Type 0} (writer : Writer S) (from : S) where
 
     -- the bytes end too early
     pub stops_early : WentOut writer from to lines → (last : Receiving Place U) → HasReceived rules last bytes
-        (items_without_places w.placed) → (fault : Fault) → (fault ≡ faults.Truncated (length bytes)) × IsTruncated rules bytes
-        → IsStop writer from to rules view bytes (verdict_by fault)
+        (items_without_places w.placed) → (fault : Fault) → (fault ≡ faults.Truncated (length bytes))
+        × IsTruncated rules bytes
+        → IsStop (printout writer from to) (showing rules view) bytes (verdict_by fault)
     stops_early went last received fault f =
         rw f.0 (
           refl,
@@ -347,7 +356,8 @@ module _ {S : Type 0} (writer : Writer S) (from : S) where
     pub goes_on : (mid : S) (x : Placed U) (new : Receiving Place U) (next : Made)
         → WentOut writer from mid lines → IsNextItem rules bytes (items_without_places w.placed) receiver new x
         → WentOut writer mid to (view.lines x.0 x.1)
-        → view.fault (items_without_places w.placed) x.1 ≡ None → makes (items_without_places w.placed ++ x.1 ∷ []) next → (more : List ℕ)
+        → view.fault (items_without_places w.placed) x.1 ≡ None → makes (items_without_places w.placed
+        ++ x.1 ∷ []) next → (more : List ℕ)
         × Shows rules view makes bytes new next more × WentOut writer from to more
     goes_on mid x new next went is more none made_more = (
       lines ++ view.lines x.0 x.1,
@@ -358,6 +368,6 @@ module _ {S : Type 0} (writer : Writer S) (from : S) where
     -- the next item's lines don't go out whole
     pub stops_at_item : (mid : S) (x : Placed U) → WentOut writer from mid lines → IsComplete rules bytes
         (items_without_places w.placed) x → (fault : Fault) → (fault ≡ faults.Write) × FailedWithin writer mid to
-        (view.lines x.0 x.1) → IsStop writer from to rules view bytes (verdict_by fault)
+        (view.lines x.0 x.1) → IsStop (printout writer from to) (showing rules view) bytes (verdict_by fault)
     stops_at_item mid x went c fault f = rw f.0 (text_fails rules view bytes lines (view.lines x.0 x.1) mid to went
         (inl (part_more w x c)) faults.Write (refl, f.1))

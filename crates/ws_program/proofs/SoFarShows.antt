@@ -14,10 +14,11 @@ use Rattle.ws_record.specs.Refusal.{IsTruncated}
 use Rattle.ws_record.specs.declared.record.Item.{Item}
 use Rattle.ws_text.specs.Printed.{IsPrinted}
 use Rattle.ws_text.specs.Printing.{IsPrintingFault}
+use Rattle.ws_live.specs.printing.Printouts.{printout}
+use Rattle.ws_program.specs.StreamText.{showing, View, Placed, items_without_places, lines_of, HoldsItems, AreShown}
 use Rattle.ws_program.specs.CheckLine.{line_of, is_accepted, verdict_by}
 use Rattle.ws_program.specs.SoFar.{IsShownSoFar, IsShownWith, IsSoFarText, IsThrough, IsHalted}
 use Rattle.ws_program.specs.SoFar.{StopsBehind, show_printing, bytes_before}
-use Rattle.ws_program.specs.StreamText.{View, Placed, items_without_places, lines_of, HoldsItems, AreShown}
 use Rattle.ws_program.specs.StreamText.{AreFirstLines, IsComplete, IsNextFault}
 use Rattle.ws_program.specs.declared.verdict.Verdict.{Verdict}
 use Rattle.ws_program.specs.declared.verdict.Verdict.TheVariants.{Refused, Truncated}
@@ -56,7 +57,7 @@ module _ {Place U Made : Type 0} {rules : Rules Place U} {view : View U} {makes 
   -- the stream is accepted
   accepted_with : IsInGrammar rules bytes (items_without_places w.placed) → (text : List ℕ)
       → ((items : List (Item U)) → makes items made → view.Ends items text) → (so_far : Bool)
-      → IsShownWith so_far rules view bytes true (lines ++ text)
+      → IsShownWith so_far (showing rules view) bytes true (lines ++ text)
   accepted_with a text ends false = accepted_behind w a text ends
   accepted_with a text ends true =
       let s = accepted_behind w a text ends in
@@ -64,7 +65,8 @@ module _ {Place U Made : Type 0} {rules : Rules Place U} {view : View U} {makes 
 
   -- the next item isn't carried out
   unapplied_with : (x : Placed U) (reason : Reason) → IsComplete rules bytes (items_without_places w.placed) x
-      → view.fault (items_without_places w.placed) x.1 ≡ Some reason → (so_far : Bool) → IsShownWith so_far rules view bytes false
+      → view.fault (items_without_places w.placed) x.1 ≡ Some reason → (so_far : Bool) → IsShownWith so_far
+      (showing rules view) bytes false
       ((lines ++ view.lines x.0 x.1) ++ line_of (Refused x.0 reason) (length bytes))
   unapplied_with x reason c found false = unapplied w x reason c found
   unapplied_with x reason c found true =
@@ -81,7 +83,8 @@ module _ {Place U Made : Type 0} {rules : Rules Place U} {view : View U} {makes 
   module _ {S : Type 0} (writer : Writer S) (from : S) where
     -- all are carried out
     pub through_all : (to : S) → WentOut writer from to lines
-        → IsInGrammar rules bytes (items_without_places w.placed) → IsThrough writer from to rules view bytes
+        → IsInGrammar rules bytes (items_without_places w.placed) → IsThrough (printout writer from to)
+        (showing rules view) bytes
         (λ text. (items : List (Item U)) → makes items made → view.Ends items text) None
     through_all to went a = (lines, part w, went, λ text ends so_far. accepted_with a text ends so_far)
 
@@ -89,7 +92,7 @@ module _ {Place U Made : Type 0} {rules : Rules Place U} {view : View U} {makes 
     pub through_unapplied : (mid to : S) (x : Placed U) (reason : Reason) (IsEnding : List ℕ → Type 0)
         → WentOut writer from mid lines → IsComplete rules bytes (items_without_places w.placed) x
         → WentOut writer mid to (view.lines x.0 x.1) → view.fault (items_without_places w.placed) x.1 ≡ Some reason
-        → IsThrough writer from to rules view bytes IsEnding (Some (Refused x.0 reason))
+        → IsThrough (printout writer from to) (showing rules view) bytes IsEnding (Some (Refused x.0 reason))
     through_unapplied mid to x reason IsEnding went c more found = (
       refl,
       (
@@ -103,7 +106,7 @@ module _ {Place U Made : Type 0} {rules : Rules Place U} {view : View U} {makes 
     -- a byte is refused behind them, or a growth was
     pub halts_next : (to : S) → WentOut writer from to lines → (fault : Fault)
         → IsNextFault rules bytes receiver fault
-        → IsHalted writer from to rules view bytes (λ items. makes items made) fault
+        → IsHalted (printout writer from to) (showing rules view) bytes (λ items. makes items made) fault
     halts_next to went (faults.Refused place reason) f = (
       w.placed,
       w.shown,
@@ -126,7 +129,7 @@ module _ {Place U Made : Type 0} {rules : Rules Place U} {view : View U} {makes 
     pub halts_early : (to : S) → WentOut writer from to lines → (last : Receiving Place U)
         → HasReceived rules last bytes (items_without_places w.placed) → (fault : Fault)
         → (fault ≡ faults.Truncated (length bytes)) × IsTruncated rules bytes
-        → IsHalted writer from to rules view bytes (λ items. makes items made) fault
+        → IsHalted (printout writer from to) (showing rules view) bytes (λ items. makes items made) fault
     halts_early to went last received fault f =
         rw f.0 (
           w.placed,
@@ -139,7 +142,7 @@ module _ {Place U Made : Type 0} {rules : Rules Place U} {view : View U} {makes 
     -- the lines of one don't go out whole
     pub fails_at_item : (mid to : S) (x : Placed U) → WentOut writer from mid lines
         → IsComplete rules bytes (items_without_places w.placed) x → FailedWithin writer mid to (view.lines x.0 x.1)
-        → (text : List ℕ) × AreFirstLines rules view bytes text × FailedWithin writer from to text
+        → (text : List ℕ) × AreFirstLines (showing rules view) bytes text × FailedWithin writer from to text
     fails_at_item mid to x went c f = (
       lines ++ view.lines x.0 x.1,
       part_more w x c,
@@ -151,20 +154,20 @@ module _ {Place U S : Type 0} (writer : Writer S) (from mid : S) (rules : Rules 
   -- what is added of the open record where the bytes stop
   abbrev pub AddsThere : Verdict → List ℕ → Type 0
   AddsThere verdict added = (items : List (Item U)) → HoldsItems rules (bytes_before verdict bytes) items
-      → IsMade items → IsSoFarText rules view (bytes_before verdict bytes) items added
+      → IsMade items → IsSoFarText (showing rules view) (bytes_before verdict bytes) items added
 
   -- the lines that went out, and behind them what is added and the last line
   pub record GoesOn (verdict : Verdict) (lines : List ℕ) : Type 0 where
     pub went : WentOut writer from mid lines
     pub on : (added : List ℕ) → AddsThere verdict added
-        → IsShownSoFar rules view bytes false (lines ++ (added ++ line_of verdict (length bytes)))
+        → IsShownSoFar (showing rules view) bytes false (lines ++ (added ++ line_of verdict (length bytes)))
 
-  first_lines : (placed : List (Placed U)) → AreShown rules view bytes [] placed
-      → AreFirstLines rules view bytes (lines_of view placed)
+  first_lines : (placed : List (Placed U)) → AreShown (showing rules view) bytes [] placed
+      → AreFirstLines (showing rules view) bytes (lines_of view placed)
   first_lines placed shown = record { placed = placed; shown = shown; last = None; complete = tt; lines = refl }
 
   refused_goes_on : (place : ℕ) (reason : Reason)
-      → IsHalted writer from mid rules view bytes IsMade (faults.Refused place reason)
+      → IsHalted (printout writer from mid) (showing rules view) bytes IsMade (faults.Refused place reason)
       → (lines : List ℕ) × GoesOn (Refused place reason) lines
   refused_goes_on place reason h =
       let line : List ℕ = line_of (Refused place reason) (length bytes) in (
@@ -175,13 +178,21 @@ module _ {Place U S : Type 0} (writer : Writer S) (from mid : S) (rules : Rules 
             placed = h.0;
             shown = h.1;
             end = added ++ line;
-            ends = inl (added, line, (place, reason, h.2.0, h.2.1, refl), adds (items_without_places h.0) h.2.1 h.4, refl);
+            ends = inl (
+              added,
+              line,
+              (place, reason, h.2.0, h.2.1, refl),
+              adds
+                  (items_without_places h.0) h.2.1 h.4,
+              refl,
+            );
             lines = refl;
           };
         },
       )
 
-  truncated_goes_on : (n : ℕ) → IsHalted writer from mid rules view bytes IsMade (faults.Truncated n)
+  truncated_goes_on : (n : ℕ) → IsHalted (printout writer from mid) (showing rules view) bytes IsMade
+      (faults.Truncated n)
       → (lines : List ℕ) × GoesOn (Truncated n) lines
   truncated_goes_on n h =
       let line : List ℕ = line_of (Truncated n) (length bytes) in (
@@ -205,7 +216,8 @@ module _ {Place U S : Type 0} (writer : Writer S) (from mid : S) (rules : Rules 
       )
 
   pub halted_goes_on : (fault : Fault) (verdict : Verdict) → verdict_by fault ≡ Ok verdict
-      → IsHalted writer from mid rules view bytes IsMade fault → (lines : List ℕ) × GoesOn verdict lines
+      → IsHalted (printout writer from mid) (showing rules view) bytes IsMade fault → (lines : List ℕ)
+      × GoesOn verdict lines
   halted_goes_on (faults.Refused place reason) verdict e h =
       subst (λ (v : Verdict). (lines : List ℕ) × GoesOn v lines) (refused_is place reason verdict e)
       (refused_goes_on place reason h)
@@ -218,8 +230,8 @@ module _ {Place U S : Type 0} (writer : Writer S) (from mid : S) (rules : Rules 
 
   -- the fault before that
   pub halted_fault : (fault given : Fault) → verdict_by fault ≡ Err given
-      → IsHalted writer from mid rules view bytes IsMade fault
-      → IsPrinted writer from mid (show_printing true rules view bytes) (Err given)
+      → IsHalted (printout writer from mid) (showing rules view) bytes IsMade fault
+      → IsPrinted writer from mid (show_printing true (showing rules view) bytes) (Err given)
   halted_fault (faults.Refused place reason) given e h = absurd (refused_not place reason given e)
   halted_fault (faults.Truncated n) given e h = absurd (truncated_not n given e)
   halted_fault faults.Memory given e h =
@@ -230,16 +242,16 @@ module _ {Place U S : Type 0} (writer : Writer S) (from mid : S) (rules : Rules 
 
   -- where the growth for what is added is refused, or it doesn't go out whole
   pub unadded : (fault : Fault) (verdict : Verdict) → verdict_by fault ≡ Ok verdict
-      → IsHalted writer from mid rules view bytes IsMade fault → (to : S) (why : Fault)
+      → IsHalted (printout writer from mid) (showing rules view) bytes IsMade fault → (to : S) (why : Fault)
       → IsPrintingFault writer mid to (AddsThere verdict) why
-      → IsPrinted writer from to (show_printing true rules view bytes) (Err why)
+      → IsPrinted writer from to (show_printing true (showing rules view) bytes) (Err why)
   unadded fault verdict e h to faults.Memory f =
       let p = placed_at fault verdict e h to f in
       inl (lines_of view p.0, (p.0, p.2, inr (refl, (p.1, p.3)), refl), p.4)
     where
       placed_at : (fault : Fault) (verdict : Verdict) → verdict_by fault ≡ Ok verdict
-          → IsHalted writer from mid rules view bytes IsMade fault → (to : S) → to ≡ mid
-          → (placed : List (Placed U)) × (stop : Fault) × AreShown rules view bytes [] placed
+          → IsHalted (printout writer from mid) (showing rules view) bytes IsMade fault → (to : S) → to ≡ mid
+          → (placed : List (Placed U)) × (stop : Fault) × AreShown (showing rules view) bytes [] placed
           × StopsBehind rules bytes placed stop × WentOut writer from to (lines_of view placed)
       placed_at (faults.Refused place reason) verdict e h to same =
           (h.0, faults.Refused place reason, h.1, h.2, rw same h.3)
@@ -265,11 +277,11 @@ module _ {Place U S : Type 0} (writer : Writer S) (from mid to : S) (rules : Rul
     (view : View U) (bytes : List ℕ) (so_far : Bool) where
   -- what came of this is printed
   abbrev pub IsShownAs : Result Bool Fault → Type 0
-  IsShownAs result = IsPrinted writer from to (show_printing so_far rules view bytes) result
+  IsShownAs result = IsPrinted writer from to (show_printing so_far (showing rules view) bytes) result
 
   -- what comes behind lines that went out goes out, or not the whole of it
   printed_behind : (accepted : Bool) (lines text : List ℕ) → WentOut writer from mid lines
-      → IsShownWith so_far rules view bytes accepted (lines ++ text) → (result : Result Bool Fault)
+      → IsShownWith so_far (showing rules view) bytes accepted (lines ++ text) → (result : Result Bool Fault)
       → IfOk result (λ made. (made ≡ accepted) × WentOut writer mid to text)
       → IfErr result (λ fault. (fault ≡ faults.Write) × FailedWithin writer mid to text) → IsShownAs result
   printed_behind accepted lines text w shown (Ok made) done failed =
@@ -278,7 +290,8 @@ module _ {Place U S : Type 0} (writer : Writer S) (from mid to : S) (rules : Rul
       inr (lines ++ text, (failed.0, inr (accepted, shown)), fails_last writer from mid to lines text w failed.1)
 
   -- behind all items
-  pub all_printed : (IsEnding : List ℕ → Type 0) → IsThrough writer from mid rules view bytes IsEnding None
+  pub all_printed : (IsEnding : List ℕ → Type 0) → IsThrough (printout writer from mid)
+      (showing rules view) bytes IsEnding None
       → (result : Result Bool Fault)
       → IfOk result (λ made. (made ≡ true) × ((text : List ℕ) × IsEnding text × WentOut writer mid to text))
       → IfErr result (λ fault. (fault ≡ faults.Write)
@@ -291,7 +304,7 @@ module _ {Place U S : Type 0} (writer : Writer S) (from mid to : S) (rules : Rul
   -- the line of a stream that isn't accepted
   pub line_behind : (verdict : Verdict) → is_accepted verdict ≡ false → (lines : List ℕ)
       → WentOut writer from mid lines
-      → IsShownWith so_far rules view bytes false (lines ++ line_of verdict (length bytes))
+      → IsShownWith so_far (showing rules view) bytes false (lines ++ line_of verdict (length bytes))
       → (result : Result Bool Fault)
       → IfOk result (λ made. (made ≡ is_accepted verdict) × WentOut writer mid to (line_of verdict (length bytes)))
       → IfErr result (λ fault. (fault ≡ faults.Write)
@@ -312,7 +325,8 @@ stop_refuses faults.Failed verdict e = cc
 
 module _ {Place U S : Type 0} (writer : Writer S) (from mid next to : S) (rules : Rules Place U)
     (view : View U) (bytes : List ℕ) (IsMade : List (Item U) → Type 0) (fault : Fault) (verdict : Verdict)
-    (is : verdict_by fault ≡ Ok verdict) (h : IsHalted writer from mid rules view bytes IsMade fault)
+    (is : verdict_by fault ≡ Ok verdict) (h : IsHalted (printout writer from mid)
+    (showing rules view) bytes IsMade fault)
     (added : List ℕ) (adds : AddsThere writer from mid rules view bytes IsMade verdict added)
     (went : WentOut writer mid next added) where
   abbrev pub line : List ℕ
@@ -322,7 +336,7 @@ module _ {Place U S : Type 0} (writer : Writer S) (from mid next to : S) (rules 
   pub stop_printed : (result : Result Bool Fault)
       → IfOk result (λ made. (made ≡ is_accepted verdict) × WentOut writer next to line)
       → IfErr result (λ fault. (fault ≡ faults.Write) × FailedWithin writer next to line)
-      → IsPrinted writer from to (show_printing true rules view bytes) result
+      → IsPrinted writer from to (show_printing true (showing rules view) bytes) result
   stop_printed (Ok made) done failed =
       let on = halted_goes_on writer from mid rules view bytes IsMade fault verdict is h in (
         on.0 ++ (added ++ line),

@@ -11,8 +11,8 @@ use Rattle.ws_record.specs.declared.record.Head.{Head}
 use Rattle.ws_record.specs.declared.record.Item.{Item}
 use Rattle.ws_record.proofs.Fronts.{one_holding}
 use Rattle.ws_live.specs.declared.printing.paint.Paint.{Paint}
+use Rattle.ws_program.specs.StreamText.{showing, View, HoldsItems}
 use Rattle.ws_program.specs.SoFar.{AreOpenLines, IsAdded, IsSoFarText, begun_line, lines_so_far, open_lines}
-use Rattle.ws_program.specs.StreamText.{View, HoldsItems}
 use Rattle.ws_program.specs.Views.{in_paint}
 use Rattle.ws_program.proofs.OpenParts.{headed}
 
@@ -42,13 +42,13 @@ module _ {U : Type 0} (view : View U) where
 module _ {Place U : Type 0} {rules : Rules Place U} (view : View U) {bytes : List ℕ} {items : List (Item U)}
     {units : List U} where
   pub headed_text : {head : Head} {text : List ℕ} → HoldsPart rules bytes items (Some head) units
-      → text ≡ open_lines view (Some head) units → AreOpenLines rules view bytes items text
+      → text ≡ open_lines view (Some head) units → AreOpenLines (showing rules view) bytes items text
   headed_text {head} {text} part e =
       (Some head, units, part, e ∙ lines_some view part.so_far (Some head) units (headed head part.so_far part.is_head))
 
   pub begun_text : {text : List ℕ} (is_open : Bool) (part : HoldsPart rules bytes items None units)
       → (is_open ≡ true → part.so_far ≢ []) × (is_open ≡ false → part.so_far ≡ []) → text ≡ begun_line is_open
-      → AreOpenLines rules view bytes items text
+      → AreOpenLines (showing rules view) bytes items text
   begun_text {text} true part told e =
       (None, units, part, e ∙ lines_some view part.so_far None units (told.0 refl))
   begun_text {text} false part told e =
@@ -80,15 +80,15 @@ module _ {U : Type 0} (view : View U) (Ends : Paint → List (Item U) → List �
 
   -- the lines, and what stands behind the items
   pub so_far_text : {Place : Type 0} (rules : Rules Place U) (bytes lines behind : List ℕ)
-      → AreOpenLines rules view bytes items lines → lines ≢ []
-      → Ends paint items behind → IsSoFarText rules (in_paint view Ends paint) bytes items (lines ++ behind)
+      → AreOpenLines (showing rules view) bytes items lines → lines ≢ []
+      → Ends paint items behind → IsSoFarText (showing rules (in_paint view Ends paint)) bytes items (lines ++ behind)
   so_far_text rules bytes lines behind a some ends =
       (a.0, a.1, a.2, added a.2.so_far a.0 a.1 lines behind a.3 some ends)
 
   -- or nothing
   pub no_so_far_text : {Place : Type 0} (rules : Rules Place U) (bytes lines : List ℕ)
-      → AreOpenLines rules view bytes items lines → lines ≡ []
-      → IsSoFarText rules (in_paint view Ends paint) bytes items []
+      → AreOpenLines (showing rules view) bytes items lines → lines ≡ []
+      → IsSoFarText (showing rules (in_paint view Ends paint)) bytes items []
   no_so_far_text rules bytes lines a none = (a.0, a.1, a.2, not_added a.2.so_far a.0 a.1 (sym none ∙ a.3))
 
 -- What is cut off the front of a list.

@@ -2,7 +2,7 @@
 
 use Rattle.std.specs.Prelude.{◌≡◌, ℕ, List, Bool, Option, None, Some, Ok, Err, ◌⊎◌}
 use Rattle.std.specs.Option.{is_none}
-use Rattle.ws_code.specs.Device.{Writer}
+use Rattle.ws_live.specs.printing.Printouts.{Printout}
 use Rattle.ws_live.specs.declared.asked.fault.RunFault.{RunFault}
 use Rattle.ws_live.specs.declared.asked.fault.RunFault.TheVariants.{Read, Memory}
 use Rattle.ws_live.specs.declared.asked.fault.ToldFault.{ToldFault}
@@ -34,33 +34,33 @@ IsInputUnread fault = (fault ≡ Read) ⊎ (fault ≡ Memory)
 abbrev pub missing_live : OpenStreams → ALive → Option RunFault
 missing_live streams asked = missing streams (is_none (script_of asked))
 
-module _ {S : Type 0} (writer : Writer S) (from to : S) (streams : OpenStreams) where
+module _ {S : Type 0} (out : Printout S) (streams : OpenStreams) where
   -- what is asked of an input was done, with the bytes that were read of it
   abbrev pub HasRunInput : Asked → Bool → Type 0
   HasRunInput asked accepted = (input : List ℕ)
-      × IsCarriedOut writer from to (openly streams.output asked input) (Ok accepted)
+      × IsCarriedOut out.writer out.from out.to (openly streams.output asked input) (Ok accepted)
 
   -- Why what is asked of an input wasn't done. It can't be read, and nothing was written; or this was met with the
   -- bytes that were read of it, and is told with its cause.
   abbrev pub IsFaultOfInput : Asked → ToldFault → Type 0
-  IsFaultOfInput asked fault = ((why : RunFault) × (to ≡ from) × IsInputUnread why × (fault ≡ told.Run why))
+  IsFaultOfInput asked fault = ((why : RunFault) × (out.to ≡ out.from) × IsInputUnread why × (fault ≡ told.Run why))
       ⊎ ((why : RunFault) × ((input : List ℕ)
-      × IsCarriedOut writer from to (openly streams.output asked input) (Err why)
+      × IsCarriedOut out.writer out.from out.to (openly streams.output asked input) (Err why)
       × IsToldOf asked input fault why))
 
   -- the task of a command line was done: something of an input, or a live session
   abbrev pub HasRunTask : Task → Bool → Type 0
   HasRunTask (Input asked) accepted = HasRunInput asked accepted
   HasRunTask (Live asked) accepted = (missing_live streams asked ≡ None)
-      × HasRunLive writer from to asked accepted
+      × HasRunLive out asked accepted
 
   -- why a task wasn't done; where a live session lacks a stream, nothing was written
   abbrev pub IsFaultOfTask : Task → ToldFault → Type 0
   IsFaultOfTask (Input asked) fault = IsFaultOfInput asked fault
-  IsFaultOfTask (Live asked) fault = (why : RunFault) → missing_live streams asked ≡ Some why → to ≡ from
+  IsFaultOfTask (Live asked) fault = (why : RunFault) → missing_live streams asked ≡ Some why → out.to ≡ out.from
 
   -- why the program didn't do what its words ask for: where the fault is in these, nothing was written
   abbrev pub IsFaultOfRun : CommandFault → Type 0
-  IsFaultOfRun (Words why) = to ≡ from
-  IsFaultOfRun (Run fault) = (to ≡ from) × (fault ≡ Memory)
+  IsFaultOfRun (Words why) = out.to ≡ out.from
+  IsFaultOfRun (Run fault) = (out.to ≡ out.from) × (fault ≡ Memory)
   IsFaultOfRun (Told fault) = (task : Task) × IsFaultOfTask task fault

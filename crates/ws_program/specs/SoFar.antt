@@ -4,7 +4,7 @@
 use Rattle.std.specs.Prelude.{◌≡◌, ℕ, List, [], ◌∷◌, ◌++◌, ◌⊎◌, Bool, true, false, Option, None, Some, codes, length}
 use Rattle.std.specs.Prelude.{take, drop, Result, Ok, Err}
 use Rattle.ws_code.specs.Code.{Rules}
-use Rattle.ws_code.specs.Device.{Writer, WentOut, FailedWithin}
+use Rattle.ws_code.specs.Device.{FailedWithin}
 use Rattle.ws_code.specs.declared.fault.Fault.{Fault}
 use Rattle.ws_code.specs.declared.fault.Fault.TheVariants.{Memory, Write}
 use Rattle.ws_code.specs.declared.fault.Fault.TheVariants as faults
@@ -15,8 +15,10 @@ use Rattle.ws_record.specs.declared.record.Head.{Head}
 use Rattle.ws_record.specs.declared.record.Item.{Item}
 use Rattle.ws_record.specs.declared.record.Item.TheVariants.{Record as RecordItem}
 use Rattle.ws_text.specs.Printed.{Printing, IsPrinted}
+use Rattle.ws_live.specs.printing.Printouts.{IsPrintedOut, Printout}
 use Rattle.ws_program.specs.CheckLine.{line_of, is_accepted}
-use Rattle.ws_program.specs.StreamText.{View, Placed, items_without_places, lines_of, HoldsItems, AreShown, AreFirstLines, IsShown}
+use Rattle.ws_program.specs.StreamText.{Showing, View, Placed, items_without_places, lines_of, HoldsItems, AreShown}
+use Rattle.ws_program.specs.StreamText.{AreFirstLines, IsShown}
 use Rattle.ws_program.specs.StreamText.{IsEnd, IsRefusedEnd, IsTruncatedEnd, IsUnappliedEnd, GrowsBehind}
 use Rattle.ws_program.specs.declared.verdict.Verdict.{Verdict}
 use Rattle.ws_program.specs.declared.verdict.Verdict.TheVariants.{Accepted, Refused, Truncated}
@@ -57,44 +59,44 @@ module _ {U : Type 0} where
 
 module _ {Place U : Type 0} where
   -- the lines of the record that is open behind the items
-  abbrev pub AreOpenLines : Rules Place U → View U → List ℕ → List (Item U) → List ℕ → Type 0
-  AreOpenLines rules view bytes items text = (head : Option Head) × (units : List U)
-      × (part : HoldsPart rules bytes items head units) × (text ≡ lines_so_far view part.so_far head units)
+  abbrev pub AreOpenLines : Showing Place U → List ℕ → List (Item U) → List ℕ → Type 0
+  AreOpenLines way bytes items text = (head : Option Head) × (units : List U)
+      × (part : HoldsPart way.rules bytes items head units) × (text ≡ lines_so_far way.view part.so_far head units)
 
   -- what is added of the record that is open behind the items
-  abbrev pub IsSoFarText : Rules Place U → View U → List ℕ → List (Item U) → List ℕ → Type 0
-  IsSoFarText rules view bytes items text = (head : Option Head) × (units : List U)
-      × (part : HoldsPart rules bytes items head units) × IsAdded view items part.so_far head units text
+  abbrev pub IsSoFarText : Showing Place U → List ℕ → List (Item U) → List ℕ → Type 0
+  IsSoFarText way bytes items text = (head : Option Head) × (units : List U)
+      × (part : HoldsPart way.rules bytes items head units) × IsAdded way.view items part.so_far head units text
 
   -- a byte is refused behind the items: what has come of the open record before it is shown, and the refusal's line
-  abbrev pub IsRefusedSoFar : Rules Place U → View U → List ℕ → List (Placed U) → List ℕ → Type 0
-  IsRefusedSoFar rules view bytes placed text = (added line : List ℕ) × (e : IsRefusedEnd rules bytes placed line)
-      × IsSoFarText rules view (take e.0 bytes) (items_without_places placed) added × (text ≡ added ++ line)
+  abbrev pub IsRefusedSoFar : Showing Place U → List ℕ → List (Placed U) → List ℕ → Type 0
+  IsRefusedSoFar way bytes placed text = (added line : List ℕ) × (e : IsRefusedEnd way.rules bytes placed line)
+      × IsSoFarText way (take e.0 bytes) (items_without_places placed) added × (text ≡ added ++ line)
 
   -- the bytes end too early behind the items: what has come of the open record is shown, and the line of that
-  abbrev pub IsTruncatedSoFar : Rules Place U → View U → List ℕ → List (Placed U) → List ℕ → Type 0
-  IsTruncatedSoFar rules view bytes placed text = (added line : List ℕ) × IsTruncatedEnd rules bytes placed line
-      × IsSoFarText rules view bytes (items_without_places placed) added × (text ≡ added ++ line)
+  abbrev pub IsTruncatedSoFar : Showing Place U → List ℕ → List (Placed U) → List ℕ → Type 0
+  IsTruncatedSoFar way bytes placed text = (added line : List ℕ) × IsTruncatedEnd way.rules bytes placed line
+      × IsSoFarText way bytes (items_without_places placed) added × (text ≡ added ++ line)
 
   -- What stands behind the items. Behind an item that isn't carried out no record is open.
-  abbrev pub IsSoFarEnd : Rules Place U → View U → List ℕ → List (Placed U) → Bool → List ℕ → Type 0
-  IsSoFarEnd rules view bytes placed true text = IsEnd rules view bytes placed true text
-  IsSoFarEnd rules view bytes placed false text = IsRefusedSoFar rules view bytes placed text
-      ⊎ (IsTruncatedSoFar rules view bytes placed text ⊎ IsUnappliedEnd rules view bytes placed text)
+  abbrev pub IsSoFarEnd : Showing Place U → List ℕ → List (Placed U) → Bool → List ℕ → Type 0
+  IsSoFarEnd way bytes placed true text = IsEnd way bytes placed true text
+  IsSoFarEnd way bytes placed false text = IsRefusedSoFar way bytes placed text
+      ⊎ (IsTruncatedSoFar way bytes placed text ⊎ IsUnappliedEnd way bytes placed text)
 
   -- the whole text that is shown of a stream with what has come of an open record
-  pub record IsShownSoFar (rules : Rules Place U) (view : View U) (bytes : List ℕ) (accepted : Bool) (text : List ℕ)
+  pub record IsShownSoFar (way : Showing Place U) (bytes : List ℕ) (accepted : Bool) (text : List ℕ)
       : Type 0 where
     pub placed : List (Placed U)
-    pub shown : AreShown rules view bytes [] placed
+    pub shown : AreShown way bytes [] placed
     pub end : List ℕ
-    pub ends : IsSoFarEnd rules view bytes placed accepted end
-    pub lines : text ≡ lines_of view placed ++ end
+    pub ends : IsSoFarEnd way bytes placed accepted end
+    pub lines : text ≡ lines_of way.view placed ++ end
 
   -- the whole text that is shown of a stream, without what has come of an open record or with it
-  abbrev pub IsShownWith : Bool → Rules Place U → View U → List ℕ → Bool → List ℕ → Type 0
-  IsShownWith false rules view bytes accepted text = IsShown rules view bytes accepted text
-  IsShownWith true rules view bytes accepted text = IsShownSoFar rules view bytes accepted text
+  abbrev pub IsShownWith : Bool → Showing Place U → List ℕ → Bool → List ℕ → Type 0
+  IsShownWith false way bytes accepted text = IsShown way bytes accepted text
+  IsShownWith true way bytes accepted text = IsShownSoFar way bytes accepted text
 
   -- behind the items a byte is refused, or the bytes end too early
   abbrev pub StopsBehind : Rules Place U → List ℕ → List (Placed U) → Fault → Type 0
@@ -109,13 +111,13 @@ module _ {Place U : Type 0} where
   CanRunShort so_far rules bytes placed = GrowsBehind rules bytes (items_without_places placed)
       ⊎ ((so_far ≡ true) × ((stop : Fault) × StopsBehind rules bytes placed stop))
 
-  module _ (so_far : Bool) (rules : Rules Place U) (view : View U) (bytes : List ℕ) where
+  module _ (so_far : Bool) (way : Showing Place U) (bytes : List ℕ) where
     -- how what is shown ends: with the whole text; or with the lines of the first items, behind which a growth is
     -- refused
     abbrev pub IsShowEnd : List ℕ → Result Bool Fault → Type 0
-    IsShowEnd text (Ok accepted) = IsShownWith so_far rules view bytes accepted text
-    IsShowEnd text (Err Memory) = (placed : List (Placed U)) × AreShown rules view bytes [] placed
-        × CanRunShort so_far rules bytes placed × (text ≡ lines_of view placed)
+    IsShowEnd text (Ok accepted) = IsShownWith so_far way bytes accepted text
+    IsShowEnd text (Err Memory) = (placed : List (Placed U)) × AreShown way bytes [] placed
+        × CanRunShort so_far way.rules bytes placed × (text ≡ lines_of way.view placed)
     IsShowEnd text (Err fault) = ⊥
 
     -- What is shown of a stream, without what has come of an open record or with it. A sink may fail within the lines
@@ -123,37 +125,36 @@ module _ {Place U : Type 0} where
     abbrev pub show_printing : Printing Bool Fault
     show_printing = record {
       Ends = IsShowEnd;
-      Cut = λ text fault. (fault ≡ Write) × (AreFirstLines rules view bytes text
-          ⊎ ((accepted : Bool) × IsShownWith so_far rules view bytes accepted text));
+      Cut = λ text fault. (fault ≡ Write) × (AreFirstLines way bytes text
+          ⊎ ((accepted : Bool) × IsShownWith so_far way bytes accepted text));
     }
 
-  module _ {S : Type 0} (writer : Writer S) (from to : S) (rules : Rules Place U)
-      (view : View U) where
+  module _ {S : Type 0} (out : Printout S) (way : Showing Place U) where
     -- what is answered where not all items are carried out: the items' lines went out, and the line of a verdict
     -- goes on behind them, or there was a fault
     abbrev pub IsStop : List ℕ → Result Verdict Fault → Type 0
-    IsStop bytes (Ok verdict) = (is_accepted verdict ≡ false) × ((lines : List ℕ) × AreFirstLines rules view bytes lines
-        × WentOut writer from to lines
-        × IsShown rules view bytes false (lines ++ line_of verdict (length bytes)))
-    IsStop bytes (Err fault) = IsPrinted writer from to (show_printing false rules view bytes) (Err fault)
+    IsStop bytes (Ok verdict) = (is_accepted verdict ≡ false) × ((lines : List ℕ) × AreFirstLines way bytes lines
+        × IsPrintedOut out lines
+        × IsShown way bytes false (lines ++ line_of verdict (length bytes)))
+    IsStop bytes (Err fault) = IsPrinted out.writer out.from out.to (show_printing false way bytes) (Err fault)
 
     -- All items were shown and carried out, and so is a stream that is accepted; or the last one isn't carried out, and
     -- the line of that verdict goes on behind it.
     abbrev pub IsThrough : List ℕ → (List ℕ → Type 0) → Option Verdict → Type 0
-    IsThrough bytes IsEnding None = (lines : List ℕ) × AreFirstLines rules view bytes lines
-        × WentOut writer from to lines × ((text : List ℕ) → IsEnding text → (so_far : Bool)
-        → IsShownWith so_far rules view bytes true (lines ++ text))
+    IsThrough bytes IsEnding None = (lines : List ℕ) × AreFirstLines way bytes lines
+        × IsPrintedOut out lines × ((text : List ℕ) → IsEnding text → (so_far : Bool)
+        → IsShownWith so_far way bytes true (lines ++ text))
     IsThrough bytes IsEnding (Some verdict) = (is_accepted verdict ≡ false) × ((lines : List ℕ)
-        × AreFirstLines rules view bytes lines × WentOut writer from to lines
-        × ((so_far : Bool) → IsShownWith so_far rules view bytes false (lines ++ line_of verdict (length bytes))))
+        × AreFirstLines way bytes lines × IsPrintedOut out lines
+        × ((so_far : Bool) → IsShownWith so_far way bytes false (lines ++ line_of verdict (length bytes))))
 
     -- where the bytes stop behind the items, the lines of these went out, and so much is made of them; or there was a
     -- fault before
     abbrev pub IsHalted : List ℕ → (List (Item U) → Type 0) → Fault → Type 0
-    IsHalted bytes IsMade Memory = (placed : List (Placed U)) × AreShown rules view bytes [] placed
-        × GrowsBehind rules bytes (items_without_places placed) × WentOut writer from to (lines_of view placed)
-    IsHalted bytes IsMade Write = (text : List ℕ) × AreFirstLines rules view bytes text
-        × FailedWithin writer from to text
-    IsHalted bytes IsMade fault = (placed : List (Placed U)) × AreShown rules view bytes [] placed
-        × StopsBehind rules bytes placed fault × WentOut writer from to (lines_of view placed)
+    IsHalted bytes IsMade Memory = (placed : List (Placed U)) × AreShown way bytes [] placed
+        × GrowsBehind way.rules bytes (items_without_places placed) × IsPrintedOut out (lines_of way.view placed)
+    IsHalted bytes IsMade Write = (text : List ℕ) × AreFirstLines way bytes text
+        × FailedWithin out.writer out.from out.to text
+    IsHalted bytes IsMade fault = (placed : List (Placed U)) × AreShown way bytes [] placed
+        × StopsBehind way.rules bytes placed fault × IsPrintedOut out (lines_of way.view placed)
         × IsMade (items_without_places placed)

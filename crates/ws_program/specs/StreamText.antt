@@ -24,6 +24,15 @@ pub record View (U : Type 0) : Type 1 where
   pub fault : List (Item U) → Item U → Option Reason
   pub Ends : List (Item U) → List ℕ → Type 0
 
+-- a way in which streams are shown: the rules of their bodies, and how their items are
+pub record Showing (Place U : Type 0) : Type 1 where
+  pub rules : Rules Place U
+  pub view : View U
+
+-- bodies of these rules, and their items in this view
+abbrev pub showing : {Place U : Type 0} → Rules Place U → View U → Showing Place U
+showing rules view = record { rules = rules; view = view }
+
 -- an item with the place of its last byte
 abbrev pub Placed : Type 0 → Type 0
 Placed U = ℕ × Item U
@@ -58,15 +67,15 @@ module _ {Place U : Type 0} where
   IsWholeItem rules (TelnetItem telnet) = Unit {0}
 
   -- the items are complete one after another, and each is carried out
-  abbrev pub AreShown : Rules Place U → View U → List ℕ → List (Item U) → List (Placed U) → Type 0
-  AreShown rules view bytes before [] = Unit {0}
-  AreShown rules view bytes before (x ∷ xs) = IsComplete rules bytes before x × (view.fault before x.1 ≡ None)
-      × AreShown rules view bytes (before ++ x.1 ∷ []) xs
+  abbrev pub AreShown : Showing Place U → List ℕ → List (Item U) → List (Placed U) → Type 0
+  AreShown way bytes before [] = Unit {0}
+  AreShown way bytes before (x ∷ xs) = IsComplete way.rules bytes before x × (way.view.fault before x.1 ≡ None)
+      × AreShown way bytes (before ++ x.1 ∷ []) xs
 
   -- the bytes are accepted, and what stands behind all items is shown
-  abbrev pub IsAcceptedEnd : Rules Place U → View U → List ℕ → List (Placed U) → List ℕ → Type 0
-  IsAcceptedEnd rules view bytes placed text = IsInGrammar rules bytes (items_without_places placed)
-      × view.Ends (items_without_places placed) text
+  abbrev pub IsAcceptedEnd : Showing Place U → List ℕ → List (Placed U) → List ℕ → Type 0
+  IsAcceptedEnd way bytes placed text = IsInGrammar way.rules bytes (items_without_places placed)
+      × way.view.Ends (items_without_places placed) text
 
   -- a byte is refused behind the items, and its line is shown
   abbrev pub IsRefusedEnd : Rules Place U → List ℕ → List (Placed U) → List ℕ → Type 0
@@ -76,37 +85,39 @@ module _ {Place U : Type 0} where
 
   -- the bytes end too early behind the items, and the line of that is shown
   abbrev pub IsTruncatedEnd : Rules Place U → List ℕ → List (Placed U) → List ℕ → Type 0
-  IsTruncatedEnd rules bytes placed text = IsTruncated rules bytes × HoldsItems rules bytes (items_without_places placed)
+  IsTruncatedEnd rules bytes placed text = IsTruncated rules bytes × HoldsItems rules bytes
+      (items_without_places placed)
       × (text ≡ line_of (Truncated (length bytes)) (length bytes))
 
   -- the next item isn't carried out, and is shown too, with the line of its reason
-  abbrev pub IsUnappliedEnd : Rules Place U → View U → List ℕ → List (Placed U) → List ℕ → Type 0
-  IsUnappliedEnd rules view bytes placed text = (x : Placed U) × (reason : Reason)
-      × IsComplete rules bytes (items_without_places placed) x × (view.fault (items_without_places placed) x.1 ≡ Some reason)
-      × (text ≡ view.lines x.0 x.1 ++ line_of (Refused x.0 reason) (length bytes))
+  abbrev pub IsUnappliedEnd : Showing Place U → List ℕ → List (Placed U) → List ℕ → Type 0
+  IsUnappliedEnd way bytes placed text = (x : Placed U) × (reason : Reason)
+      × IsComplete way.rules bytes (items_without_places placed) x
+      × (way.view.fault (items_without_places placed) x.1 ≡ Some reason)
+      × (text ≡ way.view.lines x.0 x.1 ++ line_of (Refused x.0 reason) (length bytes))
 
   -- what stands behind the items: that of an accepted stream, or the line of one that is not
-  abbrev pub IsEnd : Rules Place U → View U → List ℕ → List (Placed U) → Bool → List ℕ → Type 0
-  IsEnd rules view bytes placed true text = IsAcceptedEnd rules view bytes placed text
-  IsEnd rules view bytes placed false text = IsRefusedEnd rules bytes placed text
-      ⊎ (IsTruncatedEnd rules bytes placed text ⊎ IsUnappliedEnd rules view bytes placed text)
+  abbrev pub IsEnd : Showing Place U → List ℕ → List (Placed U) → Bool → List ℕ → Type 0
+  IsEnd way bytes placed true text = IsAcceptedEnd way bytes placed text
+  IsEnd way bytes placed false text = IsRefusedEnd way.rules bytes placed text
+      ⊎ (IsTruncatedEnd way.rules bytes placed text ⊎ IsUnappliedEnd way bytes placed text)
 
   -- the whole text that is shown of a stream: the lines of its items, and what comes behind them
-  pub record IsShown (rules : Rules Place U) (view : View U) (bytes : List ℕ) (accepted : Bool) (text : List ℕ)
+  pub record IsShown (way : Showing Place U) (bytes : List ℕ) (accepted : Bool) (text : List ℕ)
       : Type 0 where
     pub placed : List (Placed U)
-    pub shown : AreShown rules view bytes [] placed
+    pub shown : AreShown way bytes [] placed
     pub end : List ℕ
-    pub ends : IsEnd rules view bytes placed accepted end
-    pub lines : text ≡ lines_of view placed ++ end
+    pub ends : IsEnd way bytes placed accepted end
+    pub lines : text ≡ lines_of way.view placed ++ end
 
   -- the lines of a stream's first items, perhaps with those of one more that is complete and isn't carried out
-  pub record AreFirstLines (rules : Rules Place U) (view : View U) (bytes : List ℕ) (text : List ℕ) : Type 0 where
+  pub record AreFirstLines (way : Showing Place U) (bytes : List ℕ) (text : List ℕ) : Type 0 where
     pub placed : List (Placed U)
-    pub shown : AreShown rules view bytes [] placed
+    pub shown : AreShown way bytes [] placed
     pub last : Option (Placed U)
-    pub complete : IfSome last (IsComplete rules bytes (items_without_places placed))
-    pub lines : text ≡ lines_with view placed last
+    pub complete : IfSome last (IsComplete way.rules bytes (items_without_places placed))
+    pub lines : text ≡ lines_with way.view placed last
 
   -- a receiver has taken the first of the bytes, and has given these items
   abbrev pub HasTaken : Rules Place U → List ℕ → Receiving Place U → List (Item U) → Type 0

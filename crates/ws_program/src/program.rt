@@ -9,6 +9,7 @@ ghost use Rattle.ws_text.specs.ExtendedAnswerWords.{told_wording};
 ghost use Rattle.ws_text.specs.ExtendedWords.{extended_wording};
 ghost use Rattle.ws_text.specs.Printed.{IsPrinted};
 ghost use Rattle.ws_text.specs.Shown.{ShowsElements, ShowsAnswers, ShowsExtended, ShowsTold};
+ghost use Rattle.ws_program.specs.StreamText.{showing};
 ghost use Rattle.ws_program.specs.Actions.{IsCarriedOut};
 ghost use Rattle.ws_program.specs.Answering.{of_bytes, play_action, play_tcp_action, answer_action, sender_parts, status_of};
 ghost use Rattle.ws_program.specs.Checking.{check_printing};
@@ -192,7 +193,7 @@ fn show_input<S: Sink>(
     sink: &mut S,
 ) -> Result<bool, RunFault>
     ensures { IsCarriedOut S.writer sink.old sink.new (of_bytes form
-        (show_printing so_far (sender_parts from).rules ((sender_parts from).view paint))
+        (show_printing so_far (showing (sender_parts from).rules ((sender_parts from).view paint)))
         input.now) result }
 {
     let bytes = bytes_of(alloc, form, input)?;
@@ -209,7 +210,7 @@ fn show_sent<S: Sink>(
     sink: &mut S,
 ) -> Result<bool, Fault>
     ensures { IsPrinted S.writer sink.old sink.new (show_printing so_far
-        (sender_parts from).rules ((sender_parts from).view paint) bytes.now) result }
+        (showing (sender_parts from).rules ((sender_parts from).view paint)) bytes.now) result }
 {
     match from {
         Sender::Host => show_with::<Commands, S>(alloc, paint, so_far, bytes, sink),

@@ -1,5 +1,6 @@
 //! What the program does by the words of its command line.
 ghost use Rattle.std.specs.Prelude.{◌≡◌, [], IfOk, IfErr};
+ghost use Rattle.ws_live.specs.printing.Printouts.{printout};
 ghost use Rattle.ws_program.specs.Runs.{HasRunInput, HasRunTask, IsFaultOfInput, IsFaultOfRun, IsFaultOfTask};
 ghost use Rattle.ws_program.specs.declared.words.command_line.Task.{Task as ATask};
 
@@ -30,9 +31,9 @@ where
     S: Sink,
     requires empty { sink.old.held ≡ [] }
     ensures done { IfOk result (λ accepted. (task : ATask) × HasRunTask
-        S.writer sink.old.sink sink.new.sink streams task accepted) }
+        (printout S.writer sink.old.sink sink.new.sink) streams task accepted) }
     ensures fault { IfErr result
-        (IsFaultOfRun S.writer sink.old.sink sink.new.sink streams) }
+        (IsFaultOfRun (printout S.writer sink.old.sink sink.new.sink) streams) }
 {
     let words = given_words(rt)?;
     let task = read_words(rt.alloc(), words.as_slice())?;
@@ -54,9 +55,9 @@ where
     S: Sink,
     requires empty { sink.old.held ≡ [] }
     ensures done { IfOk result (HasRunTask
-        S.writer sink.old.sink sink.new.sink streams task.entry) }
+        (printout S.writer sink.old.sink sink.new.sink) streams task.entry) }
     ensures fault { IfErr result (IsFaultOfTask
-        S.writer sink.old.sink sink.new.sink streams task.entry) }
+        (printout S.writer sink.old.sink sink.new.sink) streams task.entry) }
 {
     match task {
         Task::Input(asked) => run_input(rt, asked, streams, sink),
@@ -76,9 +77,9 @@ where
     S: Sink,
     requires empty { sink.old.held ≡ [] }
     ensures done { IfOk result (HasRunInput
-        S.writer sink.old.sink sink.new.sink streams asked.entry) }
+        (printout S.writer sink.old.sink sink.new.sink) streams asked.entry) }
     ensures fault { IfErr result (IsFaultOfInput
-        S.writer sink.old.sink sink.new.sink streams asked.entry) }
+        (printout S.writer sink.old.sink sink.new.sink) streams asked.entry) }
 {
     if let Asked::Check {
         file,

@@ -7,13 +7,14 @@ ghost use Rattle.ws_stream.specs.Elements.{element_rules};
 ghost use Rattle.ws_stream.specs.declared.element.Element.{Element as AnElement};
 ghost use Rattle.ws_extended.specs.ExtendedAnswers.{extended_answer_rules};
 ghost use Rattle.ws_extended.specs.ExtendedElements.{extended_rules};
+ghost use Rattle.ws_live.specs.printing.Printouts.{printout};
+ghost use Rattle.ws_program.specs.StreamText.{showing, IsShown, AreFirstLines, HasBegunStream, IsNext, IsNextFault};
 ghost use Rattle.ws_program.specs.ExtendedView.{extended_view};
 ghost use Rattle.ws_text.specs.Printed.{IsPrinted};
 ghost use Rattle.ws_text.specs.Shown.{ShowsElements};
 ghost use Rattle.ws_program.specs.CheckLine.{verdict_by};
 ghost use Rattle.ws_program.specs.SoFar.{IsShownSoFar, show_printing};
 ghost use Rattle.ws_program.specs.SoFar.{IsStop, IsThrough, IsHalted, bytes_before as the_bytes_before};
-ghost use Rattle.ws_program.specs.StreamText.{IsShown, AreFirstLines, HasBegunStream, IsNext, IsNextFault};
 ghost use Rattle.ws_live.specs.declared.printing.paint.Paint.{Paint as APaint};
 ghost use Rattle.ws_program.specs.Views.{host_view, painted_host_view, answer_view, told_view, in_paint};
 
@@ -34,12 +35,13 @@ use ws_text::Output;
 /// `ws_text::read_items` reads them back. The rest is said at `show_body_to`.
 pub fn show_to<S: Sink>(alloc: Global, bytes: &[u8], sink: &mut S) -> Result<bool, Fault>
     ensures printed { IsPrinted S.writer sink.old sink.new
-        (show_printing false element_rules host_view bytes.now) result }
+        (show_printing false (showing element_rules host_view) bytes.now) result }
     ensures parts_begin { (accepted : Bool) (whole part : List ℕ)
-        → IsShown element_rules host_view bytes.now accepted whole
-        → AreFirstLines element_rules host_view bytes.now part
+        → IsShown (showing element_rules host_view) bytes.now accepted whole
+        → AreFirstLines (showing element_rules host_view) bytes.now part
         → (rest : List ℕ) × (whole ≡ part ++ rest) }
-    ensures read_back { (text : List ℕ) → IsShown element_rules host_view bytes.now true text
+    ensures read_back { (text : List ℕ)
+        → IsShown (showing element_rules host_view) bytes.now true text
         → (items : List (AnItem AnElement)) × IsInGrammar element_rules bytes.now items
         × ShowsElements text items }
 {
@@ -54,10 +56,10 @@ pub fn show_painted_to<S: Sink>(
     sink: &mut S,
 ) -> Result<bool, Fault>
     ensures printed { IsPrinted S.writer sink.old sink.new
-        (show_printing false element_rules (painted_host_view paint) bytes.now) result }
+        (show_printing false (showing element_rules (painted_host_view paint)) bytes.now) result }
     ensures parts_begin { (accepted : Bool) (whole part : List ℕ)
-        → IsShown element_rules (painted_host_view paint) bytes.now accepted whole
-        → AreFirstLines element_rules (painted_host_view paint) bytes.now part
+        → IsShown (showing element_rules (painted_host_view paint)) bytes.now accepted whole
+        → AreFirstLines (showing element_rules (painted_host_view paint)) bytes.now part
         → (rest : List ℕ) × (whole ≡ part ++ rest) }
 {
     show_body_to::<Commands, S>(alloc, paint, bytes, sink)
@@ -74,10 +76,10 @@ pub fn show_extended_to<S: Sink>(
     sink: &mut S,
 ) -> Result<bool, Fault>
     ensures printed { IsPrinted S.writer sink.old sink.new
-        (show_printing false extended_rules (extended_view paint) bytes.now) result }
+        (show_printing false (showing extended_rules (extended_view paint)) bytes.now) result }
     ensures parts_begin { (accepted : Bool) (whole part : List ℕ)
-        → IsShown extended_rules (extended_view paint) bytes.now accepted whole
-        → AreFirstLines extended_rules (extended_view paint) bytes.now part
+        → IsShown (showing extended_rules (extended_view paint)) bytes.now accepted whole
+        → AreFirstLines (showing extended_rules (extended_view paint)) bytes.now part
         → (rest : List ℕ) × (whole ≡ part ++ rest) }
 {
     show_body_to::<ExtendedCommands, S>(alloc, paint, bytes, sink)
@@ -88,10 +90,10 @@ pub fn show_extended_to<S: Sink>(
 /// The rest is said at `show_body_to`.
 pub fn show_answers_to<S: Sink>(alloc: Global, bytes: &[u8], sink: &mut S) -> Result<bool, Fault>
     ensures printed { IsPrinted S.writer sink.old sink.new
-        (show_printing false answer_rules answer_view bytes.now) result }
+        (show_printing false (showing answer_rules answer_view) bytes.now) result }
     ensures parts_begin { (accepted : Bool) (whole part : List ℕ)
-        → IsShown answer_rules answer_view bytes.now accepted whole
-        → AreFirstLines answer_rules answer_view bytes.now part
+        → IsShown (showing answer_rules answer_view) bytes.now accepted whole
+        → AreFirstLines (showing answer_rules answer_view) bytes.now part
         → (rest : List ℕ) × (whole ≡ part ++ rest) }
 {
     show_body_to::<Answers, S>(alloc, Paint::Plain, bytes, sink)
@@ -107,10 +109,10 @@ pub fn show_extended_answers_to<S: Sink>(
     sink: &mut S,
 ) -> Result<bool, Fault>
     ensures printed { IsPrinted S.writer sink.old sink.new
-        (show_printing false extended_answer_rules told_view bytes.now) result }
+        (show_printing false (showing extended_answer_rules told_view) bytes.now) result }
     ensures parts_begin { (accepted : Bool) (whole part : List ℕ)
-        → IsShown extended_answer_rules told_view bytes.now accepted whole
-        → AreFirstLines extended_answer_rules told_view bytes.now part
+        → IsShown (showing extended_answer_rules told_view) bytes.now accepted whole
+        → AreFirstLines (showing extended_answer_rules told_view) bytes.now part
         → (rest : List ℕ) × (whole ≡ part ++ rest) }
 {
     show_body_to::<ExtendedAnswers, S>(alloc, Paint::Plain, bytes, sink)
@@ -130,10 +132,10 @@ pub fn show_body_to<B: Shown, S: Sink>(
     sink: &mut S,
 ) -> Result<bool, Fault>
     ensures printed { IsPrinted S.writer sink.old sink.new
-        (show_printing false B.rules (in_paint B.view B.Ends paint) bytes.now) result }
+        (show_printing false (showing B.rules (in_paint B.view B.Ends paint)) bytes.now) result }
     ensures parts_begin { (accepted : Bool) (whole part : List ℕ)
-        → IsShown B.rules (in_paint B.view B.Ends paint) bytes.now accepted whole
-        → AreFirstLines B.rules (in_paint B.view B.Ends paint) bytes.now part
+        → IsShown (showing B.rules (in_paint B.view B.Ends paint)) bytes.now accepted whole
+        → AreFirstLines (showing B.rules (in_paint B.view B.Ends paint)) bytes.now part
         → (rest : List ℕ) × (whole ≡ part ++ rest) }
 {
     let mut made = B::before_any();
@@ -159,10 +161,10 @@ pub fn show_so_far_to<B: Shown, S: Sink>(
     sink: &mut S,
 ) -> Result<bool, Fault>
     ensures printed { IsPrinted S.writer sink.old sink.new
-        (show_printing true B.rules (in_paint B.view B.Ends paint) bytes.now) result }
+        (show_printing true (showing B.rules (in_paint B.view B.Ends paint)) bytes.now) result }
     ensures parts_begin { (accepted : Bool) (whole part : List ℕ)
-        → IsShownSoFar B.rules (in_paint B.view B.Ends paint) bytes.now accepted whole
-        → AreFirstLines B.rules (in_paint B.view B.Ends paint) bytes.now part
+        → IsShownSoFar (showing B.rules (in_paint B.view B.Ends paint)) bytes.now accepted whole
+        → AreFirstLines (showing B.rules (in_paint B.view B.Ends paint)) bytes.now part
         → (rest : List ℕ) × (whole ≡ part ++ rest) }
 {
     let mut made = B::before_any();
@@ -186,7 +188,7 @@ pub fn show_with<B: Shown, S: Sink>(
     sink: &mut S,
 ) -> Result<bool, Fault>
     ensures { IsPrinted S.writer sink.old sink.new
-        (show_printing so_far B.rules (in_paint B.view B.Ends paint) bytes.now) result }
+        (show_printing so_far (showing B.rules (in_paint B.view B.Ends paint)) bytes.now) result }
 {
     if so_far {
         show_so_far_to::<B, S>(alloc, paint, bytes, sink)
@@ -215,15 +217,17 @@ fn show_items<B: Shown, S: Sink>(
 ) -> Result<Option<Verdict>, Fault>
     requires given { B.makes [] made.old }
     ensures ok { IfOk result (λ unapplied. (paint : APaint)
-        → IsThrough S.writer sink.old sink.new B.rules (in_paint B.view B.Ends paint)
-        bytes.now (λ text. (items : List (AnItem B.Unit)) → B.makes items made.new
-        → B.Ends paint items text) unapplied) }
+        → IsThrough (printout S.writer sink.old sink.new)
+        (showing B.rules (in_paint B.view B.Ends paint)) bytes.now (λ text.
+        (items : List (AnItem B.Unit)) → B.makes items made.new → B.Ends paint items text)
+        unapplied) }
     ensures err { IfErr result (λ fault. (paint : APaint)
-        → IsStop S.writer sink.old sink.new B.rules (in_paint B.view B.Ends paint)
-        bytes.now (verdict_by fault)) }
+        → IsStop (printout S.writer sink.old sink.new)
+        (showing B.rules (in_paint B.view B.Ends paint)) bytes.now (verdict_by fault)) }
     ensures halted { IfErr result (λ fault. (paint : APaint)
-        → IsHalted S.writer sink.old sink.new B.rules (in_paint B.view B.Ends paint)
-        bytes.now (λ items. B.makes items made.new) fault) }
+        → IsHalted (printout S.writer sink.old sink.new)
+        (showing B.rules (in_paint B.view B.Ends paint)) bytes.now
+        (λ items. B.makes items made.new) fault) }
 {
     let mut receiver = Receiver::<B>::new(alloc);
     while let Some((place, item)) = next_item::<B>(&mut receiver, bytes)? {

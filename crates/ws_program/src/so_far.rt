@@ -3,9 +3,9 @@ ghost use Rattle.std.specs.Prelude.{◌≡◌, ◌++◌, List, ℕ, Some, IfOk, 
 ghost use Rattle.ws_code.specs.Device.{WentOut};
 ghost use Rattle.ws_record.specs.declared.record.Item.{Item as AnItem};
 ghost use Rattle.ws_text.specs.Printing.{IsPrintingFault};
+ghost use Rattle.ws_program.specs.StreamText.{showing, HoldsItems};
 ghost use Rattle.ws_program.specs.SoFar.{AreOpenLines, IsSoFarText};
 ghost use Rattle.ws_program.specs.SoFar.{open_lines as the_open_lines, begun_line as the_begun_line};
-ghost use Rattle.ws_program.specs.StreamText.{HoldsItems};
 ghost use Rattle.ws_program.specs.Views.{in_paint};
 
 use crate::open_part::{is_record_open, read_open};
@@ -31,11 +31,11 @@ pub fn write_so_far<B: Shown, S: Sink>(
     ensures ok { OnOk result ((text : List ℕ)
         × ((items : List (AnItem B.Unit)) → HoldsItems B.rules bytes.now items
         → B.makes items made.now
-        → IsSoFarText B.rules (in_paint B.view B.Ends paint) bytes.now items text)
+        → IsSoFarText (showing B.rules (in_paint B.view B.Ends paint)) bytes.now items text)
         × WentOut S.writer sink.old sink.new text) }
     ensures err { IfErr result (IsPrintingFault S.writer sink.old sink.new (λ text.
         (items : List (AnItem B.Unit)) → HoldsItems B.rules bytes.now items → B.makes items made.now
-        → IsSoFarText B.rules (in_paint B.view B.Ends paint) bytes.now items text)) }
+        → IsSoFarText (showing B.rules (in_paint B.view B.Ends paint)) bytes.now items text)) }
 {
     let text = open_lines::<B>(alloc, bytes)?;
     let lines = text.as_slice();
@@ -53,7 +53,7 @@ pub fn write_so_far<B: Shown, S: Sink>(
 fn open_lines<B: Shown>(alloc: Global, bytes: &[u8]) -> Result<Vec<u8>, Fault>
     ensures ok { IfOk result (λ text. (items : List (AnItem B.Unit))
         → HoldsItems B.rules bytes.now items
-        → AreOpenLines B.rules B.view bytes.now items text.items) }
+        → AreOpenLines (showing B.rules B.view) bytes.now items text.items) }
     ensures err { IfErr result (λ fault. fault ≡ Fault.Memory) }
 {
     let part = read_open::<B>(alloc, bytes)?;

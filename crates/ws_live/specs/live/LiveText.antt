@@ -68,7 +68,7 @@ pub record LineResult : Type 0 where
   pub outcome : Result Closing Fault
   pub text : List ℕ
 
--- this outcome, and this text
+-- the result of a line with this outcome and this text
 abbrev pub line_result : Result Closing Fault → List ℕ → LineResult
 line_result outcome text = record { outcome = outcome; text = text }
 
@@ -77,7 +77,7 @@ pub record Account : Type 0 where
   pub all_well : Bool
   pub text : List ℕ
 
--- so well, and this text
+-- the account of what went well or not, and printed this text
 abbrev pub account : Bool → List ℕ → Account
 account all_well text = record { all_well = all_well; text = text }
 

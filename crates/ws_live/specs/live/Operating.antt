@@ -50,7 +50,7 @@ pub record WatchedDisplay (S K : Type 0) : Type 1 where
   pub tells : WatchTells S
 
 module _ {D P U H PlaceV V Q R S K : Type 0} where
-  -- these rules, this of what comes, and these devices
+  -- a display of these rules, which makes this of what comes, at these devices
   abbrev pub attached_display : Rules P U → DisplayOf D U H PlaceV V Q R → Devices S K → AttachedDisplay S K
   attached_display rules does devices = record { on = on_display rules does; devices = devices }
 

@@ -9,7 +9,7 @@ pub record Printout (O : Type 0) : Type 1 where
   pub from : O
   pub to : O
 
--- at a sink that takes this, from there to there
+-- a printout at a sink that takes this, which stood so before and stands so behind
 abbrev pub printout : {O : Type 0} → Writer O → O → O → Printout O
 printout writer from to = record { writer = writer; from = from; to = to }
 

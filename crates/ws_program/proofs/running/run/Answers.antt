@@ -2,6 +2,7 @@ use Rattle.std.proofs.Common.{refl}
 use Rattle.std.proofs.lemmas.Result.{err_from_is_err_and}
 use Rattle.ws_live.specs.declared.asked.open_streams.OpenStreams.{OpenStreams}
 use Rattle.ws_code.specs.Device.{Writer}
+use Rattle.ws_live.specs.printing.Printouts.{printout}
 use Rattle.ws_program.specs.Runs.{IsWordsFault, IsFaultOfRun}
 use Rattle.ws_program.specs.declared.command_fault.CommandFault.{CommandFault}
 use Rattle.ws_program.specs.declared.command_fault.CommandFault.TheVariants.{Words, Run, Told}
@@ -9,7 +10,7 @@ use Rattle.ws_program.proofs.running.run.Goals as goal
 
 -- the words are at fault, and nothing was written
 unwritten : {S : Type 0} (writer : Writer S) (from : S) (streams : OpenStreams) (why : CommandFault)
-    → IsWordsFault why → IsFaultOfRun writer from from streams why
+    → IsWordsFault why → IsFaultOfRun (printout writer from from) streams why
 unwritten writer from streams (Words why) h = refl
 unwritten writer from streams (Run fault) h = (refl, h)
 unwritten writer from streams (Told fault) h = absurd h

@@ -2,6 +2,8 @@ use Rattle.std.specs.Prelude.{Result}
 use Rattle.std.proofs.Common.{false, sym, subst}
 use Rattle.std.proofs.lemmas.Result.{err_from_is_err_and}
 use Rattle.ws_code.specs.declared.fault.Fault.{Fault}
+use Rattle.ws_live.specs.printing.Printouts.{printout}
+use Rattle.ws_program.specs.StreamText.{showing}
 use Rattle.ws_program.specs.SoFar.{IsStop}
 use Rattle.ws_program.specs.Views.{in_paint}
 use Rattle.ws_program.specs.declared.verdict.Verdict.{Verdict}
@@ -13,8 +15,8 @@ pub returns-in_err-verdict_by_fault-in-Err-clause-printed : goal.returns-in_err-
 returns-in_err-verdict_by_fault-in-Err-clause-printed g c =
     let p = err_from_is_err_and c.from_residual.result c.from_residual.ensures.1 in
     rw (p.1, p.2)
-    (subst (λ (r : Result Verdict Fault). IsStop g.S.Sink.writer c.args.sink.now c.show_items.new.sink
-    g.B.Code.rules (in_paint g.B.Shown.view g.B.Shown.Ends c.args.paint) c.args.bytes.now r)
+    (subst (λ (r : Result Verdict Fault). IsStop (printout g.S.Sink.writer c.args.sink.now c.show_items.new.sink)
+    (showing g.B.Code.rules (in_paint g.B.Shown.view g.B.Shown.Ends c.args.paint)) c.args.bytes.now r)
     (sym c.in_err-verdict_by_fault-in-Err.ensures) (c.in-Err.ensures.err c.args.paint))
 
 pub returns-in-Ok-None-clause-printed : goal.returns-in-Ok-None-clause-printed
@@ -47,8 +49,9 @@ returns-in_err-verdict_by_fault-in-Err-clause-parts_begin g c =
 
 pub returns-clause-printed : goal.returns-clause-printed
 returns-clause-printed g c =
-    let stop = subst (λ (r : Result Verdict Fault). IsStop g.S.Sink.writer c.args.sink.now
-    c.show_items.new.sink g.B.Code.rules (in_paint g.B.Shown.view g.B.Shown.Ends c.args.paint) c.args.bytes.now r)
+    let stop = subst (λ (r : Result Verdict Fault). IsStop (printout g.S.Sink.writer c.args.sink.now
+    c.show_items.new.sink) (showing g.B.Code.rules (in_paint g.B.Shown.view g.B.Shown.Ends c.args.paint))
+    c.args.bytes.now r)
     (sym c.in_ok-verdict_by_fault-in-Err.ensures) (c.in-Err.ensures.err c.args.paint) in
     line_behind g.S.Sink.writer c.args.sink.now c.show_items.new.sink c.write_to-in-Err.new.sink g.B.Code.rules
     (in_paint g.B.Shown.view g.B.Shown.Ends c.args.paint) c.args.bytes.now false
