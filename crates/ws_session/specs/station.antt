@@ -6,7 +6,6 @@ pub mod Moments
 pub mod PartsOn
 pub mod StationActs
 pub mod StationCounts
-pub mod StationFeeds
 pub mod StationLeads
 pub mod StationManners
 pub mod StationNews
