@@ -12,7 +12,7 @@ use ws_text::first_line;
 ///
 /// Those stand directly behind it, and begin with two blanks.
 pub trait LiveLine: Drop {
-    // What such lines mean, how far they are good, which may belong to others, and where they are bad.
+    // What such lines mean, how far they are good, which belong to others, and where they are bad.
     ghost language: { LineLanguage Self };
 
     /// Whether lines may belong to this one.

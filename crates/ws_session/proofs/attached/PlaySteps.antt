@@ -133,8 +133,8 @@ module _ {S : Type 0} (writer : Writer S) (t : TerminalType) (keys : List (ℕ �
 
       text_more : run_text (asked t keys) items ++ (reply ++ text_of keyed.written) ≡ run_text (asked t keys) more
       text_more = ap (λ z. run_text (asked t keys) items ++ (z ++ text_of keyed.written)) taken.spelled
-          ∙ ap (λ z. run_text (asked t keys) items ++ z) (sym (text_append taken.writes keyed.written)) ∙ sym (text_append
-          so_far.written (taken.writes ++ keyed.written)) ∙ ap (λ (o : Outcome). text_of o.written) (sym one_more)
+          ∙ ap (λ z. run_text (asked t keys) items ++ z) (sym (text_append taken.writes keyed.written))
+          ∙ sym (text_append so_far.written (taken.writes ++ keyed.written)) ∙ ap (λ (o : Outcome). text_of o.written) (sym one_more)
 
       -- an item is, and the keys that are due behind it are pressed
       item_comes : (records : ℕ) (new : Player) (mid to : S) → records ≡ old.records + records_in_item taken.item
@@ -247,7 +247,8 @@ module _ {S : Type 0} (writer : Writer S) (t : TerminalType) (keys : List (ℕ �
           pub record_comes : (new : Player) (to : S) → AtStation old.station (λ bytes items side. length bytes + 1
               < 2 ^ 64 → HasDone writer bytes items (record old { records = records }) new mid to (outcome side
               (due records (drop old.pressed keys)))) → drop new.pressed keys ≡ later records (drop old.pressed keys)
-              → (next : List (Item Element)) × HaveBroughtPlayer (asked t keys) (outflow writer start to) new longer next
+              → (next : List (Item Element))
+              × HaveBroughtPlayer (asked t keys) (outflow writer start to) new longer next
           record_comes new to done left = elim fronted [
             | inl i ↦ absurd (let e : true ≡ false = sym ends ∙ i.1 in cc)
             | inr taken ↦ (let item : Item Element = taken.0.item in
