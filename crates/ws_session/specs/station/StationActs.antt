@@ -13,7 +13,7 @@ use Rattle.ws_session.specs.station.Displays.{RefusesKey}
 use Rattle.ws_session.specs.station.PartsOn.{PartsOn}
 use Rattle.ws_session.specs.station.StationManners.{told_by, key_on, manner_on}
 use Rattle.ws_session.specs.station.Stations.{AtStationOn, LeadsOn, IsPushedOn}
-use Rattle.ws_session.specs.Acts.{Ways, ways}
+use Rattle.ws_session.specs.Acts.{ways}
 use Rattle.ws_session.specs.station.Displays.{OnDisplay}
 use Rattle.ws_session.specs.station.Stations.{StationOf, ItemsOf, SideOf}
 
@@ -21,16 +21,13 @@ use Rattle.ws_session.specs.station.Stations.{StationOf, ItemsOf, SideOf}
 abbrev pub IsShutOn : {D P : Type 0} → PartsOn D P → Type 0
 IsShutOn station = IsShut station.ended station.live.taken
 
--- how a station that stands on this goes
-abbrev pub ways_of : (on : OnDisplay) → Ways on.Place on.Reads on.WritePlace on.Writes (SideOf on) on.Pressed Applied
-ways_of on = ways on.rules on.does.out (manner_on on.does)
-
 module _ (on : OnDisplay) where
   -- Behind these bytes others come, one after another: the station refuses none of their items, writes and tells this,
   -- and then this holds of all bytes, their items, and the side that it has come to.
   abbrev pub HasTakenAllOn : (List ℕ → ItemsOf on → SideOf on → Type 0) → List ℕ → ItemsOf on
       → SideOf on → List ℕ → List ℕ → List Applied → Type 0
-  HasTakenAllOn Then bytes items side came = HasGone (ways_of on) Then bytes items side
+  HasTakenAllOn Then bytes items side came = HasGone (ways on.rules on.does.out (manner_on on.does)) Then bytes items
+      side
       (all_came {Deed = on.Pressed} came)
 
   -- bytes of a piece come to a station one after another: they lead it to this one, which wrote and told this
@@ -55,7 +52,7 @@ module _ (on : OnDisplay) where
 
   -- the acts lead from one station to another, which wrote and told this in them
   abbrev pub GoesOnDisplay : StationOf on → List (Act on.Pressed) → List ℕ → List Applied → StationOf on → Type 0
-  GoesOnDisplay = Goes (ways_of on) (LeadsOn on) IsShutOn
+  GoesOnDisplay = Goes (ways on.rules on.does.out (manner_on on.does)) (LeadsOn on) IsShutOn
 
   -- The station takes these bytes, writes and tells nothing at them, and refuses the one behind them, as it refuses
   -- that byte alone. Where it is shut, it refuses the first, for that alone.
