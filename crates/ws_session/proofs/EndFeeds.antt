@@ -1,5 +1,5 @@
 use Rattle.ws_session.proofs.Common as C
-use C.{IfOk, IfErr, ◌≡◌, ◌+◌, ◌≤◌, List, [], ◌∷◌, ◌++◌, refl, subst, ◌∙◌, ℕ, suc, ◌<◌, Option, None, take, ap, sym}
+use C.{IfOk, IfErr, ◌≡◌, ◌+◌, ◌≤◌, List, [], ◌∷◌, ◌++◌, refl, subst, ◌∙◌, ℕ, suc, ◌<◌, Option, Some, None, IsSome, take, ap, sym}
 use C.{arith, ◌^◌, inl, inr, length, append_assoc, true, false, is_some, ◌-◌, Err, Ok, Result, length-take-le}
 use C.{take-append-le, Rules, Item, answer_rules, element_rules, AnswerPart, all_came, HasGone, Manner, Goes}
 use C.{host_manner, HostRefuses, Refusal, Failed, EndsAt, HostLeads, HostParts, IsHostPushed, HostSide}
@@ -103,14 +103,26 @@ pub if_err_on : {A Why : Type 0} (P Q : Why → Type 0) (result : Result A Why) 
 if_err_on P Q (Ok x) on p = p
 if_err_on P Q (Err why) on p = on why p
 
--- an end that hasn't ended, and for whose bytes there is room, isn't shut
-pub has_room : (ended : Option Refusal) (taken : ℕ) → false ≡ is_some ended → (2 ^ 64 - 1 - taken ≡ 0 → ⊥)
-    → IsShut ended taken → ⊥
-has_room ended taken works room (inl over) = (let e : false ≡ true = works ∙ over in cc)
-has_room ended taken works room (inr all) = room (omega (arith, all))
+-- what holds of an end that can't go on: it is as it was, or it ends there
+module _ {E : Type 0} (ended : E → Option Refusal) (old new : E) (kept : IsSome (ended old) → new ≡ old)
+    (stopped : E) (stops : ended old ≡ None → new ≡ stopped) where
+  by_end : (P : E → Type 0) → P old → P stopped → P new
+  by_end P was then = by (ended old) refl where
+    by : (o : Option Refusal) → ended old ≡ o → P new
+    by None e = subst P (sym (stops e)) then
+    by (Some why) e = subst P (sym (kept (rw e refl))) was
+
+  pub part_stays : {A : Type 0} (part : E → A) → part stopped ≡ part old → part new ≡ part old
+  part_stays part same = by_end (λ z. part z ≡ part old) refl same
+
+  pub is_over : IsSome (ended stopped) → IsSome (ended new)
+  is_over over = by (ended old) refl where
+    by : (o : Option Refusal) → ended old ≡ o → IsSome (ended new)
+    by None e = subst (λ z. IsSome (ended z)) (sym (stops e)) over
+    by (Some why) e = let some : IsSome (ended old) = rw e refl in subst (λ z. IsSome (ended z)) (sym (kept some)) some
 
 -- nothing leads to an end that is shut, with a byte more
-none_leads : (ended : Option Refusal) (taken count : ℕ) → ended ≡ None → taken ≡ count → count + 1 < 2 ^ 64
+pub none_leads : (ended : Option Refusal) (taken count : ℕ) → ended ≡ None → taken ≡ count → count + 1 < 2 ^ 64
     → IsShut ended taken → ⊥
 none_leads ended taken count works counted few (inl over) = (let e = rw works at over in cc)
 none_leads ended taken count works counted few (inr all) = omega (arith, counted, few, all)

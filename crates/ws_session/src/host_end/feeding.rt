@@ -5,8 +5,8 @@ ghost use Rattle.ws_session.specs.Conduct.{TakesSome};
 ghost use Rattle.ws_session.specs.Conducts.{host_conduct};
 
 use super::{HostFront, silence};
-use crate::end_step::{EndFed, refuses, takes};
-use crate::{HostEnd, HostEvent, HostStep, Refusal};
+use crate::end_step::{EndFed, EndStep};
+use crate::{HostEnd, HostEvent, HostStep};
 
 impl HostEnd {
     // Takes bytes of the piece up to and with the first at which the host end writes or tells something, or all. One
@@ -45,19 +45,24 @@ impl HostEnd {
         requires { 0 < length piece.now }
         ensures { TakesSome host_conduct (λ host reply. reply) self.old piece.now self.new result }
     {
-        if self.ended.is_some() {
-            return refuses(0, Refusal::Failed);
+        if let Err(why) = self.go_on() {
+            return EndFed {
+                used: 0,
+                step: Err(why),
+            };
         }
         let room = u64::MAX - self.live.taken();
-        if room == 0 {
-            self.ended = Some(Refusal::Failed);
-            return refuses(0, Refusal::Failed);
-        }
         let count = room.min(piece.len() as u64) as usize;
         let HostFront { used, step } = self.take_piece(&piece[..count]);
         match step {
-            Ok(HostStep { reply, event }) => takes(used, reply, event),
-            Err(refusal) => refuses(used, refusal),
+            Ok(HostStep { reply, event }) => EndFed {
+                used,
+                step: Ok(EndStep { reply, event }),
+            },
+            Err(refusal) => EndFed {
+                used,
+                step: Err(refusal),
+            },
         }
     }
 }

@@ -7,9 +7,9 @@ ghost use Rattle.ws_session.specs.station.Displays.{on_display as on};
 ghost use Rattle.ws_session.specs.station.StationTakes.{TakesPieceOn};
 
 use super::{StationStep, silence};
-use crate::end_step::{Applied, EndFed, refuses, takes};
+use crate::end_step::{Applied, EndFed, EndStep};
 use crate::station::station_fed::StationFront;
-use crate::{Refusal, StationDisplay, StationOn};
+use crate::{StationDisplay, StationOn};
 
 impl<D: StationDisplay> StationOn<D> {
     // Takes bytes of the piece up to and with the first at which the station writes or a record ends, or all. One that
@@ -50,19 +50,27 @@ impl<D: StationDisplay> StationOn<D> {
             (λ station reply. D.does.written station.screen reply)
             self.old piece.now self.new result }
     {
-        if self.ended.is_some() {
-            return refuses(0, Refusal::Failed);
+        if let Err(why) = self.go_on() {
+            return EndFed {
+                used: 0,
+                step: Err(why),
+            };
         }
         let room = u64::MAX - self.live.taken();
-        if room == 0 {
-            self.ended = Some(Refusal::Failed);
-            return refuses(0, Refusal::Failed);
-        }
         let count = room.min(piece.len() as u64) as usize;
         let StationFront { used, step } = self.take_piece(&piece[..count]);
         match step {
-            Ok(StationStep { reply, ends_record }) => takes(used, reply, told(ends_record)),
-            Err(refusal) => refuses(used, refusal),
+            Ok(StationStep { reply, ends_record }) => {
+                let event = told(ends_record);
+                EndFed {
+                    used,
+                    step: Ok(EndStep { reply, event }),
+                }
+            }
+            Err(refusal) => EndFed {
+                used,
+                step: Err(refusal),
+            },
         }
     }
 }

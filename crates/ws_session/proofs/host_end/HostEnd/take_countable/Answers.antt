@@ -1,40 +1,26 @@
 use Rattle.ws_session.proofs.Common.{rules, ◌≡◌, ◌+◌, ◌≤◌, refl, ◌∙◌, ℕ, ◌<◌, take, drop, ap, sym, arith, take-append-drop}
-use Rattle.ws_session.proofs.Common.{◌^◌, min, inl, inr, length, is_some, ◌-◌, length-take-le, answer_rules, Refusal}
+use Rattle.ws_session.proofs.Common.{◌^◌, min, inl, length, ◌-◌, Some, Failed, length-take-le, answer_rules, Refusal}
 use Rattle.ws_session.proofs.Common.{element_rules, as_list, host_manner, HostLeads, HostParts}
 use Rattle.ws_session.specs.Manners.{IsHostShut}
-use Rattle.ws_session.proofs.EndFeeds.{has_room, goes_by, host_count, host_shut, host_stops, host_silent}
+use Rattle.ws_session.proofs.EndFeeds.{part_stays, is_over, none_leads, goes_by, host_count, host_shut, host_stops, host_silent}
 use Rattle.ws_session.proofs.host_end.HostEnd.take_countable.Goals as goal
 
-pub returns-then-is_some : goal.returns-then-is_some
-returns-then-is_some c = rw c.refuses.ensures (record {
-  within = omega arith;
-  some = tt;
-  fed = tt;
-  first = tt;
-  refused = host_shut c.args.self.now _ c.args.piece.now c.requires
-      (inl (ap (λ (z : HostParts). is_some z.ended) (sym c.self.view_is) ∙ sym c.if-is_some.ensures)) refl;
-  over = search rules;
-  after = search rules;
-})
-
-pub returns-then-room-eq0 : goal.returns-then-room-eq0
-returns-then-room-eq0 c = rw c.refuses-then-room-eq0.ensures (record {
-  within = omega arith;
-  some = tt;
-  fed = tt;
-  first = tt;
-  refused = host_shut c.args.self.now _ c.args.piece.now c.requires
-      (inr (omega (
-        arith,
-        c.if-room-eq0.true,
-        c.taken-room.ensures,
-        c.taken-room.type_inv,
-        ap (λ (z : HostParts). z.receiver.live.taken) c.self.view_is,
-      )))
-      (ap (λ (z : HostParts). z.screen) c.self.view_is);
-  over = search rules;
-  after = search rules;
-})
+pub returns-in-Err : goal.returns-in-Err
+returns-in-Err c =
+    let now = c.args.self.now in
+    let stopped : HostParts = record now { ended = Some Failed } in
+    let e = c.in-Err.ensures in
+    rw e.shut.0 (record {
+      within = omega arith;
+      some = tt;
+      fed = tt;
+      first = tt;
+      refused = host_shut now c.go_on.new.self c.args.piece.now c.requires e.shut.1
+          (part_stays (λ (z : HostParts). z.ended) now c.go_on.new.self e.failed stopped e.after
+          (λ (z : HostParts). z.screen) refl);
+      over = λ over. (refl, refl, e.failed over);
+      after = is_over (λ (z : HostParts). z.ended) now c.go_on.new.self e.failed stopped e.after refl;
+    })
 
 -- the part of a piece that can be counted
 fits : (taken read length count part : ℕ) → read < 2 ^ 64 → taken ≡ read → count ≡ min (2 ^ 64 - 1 - read) length
@@ -43,7 +29,8 @@ fits taken read length count part below is least size = grind (arith, below, is,
 
 pub returns-in-Ok : goal.returns-in-Ok
 returns-in-Ok c =
-    let now = c.args.self.now in
+    let here = c.in_default.ensures.open in
+    let now = c.go_on.new.self in
     let piece = c.args.piece.now in
     let room : ℕ = c.min-count.result in
     let part = take room piece in
@@ -53,32 +40,26 @@ returns-in-Ok c =
     let few = fits now.receiver.live.taken c.taken-room.result (length piece) room (length part) c.taken-room.type_inv
     (ap (λ (z : HostParts). z.receiver.live.taken) (sym c.self.view_is) ∙ sym c.taken-room.ensures) c.min-count.ensures
     (λ le. length-take-le room piece le) in
-    let works = has_room now.ended now.receiver.live.taken
-    (c.if-is_some.ensures ∙ ap (λ (z : HostParts). is_some z.ended) c.self.view_is)
-    (λ e. c.if-room-eq0.false (omega (
-      arith,
-      e,
-      c.taken-room.ensures,
-      ap (λ (z : HostParts). z.receiver.live.taken) c.self.view_is,
-    ))) in
-    rw c.takes.ensures (record {
+    let works = none_leads now.ended now.receiver.live.taken now.receiver.live.taken (rw (← here.0) at here.1) refl
+    (rw (← here.0) at here.2) in
+    rw (← here.0) (record {
       within = search rules;
       some = search rules;
       fed = goes_by answer_rules element_rules host_manner HostLeads IsHostShut
-          (λ (z : HostParts). z.receiver.live.taken)
-          host_count now piece part (drop room piece) whole f.result.used f.ensures.within few to
-          c.in-Ok.field-0.reply (as_list c.in-Ok.field-0.event) works
+          (λ (z : HostParts). z.receiver.live.taken) host_count now piece part (drop room piece) whole
+          f.result.used f.ensures.within few to c.in-Ok.field-0.reply (as_list c.in-Ok.field-0.event) works
           (rw c.in-Ok.is at f.ensures.fed);
       first = host_silent now piece part (drop room piece) whole f.result.used f.ensures.within few works
           (rw c.in-Ok.is at f.ensures.first);
       refused = tt;
-      over = search rules;
+      over = λ over. absurd (works (inl over));
       after = tt;
     })
 
-pub returns-in-Err : goal.returns-in-Err
-returns-in-Err c =
-    let now = c.args.self.now in
+pub returns-in-Err-step : goal.returns-in-Err-step
+returns-in-Err-step c =
+    let here = c.in_default.ensures.open in
+    let now = c.go_on.new.self in
     let piece = c.args.piece.now in
     let room : ℕ = c.min-count.result in
     let part = take room piece in
@@ -88,22 +69,16 @@ returns-in-Err c =
     let few = fits now.receiver.live.taken c.taken-room.result (length piece) room (length part) c.taken-room.type_inv
     (ap (λ (z : HostParts). z.receiver.live.taken) (sym c.self.view_is) ∙ sym c.taken-room.ensures) c.min-count.ensures
     (λ le. length-take-le room piece le) in
-    let works = has_room now.ended now.receiver.live.taken
-    (c.if-is_some.ensures ∙ ap (λ (z : HostParts). is_some z.ended) c.self.view_is)
-    (λ e. c.if-room-eq0.false (omega (
-      arith,
-      e,
-      c.taken-room.ensures,
-      ap (λ (z : HostParts). z.receiver.live.taken) c.self.view_is,
-    ))) in
-    let why : Refusal = c.in-Err.refusal in
-    rw c.refuses-in-Err.ensures (record {
+    let works = none_leads now.ended now.receiver.live.taken now.receiver.live.taken (rw (← here.0) at here.1) refl
+    (rw (← here.0) at here.2) in
+    let why : Refusal = c.in-Err-step.refusal in
+    rw (← here.0) (record {
       within = search rules;
       some = tt;
       fed = tt;
       first = tt;
-      refused = host_stops now to piece part (drop room piece) whole f.result.used f.ensures.within few works why
-          (rw c.in-Err.is at f.ensures.refused);
-      over = search rules;
-      after = search rules;
+      refused = host_stops now to piece part (drop room piece) whole f.result.used f.ensures.within few works
+          why (rw c.in-Err-step.is at f.ensures.refused);
+      over = λ over. absurd (works (inl over));
+      after = rw (rw c.in-Err-step.is at f.ensures.after) refl;
     })
