@@ -134,9 +134,10 @@ module _ {D P U H PlaceV V K R : Type 0} (rules : Rules P U) (d : DisplayOf D U 
 
   -- a station that is shut refuses the first byte of a piece
   pub station_shut : (old new : PartsOn D P) (piece : List ℕ) → 0 < length piece → IsShutOn old
-      → new.screen ≡ old.screen → (byte : ℕ) × (rest : List ℕ) × (piece ≡ take 0 piece ++ byte ∷ rest)
-      × RefusesOn (on_display rules d) old (take 0 piece) byte Failed new
-  station_shut old new piece some shut same =
+      → new.screen ≡ old.screen → (why : Refusal) → why ≡ Failed
+      → (byte : ℕ) × (rest : List ℕ) × (piece ≡ take 0 piece ++ byte ∷ rest)
+      × RefusesOn (on_display rules d) old (take 0 piece) byte why new
+  station_shut old new piece some shut same why is =
       let f = first_of piece some in (
         f.0,
         f.1,
@@ -144,7 +145,7 @@ module _ {D P U H PlaceV V K R : Type 0} (rules : Rules P U) (d : DisplayOf D U 
         record {
           led = λ bytes items side l few. absurd (none_leads old.ended old.live.taken (length bytes) l.works
               (station_count old bytes items side l) (omega (arith, few)) shut);
-          shut = λ over. (refl, refl, same);
+          shut = λ over. (refl, is, same);
         },
       )
 
@@ -186,9 +187,10 @@ host_count host bytes items side l = l.taken.leads.1.count
 
 -- so does a host end
 pub host_shut : (old new : HostParts) (piece : List ℕ) → 0 < length piece → IsHostShut old
-    → new.screen ≡ old.screen → (byte : ℕ) × (rest : List ℕ) × (piece ≡ take 0 piece ++ byte ∷ rest)
-    × HostRefuses old (take 0 piece) byte Failed new
-host_shut old new piece some shut same =
+    → new.screen ≡ old.screen → (why : Refusal) → why ≡ Failed
+    → (byte : ℕ) × (rest : List ℕ) × (piece ≡ take 0 piece ++ byte ∷ rest)
+    × HostRefuses old (take 0 piece) byte why new
+host_shut old new piece some shut same why is =
     let f = first_of piece some in (
       f.0,
       f.1,
@@ -196,7 +198,7 @@ host_shut old new piece some shut same =
       record {
         led = λ bytes items side l few. absurd (none_leads old.ended old.receiver.live.taken (length bytes) l.works
             (host_count old bytes items side l) (omega (arith, few)) shut);
-        shut = λ over. (refl, refl, same);
+        shut = λ over. (refl, is, same);
       },
     )
 

@@ -13,17 +13,17 @@ returns-in-Err g c =
     let now = c.args.self.now in
     let stopped : PartsOn _ _ = record now { ended = Some Failed } in
     let e = c.in-Err.ensures in
-    rw e.shut.0 (record {
+    record {
       within = omega arith;
       some = tt;
       fed = tt;
       first = tt;
       refused = station_shut _ _ now c.go_on.new.self c.args.piece.now c.requires e.shut.1
           (part_stays (λ (z : PartsOn _ _). z.ended) now c.go_on.new.self e.failed stopped e.after
-          (λ (z : PartsOn _ _). z.screen) refl);
-      over = λ over. (refl, refl, e.failed over);
+          (λ (z : PartsOn _ _). z.screen) refl) _ (search rules);
+      over = λ over. (search rules, refl, e.failed over);
       after = is_over (λ (z : PartsOn _ _). z.ended) now c.go_on.new.self e.failed stopped e.after refl;
-    })
+    }
 
 -- the part of a piece that can be counted
 fits : (taken read length count part : ℕ) → read < 2 ^ 64 → taken ≡ read → count ≡ min (2 ^ 64 - 1 - read) length
