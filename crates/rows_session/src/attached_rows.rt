@@ -6,12 +6,14 @@ use crate::end_rows::{
 use crate::{holds, same};
 use std::alloc::Global;
 use std::process::Abort;
-use ws_code::{FailingSink, Fault, Reason, Sink, SliceSource, VecSink};
+use ws_code::{FailingSink, Fault, List, Reason, Sink, SliceSource, VecSink};
 use ws_keys::{Key, KeyRefusal};
 use ws_nego::TerminalType;
 use ws_record::{Opcode, read_body};
-use ws_session::{Applied, Attached, HostEnd, HostEvent, KeyFault, SendFault, Station};
-use ws_stream::{Commands, Element};
+use ws_session::{
+    Acted, Applied, Attached, HostEnd, HostEvent, KeyFault, Order, SendFault, Station,
+};
+use ws_stream::Commands;
 
 type StationLine<'a, K> = Attached<Station, SliceSource<'a>, K>;
 
@@ -29,7 +31,7 @@ fn presses<K: Sink>(
     rt: &impl Abort,
     line: &mut StationLine<'_, K>,
     key: Key,
-    wanted: Result<Option<KeyFault>, Fault>,
+    wanted: Result<Acted<KeyFault>, Fault>,
 ) {
     same(rt, line.press(key), wanted);
 }
@@ -48,11 +50,11 @@ fn a_station_at_its_line(rt: HostRuntime) {
         (true, 1),
     );
     for letter in ['B', 'O', 'B'] {
-        presses(&rt, &mut line, Key::Char(letter), Ok(None));
+        presses(&rt, &mut line, Key::Char(letter), Ok(Acted::Done));
     }
-    presses(&rt, &mut line, enter(&rt), Ok(None));
+    presses(&rt, &mut line, enter(&rt), Ok(Acted::Done));
     let locked = KeyFault::Key(KeyRefusal::Locked);
-    presses(&rt, &mut line, enter(&rt), Ok(Some(locked)));
+    presses(&rt, &mut line, enter(&rt), Ok(Acted::Refused(locked)));
     same(
         &rt,
         line.sink().as_slice().get(OPENED.len()..),
@@ -65,27 +67,30 @@ fn host_hears(rt: &impl Abort, line: &mut HostLine, wanted: Result<Option<HostEv
     same(rt, line.hear(), wanted);
 }
 
-fn sends(
+fn does(
     rt: &impl Abort,
     line: &mut HostLine,
-    body: &[Element],
-    wanted: Result<Option<SendFault>, Fault>,
+    order: &Order,
+    wanted: Result<Acted<SendFault>, Fault>,
 ) {
-    same(rt, line.send(Opcode::PutGet, body), wanted);
-}
-
-fn cancels(rt: &impl Abort, line: &mut HostLine, wanted: Result<Option<SendFault>, Fault>) {
-    same(rt, line.cancel(), wanted);
+    same(rt, line.act(order), wanted);
 }
 
 // A form is sent and cancelled once, and refused the second time; both stand behind what was written before.
-fn sends_and_cancels(rt: &impl Abort, line: &mut HostLine, body: &[Element]) {
+fn sends_and_cancels(rt: &impl Abort, alloc: Global, line: &mut HostLine, form: &Order) {
     let opened = line.sink().as_slice().len();
-    sends(rt, line, body, Ok(None));
+    does(rt, line, form, Ok(Acted::Done));
     same(rt, line.end().screen().fields().len(), 1);
-    sends(rt, line, body, Ok(Some(SendFault::ReadOutstanding)));
-    cancels(rt, line, Ok(None));
-    cancels(rt, line, Ok(Some(SendFault::NoReadToCancel)));
+    does(
+        rt,
+        line,
+        form,
+        Ok(Acted::Refused(SendFault::ReadOutstanding)),
+    );
+    let stop = Order::Send(Opcode::CancelInvite, List::of(Vec::new(alloc)));
+    does(rt, line, &stop, Ok(Acted::Done));
+    let refused = SendFault::NoReadToCancel;
+    does(rt, line, &Order::Cancel, Ok(Acted::Refused(refused)));
     let written = line
         .sink()
         .as_slice()
@@ -119,7 +124,8 @@ fn a_host_end_at_its_line(rt: HostRuntime) {
     let terminal = TerminalType::Ibm3179Model2;
     host_hears(&rt, &mut line, Ok(Some(HostEvent::Ready(terminal))));
     same(&rt, line.end().terminal(), Some(terminal));
-    sends_and_cancels(&rt, &mut line, form.as_slice());
+    let form = Order::Send(Opcode::PutGet, List::of(form));
+    sends_and_cancels(&rt, alloc, &mut line, &form);
     host_hears(&rt, &mut line, Ok(Some(HostEvent::Attention)));
     holds(&rt, matches!(line.hear(), Ok(Some(HostEvent::Answer(_)))));
     host_hears(&rt, &mut line, Ok(None));
@@ -167,8 +173,9 @@ fn breaks_at_a_refusal(rt: &impl Abort, alloc: Global) {
     host_hears(rt, &mut line, Err(Fault::Refused { place, reason }));
     same(rt, line.end().refused(), Some((place, reason)));
     host_hears(rt, &mut line, Err(Fault::Failed));
-    cancels(rt, &mut line, Err(Fault::Failed));
-    sends(rt, &mut line, &[], Err(Fault::Failed));
+    does(rt, &mut line, &Order::Cancel, Err(Fault::Failed));
+    let empty = Order::Send(Opcode::PutGet, List::of(Vec::new(alloc)));
+    does(rt, &mut line, &empty, Err(Fault::Failed));
 }
 
 // A write that fails, and a byte that is refused: every later call answers that the end has failed.

@@ -7,7 +7,7 @@ use std::process::Abort;
 use ws_code::{SliceSource, VecSink};
 use ws_keys::{Answer, Key, KeyRefusal};
 use ws_nego::TerminalType;
-use ws_session::{Applied, Attached, End, KeyFault, StationOn};
+use ws_session::{Acted, Applied, Attached, End, KeyFault, StationOn};
 
 type SecondStation = StationOn<SecondDisplay>;
 
@@ -78,8 +78,12 @@ fn any_display_is_attached(rt: HostRuntime) {
     let source = SliceSource::new(bytes.as_slice());
     let mut attached = Attached::new(second_station(), source, VecSink::new(alloc));
     same(&rt, attached.hear(), Ok(Some(Applied)));
-    same(&rt, attached.press(None), Ok(None));
-    same(&rt, attached.press(Some(Key::Attention)), Ok(None));
+    same(&rt, attached.press(None), Ok(Acted::Done));
+    same(
+        &rt,
+        attached.press(Some(Key::Attention)),
+        Ok(Acted::Done),
+    );
     holds(&rt, !attached.end().display().rings());
     let mut wanted = OPENED.to_vec(alloc).expect(&rt, "memory");
     wanted.extend_from_slice(CANCEL).expect(&rt, "memory");

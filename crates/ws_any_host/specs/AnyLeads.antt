@@ -14,6 +14,7 @@ use Rattle.ws_record.specs.Refusal.{IsRefused}
 use Rattle.ws_record.specs.declared.record.Item.{Item}
 use Rattle.ws_record.specs.declared.record.Record.{Record}
 use Rattle.ws_session.specs.Acts.{Act, Goes}
+use Rattle.ws_session.specs.attached.Deeds.{Judged, judged}
 use Rattle.ws_session.specs.Ends.{IsShut}
 use Rattle.ws_session.specs.Reaction.{Reaction, Refuses, GoesOn}
 use Rattle.ws_session.specs.declared.end_step.EndStep.{EndStep}
@@ -145,3 +146,7 @@ pub record IsAnySendTaken (host : AnyParts) (r : Record ℕ) : Type 0 where
   pub led : (bytes : List ℕ) (items : List (Item ℕ)) (side : Negotiated) → AnyLeads host bytes items side
       → length bytes + 1 < 2 ^ 64 → send_fault side r ≡ None
   pub works : IsAnyShut host → ⊥
+
+-- a record to be sent, as the host judges it
+abbrev pub any_judged : Record ℕ → Judged AnyParts (Record ℕ) AnyEvent SendFault
+any_judged r = judged any_conduct IsAnySendRefusal IsAnySendTaken IsAnySendTaken r

@@ -1,7 +1,7 @@
 -- What a line of a script does at a host that takes any record, and what it prints.
 
 use Rattle.std.specs.Prelude.{◌≡◌, ℕ, List, [], ◌∷◌, ◌++◌, ◌⊎◌, Bool, true, false, not, ◌&&◌, ◌==◌, nat_lt, length, codes}
-use Rattle.std.specs.Prelude.{Option, None, Some, IfSome, IfNone, Result, Ok, Err, if◌then◌else◌, string_bytes}
+use Rattle.std.specs.Prelude.{Option, None, Some, Result, Ok, Err, if◌then◌else◌, string_bytes}
 use Rattle.std.specs.List.{flat_map}
 use Rattle.std.specs.Fmt.{decimal}
 use Rattle.hex.specs.Hex.{encode_upper}
@@ -9,9 +9,9 @@ use Rattle.ws_code.specs.Device.{most_reads, Devices}
 use Rattle.ws_code.specs.declared.fault.Fault.{Fault}
 use Rattle.ws_code.specs.declared.fault.Fault.TheVariants as fault
 use Rattle.ws_record.specs.Grammar.{two_bytes, opcode_byte}
-use Rattle.ws_record.specs.declared.record.Record.{Record}
-use Rattle.ws_session.specs.Acts.{Did}
-use Rattle.ws_session.specs.attached.Attachments.{AttachedParts, HaveLed, IsSendFailure, HasHeard, IsHearFault}
+use Rattle.ws_session.specs.attached.Attachments.{AttachedParts, HasHeard, IsHearFault}
+use Rattle.ws_session.specs.attached.Deeds.{HasActed}
+use Rattle.ws_session.specs.declared.attached.acted.Acted.{Acted}
 use Rattle.ws_session.specs.declared.host_end.send_fault.SendFault.{SendFault}
 use Rattle.ws_text.specs.ItemLines.{hex_behind_blank}
 use Rattle.ws_live.specs.live.LiveText.{LineResult, LinesDo, bad_outcome, bad_text, line_result}
@@ -21,7 +21,7 @@ use Rattle.ws_live.specs.live.WireLines.{WireRuns}
 use Rattle.ws_live.specs.declared.live.Closing.TheVariants.{Nothing, Done, Ended}
 use Rattle.ws_live.specs.declared.live.watch.WaitSpan.{WaitSpan}
 use Rattle.ws_live.specs.declared.live.watch.WaitSpan.TheVariants.{Whole}
-use Rattle.ws_any_host.specs.AnyLeads.{AnyParts, any_conduct, IsAnySendRefusal, IsAnySendTaken}
+use Rattle.ws_any_host.specs.AnyLeads.{AnyParts, any_conduct, any_judged}
 use Rattle.ws_any_host.specs.declared.any_event.AnyEvent.{AnyEvent}
 use Rattle.ws_any_host.specs.declared.any_event.AnyEvent.TheVariants.{Ready, Record as Came}
 use Rattle.ws_any_host.specs.declared.any_line.AnyLine.{AnyLine}
@@ -66,22 +66,6 @@ module _ {S K : Type 0} (devices : Devices S K) where
   -- such a host on a source and a sink
   abbrev pub AttachedAnyHost : Type 0
   AttachedAnyHost = AttachedParts AnyParts S K
-
-  -- the record was written, or refused, and nothing is changed; no byte was read or taken
-  pub record IsAnySendDone (r : Record ℕ) (from : AttachedAnyHost) (refused : Option SendFault)
-      (to : AttachedAnyHost) : Type 0 where
-    pub led : HaveLed any_conduct devices from to (Did r ∷ []) []
-    pub same : IfSome refused (λ why. to ≡ from)
-    pub why : IfSome refused (IsAnySendRefusal from.end r)
-    pub taken : IfNone refused (IsAnySendTaken from.end r)
-    pub waiting : to.waiting ≡ from.waiting
-    pub unread : to.source ≡ from.source
-
-  -- what the host was told to send is sent or refused, or a write failed, or for want of memory nothing is done
-  abbrev pub IsAnySendGiven : Record ℕ → AttachedAnyHost → Result (Option SendFault) Fault → AttachedAnyHost → Type 0
-  IsAnySendGiven r from (Ok refused) to = IsAnySendDone r from refused to
-  IsAnySendGiven r from (Err why) to =
-      IsSendFailure any_conduct devices from to (Did r ∷ []) why
 
   -- things were told one after another, none of which is a record by the key
   abbrev pub HaveToldBeforeKey : ℕ → AttachedAnyHost → List AnyEvent → AttachedAnyHost → Type 0
@@ -131,7 +115,8 @@ module _ {S K : Type 0} (on : WatchedDevices S K) where
   -- what a line comes to at such a host
   abbrev pub AnyDoes : LinesDo AnyLine WatchedAnyHost
   AnyDoes NoLine from came to = (to ≡ from) × (came.outcome ≡ Ok Nothing) × (came.text ≡ [])
-  AnyDoes (Send r) from came to = (given : Result (Option SendFault) Fault) × IsAnySendGiven on.devices r from given to
+  AnyDoes (Send r) from came to = (given : Result (Acted SendFault) Fault) × (from.broken ≡ false)
+      × HasActed on.devices (any_judged r) from to given
       × (came.outcome ≡ given_outcome given) × (came.text ≡ given_text given)
   AnyDoes Await from came to = AnyHearsOne from came to
   AnyDoes (AwaitKey aid) from came to = HearsKey aid from came to

@@ -12,8 +12,8 @@ use ws_code::{Aid, Fault, Sink, Source};
 use ws_live::{
     Carried, Closing, LiveMove, Paint, WaitSpan, Watch, carry_wire, put_bad, put_given, put_unheard,
 };
-use ws_record::{Opcode, Record};
-use ws_session::{Attached, SendFault};
+use ws_record::Opcode;
+use ws_session::Attached;
 use ws_text::Output;
 
 impl<S: Source, K: Sink> LiveMove<AnyHost, S, K> for AnyLine {
@@ -36,7 +36,7 @@ impl<S: Source, K: Sink> LiveMove<AnyHost, S, K> for AnyLine {
                 output,
                 outcome: Ok(Closing::Nothing),
             },
-            AnyLine::Send(record) => put_given(out, output, give(attached, record)),
+            AnyLine::Send(record) => put_given(out, output, attached.act(record)),
             AnyLine::Await => {
                 watch.begin(attached.source(), WaitSpan::Whole);
                 hear_event(attached, watch, out, output)
@@ -52,22 +52,6 @@ impl<S: Source, K: Sink> LiveMove<AnyHost, S, K> for AnyLine {
             },
             AnyLine::Bad(cause) => put_bad(out, output, cause.as_str()),
         }
-    }
-}
-
-// Sends a record.
-fn give<S: Source, K: Sink>(
-    attached: &mut Attached<AnyHost, S, K>,
-    record_: &Record<u8>,
-) -> Result<Option<SendFault>, Fault>
-    requires works { attached.old.broken ≡ false }
-    ensures given { Spec.IsAnySendGiven (on_devices K.writer S.reader) record_.now
-        attached.old result attached.new }
-    ensures works { IfOk result (λ refused. attached.new.broken ≡ false) }
-{
-    match attached.act(record_) {
-        Ok(refused) => Ok(refused),
-        Err(fault) => Err(fault),
     }
 }
 

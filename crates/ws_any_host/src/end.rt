@@ -8,7 +8,7 @@ ghost use Rattle.ws_session.specs.Acts.{ways};
 use crate::{AnyEvent, AnyHost};
 use ws_nego::Reply;
 use ws_record::Record;
-use ws_session::{Acting, End, EndFed, SendFault};
+use ws_session::{Acting, End, EndFed, SendFault, Sent};
 
 impl End for AnyHost {
     type Deed = Record<u8>;
@@ -48,9 +48,11 @@ impl Acting for AnyHost {
 
     ghost acts = { IsAnySendTaken };
 
-    fn act(&mut self, deed: &Record<u8>) -> Result<Vec<u8>, SendFault> {
+    ghost wants = { IsAnySendTaken };
+
+    fn act(&mut self, deed: &Record<u8>) -> Result<Sent, SendFault> {
         match self.send(deed) {
-            Ok(bytes) => Ok(bytes),
+            Ok(bytes) => Ok(Sent::Record(bytes)),
             Err(fault) => Err(fault),
         }
     }

@@ -1,4 +1,4 @@
-use Rattle.std.specs.Prelude.{Result, Ok, Err, Option, Some, is_none}
+use Rattle.std.specs.Prelude.{Result, Ok, Err, Some}
 use Rattle.std.proofs.Common.{◌≡◌, ℕ, suc, ◌+◌, ◌<◌, ◌≤◌, List, [], ◌∷◌, ◌++◌, Bool, true, false, ◌&&◌, length, get_or}
 use Rattle.std.proofs.Common.{take, drop, take-append-drop, inl, inr, refl, sym, ap, ◌∙◌, subst, arith, append_assoc}
 use Rattle.std.proofs.Common.{length-append}
@@ -9,6 +9,8 @@ use Rattle.ws_code.specs.Device.{one_more}
 use Rattle.ws_code.specs.declared.fault.Fault.{Fault}
 use Rattle.ws_code.specs.declared.fault.Fault.TheVariants as fault
 use Rattle.ws_session.specs.attached.Attachments.{AttachedParts}
+use Rattle.ws_session.specs.attached.Deeds.{is_done}
+use Rattle.ws_session.specs.declared.attached.acted.Acted.{Acted}
 use Rattle.ws_session.specs.declared.end_step.Applied.{Applied}
 use Rattle.ws_session.specs.declared.station.key_fault.KeyFault.{KeyFault}
 use Rattle.ws_live.specs.declared.live.Closing.{Closing}
@@ -83,13 +85,13 @@ module _ {S K : Type 0} (display : KeyedDisplay S K) where
   Ends = AttachedParts (StationOf display.at.on) S K
 
   -- what is printed of one key behind others
-  abbrev Refused : KeyAt display.at → Option KeyFault → List ℕ
+  abbrev Refused : KeyAt display.at → Acted KeyFault → List ℕ
   Refused key refused = refusal_text display key refused
 
   pub pressed_more : (from mid to : Ends) (keys : List (KeyAt display.at)) (key : KeyAt display.at)
-      (refused : Option KeyFault) (came : Account)
+      (refused : Acted KeyFault) (came : Account)
       → ArePressed display from keys came mid → IsKeyPressed display.at key mid refused to
-      → ArePressed display from (keys ++ key ∷ []) (account (came.all_well && is_none refused)
+      → ArePressed display from (keys ++ key ∷ []) (account (came.all_well && is_done refused)
       (came.text ++ Refused key refused)) to
   pressed_more from mid to [] key refused came h p = (
     refused,
@@ -97,16 +99,16 @@ module _ {S K : Type 0} (display : KeyedDisplay S K) where
     account true [],
     subst (λ (z : Ends). IsKeyPressed display.at key z refused to) h.0 p,
     (refl, refl, refl),
-    ap (λ b. b && is_none refused) h.1 ∙ sym (and_true (is_none refused)),
+    ap (λ b. b && is_done refused) h.1 ∙ sym (and_true (is_done refused)),
     ap (λ z. z ++ Refused key refused) h.2 ∙ sym (append-nil (Refused key refused)),
   )
   pressed_more from mid to (first ∷ keys) key refused came h p = (
     h.0,
     h.1,
-    account (h.2.all_well && is_none refused) (h.2.text ++ Refused key refused),
+    account (h.2.all_well && is_done refused) (h.2.text ++ Refused key refused),
     h.3,
     pressed_more h.1 mid to keys key refused h.2 h.4 p,
-    ap (λ b. b && is_none refused) h.5 ∙ and_assoc (is_none h.0) h.2.all_well (is_none refused),
+    ap (λ b. b && is_done refused) h.5 ∙ and_assoc (is_done h.0) h.2.all_well (is_done refused),
     ap (λ z. z ++ Refused key refused) h.6 ∙ append_assoc (Refused first h.0) h.2.text (Refused key refused),
   )
 
@@ -114,14 +116,14 @@ module _ {S K : Type 0} (display : KeyedDisplay S K) where
   module _ (from mid to : Ends) (keys : List (KeyAt display.at)) (i : ℕ) (key : KeyAt display.at)
       (inside : i < length keys)
       (is : key ≡ get_or keys i key) where
-    pub pressed_on : (refused : Option KeyFault) (came : Account)
+    pub pressed_on : (refused : Acted KeyFault) (came : Account)
         → ArePressed display from (take i keys) came mid → IsKeyPressed display.at key mid refused to
-        → ArePressed display from (take (i + 1) keys) (account (came.all_well && is_none refused)
+        → ArePressed display from (take (i + 1) keys) (account (came.all_well && is_done refused)
         (came.text ++ Refused key refused)) to
     pressed_on refused came h p =
         let next : take i keys ++ key ∷ [] ≡ take (i + 1) keys = ap (λ z. take i keys ++ z ∷ []) is
         ∙ sym (take_more keys i key inside) in
-        subst (λ (z : List (KeyAt display.at)). ArePressed display from z (account (came.all_well && is_none refused)
+        subst (λ (z : List (KeyAt display.at)). ArePressed display from z (account (came.all_well && is_done refused)
         (came.text ++ Refused key refused)) to) next (pressed_more from mid to (take i keys) key refused came h p)
 
     pub unwritten_at : (well : Bool) (text : List ℕ) → ArePressed display from (take i keys) (account well text) mid
@@ -146,12 +148,12 @@ module _ {S K : Type 0} (display : KeyedDisplay S K) where
         → (more : Bool) × ArePressed display from (take (i + 1) keys) (account more (text ++ last)) to
         × (closing_of_both closing next ≡ pressed more)
     key_more well text last closing next h e (inl r) =
-        let same : next ≡ pressed (is_none r.0) = ok_same next (pressed (is_none r.0)) r.2 in (
-          well && is_none r.0,
+        let same : next ≡ pressed (is_done r.0) = ok_same next (pressed (is_done r.0)) r.2 in (
+          well && is_done r.0,
           subst (λ (z : List ℕ). ArePressed display from (take (i + 1) keys)
-              (account (well && is_none r.0) (text ++ z)) to) (sym r.3) (pressed_on r.0 (account well text) h r.1),
+              (account (well && is_done r.0) (text ++ z)) to) (sym r.3) (pressed_on r.0 (account well text) h r.1),
           ap (λ z. closing_of_both z next) e ∙ ap (λ z. closing_of_both (pressed well) z) same ∙ both_pressed well
-              (is_none r.0),
+              (is_done r.0),
         )
     key_more well text last closing next h e (inr r) = absurd (ok_no_err next fault.Write r.1)
 
@@ -159,7 +161,7 @@ module _ {S K : Type 0} (display : KeyedDisplay S K) where
         → ArePressed display from (take i keys) (account well text) mid
         → KeyRuns display key mid (line_result (Err why) last) to
         → KeysRun display keys from (line_result (Err why) (text ++ last)) to
-    key_stops well text last why h (inl r) = absurd (ok_no_err (pressed (is_none r.0)) why (sym r.2))
+    key_stops well text last why h (inl r) = absurd (ok_no_err (pressed (is_done r.0)) why (sym r.2))
     key_stops well text last why h (inr r) =
         let all : text ≡ text ++ last = sym (append-nil text) ∙ ap (λ z. text ++ z) (sym r.2) in
         let written : KeysRun display keys from (line_result (Err fault.Write) (text ++ last)) to =

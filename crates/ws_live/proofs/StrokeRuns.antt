@@ -1,5 +1,5 @@
 use Rattle.std.specs.Option.{option_map}
-use Rattle.std.specs.Prelude.{Result, Ok, Option, Some, None, is_none, map, replicate}
+use Rattle.std.specs.Prelude.{Result, Ok, Option, Some, None, map, replicate}
 use Rattle.std.proofs.Common.{◌≡◌, ◌≢◌, ℕ, zero, suc, ◌+◌, ◌-◌, ◌<◌, List, [], ◌∷◌, ◌++◌, length, get_or, take, drop}
 use Rattle.std.proofs.Common.{take-append-drop, inl, inr, refl, sym, ap, ◌∙◌, subst, arith}
 use Rattle.std.proofs.Math.Seq.{drop-cons}
@@ -11,6 +11,9 @@ use Rattle.ws_keys.specs.Strokes.{keys_of}
 use Rattle.ws_keys.specs.declared.key.Key.{Key}
 use Rattle.ws_keys.specs.declared.key_run.KeyRun.{KeyRun}
 use Rattle.ws_session.specs.attached.Attachments.{AttachedParts}
+use Rattle.ws_session.specs.attached.Deeds.{is_done}
+use Rattle.ws_session.specs.declared.attached.acted.Acted.{Acted}
+use Rattle.ws_session.specs.declared.attached.acted.Acted.TheVariants as acted
 use Rattle.ws_session.specs.declared.station.key_fault.KeyFault.{KeyFault}
 use Rattle.ws_live.specs.declared.live.Closing.{Closing}
 use Rattle.ws_live.specs.declared.live.Closing.TheVariants.{Declined, Done}
@@ -97,11 +100,11 @@ module _ {S K : Type 0} (display : KeyedDisplay S K) where
   taken text = line_result (Ok Done) text
 
   -- a key that is taken prints nothing
-  quiet : (entered : Option ℕ) (refused : Option KeyFault)
-      → ◌≡◌ {A = Result Closing Fault} (Ok Done) (Ok (pressed (is_none refused)))
+  quiet : (entered : Option ℕ) (refused : Acted KeyFault)
+      → ◌≡◌ {A = Result Closing Fault} (Ok Done) (Ok (pressed (is_done refused)))
       → key_refused_text entered refused ≡ []
-  quiet entered None e = refl
-  quiet entered (Some why) e = cc
+  quiet entered acted.Done e = refl
+  quiet entered (acted.Refused why) e = cc
 
   pub prints_nothing : (key : KeyAt display.at) (from to : Parts) (text : List ℕ) → Runs key from (taken text) to
       → text ≡ []

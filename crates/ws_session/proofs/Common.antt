@@ -162,7 +162,7 @@ pub use Rattle.ws_session.specs.declared.world.Report.{Report}
 pub use Rattle.ws_session.specs.world.Reports.{IsReport, IsOpened}
 pub use Rattle.ws_session.specs.world.Runs.{AreWritable, WorldParts, RunsWith, Runs, IsKey}
 pub use Rattle.ws_session.specs.world.Through.{HasRefusedIn, Through}
-pub use Rattle.ws_session.specs.world.TwoLines.{two_ends_of, TwoEnds, key_told, send_told, order_of, HasOrdered, Orders}
+pub use Rattle.ws_session.specs.world.TwoLines.{two_ends_of, TwoEnds, key_told, send_told, HasOrdered, Orders}
 pub use Rattle.ws_session.specs.world.TwoLines.{all_read, HasMoved, HaveMoved, HasRun, StationIsLed, HostIsLed}
 pub use Rattle.ws_session.specs.world.TwoLines.{all_sent, HaveCome, AreDeliveredOver, Hearing, hearing_of}
 pub use Rattle.ws_session.specs.world.TwoLines.{at_station_end, at_host_end}
@@ -170,4 +170,4 @@ pub use Rattle.ws_session.specs.world.Wires.{WireParts, reported, HasMemory, Com
 pub use Rattle.ws_session.specs.world.World.{World, new_world, after_moves, IsQuiet, after_move, down_bytes}
 pub use Rattle.ws_session.specs.world.World.{station_did, station_gets, byte_to_station, up_bytes, host_did, host_gets}
 pub use Rattle.ws_session.specs.world.World.{byte_to_host, events_with, bytes_to_station, bytes_to_host}
-pub use Rattle.ws_session.specs.world.World.{station_pressed, host_sent, host_sends, after_press, after_send}
+pub use Rattle.ws_session.specs.world.World.{station_pressed, host_sent, after_press, after_send}

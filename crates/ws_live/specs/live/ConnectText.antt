@@ -1,16 +1,18 @@
 -- What a line of a script for a station does there, and what it prints, by the station's display.
 
 use Rattle.std.specs.Prelude.{◌≡◌, ◌≢◌, ℕ, ◌<◌, List, [], ◌∷◌, ◌++◌, ◌⊎◌, Bool, true, false, ◌&&◌, Option, None}
-use Rattle.std.specs.Prelude.{Some, IfSome, IfNone, is_none}
+use Rattle.std.specs.Prelude.{Some}
 use Rattle.std.specs.Prelude.{Result, Ok, Err, string_bytes, length, if◌then◌else◌, codes, encode_utf8}
 use Rattle.ws_code.specs.Device.{most_reads, one_more}
 use Rattle.ws_code.specs.declared.fault.Fault.{Fault}
 use Rattle.ws_code.specs.declared.fault.Fault.TheVariants as fault
 use Rattle.ws_screen.specs.ScreenParts.{ScreenParts}
 use Rattle.ws_session.specs.Acts.{Did}
-use Rattle.ws_session.specs.attached.Attachments.{AttachedParts, HaveLed, HaveLedUnwritten, HasHeard, IsHearFault}
+use Rattle.ws_session.specs.attached.Attachments.{AttachedParts, HaveLedUnwritten, HasHeard, IsHearFault}
+use Rattle.ws_session.specs.attached.Deeds.{HasActed, is_done, key_judged}
 use Rattle.ws_session.specs.Conducts.{station_conduct}
-use Rattle.ws_session.specs.station.StationActs.{IsKeyRefusalOn, IsKeyTakenOn}
+use Rattle.ws_session.specs.declared.attached.acted.Acted.{Acted}
+use Rattle.ws_session.specs.declared.attached.acted.Acted.TheVariants as acted
 use Rattle.ws_session.specs.declared.end_step.Applied.{Applied}
 use Rattle.ws_session.specs.declared.station.key_fault.KeyFault.{KeyFault}
 use Rattle.ws_session.specs.declared.world.Event.TheVariants.{StationRefused}
@@ -95,9 +97,9 @@ abbrev pub key_refused_line : Option ℕ → KeyFault → List ℕ
 key_refused_line entered why = codes "key refused " ++ key_fault_name why ++ entered_behind entered ++ codes "\n"
 
 -- what is printed of a key that enters this: where it is refused, its line
-abbrev pub key_refused_text : Option ℕ → Option KeyFault → List ℕ
-key_refused_text entered None = []
-key_refused_text entered (Some why) = key_refused_line entered why
+abbrev pub key_refused_text : Option ℕ → Acted KeyFault → List ℕ
+key_refused_text entered acted.Done = []
+key_refused_text entered (acted.Refused why) = key_refused_line entered why
 
 -- keys were pressed, and perhaps one was refused
 abbrev pub pressed : Bool → Closing
@@ -135,14 +137,8 @@ module _ {S K : Type 0} (at : AttachedDisplay S K) where
   HearsFault from why to = IsHearFault (station_conduct at.on) at.devices from to why
 
   -- a key was pressed: what it sends went out, or it was refused, and nothing is changed; no byte was read or taken
-  pub record IsKeyPressed (key : KeyAt at) (from : AttachedStation) (refused : Option KeyFault)
-      (to : AttachedStation) : Type 0 where
-    pub led : HaveLed (station_conduct at.on) at.devices from to (Did key ∷ []) []
-    pub same : IfSome refused (λ why. to ≡ from)
-    pub why : IfSome refused (IsKeyRefusalOn at.on from.end key)
-    pub taken : IfNone refused (IsKeyTakenOn at.on from.end key)
-    pub waiting : to.waiting ≡ from.waiting
-    pub unread : to.source ≡ from.source
+  abbrev pub IsKeyPressed : KeyAt at → AttachedStation → Acted KeyFault → AttachedStation → Type 0
+  IsKeyPressed key from acted to = HasActed at.devices (key_judged at.on key) from to (Ok acted)
 
   -- a key was pressed, and what it sends didn't go out
   abbrev pub IsKeyUnwritten : KeyAt at → AttachedStation → AttachedStation → Type 0
@@ -162,21 +158,21 @@ module _ {S K : Type 0} (display : KeyedDisplay S K) where
   KeyedStation = AttachedStation display.at
 
   -- what is printed of a key at it: where it is refused, its line
-  abbrev pub refusal_text : KeyAt display.at → Option KeyFault → List ℕ
-  refusal_text key refused = key_refused_text (display.words.entered key) refused
+  abbrev pub refusal_text : KeyAt display.at → Acted KeyFault → List ℕ
+  refusal_text key acted = key_refused_text (display.words.entered key) acted
 
   -- what a key comes to: it was pressed, or what it sends didn't go out
   abbrev pub KeyRuns : LinesDo (KeyAt display.at) KeyedStation
-  KeyRuns key from came to = ((refused : Option KeyFault) × IsKeyPressed display.at key from refused to
-      × (came.outcome ≡ Ok (pressed (is_none refused))) × (came.text ≡ refusal_text key refused))
+  KeyRuns key from came to = ((acted : Acted KeyFault) × IsKeyPressed display.at key from acted to
+      × (came.outcome ≡ Ok (pressed (is_done acted))) × (came.text ≡ refusal_text key acted))
       ⊎ (IsKeyUnwritten display.at key from to × (came.outcome ≡ Err fault.Write) × (came.text ≡ []))
 
   -- the account of keys one after another
   abbrev pub ArePressed : KeyedStation → List (KeyAt display.at) → Account → KeyedStation → Type 0
   ArePressed from [] came to = (to ≡ from) × (came.all_well ≡ true) × (came.text ≡ [])
-  ArePressed from (key ∷ keys) came to = (refused : Option KeyFault) × (mid : KeyedStation) × (rest : Account)
-      × IsKeyPressed display.at key from refused mid × ArePressed mid keys rest to
-      × (came.all_well ≡ is_none refused && rest.all_well) × (came.text ≡ refusal_text key refused ++ rest.text)
+  ArePressed from (key ∷ keys) came to = (acted : Acted KeyFault) × (mid : KeyedStation) × (rest : Account)
+      × IsKeyPressed display.at key from acted mid × ArePressed mid keys rest to
+      × (came.all_well ≡ is_done acted && rest.all_well) × (came.text ≡ refusal_text key acted ++ rest.text)
 
   -- what keys at a station come to: all were pressed, or up to one that wasn't written
   abbrev pub KeysRun : LinesDo (List (KeyAt display.at)) KeyedStation

@@ -1,20 +1,17 @@
 -- What a line of a script for a host does there, and what it prints, by what the host end is told.
 
 use Rattle.std.specs.Prelude.{◌≡◌, ℕ, List, [], ◌∷◌, ◌++◌, ◌⊎◌, Bool, true, false, Option, None, Some}
-use Rattle.std.specs.Prelude.{IfSome, IfNone, ◌==◌, length, string_bytes, Result, Ok, Err}
+use Rattle.std.specs.Prelude.{◌==◌, length, string_bytes, Result, Ok, Err}
 use Rattle.std.specs.List.{flat_map}
 use Rattle.ws_code.specs.Device.{most_reads, Devices}
 use Rattle.ws_code.specs.declared.fault.Fault.{Fault}
 use Rattle.ws_code.specs.declared.fault.Fault.TheVariants as fault
-use Rattle.ws_session.specs.Acts.{Did}
-use Rattle.ws_session.specs.attached.Attachments.{AttachedParts, HaveLed, IsSendFailure, HasHeard, IsHearFault}
+use Rattle.ws_session.specs.attached.Attachments.{AttachedParts, HasHeard, IsHearFault}
+use Rattle.ws_session.specs.attached.Deeds.{HasActed, order_judged}
 use Rattle.ws_session.specs.host_end.HostLeads.{HostParts}
-use Rattle.ws_session.specs.host_end.HostSide.{HostSide, SendReaction, host_send, host_cancel}
 use Rattle.ws_session.specs.Conducts.{host_conduct}
-use Rattle.ws_session.specs.Manners.{IsSendRefusal, IsSendTaken}
-use Rattle.ws_record.specs.declared.opcode.Opcode.TheVariants.{CancelInvite}
-use Rattle.ws_session.specs.declared.end_step.Order.{Order}
-use Rattle.ws_session.specs.declared.end_step.Order.TheVariants.{Send, Cancel}
+use Rattle.ws_session.specs.declared.attached.acted.Acted.{Acted}
+use Rattle.ws_session.specs.declared.attached.acted.Acted.TheVariants as acted
 use Rattle.ws_session.specs.declared.host_end.host_event.HostEvent.{HostEvent}
 use Rattle.ws_session.specs.declared.host_end.host_event.HostEvent.TheVariants.{Answer}
 use Rattle.ws_session.specs.declared.host_end.send_fault.SendFault.{SendFault}
@@ -37,14 +34,14 @@ use Rattle.ws_live.specs.declared.live.watch.WaitSpan.TheVariants.{Whole}
 use Rattle.ws_live.specs.declared.live.Closing.TheVariants.{Nothing, Done, Declined, Late, Ended, Stopped}
 
 -- how a send or a cancel closes, and what it prints
-abbrev pub given_outcome : Result (Option SendFault) Fault → Result Closing Fault
-given_outcome (Ok None) = Ok Done
-given_outcome (Ok (Some why)) = Ok Declined
+abbrev pub given_outcome : Result (Acted SendFault) Fault → Result Closing Fault
+given_outcome (Ok acted.Done) = Ok Done
+given_outcome (Ok (acted.Refused why)) = Ok Declined
 given_outcome (Err why) = Err why
 
 -- what an order to the host end prints: why the record couldn't be sent, or nothing
-abbrev pub given_text : Result (Option SendFault) Fault → List ℕ
-given_text (Ok (Some why)) = event_text (SendRefused why)
+abbrev pub given_text : Result (Acted SendFault) Fault → List ℕ
+given_text (Ok (acted.Refused why)) = event_text (SendRefused why)
 given_text given = []
 
 -- how a wait closes that a fault ended, late or not, and what it prints
@@ -74,36 +71,10 @@ abbrev pub unheard_text : Fault → List ℕ
 unheard_text (fault.Refused place reason) = event_text (HostRefused place reason)
 unheard_text why = []
 
--- what the host end does at an order: a send of Cancel Invite is a cancel
-abbrev pub deed_of : Order → Order
-deed_of (Send CancelInvite body) = Cancel
-deed_of order = order
-
--- what the host end makes of an order: a record to be sent, or a cancel of the read that is out
-abbrev pub reaction_to : Order → HostSide → SendReaction
-reaction_to (Send opcode body) side = host_send side opcode body
-reaction_to Cancel side = host_cancel side
-
 module _ {S K : Type 0} (devices : Devices S K) where
   -- a host end on a source and a sink
   abbrev pub AttachedHost : Type 0
   AttachedHost = AttachedParts HostParts S K
-
-  -- the host end did this: it was written, or refused, and nothing is changed; no byte was read or taken
-  pub record IsDone (order : Order) (from : AttachedHost) (refused : Option SendFault)
-      (to : AttachedHost) : Type 0 where
-    pub led : HaveLed host_conduct devices from to (Did order ∷ []) []
-    pub same : IfSome refused (λ why. to ≡ from)
-    pub why : IfSome refused (IsSendRefusal from.end (reaction_to order))
-    pub taken : IfNone refused (IsSendTaken from.end (reaction_to order))
-    pub waiting : to.waiting ≡ from.waiting
-    pub unread : to.source ≡ from.source
-
-  -- what the host end was told to do is done, or a write failed, or for want of memory nothing is
-  abbrev pub IsGiven : Order → AttachedHost → Result (Option SendFault) Fault → AttachedHost → Type 0
-  IsGiven order from (Ok refused) to = IsDone (deed_of order) from refused to
-  IsGiven order from (Err why) to = IsSendFailure host_conduct devices from to
-      (Did (deed_of order) ∷ []) why
 
   -- things were told one after another, none of which is the answer that is awaited
   abbrev pub HaveToldBeforeAnswer : AnswerAwaited → AttachedHost → List HostEvent → AttachedHost → Type 0
@@ -158,8 +129,9 @@ module _ {S K : Type 0} (on : WatchedDevices S K) where
   -- what a line comes to at a host end
   abbrev pub HostDoes : LinesDo HostLine WatchedHost
   HostDoes NoLine from came to = (to ≡ from) × (came.outcome ≡ Ok Nothing) × (came.text ≡ [])
-  HostDoes (Give order) from came to = (given : Result (Option SendFault) Fault)
-      × IsGiven on.devices order from given to × (came.outcome ≡ given_outcome given) × (came.text ≡ given_text given)
+  HostDoes (Give order) from came to = (given : Result (Acted SendFault) Fault) × (from.broken ≡ false)
+      × HasActed on.devices (order_judged order) from to given
+      × (came.outcome ≡ given_outcome given) × (came.text ≡ given_text given)
   HostDoes Await from came to = HostHearsOne from came to
   HostDoes (AwaitAnswer awaited) from came to = HearsAnswer awaited from came to
   HostDoes Show from came to = (to ≡ from) × (came.outcome ≡ Ok Done)

@@ -8,25 +8,25 @@ use crate::live::watch::Watch;
 use crate::live::{Carried, Closing};
 use crate::printing::play::put_event;
 use ws_code::{Fault, Sink};
-use ws_session::{Event, SendFault};
+use ws_session::{Acted, Event, SendFault};
 use ws_text::Output;
 
 /// Tells what came of a send: nothing where it went out, and how it was refused.
 pub fn put_given<O: Sink>(
     out: &mut O,
     output: Output,
-    given: Result<Option<SendFault>, Fault>,
+    given: Result<Acted<SendFault>, Fault>,
 ) -> Carried
     ensures outcome { result.outcome ≡ Spec.given_outcome given }
     ensures text { Prints O.writer out.old out.new output result.output
         (Spec.given_text given) }
 {
     match given {
-        Ok(None) => Carried {
+        Ok(Acted::Done) => Carried {
             output,
             outcome: Ok(Closing::Done),
         },
-        Ok(Some(fault)) => Carried {
+        Ok(Acted::Refused(fault)) => Carried {
             output: put_event(out, output, &Event::SendRefused(fault)),
             outcome: Ok(Closing::Declined),
         },

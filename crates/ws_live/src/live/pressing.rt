@@ -15,7 +15,7 @@ use crate::printing::play::put_key_fault;
 use crate::script::named_key::NamedKey;
 use ws_code::{Sink, Source};
 use ws_keys::KeyRun;
-use ws_session::{Attached, KeyFault, StationDisplay, StationOn};
+use ws_session::{Acted, Attached, KeyFault, StationDisplay, StationOn};
 use ws_text::{Output, put_text};
 
 /// Presses a key, and prints why it is refused.
@@ -35,11 +35,11 @@ where
     ensures works { IfOk result.outcome (λ closing. attached.new.broken ≡ false) }
 {
     match attached.press(key) {
-        Ok(None) => Carried {
+        Ok(Acted::Done) => Carried {
             output,
             outcome: Ok(Closing::Done),
         },
-        Ok(Some(fault)) => Carried {
+        Ok(Acted::Refused(fault)) => Carried {
             output: put_key_refused(out, output, key.entered(), fault),
             outcome: Ok(Closing::Declined),
         },

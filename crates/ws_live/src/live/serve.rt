@@ -1,6 +1,5 @@
 //! The lines of a script, carried out at a host; and what is told behind them.
 ghost use Rattle.std.specs.Prelude.{◌≡◌, [], false, List, ℕ, IfOk};
-ghost use Rattle.ws_session.specs.declared.end_step.Order.TheVariants.{Send};
 ghost use Rattle.ws_live.specs.live.ServeText as Spec;
 ghost use Rattle.ws_live.specs.live.CarryingOn.{carrying_on};
 ghost use Rattle.ws_live.specs.live.LiveText.{line_result, stops};
@@ -21,9 +20,7 @@ use crate::printing::paint::Paint;
 use crate::printing::screen_lines::put_screen;
 use crate::printing::told_event::put_told;
 use ws_code::{Fault, Sink, Source};
-use ws_record::Opcode;
-use ws_session::{Attached, HostEnd, HostEvent, Order, SendFault};
-use ws_stream::Element;
+use ws_session::{Attached, HostEnd, HostEvent};
 use ws_text::Output;
 
 impl<S: Source, K: Sink> LiveMove<HostEnd, S, K> for HostLine {
@@ -46,7 +43,7 @@ impl<S: Source, K: Sink> LiveMove<HostEnd, S, K> for HostLine {
                 output,
                 outcome: Ok(Closing::Nothing),
             },
-            HostLine::Give(order) => put_given(out, output, give(attached, order)),
+            HostLine::Give(order) => put_given(out, output, attached.act(order)),
             HostLine::Await => {
                 watch.begin(attached.source(), WaitSpan::Whole);
                 hear_event(attached, watch, out, output)
@@ -66,39 +63,6 @@ impl<S: Source, K: Sink> LiveMove<HostEnd, S, K> for HostLine {
             },
             HostLine::Bad(cause) => put_bad(out, output, cause.as_str()),
         }
-    }
-}
-
-// Sends a record, or cancels the read.
-fn give<S: Source, K: Sink>(
-    attached: &mut Attached<HostEnd, S, K>,
-    order: &Order,
-) -> Result<Option<SendFault>, Fault>
-    requires works { attached.old.broken ≡ false }
-    ensures given { Spec.IsGiven (on_devices K.writer S.reader) order.now
-        attached.old result attached.new }
-    ensures works { IfOk result (λ refused. attached.new.broken ≡ false) }
-{
-    match order {
-        Order::Cancel => attached.cancel(),
-        Order::Send(opcode, body) => give_record(attached, *opcode, body.as_slice()),
-    }
-}
-
-// Sends a record; one of Cancel Invite is a cancel.
-fn give_record<S: Source, K: Sink>(
-    attached: &mut Attached<HostEnd, S, K>,
-    opcode: Opcode,
-    body: &[Element],
-) -> Result<Option<SendFault>, Fault>
-    requires works { attached.old.broken ≡ false }
-    ensures given { Spec.IsGiven (on_devices K.writer S.reader) (Send opcode body.now)
-        attached.old result attached.new }
-    ensures works { IfOk result (λ refused. attached.new.broken ≡ false) }
-{
-    match opcode {
-        Opcode::CancelInvite => attached.cancel(),
-        _ => attached.send(opcode, body),
     }
 }
 

@@ -4,7 +4,7 @@ use C.{length, append_assoc, length-append, ◌⊎◌, IsSome, flat_map-append, 
 use C.{answer_rules, element_rules, bytes_came, all_came, Did, doing, items_of, Manner, Goes, StationRefuses}
 use C.{station_manner, host_manner, HostRefuses, Refusal, Event}
 use C.{Move, ToStation, ToHost, Cancel, Press, HostLeads, HostParts, new_host_side, StationParts, StationLeads}
-use C.{new_station_side, Crossing, Through, TwoEnds, order_of, all_read, HasMoved, HaveMoved, HasRun, StationIsLed}
+use C.{new_station_side, Crossing, Through, TwoEnds, all_read, HasMoved, HaveMoved, HasRun, StationIsLed}
 use C.{HostIsLed, Comes}
 use Rattle.ws_session.specs.Acts.{bytes_of}
 use Rattle.ws_session.specs.Conduct.{Conduct}
@@ -100,7 +100,7 @@ host_moved a b (ToHost n) ds us front p few l = bytes_led answer_rules element_r
 host_moved a b (Send opcode body) ds us front p few l = stays HostIsLed b.host b.host us front p.1 refl
     (act_led answer_rules element_rules host_manner HostLeads HostRefuses HostStaysSilent
     (λ (h : HostParts). IsSome h.ended) host_telling IsHostShut a.host
-    b.host (order_of opcode body) p.2.0 [] front p.2.2.led (λ o. (p.2.2.stays (inl o)).0) (omega (arith, few)) l)
+    b.host _ p.2.0 [] front p.2.2.led (λ o. (p.2.2.stays (inl o)).0) (omega (arith, few)) l)
 host_moved a b Cancel ds us front p few l = stays HostIsLed b.host b.host us front p.1 refl
     (act_led answer_rules element_rules host_manner HostLeads HostRefuses HostStaysSilent
     (λ (h : HostParts). IsSome h.ended) host_telling IsHostShut a.host

@@ -10,11 +10,17 @@ use C.{AtHost, HostLeads, HostParts, IsSent, IsSendFault, HostSide, SendReaction
 use C.{answer_spelling, AtStation, StationParts, StationLeads, StationSide, screen_at, KeyReaction, RefusesKey}
 use C.{Silent, Answers, Signals, station_key, answers_read, key_by_refusal, presses, answer_record, AreWritable}
 use C.{WorldParts, RunsWith, Runs, IsKey, World, new_world, after_moves, after_move, down_bytes, up_bytes}
-use C.{station_pressed, host_sent, host_sends, after_press, after_send}
+use C.{station_pressed, host_sent, after_press, after_send}
 use Rattle.ws_code.specs.Aid.{IsAid}
 use Rattle.ws_record.proofs.Flights.{writable_append, still_led, not_more}
 use Rattle.ws_keys.specs.declared.answer.Answer.{Answer}
 use Rattle.ws_keys.proofs.WholeLaws.{answer_whole, answer_short}
+use Rattle.ws_session.specs.declared.end_step.Order.{Order}
+use Rattle.ws_session.specs.declared.end_step.Order.TheVariants.{Send as Sending}
+use Rattle.ws_session.specs.declared.end_step.Sent.{Sent}
+use Rattle.ws_session.specs.host_end.HostLeads.{CarriesOut, sent_bytes}
+use Rattle.ws_session.specs.host_end.HostSide.{host_orders}
+use Rattle.ws_session.specs.world.TwoLines.{IsGiven}
 use Rattle.ws_session.proofs.world.Betweens.{Sound}
 use Rattle.ws_session.proofs.world.Worlds.{sound}
 use Rattle.ws_session.specs.station.Stations.{IsKeyedOn}
@@ -123,39 +129,47 @@ pub few_up : {t : TerminalType} {w : World} {old : WorldParts} → Runs t old w 
     → length (take w.at_host (up_bytes w)) + 1 < 2 ^ 64
 few_up {w = w} r few = omega (arith, few, ap (λ z. length z) r.up, length-take w.at_host (up_bytes w))
 
-module _ {t : TerminalType} {w : World} {old : WorldParts} (r : Runs t old w) (move : Move)
-    (reacts : HostSide → SendReaction) (moves_by : after_move w move ≡ after_send w (reacts w.host)) where
-  pub host_wrote : length old.up + 1 < 2 ^ 64 → (host : HostParts) (text : List ℕ)
-      → AtHost old.host (λ bytes items side. length bytes + 1 < 2 ^ 64 → IsSent host bytes items (reacts side) text)
-      → Runs t (record old { host = host; down = old.down ++ text }) (after_send w (reacts w.host))
-  host_wrote few host text p =
-      let x = p _ _ _ r.host (few_up r few) in
-      rw (← moves_by) (host_writes r move (HostLeads host) x.0 (x.1 ∷ []) w.at_host w.events host text old.at_host old.events
-      (moves_by ∙ by_going w (reacts w.host) (going_host r) ∙ ap (host_sent w) x.2)
-      (x.3 ∙ sym (append-nil (item_spelling element_rules x.1))) ((x.4, tt), (x.5, tt)) r.at_host r.events x.6)
-
-  pub host_refrained : (fault : SendFault) → reacts w.host ≡ RefusesSend fault
-      → Runs t (record old { events = old.events ++ SendRefused fault ∷ [] }) (after_send w (reacts w.host))
-  host_refrained fault e = rw (← moves_by) (runs_on r move (record w { events = w.events ++ SendRefused fault ∷ [] })
-      (record old { events = old.events ++ SendRefused fault ∷ [] }) (moves_by ∙ by_going w _ (going_host r)
-      ∙ ap (host_sent w) e) r.down r.up r.at_station r.at_host r.writable_down r.writable_up r.station r.host
-      (ap (λ z. z ++ SendRefused fault ∷ []) r.events))
-
-pub other_send : (o : Opcode) → (o ≡ CancelInvite → ⊥) → (h : HostSide) (body : List Element) → host_sends h o body
-    ≡ host_send h o body
-other_send CancelInvite ne h body = absurd (ne refl)
-other_send o ne h body = refl
-
-pub weaker_ok : {A E : Type 0} (r : Result A E) (P Q : A → Type 0) → ((a : A) → P a → Q a) → IfOk r P → IfOk r Q
-weaker_ok (Ok a) P Q f p = f a p
-weaker_ok (Err e) P Q f p = tt
-
 -- a send that is refused for another reason than want of memory
 pub refrains : (reaction : SendReaction) (fault : SendFault) → (fault ≡ NoMemory → ⊥) → IsSendFault reaction fault
     → reaction ≡ RefusesSend fault
 refrains reaction SendFailed ne f = absurd f
 refrains reaction NoMemory ne f = absurd (ne refl)
 refrains reaction fault ne f = f
+
+module _ {t : TerminalType} {w : World} {old : WorldParts} (r : Runs t old w) (move : Move)
+    (order : Order) (moves_by : after_move w move ≡ after_send w (host_orders w.host order)) where
+  host_wrote : length old.up + 1 < 2 ^ 64 → (host : HostParts) (text : List ℕ)
+      → AtHost old.host (λ bytes items side. length bytes + 1 < 2 ^ 64 → IsSent host bytes items (host_orders side order) text)
+      → Runs t (record old { host = host; down = old.down ++ text }) (after_send w (host_orders w.host order))
+  host_wrote few host text p =
+      let x = p _ _ _ r.host (few_up r few) in
+      rw (← moves_by) (host_writes r move (HostLeads host) x.0 (x.1 ∷ []) w.at_host w.events host text old.at_host old.events
+      (moves_by ∙ by_going w (host_orders w.host order) (going_host r) ∙ ap (host_sent w) x.2)
+      (x.3 ∙ sym (append-nil (item_spelling element_rules x.1))) ((x.4, tt), (x.5, tt)) r.at_host r.events x.6)
+
+  host_refrained : (fault : SendFault) → host_orders w.host order ≡ RefusesSend fault
+      → Runs t (record old { events = old.events ++ SendRefused fault ∷ [] }) (after_send w (host_orders w.host order))
+  host_refrained fault e = rw (← moves_by) (runs_on r move (record w { events = w.events ++ SendRefused fault ∷ [] })
+      (record old { events = old.events ++ SendRefused fault ∷ [] }) (moves_by ∙ by_going w _ (going_host r)
+      ∙ ap (host_sent w) e) r.down r.up r.at_station r.at_host r.writable_down r.writable_up r.station r.host
+      (ap (λ z. z ++ SendRefused fault ∷ []) r.events))
+
+  pub host_gives : length old.up + 1 < 2 ^ 64 → (host : HostParts) (sent : Result Sent SendFault) (new : WorldParts)
+      → CarriesOut order old.host host sent → IsGiven (record old { host = host }) sent new
+      → Runs t new (after_send w (host_orders w.host order))
+  host_gives few host (Ok sent) new c is = rw is (host_wrote few host (sent_bytes sent) c.sent)
+  host_gives few host (Err NoMemory) new c is = absurd is
+  host_gives few host (Err fault) new c is = rw (is, c.same)
+      (host_refrained fault (refrains _ fault (λ e. cc) (c.sent _ _ _ r.host (few_up r few))))
+
+pub other_send : (o : Opcode) → (o ≡ CancelInvite → ⊥) → (h : HostSide) (body : List Element)
+    → host_orders h (Sending o body) ≡ host_send h o body
+other_send CancelInvite ne h body = absurd (ne refl)
+other_send o ne h body = refl
+
+pub weaker_ok : {A E : Type 0} (r : Result A E) (P Q : A → Type 0) → ((a : A) → P a → Q a) → IfOk r P → IfOk r Q
+weaker_ok (Ok a) P Q f p = f a p
+weaker_ok (Err e) P Q f p = tt
 
 -- What a key makes of a running session.
 

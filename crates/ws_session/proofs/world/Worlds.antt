@@ -9,7 +9,9 @@ use C.{RefusedByScreen, ATN, SRQ, KeyFailed, NotReady, Event, KeyRefused, SendRe
 use C.{Press, SendMove, sent_record, is_outstanding, SendReaction, RefusesSend, Sends, host_cancel, host_send}
 use C.{host_sends_body, is_too_big, answers_in, answer_in, after_key, screen_at, RefusesKey, station_key, sends}
 use C.{answers_read, key_by_refusal, presses, World, new_world, after_moves, after_move, byte_to_station, byte_to_host}
-use C.{bytes_to_station, bytes_to_host, station_pressed, host_sent, host_sends, after_press, after_send}
+use C.{bytes_to_station, bytes_to_host, station_pressed, host_sent, after_press, after_send}
+use Rattle.ws_session.specs.declared.end_step.Order.TheVariants.{Send as Sending}
+use Rattle.ws_session.specs.host_end.HostSide.{host_orders}
 use Rattle.std.proofs.lemmas.Bool.{cases_Bool}
 use Rattle.ws_nego.proofs.Exchanges.{Exchanges}
 use Rattle.ws_record.proofs.Flights.{start_inside, InFlight, written}
@@ -136,7 +138,7 @@ module _ (t : TerminalType) where
           s.answered (omega (arith, s.count, with_posted w.down (Stop ∷ []))) s.station_going s.host_going
       by_test ready o e c f = untold w (SendRefused NoReadToCancel) refl s
 
-    pub by_opcode : (o : Opcode) (body : List Element) → Sound t (host_sent w (host_sends w.host o body))
+    pub by_opcode : (o : Opcode) (body : List Element) → Sound t (host_sent w (host_orders w.host (Sending o body)))
     by_opcode CancelInvite body = cancel
     by_opcode o body = send_body o refl body
 
@@ -155,7 +157,7 @@ module _ (t : TerminalType) where
   bytes_up (suc n) w s = bytes_up n (byte_to_host w) (byte_up t w s)
 
   move : (w : World) (m : Move) → Sound t w → Sound t (after_move w m)
-  move w (SendMove o body) s = going t w s (host_sends w.host o body) (by_opcode t w s o body)
+  move w (SendMove o body) s = going t w s (host_orders w.host (Sending o body)) (by_opcode t w s o body)
   move w Cancel s = going t w s (host_cancel w.host) (cancel t w s)
   move w (ToStation n) s = bytes_down n w s
   move w (ToHost n) s = bytes_up n w s

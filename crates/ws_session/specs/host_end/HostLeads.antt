@@ -1,9 +1,10 @@
 -- The host end by the bytes that lead to it, and what a byte or a send makes of it (RFC 1205, 4777).
 
 use Rattle.std.specs.Prelude.{◌≡◌, ℕ, ◌+◌, Bool, false, List, [], ◌∷◌, ◌++◌, ◌⊎◌, Option, Some, None, Result, Ok, Err}
-use Rattle.std.specs.Prelude.{length}
+use Rattle.std.specs.Prelude.{length, true, ◌<◌, ◌^◌, IsSome, MatchResult, OnErr}
 use Rattle.ws_code.specs.declared.reason.Reason.{Reason}
 use Rattle.ws_nego.specs.Host.{HostState, new_host, after_open}
+use Rattle.ws_record.specs.declared.opcode.Opcode.TheVariants.{CancelInvite}
 use Rattle.ws_record.specs.declared.record.Item.{Item}
 use Rattle.ws_record.specs.Encode.{item_spelling, plain_spelling, CanBeEncoded, IsInRange}
 use Rattle.ws_record.specs.Grammar.{Holds}
@@ -17,13 +18,17 @@ use Rattle.ws_stream.specs.declared.answer_place.AnswerPlace.{AnswerPlace}
 use Rattle.ws_stream.specs.declared.element.Element.{Element}
 use Rattle.ws_screen.specs.Given.{Gives}
 use Rattle.ws_screen.specs.ScreenParts.{ScreenParts}
+use Rattle.ws_session.specs.declared.end_step.Order.{Order}
+use Rattle.ws_session.specs.declared.end_step.Order.TheVariants.{Send, Cancel}
+use Rattle.ws_session.specs.declared.end_step.Sent.{Sent}
+use Rattle.ws_session.specs.declared.end_step.Sent.TheVariants.{Record as OfRecord, Cancel as OfCancel}
 use Rattle.ws_session.specs.declared.host_end.host_event.HostStep.{HostStep}
 use Rattle.ws_session.specs.declared.host_end.send_fault.SendFault.{SendFault}
 use Rattle.ws_session.specs.declared.host_end.send_fault.SendFault.TheVariants.{Failed as SendFailed, Memory as SendMemory}
 use Rattle.ws_session.specs.declared.refusal.Refusal.{Refusal}
 use Rattle.ws_session.specs.declared.refusal.Refusal.TheVariants.{At, Failed, Memory}
 use Rattle.ws_session.specs.Reaction.{Reaction, Refuses, GoesOn}
-use Rattle.ws_session.specs.host_end.HostSide.{HostSide, HostOutput, TellsAnswer, host_takes, SendReaction, RefusesSend, Sends}
+use Rattle.ws_session.specs.host_end.HostSide.{HostSide, HostOutput, TellsAnswer, host_takes, host_orders, SendReaction, RefusesSend, Sends}
 
 -- What a host end keeps: a live decoder with the units of the open record, its options, the screen to which it applies
 -- what it sends, whether a cancel is unanswered, and why it takes no more bytes.
@@ -147,3 +152,25 @@ abbrev pub IsSendFault : SendReaction → SendFault → Type 0
 IsSendFault reaction SendFailed = ⊥
 IsSendFault reaction SendMemory = (next : HostSide) × (item : Item Element) × (reaction ≡ Sends next item)
 IsSendFault reaction fault = reaction ≡ RefusesSend fault
+
+-- the bytes of what is sent
+abbrev pub sent_bytes : Sent → List ℕ
+sent_bytes (OfRecord bytes) = bytes.items
+sent_bytes (OfCancel bytes) = bytes.items
+
+-- an order for which memory may be wanting: a send of a record, and no cancel
+abbrev pub takes_memory : Order → Bool
+takes_memory (Send CancelInvite body) = false
+takes_memory (Send opcode body) = true
+takes_memory Cancel = false
+
+-- What an order comes to: what goes out, or why nothing does, which changes nothing. Nothing goes out at the greatest
+-- count, and behind a refusal.
+pub record CarriesOut (order : Order) (old new : HostParts) (result : Result Sent SendFault) : Type 0 where
+  pub sent : AtHost old (λ bytes items side. length bytes + 1 < 2 ^ 64 → MatchResult result
+      (λ sent. IsSent new bytes items (host_orders side order) (sent_bytes sent))
+      (IsSendFault (host_orders side order)))
+  pub same : OnErr result (new ≡ old)
+  pub wanting : result ≡ Err SendMemory → takes_memory order ≡ true
+  pub full : old.receiver.live.taken + 1 ≡ 2 ^ 64 → result ≡ Err SendFailed
+  pub failed : IsSome old.ended → result ≡ Err SendFailed

@@ -25,6 +25,8 @@ use Rattle.ws_screen.specs.States.{pending_read}
 use Rattle.ws_stream.specs.declared.answer_part.AnswerPart.{AnswerPart}
 use Rattle.ws_keys.specs.declared.host_answer.HostAnswer.{HostAnswer}
 use Rattle.ws_keys.specs.Readings.{read_answer}
+use Rattle.ws_session.specs.declared.end_step.Order.{Order}
+use Rattle.ws_session.specs.declared.end_step.Order.TheVariants.{Send, Cancel}
 use Rattle.ws_session.specs.declared.host_end.host_event.HostEvent.{HostEvent}
 use Rattle.ws_session.specs.declared.host_end.host_event.HostEvent.TheVariants.{Ready, Answer as Answered, Attention}
 use Rattle.ws_session.specs.declared.host_end.host_event.HostEvent.TheVariants.{SystemRequest, Cancelled}
@@ -169,3 +171,9 @@ host_cancel h =
     else (if is_some (asked_read h) && not h.cancelling
     then Sends (record { options = h.options; kept = h.kept; cancelling = true }) (empty_record 0 CancelInvite)
     else RefusesSend NoReadToCancel)
+
+-- what the host end does at an order: a send of Cancel Invite is a cancel
+abbrev pub host_orders : HostSide → Order → SendReaction
+host_orders h (Send CancelInvite body) = host_cancel h
+host_orders h (Send opcode body) = host_send h opcode body
+host_orders h Cancel = host_cancel h

@@ -1,12 +1,10 @@
 -- A session whose bytes go over two lines: what each move does, whatever the lines bring.
 
 use Rattle.std.specs.Prelude.{◌≡◌, ℕ, ◌+◌, ◌^◌, ◌<◌, ◌≤◌, ◌⊎◌, List, [], ◌∷◌, ◌++◌, IsSome, flat_map}
-use Rattle.std.specs.Prelude.{length, take, drop}
+use Rattle.std.specs.Prelude.{length, take, drop, Result, Ok, Err}
 use Rattle.std.specs.List.{AllByRecursion}
 use Rattle.ws_nego.specs.declared.terminal.TerminalType.{TerminalType}
 use Rattle.ws_nego.specs.Host.{opening}
-use Rattle.ws_record.specs.declared.opcode.Opcode.{Opcode}
-use Rattle.ws_record.specs.declared.opcode.Opcode.TheVariants.{CancelInvite}
 use Rattle.ws_record.specs.declared.record.Item.{Item}
 use Rattle.ws_record.specs.declared.record.Item.TheVariants.{Telnet as TelnetItem}
 use Rattle.ws_record.specs.Encode.{plain_spelling}
@@ -16,8 +14,10 @@ use Rattle.ws_stream.specs.declared.element.Element.{Element}
 use Rattle.ws_keys.specs.declared.key.Key.{Key}
 use Rattle.ws_session.specs.declared.end_step.Order.{Order}
 use Rattle.ws_session.specs.declared.end_step.Order.TheVariants.{Send as Sending, Cancel as Cancelling}
+use Rattle.ws_session.specs.declared.end_step.Sent.{Sent}
 use Rattle.ws_session.specs.declared.station.key_fault.KeyFault.TheVariants.{Failed as KeyFailed}
-use Rattle.ws_session.specs.declared.host_end.send_fault.SendFault.TheVariants.{Failed as SendFailed}
+use Rattle.ws_session.specs.declared.host_end.send_fault.SendFault.{SendFault}
+use Rattle.ws_session.specs.declared.host_end.send_fault.SendFault.TheVariants.{Failed as SendFailed, Memory as SendMemory}
 use Rattle.ws_session.specs.declared.world.Event.{Event}
 use Rattle.ws_session.specs.declared.world.Event.TheVariants.{KeyRefused, SendRefused}
 use Rattle.ws_session.specs.declared.world.Move.{Move}
@@ -26,15 +26,14 @@ use Rattle.ws_session.specs.Acts.{Did}
 use Rattle.ws_session.specs.Conduct.{Conduct}
 use Rattle.ws_session.specs.Conducts.{host_conduct, profile_conduct}
 use Rattle.ws_session.specs.world.Crossings.{Crossing, AreFaithful}
-use Rattle.ws_session.specs.host_end.HostLeads.{AtHost, HostParts, HostLeads}
-use Rattle.ws_session.specs.host_end.HostSide.{HostSide, new_host_side, host_cancel, SendReaction, RefusesSend}
+use Rattle.ws_session.specs.host_end.HostLeads.{AtHost, HostParts, HostLeads, sent_bytes}
+use Rattle.ws_session.specs.host_end.HostSide.{HostSide, new_host_side, host_orders, SendReaction, RefusesSend}
 use Rattle.ws_session.specs.station.StationActs.{IsShutOn}
 use Rattle.ws_session.specs.Manners.{StationGoes, HostGoes, IsHostShut}
 use Rattle.ws_session.specs.world.Runs.{WorldParts}
 use Rattle.ws_session.specs.station.StationLeads.{AtStation, StationParts, StationLeads}
 use Rattle.ws_session.specs.station.StationSide.{StationSide, new_station_side, station_key, KeyReaction, RefusesKey}
 use Rattle.ws_session.specs.world.Wires.{Telling, station_telling, host_telling, Comes, AtEnd, at_end, AreDelivered}
-use Rattle.ws_session.specs.world.World.{host_sends}
 
 -- where a session stands: both ends, the bytes in flight to each, and what was told
 pub record TwoEnds : Type 0 where
@@ -134,16 +133,6 @@ abbrev pub send_told : SendReaction → List Event
 send_told (RefusesSend fault) = SendRefused fault ∷ []
 send_told reaction = []
 
--- what the host end does when it is to send or to cancel
-abbrev pub host_orders : HostSide → Order → SendReaction
-host_orders side (Sending opcode body) = host_sends side opcode body
-host_orders side Cancelling = host_cancel side
-
--- what a send is: with Cancel Invite it is a cancel
-abbrev pub order_of : Opcode → List Element → Order
-order_of CancelInvite body = Cancelling
-order_of opcode body = Sending opcode body
-
 -- A key at the station: what it writes and what is told. A station that is shut stays as it is.
 pub record HasPressed (old : StationParts) (key : Key) (new : StationParts) (written : List ℕ)
     (told : List Event) : Type 0 where
@@ -180,6 +169,12 @@ Orders old order new = (written : List ℕ) × (told : List Event)
       events = old.events ++ told;
     })
 
+-- what the host end has sent is in flight to the station, or it is told why nothing is
+abbrev pub IsGiven : WorldParts → Result Sent SendFault → WorldParts → Type 0
+IsGiven old (Ok sent) new = new ≡ record old { down = old.down ++ sent_bytes sent }
+IsGiven old (Err SendMemory) new = ⊥
+IsGiven old (Err fault) new = new ≡ record old { events = old.events ++ SendRefused fault ∷ [] }
+
 -- so many bytes come down to the station, in these pieces; the host end stays
 abbrev pub ComesDown : TwoEnds → ℕ → List Crossing → TwoEnds → Type 0
 ComesDown old count crossings new =
@@ -194,7 +189,7 @@ ComesUp old count crossings new =
 
 -- a move of a session over two lines, and the pieces that cross the line down and the line up in it
 abbrev pub HasMoved : TwoEnds → Move → List Crossing → List Crossing → TwoEnds → Type 0
-HasMoved old (Send opcode body) downs ups new = (downs ≡ []) × (ups ≡ []) × Orders old (order_of opcode body) new
+HasMoved old (Send opcode body) downs ups new = (downs ≡ []) × (ups ≡ []) × Orders old (Sending opcode body) new
 HasMoved old Cancel downs ups new = (downs ≡ []) × (ups ≡ []) × Orders old Cancelling new
 HasMoved old (ToStation count) downs ups new = (ups ≡ []) × ComesDown old count downs new
 HasMoved old (ToHost count) downs ups new = (downs ≡ []) × ComesUp old count ups new

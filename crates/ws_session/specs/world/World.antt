@@ -4,8 +4,6 @@ use Rattle.std.specs.Prelude.{◌≡◌, ℕ, zero, suc, ◌+◌, ◌-◌, List,
 use Rattle.std.specs.Prelude.{nat_lt, Option, Some, None, length, drop}
 use Rattle.ws_nego.specs.declared.terminal.TerminalType.{TerminalType}
 use Rattle.ws_nego.specs.Host.{opening}
-use Rattle.ws_record.specs.declared.opcode.Opcode.{Opcode}
-use Rattle.ws_record.specs.declared.opcode.Opcode.TheVariants.{CancelInvite}
 use Rattle.ws_record.specs.declared.record.Item.{Item}
 use Rattle.ws_record.specs.declared.record.Item.TheVariants.{Telnet as TelnetItem}
 use Rattle.ws_record.specs.Arrived.{ending_at}
@@ -17,6 +15,7 @@ use Rattle.ws_keys.specs.declared.key.Key.{Key}
 use Rattle.ws_keys.specs.declared.host_answer.HostAnswer.{HostAnswer}
 use Rattle.ws_stream.specs.AnswerParts.{answer_rules}
 use Rattle.ws_keys.specs.Splits.{answer_of}
+use Rattle.ws_session.specs.declared.end_step.Order.TheVariants.{Send as Sending, Cancel as Cancelling}
 use Rattle.ws_session.specs.declared.station.key_fault.KeyFault.TheVariants.{Failed as KeyFailed}
 use Rattle.ws_session.specs.declared.host_end.host_event.HostEvent.{HostEvent}
 use Rattle.ws_session.specs.declared.host_end.send_fault.SendFault.TheVariants.{Failed as SendFailed}
@@ -29,7 +28,7 @@ use Rattle.ws_session.specs.Reaction.{Reaction, Refuses, GoesOn, empty_record}
 use Rattle.ws_session.specs.station.StationSide.{StationSide, new_station_side, screen_at, station_takes, KeyReaction}
 use Rattle.ws_session.specs.station.StationSide.{RefusesKey, Silent, Answers, Signals, station_key, answer_record}
 use Rattle.ws_session.specs.host_end.HostSide.{HostSide, new_host_side, HostOutput, host_takes, SendReaction, RefusesSend, Sends}
-use Rattle.ws_session.specs.host_end.HostSide.{host_send, host_cancel}
+use Rattle.ws_session.specs.host_end.HostSide.{host_orders}
 
 -- a session in whole items: both ends, all items that each has written, how many of their bytes have arrived, and what
 -- was told
@@ -158,19 +157,14 @@ abbrev pub host_sent : World → SendReaction → World
 host_sent w (RefusesSend fault) = record w { events = w.events ++ SendRefused fault ∷ [] }
 host_sent w (Sends host item) = record w { host = host; down = w.down ++ item ∷ [] }
 
--- what the host end makes of a send, which with Cancel Invite is a cancel
-abbrev pub host_sends : HostSide → Opcode → List Element → SendReaction
-host_sends h CancelInvite body = host_cancel h
-host_sends h opcode body = host_send h opcode body
-
 -- the session behind a send or a cancel; a host end that has refused a byte sends nothing
 abbrev pub after_send : World → SendReaction → World
 after_send w sends = host_sent w (if w.host_refused then RefusesSend SendFailed else sends)
 
 -- the session behind a move
 abbrev pub after_move : World → Move → World
-after_move w (Send opcode body) = after_send w (host_sends w.host opcode body)
-after_move w Cancel = after_send w (host_cancel w.host)
+after_move w (Send opcode body) = after_send w (host_orders w.host (Sending opcode body))
+after_move w Cancel = after_send w (host_orders w.host Cancelling)
 after_move w (ToStation n) = bytes_to_station n w
 after_move w (ToHost n) = bytes_to_host n w
 after_move w (Press key) = after_press w key

@@ -1,9 +1,8 @@
-ghost use Rattle.std.specs.Prelude.{◌≡◌, ◌≢◌, ◌∷◌, [], Err, IfOk, IfErr, OnOk, OnErr};
-ghost use Rattle.ws_session.specs.Acts.{Did};
+ghost use Rattle.ws_session.specs.attached.Deeds.{HasDoneDeed, judged};
 ghost use Rattle.ws_session.specs.declared.host_end.send_fault.SendFault.{SendFault as ASendFault};
 
-use crate::SendFault;
 use crate::end::End;
+use crate::{SendFault, Sent};
 
 /// An end at which a deed writes bytes, or is refused.
 pub trait Acting: End {
@@ -13,20 +12,14 @@ pub trait Acting: End {
     // It has no reason to refuse the deed.
     ghost acts: { Self → Self.Deed → Type 0 };
 
+    // It would do it, and memory may be wanting for that.
+    ghost wants: { Self → Self.Deed → Type 0 };
+
     /// Does this, and gives the bytes that the end writes.
     ///
     /// # Errors
     ///
     /// Why it refuses; the end is then as it was. `Memory` where a growth was refused for what it would have written.
-    fn act(&mut self, deed: &Self::Deed) -> Result<Vec<u8>, SendFault>
-        // What is written; it was taken.
-        ensures done { IfOk result (λ bytes.
-            Self.conduct.goes self.old (Did deed.now ∷ []) bytes.items [] self.new) }
-        ensures taken { OnOk result (acts self.old deed.now) }
-        // Why not: then nothing has happened, or memory was wanting for what it takes.
-        ensures refused { IfErr result (λ fault. fault ≢ SendFault.Memory
-            → refrains self.old deed.now fault
-            × Self.conduct.goes self.old (Did deed.now ∷ []) [] [] self.new) }
-        ensures wanting { result ≡ Err SendFault.Memory → acts self.old deed.now }
-        ensures same { OnErr result (self.new ≡ self.old) };
+    fn act(&mut self, deed: &Self::Deed) -> Result<Sent, SendFault>
+        ensures { HasDoneDeed (judged Self.conduct refrains acts wants deed.now) self.old self.new result };
 }

@@ -12,7 +12,7 @@ ghost use Rattle.ws_session.specs.attached.StationRun.{IsRunFault, outflow};
 
 use crate::attached::writing::{fault_of, press_key};
 use crate::station::station_fed::StationFront;
-use crate::{Played, Station, StationDisplay};
+use crate::{Acted, Played, Station, StationDisplay};
 use ws_code::{Fault, Sink, write_whole};
 use ws_keys::Key;
 
@@ -40,8 +40,8 @@ impl Player {
             (at_moment side (Presses key)).written))) }
     {
         match press_key(&mut self.station, sink, key) {
-            Ok(None) => Ok(()),
-            Ok(Some(_)) => {
+            Ok(Acted::Done) => Ok(()),
+            Ok(Acted::Refused(_)) => {
                 self.keys_refused = self.keys_refused.saturating_add(1);
                 Ok(())
             }

@@ -1,7 +1,8 @@
 // What an end does at bytes or a key, and writes at once into a sink: the steps of `Attached` and of `run_station`.
 
-ghost use Rattle.std.specs.Prelude.{◌≡◌, ◌<◌, ◌≤◌, ◌∷◌, [], true, length, take, IfOk, IfErr, IfSome, IfNone};
+ghost use Rattle.std.specs.Prelude.{◌≡◌, ◌<◌, ◌≤◌, ◌∷◌, [], true, length, take, IfOk, IfErr};
 ghost use Rattle.ws_session.specs.Acts.{Did, all_came, as_list};
+ghost use Rattle.ws_session.specs.attached.Deeds.{IfDone, IfRefused};
 ghost use Rattle.ws_session.specs.attached.Attachments as spec;
 ghost use Rattle.ws_session.specs.attached.Attachments.{breaks, IfTold, TellsAtLast};
 ghost use Rattle.ws_session.specs.Conducts.{station_conduct};
@@ -11,7 +12,7 @@ ghost use Rattle.ws_session.specs.station.Displays.{on_display as on};
 
 use crate::end::End;
 use crate::end_step::EndFed;
-use crate::{KeyFault, Refusal, StationDisplay, StationOn, write_answer};
+use crate::{Acted, KeyFault, Refusal, StationDisplay, StationOn, write_answer};
 use ws_code::{Fault, Sink, write_whole};
 
 // What a piece led to: how many bytes of it are gone, and what the end told, or why it stopped.
@@ -71,23 +72,23 @@ pub(crate) fn fault_of(refusal: Refusal) -> Fault
     }
 }
 
-// Presses a key, and writes what it sends. A key that is refused has no effect, and the answer tells why. `Write` is
-// the only fault: the key has had its effect, and a prefix of what it sends went out.
+// Presses a key, and writes what it sends. `Write` is the only fault: the key has had its effect, and a prefix of what
+// it sends went out.
 pub(crate) fn press_key<D: StationDisplay, K: Sink>(
     station: &mut StationOn<D>,
     sink: &mut K,
     key: D::Key,
-) -> Result<Option<KeyFault>, Fault>
+) -> Result<Acted<KeyFault>, Fault>
     // What is written of a key that is taken.
-    ensures pressed { IfOk result (λ refused.
+    ensures pressed { IfOk result (λ acted.
         HasWritten (station_conduct (on D.Commands.rules D.does)) K.writer
         station.old station.new sink.old sink.new (Did key ∷ []) []) }
     // Which keys are refused, and why, and which are taken.
-    ensures refused { IfOk result (λ refused. IfSome refused
+    ensures refused { IfOk result (λ acted. IfRefused acted
         (λ fault. (station.new ≡ station.old) × (sink.new ≡ sink.old))) }
-    ensures told { IfOk result (λ refused. IfSome refused
+    ensures told { IfOk result (λ acted. IfRefused acted
         (IsKeyRefusalOn (on D.Commands.rules D.does) station.old key)) }
-    ensures taken { IfOk result (λ refused. IfNone refused
+    ensures taken { IfOk result (λ acted. IfDone acted
         (IsKeyTakenOn (on D.Commands.rules D.does) station.old key)) }
     // What a failed write leaves.
     ensures fault { IfErr result (λ fault. (fault ≡ Fault.Write)
@@ -95,11 +96,11 @@ pub(crate) fn press_key<D: StationDisplay, K: Sink>(
         station.old station.new sink.old sink.new (Did key ∷ [])) }
 {
     match station.key(key) {
-        Ok(None) => Ok(None),
+        Ok(None) => Ok(Acted::Done),
         Ok(Some(answer)) => {
             write_answer(sink, &answer)?;
-            Ok(None)
+            Ok(Acted::Done)
         }
-        Err(fault) => Ok(Some(fault)),
+        Err(fault) => Ok(Acted::Refused(fault)),
     }
 }

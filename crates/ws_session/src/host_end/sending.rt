@@ -1,11 +1,12 @@
 //! What a host end sends.
 ghost use Rattle.std.specs.Prelude.{◌≡◌, ◌≢◌, ◌<◌, ◌+◌, ◌^◌, Err, length, IsSome, OnErr, MatchResult};
-ghost use Rattle.ws_session.specs.host_end.HostLeads.{AtHost, HostStands, IsSent, IsSendFault};
+ghost use Rattle.ws_session.specs.declared.end_step.Order.TheVariants.{Send as Sending, Cancel as Cancelling};
+ghost use Rattle.ws_session.specs.host_end.HostLeads.{AtHost, HostStands, IsSent, IsSendFault, CarriesOut};
 ghost use Rattle.ws_session.specs.host_end.HostSide.{HostSide, RefusesSend, host_send, host_cancel, is_outstanding};
 
 use crate::station::apply::CANCEL;
 use crate::station::body::{body_spelling, is_too_big};
-use crate::{HostEnd, SendFault};
+use crate::{HostEnd, SendFault, Sent};
 use arrayvec::ArrayVec;
 use ws_code::VecSink;
 use ws_record::{Opcode, write_record};
@@ -78,6 +79,7 @@ impl HostEnd {
             IsSent self.new bytes items (host_cancel side) sent.items) (λ fault.
             host_cancel side ≡ RefusesSend fault)) }
         ensures same { OnErr result (self.new ≡ self.old) }
+        ensures wanting { result ≢ Err SendFault.Memory }
         ensures full { self.old.receiver.live.taken + 1 ≡ 2 ^ 64
             → result ≡ Err SendFault.Failed }
         ensures failed { IsSome self.old.ended → result ≡ Err SendFault.Failed }
@@ -96,6 +98,29 @@ impl HostEnd {
         }
         self.cancelling = true;
         Ok(ArrayVec::from(CANCEL))
+    }
+
+    // Carries out an order to send: one of Cancel Invite is a cancel.
+    pub(crate) fn order_send(&mut self, opcode: Opcode, body: &[Element]) -> Result<Sent, SendFault>
+        ensures { CarriesOut (Sending opcode body.now) self.old self.new result }
+    {
+        match opcode {
+            Opcode::CancelInvite => self.order_cancel(),
+            _ => match self.send(opcode, body) {
+                Ok(bytes) => Ok(Sent::Record(bytes)),
+                Err(fault) => Err(fault),
+            },
+        }
+    }
+
+    // Carries out an order to cancel.
+    pub(crate) fn order_cancel(&mut self) -> Result<Sent, SendFault>
+        ensures { CarriesOut Cancelling self.old self.new result }
+    {
+        match self.cancel() {
+            Ok(bytes) => Ok(Sent::Cancel(bytes)),
+            Err(fault) => Err(fault),
+        }
     }
 
     // Whether the body would disturb a read or a cancel.

@@ -73,7 +73,7 @@ impl World {
             (two_ends_of self.old) step.now) }
     {
         match step {
-            Move::Send(opcode, body) => self.order(*opcode, body.as_slice()),
+            Move::Send(opcode, body) => self.send(*opcode, body.as_slice()),
             Move::Cancel => self.cancel(),
             Move::ToStation(count) => self.carry_to_station(down, *count),
             Move::ToHost(count) => self.carry_to_host(up, *count),

@@ -13,14 +13,14 @@ returns-in-ToHost-clause-taken g c = on_ok_weaker c.carry_to_host.result
     c.carry_to_host.ensures.came
 
 pub returns-in-Send-clause-taken : goal.returns-in-Send-clause-taken
-returns-in-Send-clause-taken g c = on_ok_weaker c.order.result (λ q. (
+returns-in-Send-clause-taken g c = on_ok_weaker c.send.result (λ q. (
   [],
   [],
   refl,
   refl,
   rw c.in-Send.is (refl, refl, rw c.as_slice.ensures at q.1),
   (λ f h t w r. rw c.in-Send.is (rw c.as_slice.ensures at (q.0 t w r))),
-)) (both_of_ok c.order.result _ _ c.order.ensures.sent c.order.ensures.ordered)
+)) (both_of_ok c.send.result _ _ c.send.ensures.sent c.send.ensures.ordered)
 
 pub returns-in-Cancel-clause-taken : goal.returns-in-Cancel-clause-taken
 returns-in-Cancel-clause-taken g c = on_ok_weaker c.cancel.result
@@ -41,8 +41,8 @@ returns-in-ToHost-clause-early g c = rw c.in-ToHost.is (IfErr-weaker c.carry_to_
     (λ fault k. (k, refl)) c.carry_to_host.ensures.early)
 
 pub returns-in-Send-clause-early : goal.returns-in-Send-clause-early
-returns-in-Send-clause-early g c = rw c.in-Send.is (IfErr-weaker c.order.result _ _ (λ fault m. (m, refl, refl))
-    c.order.ensures.fault)
+returns-in-Send-clause-early g c = rw c.in-Send.is (IfErr-weaker c.send.result _ _ (λ fault m. (m, refl, refl))
+    c.send.ensures.fault)
 
 pub returns-in-Cancel-clause-early : goal.returns-in-Cancel-clause-early
 returns-in-Cancel-clause-early g c = rw c.in-Cancel.is (IfErr-weaker c.cancel.result _ _ (λ fault m. (m, refl, refl))

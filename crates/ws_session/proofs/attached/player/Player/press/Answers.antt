@@ -1,17 +1,18 @@
-use Rattle.ws_session.proofs.Common.{IfNone, subst, IsKeyTaken}
+use Rattle.ws_session.proofs.Common.{subst, IsKeyTaken}
+use Rattle.ws_session.specs.attached.Deeds.{IfDone}
 use Rattle.ws_session.proofs.attached.Plays.{taken_done, press_failed, refused_done}
 use Rattle.ws_session.proofs.attached.player.Player.press.Goals as goal
 
-pub returns-in-Ok-None-clause-done : goal.returns-in-Ok-None-clause-done
-returns-in-Ok-None-clause-done g c =
-    let taken = subst (λ o. IfNone o (IsKeyTaken c.args.self.now.station c.args.key))
-    c.in-Ok-None.field-0-is c.in-Ok-None.ensures.taken in
-    λ bytes items side l few. taken_done _ _ bytes items side _ _ _ _ l few c.in-Ok-None.ensures.pressed taken
+pub returns-in-Ok-Done-clause-done : goal.returns-in-Ok-Done-clause-done
+returns-in-Ok-Done-clause-done g c =
+    let taken = subst (λ o. IfDone o (IsKeyTaken c.args.self.now.station c.args.key))
+    c.in-Ok-Done.field-0-is c.in-Ok-Done.ensures.taken in
+    λ bytes items side l few. taken_done _ _ bytes items side _ _ _ _ l few c.in-Ok-Done.ensures.pressed taken
 
-pub returns-in-Ok-Some-clause-done : goal.returns-in-Ok-Some-clause-done
-returns-in-Ok-Some-clause-done g c =
-    let same = rw c.in-Ok-Some.field-0-is at c.in-Ok-Some.ensures.refused in
-    let refusal = rw c.in-Ok-Some.field-0-is at c.in-Ok-Some.ensures.told in
+pub returns-in-Ok-Refused-clause-done : goal.returns-in-Ok-Refused-clause-done
+returns-in-Ok-Refused-clause-done g c =
+    let same = rw c.in-Ok-Refused.field-0-is at c.in-Ok-Refused.ensures.refused in
+    let refusal = rw c.in-Ok-Refused.field-0-is at c.in-Ok-Refused.ensures.told in
     λ bytes items side l few.
     refused_done _ _ bytes items side _ _ _ _ l few _ _ same.0 same.1 refusal c.saturating_add-self.ensures
 
