@@ -202,9 +202,7 @@ module _ {Place U K : Type 0} (rules : Rules Place U) (keeper : Keeper U K) (old
       word_kept machine word.Data news i t =
           values_kept _ _ news (carries_one rules _ _ _ f _ b _ h i.0) t refl
       word_kept machine word.Eor news i t = end_kept news t.0 t.1
-      word_kept machine (word.Command code) news i t = rw t.0 tt
-      word_kept machine (word.Option verb option) news i t = rw t.0 tt
-      word_kept machine word.Sub news i t = rw t.0 tt
+      word_kept machine (word.Telnet said) news i t = rw t.0 tt
       word_kept machine (word.Bad reason) news i t = rw t.0 (same_kept t.1)
 
 module _ {Place U : Type 0} (rules : Rules Place U) (can : CanEnd rules) (law : SpellsBytes rules) where
@@ -316,10 +314,8 @@ module _ {Place U : Type 0} (rules : Rules Place U) (can : CanEnd rules) (law : 
           rw t.0 (more_advance i.1 i.0 (same_read t.1) (same_keep t.1))
       word_advance word.Data news i t = advance_values _ _ _ (carries_one _ _ _ _ f _ b _ h i.0) i.1 t
       word_advance word.Eor news i t = end_advance _ i.0 i.1 t.0 t.1
-      word_advance (word.Command code) news i t = rw t.0 (command_advance _ i.0 i.1 (same_read t.1), same_keep t.1)
-      word_advance (word.Option verb option) news i t =
-          rw t.0 (command_advance _ i.0 i.1 (same_read t.1), same_keep t.1)
-      word_advance word.Sub news i t = rw t.0 (command_advance _ i.0 i.1 (same_read t.1), i.1, same_keep t.1)
+      word_advance (word.Telnet said) news i t =
+          rw t.0 (command_advance _ i.0 i.1 (same_read t.1), i.1, same_keep t.1)
       word_advance (word.Bad reason) news i t = rw (t.0, ← append_assoc bytes f (b ∷ []))
           (refuse_token _ can law h reads.framed reads.cut b i.0 i.1)
 
@@ -411,7 +407,8 @@ module _ {Place U : Type 0} (rules : Rules Place U) where
         let only : a.0 ≡ [] = only_enough _ a.5 in
         let t = s a.1 (slot_is slot a.1 (rw only at (a.4 [] [] refl))) in
         let on = rw only at a.3 in rw (t.0, t.1) (on.grown, on.leads)
-    front_step new told.Sub step m s = let t = s m.advance.1 in rw (t.0, t.1.1) (fetched _ t.1.0 _ _ _ m.advance.0)
+    front_step new (told.Telnet word) step m s =
+        let t = s m.advance.1 in rw (t.0, t.1.1) (fetched _ t.1.0 _ _ _ m.advance.0)
     front_step new news step m s = let a = m.advance in let count = m.count in grind arith
 
     pub more_step : {news : News} → MadeInSlot bytes items so_far front live slot news → news ≡ More

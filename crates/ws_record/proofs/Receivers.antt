@@ -83,11 +83,7 @@ module _ {Place U : Type 0} (rules : Rules Place U) where
       → IsItemOf (record { live = live; units = kept.items }) news new result → IsGiven bytes items front new result
   item_given new (told.Close head) result same other m i =
       rw (i.0, i.1) (record { head = None; leads = ([], rw (m.advance.2, same) m.advance.1) })
-  item_given new (told.Command code) result same other m i =
-      rw (i.0, i.1) (with_units (rw m.advance.1 same) m.advance.0)
-  item_given new (told.Option verb option) result same other m i =
-      rw (i.0, i.1) (with_units (rw m.advance.1 same) m.advance.0)
-  item_given new told.Sub result same other m i =
+  item_given new (told.Telnet word) result same other m i =
       let t = i m.advance.1 in
       rw (t.0, t.1.1) (with_units (rw m.advance.2 same) (fetched rules _ t.1.0 _ _ _ m.advance.0))
   item_given new news result same other m i = let a = m.advance in let count = m.count in grind arith

@@ -4,11 +4,11 @@ use Rattle.std.specs.Prelude.{◌≡◌, ℕ, ◌+◌, Bool, true, false, List, 
 use Rattle.ws_code.specs.Code.{Rules}
 use Rattle.ws_code.specs.Run.{Intake, WithKeep}
 use Rattle.ws_code.specs.declared.keep.Kept.TheVariants as answer
-use Rattle.ws_telnet.specs.declared.token.Telnet.TheVariants as telnet
+use Rattle.ws_telnet.specs.Words.{telnet_of}
 use Rattle.ws_record.specs.declared.record.Item.TheVariants.{Record as RecordItem, Telnet as TelnetItem}
 use Rattle.ws_record.specs.declared.news.News.{News}
-use Rattle.ws_record.specs.declared.news.News.TheVariants.{More, Unit as Whole, Open, Close, Command}
-use Rattle.ws_record.specs.declared.news.News.TheVariants.{Option as Negotiate, Sub, Refused, NoMemory, Failed}
+use Rattle.ws_record.specs.declared.news.News.TheVariants.{More, Unit as Whole, Open, Close, Telnet, Refused, NoMemory}
+use Rattle.ws_record.specs.declared.news.News.TheVariants.{Failed}
 use Rattle.ws_record.specs.Refusal.{IsRefused}
 use Rattle.ws_record.specs.OpenRecord.{no_record}
 use Rattle.ws_record.specs.DataStep.{IsWholeRecord, record_of}
@@ -47,16 +47,9 @@ module _ {Place U : Type 0} where
       × Leads intake.rules after.read (before.read.bytes ++ front)
       (before.read.items ++ RecordItem (record_of head before.read.so_far.units) ∷ []) no_record
       × (after.keep ≡ before.keep)
-  IsAdvance intake before front after (Command code) =
+  IsAdvance intake before front after (Telnet word) =
       Leads intake.rules after.read (before.read.bytes ++ front)
-      (before.read.items ++ TelnetItem (telnet.Command code) ∷ []) before.read.so_far × (after.keep ≡ before.keep)
-  IsAdvance intake before front after (Negotiate verb option) =
-      Leads intake.rules after.read (before.read.bytes ++ front)
-      (before.read.items ++ TelnetItem (telnet.Option verb option) ∷ []) before.read.so_far
-      × (after.keep ≡ before.keep)
-  IsAdvance intake before front after Sub =
-      Leads intake.rules after.read (before.read.bytes ++ front)
-      (before.read.items ++ TelnetItem (telnet.Sub after.read.sub) ∷ []) before.read.so_far
+      (before.read.items ++ TelnetItem (telnet_of word after.read.sub) ∷ []) before.read.so_far
       × (after.read.begun ≡ []) × (after.keep ≡ before.keep)
   IsAdvance intake before front after (Refused reason) =
       (place : ℕ) × (length (before.read.bytes ++ front) ≡ place + 1)

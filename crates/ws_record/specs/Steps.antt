@@ -4,12 +4,12 @@ use Rattle.std.specs.Prelude.{◌≡◌, ℕ, ◌-◌, false, List, [], Option a
 use Rattle.ws_code.specs.declared.fault.Fault.{Fault}
 use Rattle.ws_code.specs.declared.fault.Fault.TheVariants as faults
 use Rattle.ws_telnet.specs.declared.token.Sub.{Sub as ASub}
-use Rattle.ws_telnet.specs.declared.token.Telnet.TheVariants as telnet
+use Rattle.ws_telnet.specs.Words.{telnet_of}
 use Rattle.ws_record.specs.declared.record.Item.{Item}
 use Rattle.ws_record.specs.declared.record.Item.TheVariants.{Record as RecordItem, Telnet as TelnetItem}
 use Rattle.ws_record.specs.declared.news.News.{News}
-use Rattle.ws_record.specs.declared.news.News.TheVariants.{More, Unit as Whole, Open, Close, Command, Option, Sub}
-use Rattle.ws_record.specs.declared.news.News.TheVariants.{Refused, NoMemory, Failed}
+use Rattle.ws_record.specs.declared.news.News.TheVariants.{More, Unit as Whole, Open, Close, Telnet, Refused, NoMemory}
+use Rattle.ws_record.specs.declared.news.News.TheVariants.{Failed}
 use Rattle.ws_record.specs.declared.live.Step.{Step}
 use Rattle.ws_record.specs.declared.live.Step.TheVariants as steps
 use Rattle.ws_record.specs.declared.receiver.Fed.{Fed}
@@ -28,9 +28,7 @@ module _ {Place U : Type 0} where
   IsStepOf old Whole unit new step = (u : U) → unit ≡ Some u → (step ≡ steps.Unit u) × (new ≡ old)
   IsStepOf old (Open head) unit new step = (step ≡ steps.Open head) × (new ≡ old)
   IsStepOf old (Close head) unit new step = (step ≡ steps.Close) × (new ≡ old)
-  IsStepOf old (Command code) unit new step = (step ≡ steps.Telnet (telnet.Command code)) × (new ≡ old)
-  IsStepOf old (Option verb option) unit new step = (step ≡ steps.Telnet (telnet.Option verb option)) × (new ≡ old)
-  IsStepOf old Sub unit new step = old.begun ≡ [] → (step ≡ steps.Telnet (telnet.Sub old.sub))
+  IsStepOf old (Telnet word) unit new step = old.begun ≡ [] → (step ≡ steps.Telnet (telnet_of word old.sub))
       × ((left : ASub) × (new ≡ record old { sub = left }))
   IsStepOf old (Refused reason) unit new step = (step ≡ steps.Refused (old.taken - 1) reason) × (new ≡ old)
   IsStepOf old NoMemory unit new step = (step ≡ steps.Failed) × (new ≡ old)
@@ -40,10 +38,8 @@ module _ {Place U : Type 0} where
   abbrev pub IsItemOf : Receiving Place U → News → Receiving Place U → Result (Item U) Fault → Type 0
   IsItemOf old (Close head) new answer =
       (answer ≡ Ok (RecordItem (record_of head old.units))) × (new ≡ record old { units = [] })
-  IsItemOf old (Command code) new answer = (answer ≡ Ok (TelnetItem (telnet.Command code))) × (new ≡ old)
-  IsItemOf old (Option verb option) new answer =
-      (answer ≡ Ok (TelnetItem (telnet.Option verb option))) × (new ≡ old)
-  IsItemOf old Sub new answer = old.live.begun ≡ [] → (answer ≡ Ok (TelnetItem (telnet.Sub old.live.sub)))
+  IsItemOf old (Telnet word) new answer = old.live.begun ≡ []
+      → (answer ≡ Ok (TelnetItem (telnet_of word old.live.sub)))
       × ((left : ASub) × (new ≡ record { live = record old.live { sub = left }; units = old.units }))
   IsItemOf old (Refused reason) new answer =
       (answer ≡ Err (faults.Refused (old.live.taken - 1) reason)) × (new ≡ old)

@@ -10,8 +10,7 @@ use Rattle.ws_telnet.specs.declared.codes.TheConstants.{IAC}
 use Rattle.ws_telnet.specs.declared.word.Word.{Word}
 use Rattle.ws_telnet.specs.declared.word.Word.TheVariants as word
 use Rattle.ws_record.specs.declared.news.News.{News}
-use Rattle.ws_record.specs.declared.news.News.TheVariants.{More, Unit as Whole, Open, Close, Command, Option, Sub}
-use Rattle.ws_record.specs.declared.news.News.TheVariants.{Refused, NoMemory}
+use Rattle.ws_record.specs.declared.news.News.TheVariants.{More, Unit as Whole, Open, Close, Telnet, Refused, NoMemory}
 use Rattle.ws_record.specs.OpenRecord.{RecordSoFar, no_record, Keeping, HasRead, IsDataRefused, IsEndRefused}
 use Rattle.ws_record.specs.DataStep.{IsWholeRecord}
 
@@ -97,9 +96,6 @@ module _ {Place U : Type 0} where
       IsTaken intake (with_keep so_far before.keep) (IAC ∷ []) after news
   IsWordTaken intake so_far before word.Eor after news =
       IsRecordEnd intake.rules so_far after.read news × (after.keep ≡ before.keep)
-  IsWordTaken intake so_far before (word.Command code) after news = (news ≡ Command code) × (after ≡ before)
-  IsWordTaken intake so_far before (word.Option verb option) after news =
-      (news ≡ Option verb option) × (after ≡ before)
-  IsWordTaken intake so_far before word.Sub after news = (news ≡ Sub) × (after ≡ before)
+  IsWordTaken intake so_far before (word.Telnet said) after news = (news ≡ Telnet said) × (after ≡ before)
   IsWordTaken intake so_far before (word.Bad reason) after news =
       (news ≡ Refused reason) × (after.keep ≡ before.keep)

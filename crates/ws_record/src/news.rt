@@ -3,7 +3,7 @@ ghost use Rattle.ws_record.specs.Advance.{OnLastNews, awaits_more};
 
 use crate::Head;
 use ws_code::Reason;
-use ws_telnet::{CommandCode, Verb};
+use ws_telnet::TelnetWord;
 
 /// What is complete with the last byte that a decoder took. It is small: a unit is in the keep, and a subnegotiation
 /// is fetched by a call of its own.
@@ -17,12 +17,8 @@ pub enum News {
     Open(Head),
     /// The open record, whose header said this.
     Close(Head),
-    /// A Telnet command.
-    Command(CommandCode),
-    /// A negotiation of a Telnet option.
-    Option(Verb, u8),
-    /// A subnegotiation, which `Live::sub` gives.
-    Sub,
+    /// A Telnet command, which `Live::telnet` gives.
+    Telnet(TelnetWord),
     /// Nothing, and nothing will be: the byte is refused.
     Refused(Reason),
     /// A unit, for which a growth was refused. Nothing will follow.

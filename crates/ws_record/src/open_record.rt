@@ -301,9 +301,7 @@ impl<B: Body> OpenRecord<B> {
             Word::More => News::More,
             Word::Data => self.take_value(IAC, keep),
             Word::Eor => self.end(),
-            Word::Command(code) => News::Command(code),
-            Word::Option(verb, option) => News::Option(verb, option),
-            Word::Sub => News::Sub,
+            Word::Telnet(said) => News::Telnet(said),
             Word::Bad(reason) => News::Refused(reason),
         }
     }

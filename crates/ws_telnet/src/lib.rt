@@ -10,5 +10,5 @@ mod write;
 pub use codes::{BINARY, END_OF_RECORD, EOR, IAC, SB, SE, TERMINAL_TYPE};
 pub use token::{CommandCode, Sub, Telnet, Token, Verb};
 pub use tokens::Tokens;
-pub use word::Word;
+pub use word::{TelnetWord, Word};
 pub use write::{spell, write_telnet, write_token};

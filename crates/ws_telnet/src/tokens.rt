@@ -2,10 +2,10 @@ ghost use Rattle.std.specs.Prelude.{◌≡◌, ◌≢◌, ◌++◌, ◌∷◌, �
 ghost use Rattle.ws_telnet.specs.Token.{token_rules, token_reason, command_byte, verb_byte, doubled};
 ghost use Rattle.ws_code.specs.Code.{IsUnfinished};
 ghost use Rattle.ws_telnet.specs.Machine.{unfinished_token, sub_begun, sub_of};
-ghost use Rattle.ws_telnet.specs.Words.{IsWord};
+ghost use Rattle.ws_telnet.specs.Words.{IsWord, telnet_of};
 ghost use Rattle.ws_telnet.specs.TokenLaws.{token_nonempty, token_bytes_are, token_prefix_free, token_begins};
 
-use crate::{CommandCode, EOR, IAC, SB, SE, Sub, Telnet, Token, Verb, Word};
+use crate::{CommandCode, EOR, IAC, SB, SE, Sub, Telnet, TelnetWord, Token, Verb, Word};
 use arrayvec::ArrayVec;
 use ws_code::{ByteList, Code, Push, Reason};
 
@@ -116,7 +116,7 @@ impl Tokens {
             Phase::Begin | Phase::Iac => self.after_iac(byte),
             Phase::Negotiation(verb) => {
                 self.phase = Phase::Begin;
-                Word::Option(verb, byte)
+                Word::Telnet(TelnetWord::Option(verb, byte))
             }
             Phase::SubOption => {
                 self.take_option(byte);
@@ -127,15 +127,20 @@ impl Tokens {
         }
     }
 
-    /// Takes the subnegotiation that has just ended out of the machine.
-    pub fn sub(&mut self) -> Sub
+    /// The Telnet command that has just ended. A subnegotiation is taken out of the machine.
+    pub fn telnet(&mut self, word: TelnetWord) -> Telnet
         requires { unfinished_token self.old ≡ [] }
-        ensures sub { result ≡ sub_of self.old }
+        ensures telnet { result ≡ telnet_of word (sub_of self.old) }
         ensures between { unfinished_token self.new ≡ [] }
+        ensures same { word ≢ TelnetWord.Sub → self.new ≡ self.old }
     {
-        Sub {
-            option: self.option,
-            data_: ByteList::of(self.content.take()),
+        match word {
+            TelnetWord::Command(code) => Telnet::Command(code),
+            TelnetWord::Option(verb, option) => Telnet::Option(verb, option),
+            TelnetWord::Sub => Telnet::Sub(Sub {
+                option: self.option,
+                data_: ByteList::of(self.content.take()),
+            }),
         }
     }
 
@@ -152,7 +157,7 @@ impl Tokens {
         ensures { IsWord (IAC ∷ []) byte self.new result }
     {
         if let Some(code) = command_of(byte) {
-            return Word::Command(code);
+            return Word::Telnet(TelnetWord::Command(code));
         }
         match verb_of(byte) {
             Some(verb) => {
@@ -199,7 +204,7 @@ impl Tokens {
         }
         self.phase = Phase::Begin;
         if byte == SE {
-            Word::Sub
+            Word::Telnet(TelnetWord::Sub)
         } else {
             Word::Bad(Reason::BadSub)
         }
@@ -278,9 +283,7 @@ impl Code for Tokens {
             Word::More => Push::More,
             Word::Data => Push::Unit(Token::Data(IAC)),
             Word::Eor => Push::Unit(Token::Eor),
-            Word::Command(code) => Push::Unit(Token::Telnet(Telnet::Command(code))),
-            Word::Option(verb, option) => Push::Unit(Token::Telnet(Telnet::Option(verb, option))),
-            Word::Sub => Push::Unit(Token::Telnet(Telnet::Sub(self.sub()))),
+            Word::Telnet(word) => Push::Unit(Token::Telnet(self.telnet(word))),
             Word::Bad(reason) => Push::Bad(reason),
         }
     }
