@@ -9,8 +9,7 @@ use C.{no_record, Keeping, HasRead, IsHead, News, Head, Item, RecordItem, Telnet
 use C.{SystemRequest, KeyRefusal, Refuses, Refusal, At, StationStep, KeyFault, NotReady, keeps_body, RefusesKey}
 use Rattle.std.proofs.Math.ListN.{drop_of_length-le}
 use Rattle.ws_code.specs.declared.keep.Kept.TheVariants as answer
-use Rattle.ws_telnet.specs.declared.token.Sub.{Sub as ASub}
-use Rattle.ws_telnet.specs.declared.token.Telnet.TheVariants as telnet
+use Rattle.ws_telnet.specs.Words.{telnet_of}
 use Rattle.ws_nego.specs.Station.{StationState}
 use Rattle.ws_record.specs.Advance.{IsAdvance}
 use Rattle.ws_record.specs.declared.news.News.TheVariants as told
@@ -221,14 +220,10 @@ module _ {D P U H PlaceV V K R : Type 0} (rules : Rules P U) (d : DisplayOf D U 
           let place : length (bytes ++ front) ≡ (live.taken - 1) + 1 = omega (arith, count, some (λ e. cc)) in
           closed head a.1 few count (live.taken - 1) place new result
           (r side l.units is_led.reads.cut.chain (a.2 ∙ l.body ∙ ap (drop 10) a.0.carries) l.options l.given)
-      fronted (told.Command code) a count some few new result r =
-          answered live (telnet.Command code) a.0 a.1 new result r
-      fronted (told.Option verb option) a count some few new result r =
-          answered live (telnet.Option verb option) a.0 a.1 new result r
-      fronted told.Sub a count some few new result r =
+      fronted (told.Telnet word) a count some few new result r =
           let t = r a.1 in
-          answered (record live { sub = t.0 }) (telnet.Sub live.sub) (fetched rules live t.0
-          (bytes ++ front) (items ++ TelnetItem (telnet.Sub live.sub) ∷ []) so_far a.0) a.2 new result t.1
+          answered (record live { sub = t.0 }) (telnet_of word live.sub)
+          (fetched rules live t.0 _ _ so_far a.0) a.2 new result t.1
       fronted (told.Refused reason) a count some few new result r =
           let place = place_of a.0 count a.1 in
           rw r.0 (
@@ -240,25 +235,14 @@ module _ {D P U H PlaceV V K R : Type 0} (rules : Rules P U) (d : DisplayOf D U 
       fronted told.NoMemory a count some few new result r = (let e : answer.NoMemory ≡ answer.GoOn = a.1 in cc)
       fronted told.Failed a count some few new result r = absurd a
 
-  -- a subnegotiation that was taken out is answered
-  pub sub_answered : (old : PartsOn D P) (live : Watching P) (left sub : ASub) (step : StationStep R)
-      (new : PartsOn D P)
-      → live ≡ record old.live { sub = left } → sub ≡ old.live.sub
-      → d.written new.screen step.reply ≡ telnet_bytes (station_answer old.options (telnet.Sub sub)).reply
-      → step.ends_record ≡ false
-      → new ≡ record old { live = live; options = (station_answer old.options (telnet.Sub sub)).after }
-      → IsAnsweredOn (on_display rules d) (record old { live = record old.live { sub = left } })
-      (telnet.Sub old.live.sub) new
-      (Ok step)
-  sub_answered old live left sub step new kept same reply ends options = (
-    (step, refl, reply ∙ ap (λ z. telnet_bytes (station_answer old.options (telnet.Sub z)).reply) same, ends),
-    options ∙ ap (λ k. record old { live = k; options = (station_answer old.options (telnet.Sub sub)).after }) kept
-        ∙ ap (λ z. record old {
-          live = record old.live { sub = left };
-          options = (station_answer old.options
-              (telnet.Sub z)).after;
-        }) same,
-  )
+  -- a command is answered, for which a subnegotiation may have been taken out
+  pub command_answered : (old new : PartsOn D P) (live : Watching P) (said token : Telnet) (step : StationStep R)
+      → old.live ≡ live → token ≡ said
+      → d.written new.screen step.reply ≡ telnet_bytes (station_answer old.options token).reply
+      → step.ends_record ≡ false → new ≡ record old { options = (station_answer old.options token).after }
+      → IsAnsweredOn (on_display rules d) (record old { live = live }) said new (Ok step)
+  command_answered old new live said token step kept same reply ends options =
+      rw (← kept, ← same) ((step, refl, reply, ends), options)
 
   -- where nothing is complete
   pub none_complete : (old : PartsOn D P) (news : News) (step : StationStep R) → (news ≡ told.More)

@@ -1,8 +1,8 @@
 -- What a host end makes of news, and of a front of a piece (RFC 1205, 4777).
 
 use Rattle.std.specs.Prelude.{◌≡◌, ℕ, ◌+◌, ◌-◌, List, [], ◌⊎◌, Some, None, Result, Ok, Err, length}
+use Rattle.ws_telnet.specs.Words.{telnet_of}
 use Rattle.ws_telnet.specs.declared.token.Sub.{Sub as ASub}
-use Rattle.ws_telnet.specs.declared.token.Telnet.TheVariants as telnet
 use Rattle.ws_record.specs.DataStep.{record_of}
 use Rattle.ws_record.specs.Live.{CompletesUnit}
 use Rattle.ws_record.specs.Refusal.{IsRefused}
@@ -43,12 +43,9 @@ IsHostNewsTaken old (news.Open head) new result = (result ≡ Ok quiet) × (new 
 IsHostNewsTaken old (news.Close head) new result =
     DoesItem (record old { receiver = record old.receiver { units = [] } })
     (RecordItem (record_of head old.receiver.units)) new result
-IsHostNewsTaken old (news.Command code) new result = DoesItem old (TelnetItem (telnet.Command code)) new result
-IsHostNewsTaken old (news.Option verb option) new result =
-    DoesItem old (TelnetItem (telnet.Option verb option)) new result
-IsHostNewsTaken old news.Sub new result = old.receiver.live.begun ≡ [] → (left : ASub)
+IsHostNewsTaken old (news.Telnet word) new result = old.receiver.live.begun ≡ [] → (left : ASub)
     × DoesItem (record old { receiver = record old.receiver { live = record old.receiver.live { sub = left } } })
-    (TelnetItem (telnet.Sub old.receiver.live.sub)) new result
+    (TelnetItem (telnet_of word old.receiver.live.sub)) new result
 IsHostNewsTaken old (news.Refused reason) new result = HasEnded old (At (old.receiver.live.taken - 1) reason) new result
 IsHostNewsTaken old news.NoMemory new result = HasEnded old Memory new result
 IsHostNewsTaken old news.Failed new result = HasEnded old Failed new result

@@ -3,9 +3,9 @@
 use Rattle.std.specs.Prelude.{◌≡◌, ℕ, ◌+◌, ◌-◌, ◌^◌, ◌<◌, ◌++◌, ◌∷◌, false, List, take}
 use Rattle.std.specs.Prelude.{[], ◌⊎◌, Some, length, Result, Ok, Err}
 use Rattle.ws_code.specs.Code.{IsChain, spelling_of}
+use Rattle.ws_telnet.specs.Words.{telnet_of}
 use Rattle.ws_telnet.specs.declared.token.Sub.{Sub as ASub}
 use Rattle.ws_telnet.specs.declared.token.Telnet.{Telnet}
-use Rattle.ws_telnet.specs.declared.token.Telnet.TheVariants as telnet
 use Rattle.ws_nego.specs.Options.{telnet_bytes}
 use Rattle.ws_nego.specs.Station.{station_answer}
 use Rattle.ws_record.specs.declared.news.News.{News}
@@ -50,10 +50,8 @@ module _ (on : OnDisplay) where
       → IsChain on.rules on.rules.first units → old.body_bytes ≡ spelling_of on.rules units
       → old.options ≡ side.options → on.does.gives side.happened old.screen
       → IsClosedOn on old new side (record_of head units) (old.live.taken - 1) result
-  IsNewsTakenOn old (news.Command code) new result = IsAnsweredOn old (telnet.Command code) new result
-  IsNewsTakenOn old (news.Option verb option) new result = IsAnsweredOn old (telnet.Option verb option) new result
-  IsNewsTakenOn old news.Sub new result = old.live.begun ≡ [] → (left : ASub)
-      × IsAnsweredOn (record old { live = record old.live { sub = left } }) (telnet.Sub old.live.sub) new result
+  IsNewsTakenOn old (news.Telnet word) new result = old.live.begun ≡ [] → (left : ASub)
+      × IsAnsweredOn (record old { live = record old.live { sub = left } }) (telnet_of word old.live.sub) new result
   IsNewsTakenOn old (news.Refused reason) new result = (result ≡ Err (At (old.live.taken - 1) reason))
       × (new ≡ record old { ended = Some (At (old.live.taken - 1) reason) })
   IsNewsTakenOn old news.NoMemory new result = (result ≡ Err Failed) × (new ≡ record old { ended = Some Failed })
