@@ -151,29 +151,6 @@ feeding_on old now fed new bytes buffer after last told plus counts used f none 
 
 module _ (old now : HeldStation) (bytes buffer after : List ℕ) (told : PushedTold)
     (f : HeldFeeding old now bytes buffer after told) where
-  -- it ends where something waits
-  pub ends_waiting : waiting now ≢ [] → IsHeldPush bytes (crossed buffer after NoRoom told) old now
-  ends_waiting some = record {
-    counted = f.inside;
-    fed = told.taken;
-    written = f.written;
-    out = f.out;
-    before = now;
-    takes = f.takes;
-    whole = f.whole;
-    first = f.first;
-    in_time = f.in_time;
-    replied = f.replied;
-    fits = f.fits;
-    put = f.put;
-    waits = λ _. (
-      refl,
-      f.plain ∙ ap (λ (n : ℕ). pushed_told told.taken n) (f.filled some),
-      refl,
-    );
-    ends = λ none. absurd (some none);
-  }
-
   -- or where nothing does
   pub ends_plainly : (new : HeldStation) (status : Status) (last : PushedTold) → waiting now ≡ [] → waiting new ≡ []
       → last.taken ≤ length bytes → last.replied ≡ told.replied

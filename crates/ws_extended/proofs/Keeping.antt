@@ -12,10 +12,6 @@ pub on_ok : {X E P Q : Type 0} (r : Result X E) → (P → Q) → OnOk r P → O
 on_ok (Ok x) f p = f p
 on_ok (Err e) f p = tt
 
-pub on_err : {X E P : Type 0} (r : Result X E) → P → OnErr r P
-on_err (Ok x) p = tt
-on_err (Err e) p = p
-
 module _ {K : Type 0} (keeper : Keeper Element K) where
   then : (a b c : K) (xs ys : List Element) → Keeps keeper a b xs → Keeps keeper b c ys → Keeps keeper a c (xs ++ ys)
   then a b c xs ys p q units told h =

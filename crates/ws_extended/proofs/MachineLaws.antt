@@ -219,14 +219,3 @@ query_more place count b small is =
             ++ get_or query_field (count + 1) 0 ∷ drop (count + 1 + 1) query_field) longer);
       },
     )
-
-pub query_bad : (place : ExtendedPlace) (count b : ℕ) → count < 5 → b ≢ get_or query_field count 0
-    → IsPrefix extended_rules place (ESCAPE ∷ WRITE_STRUCTURED_FIELD ∷ (take count query_field ++ b ∷ [])) → ⊥
-query_bad place count b small ne front =
-    let all : (take count query_field ++ b ∷ []) ++ front.rest ≡ query_field =
-    only_query front.unit place ((take count query_field ++ b ∷ []) ++ front.rest) front.stands front.spelled in
-    let tails : b ∷ front.rest ≡ get_or query_field count 0 ∷ drop (count + 1) query_field =
-    append_cancel_left (take count query_field) (b ∷ front.rest)
-    (get_or query_field count 0 ∷ drop (count + 1) query_field)
-    (sym (append_assoc (take count query_field) (b ∷ []) front.rest) ∙ all ∙ sym (query_cut count small)) in
-    ne (ap first tails)

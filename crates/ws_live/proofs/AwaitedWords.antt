@@ -38,32 +38,6 @@ no_text_behind words text e none_is (Text t) m =
 no_text_behind words text e none_is (At cell t) m = false≢true (ap (begins 97) (sym e ∙ m.1))
 no_text_behind words text e none_is (Quiet time) m = false≢true (ap (begins 113) (sym e ∙ m.1))
 
--- what stands behind `text ` is awaited
-pub text_awaited : (words text : List ℕ) → words ≡ codes "text " ++ text → (awaited : Awaited)
-    → IsTextAnywhere text awaited → IsAwaited words awaited
-text_awaited words text e (Text t) m = (e ∙ ap (λ z. codes "text " ++ z) (sym m.0), m.1)
-text_awaited words text e Turn m = absurd m
-text_awaited words text e Record m = absurd m
-text_awaited words text e (At cell t) m = absurd m
-text_awaited words text e (Quiet time) m = absurd m
-
--- the words of a text are one
-pub anywhere_none : (text : List ℕ) → ((t : List ℕ) → IsSomeText text t → ⊥) → (awaited : Awaited)
-    → IsTextAnywhere text awaited → ⊥
-anywhere_none text none_is (Text t) m = none_is (string_bytes t) m
-anywhere_none text none_is Turn m = m
-anywhere_none text none_is Record m = m
-anywhere_none text none_is (At cell t) m = m
-anywhere_none text none_is (Quiet time) m = m
-
-pub at_none : (cell : ℕ) (text : List ℕ) → ((t : List ℕ) → IsSomeText text t → ⊥) → (awaited : Awaited)
-    → IsTextAt cell text awaited → ⊥
-at_none cell text none_is (At c t) m = none_is (string_bytes t) m.1
-at_none cell text none_is Turn m = m
-at_none cell text none_is Record m = m
-at_none cell text none_is (Text t) m = m
-at_none cell text none_is (Quiet time) m = m
-
 pub no_placed_behind : (words placed : List ℕ) → words ≡ codes "at " ++ placed
     → ((a : Awaited) → IsPlacedText placed a → ⊥) → (awaited : Awaited) → IsAwaited words awaited → ⊥
 no_placed_behind words placed e none_is Turn m = m
@@ -109,15 +83,6 @@ no_quiet words other Record m = m
 no_quiet words other (Text t) m = m
 no_quiet words other (At cell t) m = m
 
--- what stands behind `at ` is awaited
-pub placed_awaited : (words placed : List ℕ) → words ≡ codes "at " ++ placed → (awaited : Awaited)
-    → IsPlacedText placed awaited → IsAwaited words awaited
-placed_awaited words placed e Turn m = m
-placed_awaited words placed e Record m = absurd m
-placed_awaited words placed e (Text t) m = absurd m
-placed_awaited words placed e (Quiet time) m = absurd m
-placed_awaited words placed e (At cell t) m = (placed, e, m)
-
 -- no cell with something behind it, and no text behind the cell
 pub no_placed_text : (words : List ℕ) → ((cell : ℕ) (rest : List ℕ) → IsPlaced words cell rest → ⊥)
     → (awaited : Awaited) → IsPlacedText words awaited → ⊥
@@ -135,16 +100,3 @@ no_text_placed words at rest placed none_is Turn m = m
 no_text_placed words at rest placed none_is Record m = m
 no_text_placed words at rest placed none_is (Text t) m = m
 no_text_placed words at rest placed none_is (Quiet time) m = m
-
--- a text behind its cell is awaited there
-pub placed_text : (words : List ℕ) (at : ℕ) (rest : List ℕ) → IsPlaced words at rest → (awaited : Awaited)
-    → IsTextAt at rest awaited → IsPlacedText words awaited
-placed_text words at rest placed (At cell t) m = (
-  subst (λ z. IsPlaced words z (string_bytes t)) (sym m.0)
-      (subst (IsPlaced words at) (sym m.1.0) placed),
-  m.1.1,
-)
-placed_text words at rest placed Turn m = absurd m
-placed_text words at rest placed Record m = absurd m
-placed_text words at rest placed (Text t) m = absurd m
-placed_text words at rest placed (Quiet time) m = absurd m

@@ -91,10 +91,6 @@ stands_both line word part outer inner =
           ∙ sym (append_assoc f g (part ++ (inner.1 ++ outer.1)))))),
     )
 
--- two blanks, where no word stands between them, or one at the end
-pub two_blanks : (line rest : List ℕ) → EndsWith line (32 ∷ (32 ∷ rest)) → StandsIn line (32 ∷ 32 ∷ [])
-two_blanks line rest e = (e.0, rest, e.1)
-
 -- what is true of a word of a line is true of the line
 pub of_line : (v : Vocabulary) (line : List ℕ) (cause : Cause) → IsTrueOf v line cause → IsCause v line cause
 of_line v line a_cause.NotUtf8 h = absurd h

@@ -68,11 +68,6 @@ digits_have_no_blank (c ∷ cs) h = elim (eqb_tells c 32) [
   | inr p ↦ ap (λ b. not b && has_no_blank cs) p.0 ∙ digits_have_no_blank cs h.1
 ]
 
--- a word that writes a number writes no opcode of another
-pub no_opcode : (word : List ℕ) (n : ℕ) → IsNumber word n → ((o : Opcode) → opcode_byte o ≡ n → o ≢ CancelInvite → ⊥)
-    → (o : Opcode) → IsSendOpcode word o → ⊥
-no_opcode word n h none_is o t = none_is o (t.0.2 ∙ sym h.2) t.1
-
 -- what `split_once` gives at a blank
 pub split_at_blank : (text : List ℕ) (r : Option (Bor (List ℕ) × Bor (List ℕ))) → IsSplitOnceResult 32 text r
     → MatchOption r (has_no_blank text ≡ true) (λ parts. (text ≡ (parts.0.now ++ codes " ") ++ parts.1.now)

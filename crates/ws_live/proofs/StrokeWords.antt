@@ -41,10 +41,6 @@ off_screen row column r c is_r is_c off cell m =
     off (subst (λ z. IsRowAndColumn r z) same_column first)
 
 module _ {Q : Type 0} (w : KeyWords Q) where
-  -- one word fills no field
-  pub no_filling_word : (words : List ℕ) → has_no_blank words ≡ true → (f : Filling Q) → IsFilling w words f → ⊥
-  no_filling_word words free f m = blank_inside m.0 m.1 (ap has_no_blank (sym m.2) ∙ free)
-
   -- two are its number and its text
   pub no_field_text : (words word text : List ℕ) → words ≡ (word ++ codes " ") ++ text → has_no_blank word ≡ true
       → ((f : Filling Q) → IsFieldText w word text f → ⊥) → (f : Filling Q) → IsFilling w words f → ⊥

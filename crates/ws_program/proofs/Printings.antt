@@ -27,10 +27,6 @@ use Rattle.ws_program.proofs.Buffers.{CanBeCut}
 
 -- What commands print, and what of it may be cut.
 
-pub whole_cut : {A E : Type 0} (failed : E) (Ends : List ℕ → Result A E → Type 0) → CanBeCut
-    (in_whole failed Ends) failed
-whole_cut failed Ends text outcome h = (refl, (outcome, h))
-
 pub check_cut : {Place U : Type 0} (rules : Rules Place U) (bytes : List ℕ)
     → CanBeCut (check_printing rules bytes) device.Write
 check_cut rules bytes text outcome h = (refl, (outcome, h))

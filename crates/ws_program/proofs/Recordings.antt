@@ -112,18 +112,6 @@ pieced line rest hex sender e word =
 
 -- WHAT AN END SENT
 
-pub same_piece : (end sender : RecordedEnd) (bytes : List ℕ) → sender ≡ end → piece_of end sender bytes ≡ bytes
-same_piece Host Host bytes e = refl
-same_piece Station Station bytes e = refl
-same_piece Host Station bytes e = cc
-same_piece Station Host bytes e = cc
-
-pub other_piece : (end sender : RecordedEnd) (bytes : List ℕ) → (sender ≡ end → ⊥) → piece_of end sender bytes ≡ []
-other_piece Host Host bytes e = absurd (e refl)
-other_piece Station Station bytes e = absurd (e refl)
-other_piece Host Station bytes e = refl
-other_piece Station Host bytes e = refl
-
 -- a line more
 are_sent_more : (end : RecordedEnd) (before : List (List ℕ)) (sent line : List ℕ) (sender : RecordedEnd)
     (piece : List ℕ) → AreSent end before sent → IsPieceLine line sender piece
@@ -150,16 +138,6 @@ pub record SentSoFar (end : RecordedEnd) (text rest : List ℕ) (number : ℕ) (
   pub counted : number ≡ length before
   pub few : length before + length rest ≤ length text
 
-pub sent_none : (end : RecordedEnd) (text : List ℕ) → SentSoFar end text text 0 true []
-sent_none end text = record {
-  before = [];
-  split = refl;
-  sent = λ any. ([], refl);
-  holds = λ _. refl;
-  counted = refl;
-  few = omega arith;
-}
-
 pub sent_more : (end : RecordedEnd) (text rest behind line : List ℕ) (number : ℕ) (is_whole is_added : Bool)
     (held next : List ℕ) (sender : RecordedEnd) (piece : List ℕ) → SentSoFar end text rest number is_whole held
     → lines rest ≡ line ∷ lines behind → length behind < length rest → IsPieceLine line sender piece
@@ -184,11 +162,6 @@ all_read : (end : RecordedEnd) (text rest : List ℕ) (number : ℕ) (is_whole :
     (s : SentSoFar end text rest number is_whole held) → rest ≡ [] → lines text ≡ s.before
 all_read end text rest number is_whole held s e = s.split ∙ ap (λ z. s.before ++ lines z) e ∙ append-nil s.before
 
-pub sent_all : (end : RecordedEnd) (text rest : List ℕ) (number : ℕ) (is_whole : Bool) (held : List ℕ)
-    → SentSoFar end text rest number is_whole held → rest ≡ [] → is_whole ≡ true → IsSentIn end held text
-sent_all end text rest number is_whole held s e h = subst (λ (z : List (List ℕ)). AreSent end z held)
-    (sym (all_read end text rest number is_whole held s e)) (s.holds h)
-
 pub some_sent : (end : RecordedEnd) (text rest : List ℕ) (number : ℕ) (is_whole : Bool) (held : List ℕ)
     → SentSoFar end text rest number is_whole held → rest ≡ [] → (bytes : List ℕ) × IsSentIn end bytes text
 some_sent end text rest number is_whole held s e =
@@ -197,17 +170,3 @@ some_sent end text rest number is_whole held s e =
       subst (λ (z : List (List ℕ)). AreSent end z so_far.0) (sym (all_read end text rest number is_whole held s e))
           so_far.1,
     )
-
--- a line is none of a recording
-pub other_found : (end : RecordedEnd) (text rest behind line : List ℕ) (number : ℕ) (is_whole : Bool)
-    (held : List ℕ) → SentSoFar end text rest number is_whole held → lines rest ≡ line ∷ lines behind
-    → IsOtherLine line → IsFirstOther text (number + 1)
-other_found end text rest behind line number is_whole held s e other = record {
-  before = s.before;
-  line = line;
-  after = lines behind;
-  split = s.split ∙ ap (λ z. s.before ++ z) e;
-  sent = s.sent;
-  other = other;
-  counted = ap (λ z. z + 1) s.counted;
-}

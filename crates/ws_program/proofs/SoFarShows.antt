@@ -162,10 +162,6 @@ module _ {Place U S : Type 0} (writer : Writer S) (from mid : S) (rules : Rules 
     pub on : (added : List ℕ) → AddsThere verdict added
         → IsShownSoFar (showing rules view) bytes false (lines ++ (added ++ line_of verdict (length bytes)))
 
-  first_lines : (placed : List (Placed U)) → AreShown (showing rules view) bytes [] placed
-      → AreFirstLines (showing rules view) bytes (lines_of view placed)
-  first_lines placed shown = record { placed = placed; shown = shown; last = None; complete = tt; lines = refl }
-
   refused_goes_on : (place : ℕ) (reason : Reason)
       → IsHalted (printout writer from mid) (showing rules view) bytes IsMade (faults.Refused place reason)
       → (lines : List ℕ) × GoesOn (Refused place reason) lines

@@ -92,17 +92,6 @@ module _ {Place PlaceV Side U V Deed Event E : Type 0} (rules : Rules Place U) (
       rw whole (rw (take-append-le n part more (omega (arith, lt, within)))
       (quiet bytes items side l (omega (arith, fits, count old bytes items side l))))
 
--- what holds of an answer, and what follows from it
-pub if_ok_on : {A Why : Type 0} (P Q : A → Type 0) (result : Result A Why) → ((x : A) → P x → Q x) → IfOk result P
-    → IfOk result Q
-if_ok_on P Q (Ok x) on p = on x p
-if_ok_on P Q (Err why) on p = p
-
-pub if_err_on : {A Why : Type 0} (P Q : Why → Type 0) (result : Result A Why) → ((x : Why) → P x → Q x)
-    → IfErr result P → IfErr result Q
-if_err_on P Q (Ok x) on p = p
-if_err_on P Q (Err why) on p = on why p
-
 -- what holds of an end that can't go on: it is as it was, or it ends there
 module _ {E : Type 0} (ended : E → Option Refusal) (old new : E) (kept : IsSome (ended old) → new ≡ old)
     (stopped : E) (stops : ended old ≡ None → new ≡ stopped) where

@@ -38,11 +38,6 @@ module _ {D P U H PlaceV V K R : Type 0} (rules : Rules P U) (d : DisplayOf D U 
   by_allowed options side r same allows = ap (λ (b : Bool). if b then d.applies side r else Refuses
       RecordBeforeNegotiation) (ap station_allows_records (sym same) ∙ allows)
 
-  pub by_not_allowed : (options : StationState) (side : SideOn H) (r : Record U) → options ≡ side.options
-      → station_allows_records options ≡ false → takes_on d side (RecordItem r) ≡ Refuses RecordBeforeNegotiation
-  by_not_allowed options side r same allows = ap (λ (b : Bool). if b then d.applies side r else Refuses
-      RecordBeforeNegotiation) (ap station_allows_records (sym same) ∙ allows)
-
   pub closes : (old : PartsOn D P) (screen : D) (side : SideOn H) (head : Head) (units : List U)
       (place : ℕ) (reply : R) → old.options ≡ side.options → station_allows_records old.options ≡ true
       → IsApplied d screen side (record_of head units) (Ok reply)

@@ -360,9 +360,6 @@ pub host_stops : (n m : ℕ) → n ≤ m → (w : World) → byte_to_host (bytes
     → bytes_to_host m w ≡ bytes_to_host n w
 host_stops = stop _ _ (λ w. refl) (λ n w. refl)
 
-pub host_bytes_on : (m n : ℕ) (w : World) → bytes_to_host n (bytes_to_host m w) ≡ bytes_to_host (m + n) w
-host_bytes_on = many_on byte_to_host bytes_to_host (λ w. refl) (λ n w. refl)
-
 -- so many of the bytes in flight, or all that are
 pub host_delivered : {t : TerminalType} {w : World} {old : WorldParts}
     → Runs t old w → {host : HostParts} {from to : WireParts} {events : List Event} {count : ℕ}

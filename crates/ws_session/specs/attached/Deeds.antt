@@ -16,7 +16,7 @@ use Rattle.ws_session.specs.declared.station.key_fault.KeyFault.{KeyFault}
 use Rattle.ws_session.specs.Acts.{Did}
 use Rattle.ws_session.specs.Conduct.{Conduct}
 use Rattle.ws_session.specs.Conducts.{host_conduct, station_conduct}
-use Rattle.ws_session.specs.Manners.{IsSendRefusal, IsSendTaken, WantsMemory}
+use Rattle.ws_session.specs.Manners.{IsSendRefusal, IsSendTaken, IsSendWanting}
 use Rattle.ws_session.specs.attached.Attachments.{AttachedParts, HaveLed, IsSendFailure}
 use Rattle.ws_session.specs.host_end.HostLeads.{HostParts, sent_bytes}
 use Rattle.ws_session.specs.station.Displays.{OnDisplay}
@@ -56,7 +56,7 @@ key_judged on key = record {
 
 -- an order at a host end
 abbrev pub order_judged : Order → Judged HostParts Order HostEvent SendFault
-order_judged order = judged host_conduct IsSendRefusal IsSendTaken WantsMemory order
+order_judged order = judged host_conduct IsSendRefusal IsSendTaken IsSendWanting order
 
 -- it was done, and this holds
 abbrev pub IfDone : {Why : Type 0} → Acted Why → Type 0 → Type 0
