@@ -4,7 +4,8 @@ use std::alloc::Global;
 use std::process::Abort;
 use ws_code::{Code, FailingSink, Fault, Push, Reason, VecSink};
 use ws_telnet::{
-    CommandCode, IAC, SB, Sub, Telnet, Token, Tokens, Verb, Word, spell, write_telnet, write_token,
+    CommandCode, IAC, SB, Sub, Telnet, TelnetWord, Token, Tokens, Verb, Word, spell, write_telnet,
+    write_token,
 };
 
 // The token that the bytes bring with the one at a place, or the reason for which that one is refused. `None` where the
@@ -110,8 +111,11 @@ fn bad_tokens(rt: HostRuntime) {
 const WORDS: [(u8, Word); 9] = [
     (0xff, Word::Data),
     (0xef, Word::Eor),
-    (0xf1, Word::Command(CommandCode::Nop)),
-    (0xf9, Word::Command(CommandCode::GoAhead)),
+    (0xf1, Word::Telnet(TelnetWord::Command(CommandCode::Nop))),
+    (
+        0xf9,
+        Word::Telnet(TelnetWord::Command(CommandCode::GoAhead)),
+    ),
     (0xfa, Word::More),
     (0xfb, Word::More),
     (0xfe, Word::More),

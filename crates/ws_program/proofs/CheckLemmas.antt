@@ -8,8 +8,8 @@ use Rattle.ws_code.specs.Run.{intake, with_keep}
 use Rattle.ws_code.specs.declared.keep.Kept.TheVariants as answer
 use Rattle.ws_code.specs.declared.reason.Reason.{Reason}
 use Rattle.ws_code.proofs.Lists.{same_front}
+use Rattle.ws_telnet.specs.Words.{telnet_of}
 use Rattle.ws_telnet.specs.declared.token.Telnet.{Telnet}
-use Rattle.ws_telnet.specs.declared.token.Telnet.TheVariants as telnet
 use Rattle.ws_record.specs.Advance.{IsAdvance}
 use Rattle.ws_record.specs.DataStep.{record_of}
 use Rattle.ws_record.specs.Live.{Watching, Leads, stream}
@@ -122,9 +122,7 @@ module _ {Place U : Type 0} (rules : Rules Place U) where
       units = k.so_far.units;
     }) a.1.1
     counts_front (told.Close head) a good = count_record (record_of head k.so_far.units) no_record a.1
-    counts_front (told.Command code) a good = count_command (telnet.Command code) k.so_far a.0
-    counts_front (told.Option verb option) a good = count_command (telnet.Option verb option) k.so_far a.0
-    counts_front told.Sub a good = count_command (telnet.Sub new.sub) k.so_far a.0
+    counts_front (told.Telnet word) a good = count_command (telnet_of word new.sub) k.so_far a.0
     counts_front (told.Refused reason) a good = absurd (good reason refl)
     counts_front told.NoMemory a good = (let e : answer.NoMemory ≡ answer.GoOn = a.1 in cc)
     counts_front told.Failed a good = absurd a

@@ -10,7 +10,7 @@ use Rattle.ws_code.proofs.CodeLaws.{chain_more, cut_bad, cut_more, cut_unit, one
 use Rattle.ws_telnet.specs.Streams.{HasNoEor, carried, joined}
 use Rattle.ws_telnet.specs.Token.{token_rules}
 use Rattle.ws_telnet.specs.TokenLaws.{token_prefix_free, token_begins}
-use Rattle.ws_telnet.specs.declared.token.Telnet.TheVariants as telnet
+use Rattle.ws_telnet.specs.Words.{telnet_of}
 use Rattle.ws_telnet.specs.declared.token.Token.{Token}
 use Rattle.ws_telnet.specs.declared.token.Token.TheVariants.{Data, Eor, Telnet as TelnetToken}
 use Rattle.ws_record.specs.Advance.{IsAdvance, OnLastNews}
@@ -76,22 +76,8 @@ module _ {Place U K : Type 0} (rules : Rules Place U) (list_of : K → List U) w
     head_is = refl;
     units_are = refl;
   }
-  follows_front live new head old kept bytes front f last none (told.Command code) is a = record {
-    items = f.items ++ TelnetItem (telnet.Command code) ∷ [];
-    so_far = f.so_far;
-    leads = a.0;
-    head_is = f.head_is;
-    units_are = ap list_of a.1 ∙ f.units_are;
-  }
-  follows_front live new head old kept bytes front f last none (told.Option verb option) is a = record {
-    items = f.items ++ TelnetItem (telnet.Option verb option) ∷ [];
-    so_far = f.so_far;
-    leads = a.0;
-    head_is = f.head_is;
-    units_are = ap list_of a.1 ∙ f.units_are;
-  }
-  follows_front live new head old kept bytes front f last none told.Sub is a = record {
-    items = f.items ++ TelnetItem (telnet.Sub new.sub) ∷ [];
+  follows_front live new head old kept bytes front f last none (told.Telnet word) is a = record {
+    items = f.items ++ TelnetItem (telnet_of word new.sub) ∷ [];
     so_far = f.so_far;
     leads = a.0;
     head_is = f.head_is;

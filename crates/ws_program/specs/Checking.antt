@@ -6,7 +6,7 @@ use Rattle.ws_code.specs.declared.fault.Fault.{Fault}
 use Rattle.ws_code.specs.declared.fault.Fault.TheVariants.{Write}
 use Rattle.ws_record.specs.declared.record.Item.{Item}
 use Rattle.ws_record.specs.declared.news.News.{News}
-use Rattle.ws_record.specs.declared.news.News.TheVariants.{Close, Command, Option, Sub}
+use Rattle.ws_record.specs.declared.news.News.TheVariants.{Close, Telnet}
 use Rattle.ws_record.specs.Live.{Watching, Leads}
 use Rattle.ws_record.specs.OpenRecord.{RecordSoFar}
 use Rattle.ws_program.specs.declared.check.Tally.{Tally}
@@ -25,9 +25,7 @@ one_command tally = record tally { commands = min (tally.commands + 1) (2 ^ 64 -
 -- the tally after the news of a front
 abbrev pub tally_after : Tally → News → Tally
 tally_after tally (Close head) = one_record tally
-tally_after tally (Command code) = one_command tally
-tally_after tally (Option verb option) = one_command tally
-tally_after tally Sub = one_command tally
+tally_after tally (Telnet word) = one_command tally
 tally_after tally news = tally
 
 -- the bytes lead to the decoder, and the tally is of their items

@@ -25,9 +25,7 @@ impl Tally {
     {
         match news {
             News::Close(_) => self.records = self.records.saturating_add(1),
-            News::Command(_) | News::Option(_, _) | News::Sub => {
-                self.commands = self.commands.saturating_add(1);
-            }
+            News::Telnet(_) => self.commands = self.commands.saturating_add(1),
             News::More | News::Unit | News::Open(_) => {}
             News::Refused(_) | News::NoMemory | News::Failed => {}
         }
