@@ -1,25 +1,10 @@
-/* Each call once for each outcome that it names, with what it leaves in its outputs. */
+/* Each call for a station, and those for texts, once for each outcome that it names, with what it leaves in its
+ * outputs. */
 #include "bytes.h"
 #include "check.h"
-#include "ribbonscarp.h"
+#include "outputs.h"
 
 #include <stdlib.h>
-
-static int is_no_told(const ribbon_told *told)
-{
-    return told->length == 0 && told->place == 0 && told->reason == 0;
-}
-
-static int is_pushed(const ribbon_pushed *pushed, size_t taken, size_t replied, uint64_t place, uint8_t reason)
-{
-    return pushed->taken == taken && pushed->replied == replied && pushed->place == place && pushed->reason == reason;
-}
-
-static int is_step(const ribbon_step *step, size_t taken, uint32_t kind, size_t length, uint64_t place, uint8_t reason)
-{
-    return step->taken == taken && step->kind == kind && step->length == length && step->place == place
-           && step->reason == reason && (kind == RIBBON_STEP_HEADER || (step->flags == 0 && step->opcode == 0));
-}
 
 static int is_no_state(const ribbon_state *state)
 {
@@ -287,210 +272,6 @@ static void test_looks(void)
     ribbon_station_free(&station);
 }
 
-static void test_host(void)
-{
-    ribbon_host host = RIBBON_HOST_NONE, none = RIBBON_HOST_NONE;
-    ribbon_told told;
-    ribbon_pushed pushed;
-    ribbon_event event;
-    ribbon_answer answer;
-    ribbon_read_field field;
-    uint8_t reply[64], record[256], content[16];
-
-    FILL(told);
-    CHECK(ribbon_host_new(NULL, reply, sizeof reply, &told) == RIBBON_NULL && is_no_told(&told));
-    FILL(told);
-    CHECK(ribbon_host_new(&host, NULL, sizeof reply, &told) == RIBBON_NULL && is_no_told(&told));
-    CHECK(ribbon_host_new(&host, reply, sizeof reply, NULL) == RIBBON_NULL);
-    FILL(told);
-    FILL(reply);
-    CHECK(ribbon_host_new(&host, reply, RIBBON_REPLY_ROOM - 1, &told) == RIBBON_NO_ROOM && is_no_told(&told)
-          && IS_FILLED(reply) && !host.handle.is_open);
-    CHECK(ribbon_host_new(&host, reply, sizeof reply, &told) == RIBBON_DONE && told.length == 3
-          && memcmp(reply, "\xff\xfd\x18", 3) == 0);
-    FILL(told);
-    CHECK(ribbon_host_new(&host, reply, sizeof reply, &told) == RIBBON_IN_USE && is_no_told(&told));
-
-    /* Nothing is asked and nothing has come. */
-    FILL(told);
-    CHECK(ribbon_host_send(&host, RIBBON_OPCODE_PUT_GET, form, sizeof form, &told) == RIBBON_NOT_READY
-          && is_no_told(&told));
-    FILL(record);
-    FILL(told);
-    CHECK(ribbon_host_cancel(&host, record, sizeof record, &told) == RIBBON_NOT_READY && is_no_told(&told)
-          && IS_FILLED(record));
-    FILL(answer);
-    CHECK(ribbon_host_answer(&host, &answer) == RIBBON_NO_ANSWER && answer.field_count == 0 && answer.cursor_row == 0
-          && answer.cursor_column == 0 && answer.aid == 0);
-    FILL(field);
-    FILL(content);
-    CHECK(ribbon_host_answer_field(&host, 0, content, sizeof content, &field) == RIBBON_NO_ANSWER && field.length == 0
-          && field.row == 0 && field.column == 0 && IS_FILLED(content));
-    FILL(told);
-    CHECK(ribbon_host_sent(&host, record, 0, &told) == RIBBON_DONE && is_no_told(&told) && IS_FILLED(record));
-
-    /* Null pointers, none, and another kind. */
-    ribbon_station station = new_station();
-    ribbon_host *wrong = (ribbon_host *)(void *)&station;
-    ribbon_host *const held[] = {&none, wrong};
-    for (size_t at = 0; at < 2; at++) {
-        FILL(pushed);
-        FILL(event);
-        CHECK(ribbon_host_push(held[at], opening, 1, reply, sizeof reply, &pushed, &event) == RIBBON_NOTHING_HELD
-              && is_pushed(&pushed, 0, 0, 0, 0) && event.kind == 0 && event.terminal == 0);
-        FILL(told);
-        CHECK(ribbon_host_send(held[at], 3, form, sizeof form, &told) == RIBBON_NOTHING_HELD && is_no_told(&told));
-        FILL(told);
-        CHECK(ribbon_host_sent(held[at], record, sizeof record, &told) == RIBBON_NOTHING_HELD && is_no_told(&told));
-        FILL(told);
-        CHECK(ribbon_host_cancel(held[at], record, sizeof record, &told) == RIBBON_NOTHING_HELD && is_no_told(&told));
-        FILL(answer);
-        CHECK(ribbon_host_answer(held[at], &answer) == RIBBON_NOTHING_HELD && answer.field_count == 0);
-        FILL(field);
-        CHECK(ribbon_host_answer_field(held[at], 0, content, sizeof content, &field) == RIBBON_NOTHING_HELD
-              && field.length == 0 && IS_FILLED(content));
-    }
-    FILL(pushed);
-    FILL(event);
-    CHECK(ribbon_host_push(NULL, opening, 1, reply, sizeof reply, &pushed, &event) == RIBBON_NULL
-          && is_pushed(&pushed, 0, 0, 0, 0) && event.kind == 0 && event.terminal == 0);
-    FILL(event);
-    CHECK(ribbon_host_push(&host, opening, 1, reply, sizeof reply, NULL, &event) == RIBBON_NULL && event.kind == 0);
-    FILL(pushed);
-    CHECK(ribbon_host_push(&host, opening, 1, reply, sizeof reply, &pushed, NULL) == RIBBON_NULL
-          && is_pushed(&pushed, 0, 0, 0, 0));
-    FILL(told);
-    CHECK(ribbon_host_send(&host, 3, NULL, 1, &told) == RIBBON_NULL && is_no_told(&told));
-    CHECK(ribbon_host_send(&host, 3, NULL, 0, NULL) == RIBBON_NULL);
-    CHECK(ribbon_host_sent(&host, NULL, 0, &told) == RIBBON_NULL && ribbon_host_cancel(&host, NULL, 0, &told) == RIBBON_NULL);
-    CHECK(ribbon_host_answer(&host, NULL) == RIBBON_NULL && ribbon_host_answer(NULL, &answer) == RIBBON_NULL);
-    CHECK(ribbon_host_answer_field(&host, 0, NULL, 0, &field) == RIBBON_NULL);
-
-    /* The station's side of the opening, in one piece: it ends at `ready`, and only that many bytes are taken. */
-    static const uint8_t up[] = "\xff\xfb\x18\xff\xfa\x18\0IBM-3179-2\xff\xf0\xff\xfb\x19\xff\xfd\x19\xff\xfb\0\xff\xfd\0"
-                                "\0\x0a\x12\xa0\0\0\x04\x40\0\0\xff\xef";
-    FILL(reply);
-    CHECK(ribbon_host_push(&host, up, sizeof up - 1, reply, sizeof reply, &pushed, &event) == RIBBON_DONE);
-    CHECK(event.kind == RIBBON_EVENT_READY && event.terminal == RIBBON_TERMINAL_IBM_3179_2);
-    CHECK(pushed.taken == 31 && pushed.replied == 6 + 12 && all_are(reply + 18, sizeof reply - 18, 0xa5));
-    CHECK(memcmp(reply, "\xff\xfa\x18\x01\xff\xf0\xff\xfd\x19\xff\xfb\x19\xff\xfd\0\xff\xfb\0", 18) == 0);
-    CHECK(ribbon_host_push(&host, up + 31, sizeof up - 1 - 31, reply, 5, &pushed, &event) == RIBBON_NO_ROOM
-          && is_pushed(&pushed, 0, 0, 0, 0) && event.kind == 0);
-    CHECK(ribbon_host_push(&host, up + 31, sizeof up - 1 - 31, reply, sizeof reply, &pushed, &event) == RIBBON_DONE
-          && event.kind == RIBBON_EVENT_ATTENTION && event.terminal == 0 && pushed.taken == 12 && pushed.replied == 0);
-
-    /* Sends. */
-    static const uint8_t past_end[] = {0x04, 0x11, 0x00, 0x08, 0x11, 0x18, 0x50, 0xc1, 0xc1};
-    FILL(told);
-    CHECK(ribbon_host_cancel(&host, record, sizeof record, &told) == RIBBON_NO_READ_TO_CANCEL && is_no_told(&told));
-    CHECK(ribbon_host_send(&host, 0x0a, NULL, 0, &told) == RIBBON_BAD_ARGUMENT && is_no_told(&told));
-    CHECK(ribbon_host_send(&host, 0x07, NULL, 0, &told) == RIBBON_BAD_ARGUMENT && is_no_told(&told));
-    CHECK(ribbon_host_send(&host, 3, form, sizeof form - 1, &told) == RIBBON_BAD_ARGUMENT && is_no_told(&told));
-    CHECK(ribbon_host_send(&host, 3, past_end, sizeof past_end, &told) == RIBBON_REFUSED && told.length == 0
-          && told.place == 0 && told.reason == RIBBON_REASON_PAST_END);
-    CHECK(ribbon_host_send(&host, RIBBON_OPCODE_PUT_GET, form, sizeof form, &told) == RIBBON_DONE
-          && told.length == sizeof form_record);
-    FILL(record);
-    CHECK(ribbon_host_sent(&host, record, sizeof form_record - 1, &told) == RIBBON_NO_ROOM && is_no_told(&told)
-          && IS_FILLED(record));
-    CHECK(ribbon_host_sent(&host, record, sizeof record, &told) == RIBBON_DONE && told.length == sizeof form_record
-          && memcmp(record, form_record, sizeof form_record) == 0);
-    CHECK(ribbon_host_send(&host, 3, form, sizeof form, &told) == RIBBON_READ_OUTSTANDING && is_no_told(&told));
-    CHECK(ribbon_host_cancel(&host, record, RIBBON_CANCEL_ROOM - 1, &told) == RIBBON_NO_ROOM && is_no_told(&told));
-
-    /* The answer: a name, with Enter. */
-    static const uint8_t came[] = {0x00, 0x12, 0x12, 0xa0, 0x00, 0x00, 0x04, 0x00, 0x00, 0x03,
-                                   0x06, 0x37, 0xf1, 0x11, 0x06, 0x35, 0xc2, 0xd6, 0xff, 0xef};
-    CHECK(ribbon_host_push(&host, came, sizeof came, reply, sizeof reply, &pushed, &event) == RIBBON_DONE
-          && event.kind == RIBBON_EVENT_ANSWER && pushed.taken == sizeof came);
-    CHECK(ribbon_host_answer(&host, &answer) == RIBBON_DONE && answer.field_count == 1 && answer.cursor_row == 6
-          && answer.cursor_column == 55 && answer.aid == RIBBON_AID_ENTER);
-    FILL(content);
-    CHECK(ribbon_host_answer_field(&host, 0, content, 1, &field) == RIBBON_NO_ROOM && field.length == 2 && field.row == 6
-          && field.column == 53 && IS_FILLED(content));
-    FILL(field);
-    CHECK(ribbon_host_answer_field(&host, 1, content, sizeof content, &field) == RIBBON_BAD_ARGUMENT
-          && field.length == 0 && field.row == 0 && field.column == 0);
-    CHECK(ribbon_host_answer_field(&host, 0, content, sizeof content, &field) == RIBBON_DONE && field.length == 2
-          && memcmp(content, "\xc2\xd6", 2) == 0 && all_are(content + 2, sizeof content - 2, 0xa5));
-
-    /* An answer that nobody asked for is refused at its last byte; what was told before can still be fetched. */
-    CHECK(ribbon_host_push(&host, came, sizeof came, reply, sizeof reply, &pushed, &event) == RIBBON_REFUSED
-          && pushed.taken == sizeof came - 1 && pushed.reason == RIBBON_REASON_UNASKED_ANSWER
-          && pushed.place == sizeof up - 1 + 2 * sizeof came - 1 && event.kind == 0);
-    CHECK(ribbon_host_push(&host, came, 1, reply, sizeof reply, &pushed, &event) == RIBBON_FAILED
-          && is_pushed(&pushed, 0, 0, 0, 0));
-    CHECK(ribbon_host_send(&host, 3, form, sizeof form, &told) == RIBBON_FAILED && is_no_told(&told));
-    CHECK(ribbon_host_cancel(&host, record, sizeof record, &told) == RIBBON_FAILED && is_no_told(&told));
-    CHECK(ribbon_host_answer(&host, &answer) == RIBBON_DONE && ribbon_host_sent(&host, record, sizeof record, &told) == RIBBON_DONE);
-    ribbon_station_free(&station);
-    ribbon_host_free((ribbon_host *)NULL);
-    ribbon_host_free(&host);
-    ribbon_host_free(&host);
-    CHECK(ribbon_host_answer(&host, &answer) == RIBBON_NOTHING_HELD);
-}
-
-static void test_decoder(void)
-{
-    ribbon_decoder decoder = RIBBON_DECODER_NONE, none = RIBBON_DECODER_NONE;
-    ribbon_step step;
-    uint64_t place = 0xa5;
-    uint8_t unit[RIBBON_UNIT_ROOM];
-    static const uint8_t stream[] = {0xff, 0xf1, 0x00, 0x0c, 0x12, 0xa0, 0x00, 0x00, 0x04, 0x00, 0x00, 0x03,
-                                     0x04, 0x40, 0xff, 0xef, 0x00, 0x09};
-    FILL(step);
-    CHECK(ribbon_decoder_push(NULL, stream, 1, unit, sizeof unit, &step) == RIBBON_NULL && is_step(&step, 0, 0, 0, 0, 0));
-    FILL(step);
-    CHECK(ribbon_decoder_push(&none, stream, 1, unit, sizeof unit, &step) == RIBBON_NOTHING_HELD
-          && is_step(&step, 0, 0, 0, 0, 0));
-    CHECK(ribbon_decoder_finish(&none, &place) == RIBBON_NOTHING_HELD && place == 0);
-    CHECK(ribbon_decoder_finish(NULL, &place) == RIBBON_NULL && ribbon_decoder_finish(&none, NULL) == RIBBON_NULL);
-    CHECK(ribbon_decoder_new(&decoder) == RIBBON_DONE);
-    CHECK(ribbon_decoder_push(&decoder, NULL, 1, unit, sizeof unit, &step) == RIBBON_NULL);
-    CHECK(ribbon_decoder_push(&decoder, stream, 1, NULL, sizeof unit, &step) == RIBBON_NULL);
-    CHECK(ribbon_decoder_push(&decoder, stream, 1, unit, sizeof unit, NULL) == RIBBON_NULL);
-    FILL(step);
-    FILL(unit);
-    CHECK(ribbon_decoder_push(&decoder, stream, 1, unit, sizeof unit - 1, &step) == RIBBON_NO_ROOM
-          && is_step(&step, 0, 0, 0, 0, 0) && IS_FILLED(unit));
-    FILL(step);
-    CHECK(ribbon_decoder_push(&decoder, NULL, 0, unit, sizeof unit, &step) == RIBBON_DONE
-          && is_step(&step, 0, 0, 0, 0, 0));
-    CHECK(ribbon_decoder_finish(&decoder, &place) == RIBBON_DONE && place == 0);
-
-    static const struct {
-        size_t taken, length;
-        uint32_t kind;
-    } steps[] = {{2, 2, RIBBON_STEP_TELNET}, {10, 0, RIBBON_STEP_HEADER}, {2, 2, RIBBON_STEP_ELEMENT},
-                 {2, 0, RIBBON_STEP_RECORD}};
-    size_t at = 0;
-    for (size_t i = 0; i < sizeof steps / sizeof steps[0]; i++) {
-        FILL(unit);
-        CHECK(ribbon_decoder_push(&decoder, stream + at, sizeof stream - at, unit, sizeof unit, &step) == RIBBON_DONE
-              && is_step(&step, steps[i].taken, steps[i].kind, steps[i].length, 0, 0));
-        CHECK(memcmp(unit, stream + at + step.taken - step.length, step.length) == 0
-              && all_are(unit + step.length, sizeof unit - step.length, 0xa5));
-        if (step.kind == RIBBON_STEP_HEADER)
-            CHECK(step.flags == 0 && step.record_length == 12 && step.opcode == RIBBON_OPCODE_PUT_GET);
-        at += step.taken;
-    }
-    FILL(step);
-    CHECK(ribbon_decoder_push(&decoder, stream + at, 1, unit, sizeof unit, &step) == RIBBON_DONE
-          && is_step(&step, 1, RIBBON_STEP_MORE, 0, 0, 0));
-    CHECK(ribbon_decoder_push(&decoder, stream + at + 1, 1, unit, sizeof unit, &step) == RIBBON_REFUSED
-          && is_step(&step, 0, 0, 0, sizeof stream - 1, RIBBON_REASON_LENGTH_BELOW_HEADER));
-    CHECK(ribbon_decoder_push(&decoder, stream, 1, unit, sizeof unit, &step) == RIBBON_FAILED
-          && is_step(&step, 0, 0, 0, 0, 0));
-    CHECK(ribbon_decoder_finish(&decoder, &place) == RIBBON_FAILED && place == 0);
-    ribbon_decoder_free(&decoder);
-
-    CHECK(ribbon_decoder_new(&decoder) == RIBBON_DONE);
-    CHECK(ribbon_decoder_push(&decoder, stream, 1, unit, sizeof unit, &step) == RIBBON_DONE);
-    CHECK(ribbon_decoder_finish(&decoder, &place) == RIBBON_TRUNCATED && place == 1);
-    CHECK(ribbon_decoder_finish(&decoder, &place) == RIBBON_FAILED && place == 0);
-    ribbon_decoder_free(&decoder);
-}
-
 static void test_texts(void)
 {
     uint32_t character = 0xa5;
@@ -582,8 +363,6 @@ int main(int count, char **words)
     test_station_push();
     test_key();
     test_looks();
-    test_host();
-    test_decoder();
     test_texts();
     test_reply_room();
     if (count < 2 || strcmp(words[1], "few") != 0)

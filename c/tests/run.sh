@@ -57,15 +57,17 @@ has() {
 }
 
 # The test programs. Both libraries give the same, and show the names of the interface alone.
-programs=(calls extended changed sentences code_page format strokes body)
+programs=(calls host_calls decoder_calls extended changed sentences code_page format strokes body)
 for name in "${programs[@]}"; do
     try "$name.c is built" "$CC" "${warnings[@]}" -g -I "$here" -o "$folder/$name" "$tests/$name.c" \
         "$BUILD/libribbonscarp.a"
     try_counted "$name" "$folder/$name"
 done
-try "calls.c is built, shared" "$CC" "${warnings[@]}" -I "$here" -o "$folder/calls_shared" "$tests/calls.c" \
-    -L "$BUILD" -lribbonscarp -Wl,-rpath,"$BUILD"
-try_counted "each call, shared" "$folder/calls_shared"
+for name in calls host_calls decoder_calls; do
+    try "$name.c is built, shared" "$CC" "${warnings[@]}" -I "$here" -o "$folder/shared" "$tests/$name.c" \
+        -L "$BUILD" -lribbonscarp -Wl,-rpath,"$BUILD"
+    try_counted "$name, shared" "$folder/shared"
+done
 visible() {
     nm -D --defined-only "$BUILD/libribbonscarp.so" | awk '{print $3}' | sort >"$folder/shared_names"
     nm -g --defined-only "$BUILD/libribbonscarp.a" | awk 'NF == 3 {print $3}' | sort >"$folder/static_names"

@@ -2,12 +2,7 @@
  * that it names. */
 #include "bytes.h"
 #include "check.h"
-#include "ribbonscarp.h"
-
-static int is_no_told(const ribbon_told *told)
-{
-    return told->length == 0 && told->place == 0 && told->reason == 0;
-}
+#include "outputs.h"
 
 /* Which kind of station the tests make. */
 static ribbon_status (*make)(ribbon_station *station, const char *terminal);
