@@ -112,7 +112,7 @@ pub use Rattle.ws_session.specs.declared.host_end.host_event.HostEvent.{HostEven
 pub use Rattle.ws_session.specs.declared.host_end.host_event.HostEvent.TheVariants.{Answer as Answered, Cancelled}
 pub use Rattle.ws_session.specs.declared.host_end.host_event.HostEvent.TheVariants.{Attention as AttentionCame}
 pub use Rattle.ws_session.specs.declared.host_end.host_event.HostEvent.TheVariants.{SystemRequest as RequestCame}
-pub use Rattle.ws_session.specs.declared.host_end.host_event.HostStep.{HostStep}
+pub use Rattle.ws_session.specs.host_end.HostLeads.{HostStep}
 pub use Rattle.ws_session.specs.declared.host_end.send_fault.SendFault.{SendFault}
 pub use Rattle.ws_session.specs.declared.host_end.send_fault.SendFault.TheVariants.{Failed as SendFailed}
 pub use Rattle.ws_session.specs.declared.host_end.send_fault.SendFault.TheVariants.{Memory as NoMemory, NotAllowed}
@@ -121,7 +121,7 @@ pub use Rattle.ws_session.specs.declared.host_end.send_fault.SendFault.TheVarian
 pub use Rattle.ws_session.specs.declared.host_end.send_fault.SendFault.TheVariants.{Screen as RefusedByScreen}
 pub use Rattle.ws_session.specs.declared.refusal.Refusal.{Refusal}
 pub use Rattle.ws_session.specs.declared.refusal.Refusal.TheVariants.{At, Failed, Memory}
-pub use Rattle.ws_session.specs.declared.station.StationStep.{StationStep}
+pub use Rattle.ws_session.specs.declared.end_step.EndStep.{EndStep}
 pub use Rattle.ws_session.specs.declared.station.answer.TheConstants.{ATN, SRQ}
 pub use Rattle.ws_session.specs.declared.station.key_fault.KeyFault.{KeyFault}
 pub use Rattle.ws_session.specs.declared.station.key_fault.KeyFault.TheVariants.{Failed as KeyFailed, NotReady}

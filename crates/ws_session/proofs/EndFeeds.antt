@@ -1,6 +1,6 @@
 use Rattle.ws_session.proofs.Common as C
-use C.{IfOk, IfErr, ◌≡◌, ◌+◌, ◌≤◌, List, [], ◌∷◌, ◌++◌, refl, subst, ◌∙◌, ℕ, suc, ◌<◌, Option, Some, None, IsSome, take, ap, sym}
-use C.{arith, ◌^◌, inl, inr, length, append_assoc, true, false, is_some, ◌-◌, Err, Ok, Result, length-take-le}
+use C.{◌≡◌, ◌+◌, ◌≤◌, List, [], ◌∷◌, ◌++◌, refl, subst, ◌∙◌, ℕ, suc, ◌<◌, Option, Some, None, IsSome, take, ap, sym}
+use C.{arith, min, ◌^◌, inl, inr, length, append_assoc, ◌-◌, Err, length-take-le}
 use C.{take-append-le, Rules, Item, answer_rules, element_rules, AnswerPart, all_came, HasGone, Manner, Goes}
 use C.{host_manner, HostRefuses, Refusal, Failed, EndsAt, HostLeads, HostParts, IsHostPushed, HostSide}
 use Rattle.std.proofs.Math.Seq.{take-append-add}
@@ -91,6 +91,16 @@ module _ {Place PlaceV Side U V Deed Event E : Type 0} (rules : Rules Place U) (
   silent_by Then n lt quiet bytes items side l few =
       rw whole (rw (take-append-le n part more (omega (arith, lt, within)))
       (quiet bytes items side l (omega (arith, fits, count old bytes items side l))))
+
+-- the part of a piece that can be counted
+pub fits : (taken read length count part : ℕ) → read < 2 ^ 64 → taken ≡ read → count ≡ min (2 ^ 64 - 1 - read) length
+    → (count ≤ length → part ≡ count) → taken + part < 2 ^ 64
+fits taken read length count part below is least size = grind (arith, below, is, least, size)
+
+-- and isn't empty where a byte more can be counted
+pub some_fit : (taken read length count part : ℕ) → taken ≡ read → taken + 1 < 2 ^ 64 → 0 < length
+    → count ≡ min (2 ^ 64 - 1 - read) length → (count ≤ length → part ≡ count) → 0 < part
+some_fit taken read length count part is room some least size = grind (arith, is, room, some, least, size)
 
 -- what holds of an end that can't go on: it is as it was, or it ends there
 module _ {E : Type 0} (ended : E → Option Refusal) (old new : E) (kept : IsSome (ended old) → new ≡ old)

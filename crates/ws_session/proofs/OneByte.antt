@@ -1,9 +1,9 @@
 use Rattle.ws_session.proofs.Common as C
 use C.{IfOk, IfErr, ◌≡◌, ◌+◌, ◌≤◌, List, [], ◌∷◌, ◌++◌, refl, subst, ◌∙◌, ℕ, ◌<◌, Option, Some, None}
 use C.{take, ap, arith, ◌^◌, inl, inr, length}
-use C.{Bool, true, false, Err, Ok, Result, Rules, plain_spelling, Item, AnswerPart, element_rules, as_list}
-use C.{told_by, HostEvent}
-use C.{HostStep, Refusal, StationStep, HasHostFed, EndsAt, AtHost, HostLeads, HostParts, IsHostPushed, HostSide}
+use C.{Err, Ok, Result, Rules, plain_spelling, Item, AnswerPart, element_rules, as_list}
+use C.{HostEvent}
+use C.{HostStep, Refusal, EndStep, Applied, HasHostFed, EndsAt, AtHost, HostLeads, HostParts, IsHostPushed, HostSide}
 use C.{host_at_item, host_takes}
 use Rattle.ws_session.specs.host_end.HostFeeds.{HasHostTakenAll, HostStopsWithin}
 use Rattle.ws_session.specs.station.Displays.{DisplayOf, SideOn}
@@ -17,19 +17,19 @@ use Rattle.ws_session.specs.station.Displays.{on_display}
 
 -- A piece of one byte brings what that byte alone does.
 
+unheard : {Event : Type 0} (event : Option Event) → as_list event ≡ [] → event ≡ None
+unheard None e = refl
+unheard (Some event) e = cc
+
 module _ {D P U H PlaceV V K R : Type 0} (rules : Rules P U) (d : DisplayOf D U H PlaceV V K R)
     (old new : PartsOn D P) where
-  untold : (b : Bool) → as_list (told_by b) ≡ [] → b ≡ false
-  untold false e = refl
-  untold true e = cc
-
-  pub one_fed : (byte : ℕ) (step : StationStep R) → (step.ends_record ≡ false → new.screen ≡ old.screen)
+  pub one_fed : (byte : ℕ) (step : EndStep Applied R) → (step.event ≡ None → new.screen ≡ old.screen)
       → (bytes : List ℕ) (items : List (Item U)) (side : SideOn H)
       → HasFedOn (on_display rules d) new bytes items side (byte ∷ []) (d.written new.screen step.reply)
-      step.ends_record
+      step.event
       → IsPushedOn (on_display rules d) old new bytes items side byte (Ok step.reply)
   one_fed byte step quiet bytes items side fed = elim (gone_one fed) [
-    | inl q ↦ inl (record { silent = q.0; same = quiet (untold _ q.1); leads = q.2 })
+    | inl q ↦ inl (record { silent = q.0; same = quiet (unheard step.event q.1); leads = q.2 })
     | inr q ↦ (let r = gone_to (takes_on d side q.0) q.1 in
         inr (record {
           item = q.0;
@@ -55,10 +55,6 @@ module _ {D P U H PlaceV V K R : Type 0} (rules : Rules P U) (d : DisplayOf D U 
       (s.refused bytes items side l few)))
 
 module _ (old new : HostParts) where
-  unheard : (event : Option HostEvent) → as_list event ≡ [] → event ≡ None
-  unheard None e = refl
-  unheard (Some event) e = cc
-
   pub host_one_fed : (byte : ℕ) (step : HostStep) → (step.event ≡ None → new.screen ≡ old.screen)
       → (bytes : List ℕ) (items : List (Item AnswerPart)) (side : HostSide)
       → HasHostFed new bytes items side (byte ∷ []) step.reply step.event

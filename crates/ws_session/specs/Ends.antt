@@ -1,6 +1,6 @@
 -- Why an end takes no more bytes, and which of them it has refused
 
-use Rattle.std.specs.Prelude.{◌≡◌, ◌<◌, ◌≤◌, ◌+◌, ◌^◌, ◌⊎◌, ℕ, Option, Some, None, IsSome, Result, IfOk, IfErr, OnErr}
+use Rattle.std.specs.Prelude.{◌≡◌, ◌<◌, ◌≤◌, ◌+◌, ◌^◌, ◌⊎◌, ℕ, Option, Some, None, IsSome, Result, IfOk, IfErr, OnOk, OnErr}
 use Rattle.ws_code.specs.declared.reason.Reason.{Reason}
 use Rattle.ws_session.specs.declared.refusal.Refusal.{Refusal}
 use Rattle.ws_session.specs.declared.refusal.Refusal.TheVariants.{At, Failed, Memory}
@@ -39,3 +39,11 @@ pub record HasSettled {Step : Type 0} (BringsNothing : Step → Type 0) (place :
   pub after : IfErr result (λ why. ended ≡ Some why)
   pub seen : OnErr result SameScreen
   pub quiet : IfOk result (λ step. BringsNothing step → SameScreen)
+
+-- Whether an end takes a byte more: one that is shut doesn't, and ends there.
+pub record TakesMore {E A : Type 0} (ended : E → Option Refusal) (taken : E → ℕ) (stopped : E → E) (old new : E)
+    (result : Result A Refusal) : Type 0 where
+  pub works : OnOk result ((new ≡ old) × (ended old ≡ None) × (taken old + 1 < 2 ^ 64))
+  pub shut : IfErr result (λ why. (why ≡ Failed) × IsShut (ended old) (taken old))
+  pub failed : IsSome (ended old) → new ≡ old
+  pub after : OnErr result (ended old ≡ None → new ≡ stopped old)

@@ -4,9 +4,9 @@ use C.{min, inl, inr, length, append_assoc, length-append, Bool, true, false, na
 use C.{append-nil, Writer, WentOut, FailedWithin, Fault, Write, Refused, went_out_none, went_out_both}
 use C.{failed_within_both, TerminalType, Item, RecordItem, TelnetItem, element_rules, Element, Key, HoldsItems}
 use C.{fault_of, HaveBroughtPlayer, HasDone, records_from, keys_left_from, IsRunFault, refusal_count, behind, run_text}
-use C.{RunUnwritten, Player, Refusal, At, StationStep, Presses, outcome, due, later, Moment, Outcome, idle_outcome}
+use C.{RunUnwritten, Player, Refusal, At, EndStep, Presses, outcome, due, later, Moment, Outcome, idle_outcome}
 use C.{outcome_of_both, at_item, at_moment, AreTaken, records_in_item, moments_from, moments, AtStation, StationParts}
-use C.{StationLeads, is_record, StationSide, new_station_side}
+use C.{StationLeads, is_record, StationSide, new_station_side, Applied, told_by, is_some, Option}
 use Rattle.std.proofs.lemmas.Bool.{cases_Bool}
 use Rattle.ws_session.specs.station.Moments.{Arrives}
 use Rattle.ws_session.specs.station.StationManners.{goes_on}
@@ -69,6 +69,11 @@ keys_taken s n (k ∷ ks) = elim (cases_Bool (nat_lt n k.0)) [
 ]
 
 -- one record is counted, and no Telnet command
+-- a record ends where something is told
+ends_with : (event : Option Applied) (ends : Bool) → event ≡ told_by ends → is_some event ≡ ends
+ends_with event true e = ap is_some e
+ends_with event false e = ap is_some e
+
 one_of : (item : Item Element) (ends : Bool) → ends ≡ is_record item → ends ≡ false → records_in_item item ≡ 0
 one_of (RecordItem r) ends is e = (let h : true ≡ false = sym is ∙ e in cc)
 one_of (TelnetItem token) ends is e = refl
@@ -134,7 +139,8 @@ module _ {S : Type 0} (writer : Writer S) (t : TerminalType) (keys : List (ℕ �
       text_more : run_text (asked t keys) items ++ (reply ++ text_of keyed.written) ≡ run_text (asked t keys) more
       text_more = ap (λ z. run_text (asked t keys) items ++ (z ++ text_of keyed.written)) taken.spelled
           ∙ ap (λ z. run_text (asked t keys) items ++ z) (sym (text_append taken.writes keyed.written))
-          ∙ sym (text_append so_far.written (taken.writes ++ keyed.written)) ∙ ap (λ (o : Outcome). text_of o.written) (sym one_more)
+          ∙ sym (text_append so_far.written (taken.writes ++ keyed.written)) ∙ ap (λ (o : Outcome). text_of o.written)
+              (sym one_more)
 
       -- an item is, and the keys that are due behind it are pressed
       item_comes : (records : ℕ) (new : Player) (mid to : S) → records ≡ old.records + records_in_item taken.item
@@ -190,7 +196,7 @@ module _ {S : Type 0} (writer : Writer S) (t : TerminalType) (keys : List (ℕ �
       room : length longer + 1 < 2 ^ 64
       room = omega (arith, few, size, within)
 
-      module _ (step : StationStep (List ℕ))
+      module _ (step : EndStep Applied (List ℕ))
           (fronted : IsFrontedOn on_profile before old.station longer items so_far.side (Ok step)) where
         -- the reply isn't written
         pub reply_fails : (to : S) → FailedWithin writer now to step.reply
@@ -202,12 +208,13 @@ module _ {S : Type 0} (writer : Writer S) (t : TerminalType) (keys : List (ℕ �
         ]
 
         -- it ends no record
-        pub no_record : (to : S) → step.ends_record ≡ false → WentOut writer now to step.reply
+        pub no_record : (to : S) → is_some step.event ≡ false → WentOut writer now to step.reply
             → (next : List (Item Element)) × HaveBroughtPlayer (asked t keys) (outflow writer start to) old longer next
         no_record to e went = elim fronted [
           | inl i ↦ (items, inside_comes step.reply to i.0.silent i.0.leads went)
           | inr taken ↦ (let item : Item Element = taken.0.item in
-              let one : records_in_item item ≡ 0 = one_of item step.ends_record taken.1 e in
+              let one : records_in_item item ≡ 0 = one_of item (is_some step.event)
+                  (ends_with step.event _ taken.1) e in
               let same : records_from 0 items + records_in_item item ≡ records_from 0 items = omega (arith, one) in
               let settled = left_settled 0 keys items in
               let none : due (records_from 0 items + records_in_item item)
@@ -229,17 +236,18 @@ module _ {S : Type 0} (writer : Writer S) (t : TerminalType) (keys : List (ℕ �
         ]
 
         -- it ends one
-        module _ (ends : step.ends_record ≡ true) (records : ℕ) (is : records ≡ min (old.records + 1) (2 ^ 64 - 1))
+        module _ (ends : is_some step.event ≡ true) (records : ℕ) (is : records ≡ min (old.records + 1) (2 ^ 64 - 1))
             (mid : S) (went : WentOut writer now mid step.reply) where
-          counts : (item : Item Element) → step.ends_record ≡ is_record item → (records_in_item item ≡ 1)
+          counts : (item : Item Element) → step.event ≡ told_by (is_record item) → (records_in_item item ≡ 1)
               × (records ≡ old.records + records_in_item item) × (records ≡ records_from 0 items + records_in_item item)
           counts item e =
-              let one : records_in_item item ≡ 1 = one_of_record item step.ends_record e ends in
+              let one : records_in_item item ≡ 1 = one_of_record item (is_some step.event)
+                  (ends_with step.event _ e) ends in
               let f : records ≡ old.records + records_in_item item =
               omega (arith, one, is, c.few, few) in
               (one, f, f ∙ ap (λ n. n + records_in_item item) c.records)
 
-          now_due : (item : Item Element) → step.ends_record ≡ is_record item → due records (drop old.pressed keys)
+          now_due : (item : Item Element) → step.event ≡ told_by (is_record item) → due records (drop old.pressed keys)
               ≡ due (records_from 0 items + records_in_item item) (keys_left_from 0 keys items)
           now_due item e = ap (λ z. due z (drop old.pressed keys)) (counts item e).2
               ∙ ap (due (records_from 0 items + records_in_item item)) c.left
@@ -250,7 +258,7 @@ module _ {S : Type 0} (writer : Writer S) (t : TerminalType) (keys : List (ℕ �
               → (next : List (Item Element))
               × HaveBroughtPlayer (asked t keys) (outflow writer start to) new longer next
           record_comes new to done left = elim fronted [
-            | inl i ↦ absurd (let e : true ≡ false = sym ends ∙ i.1 in cc)
+            | inl i ↦ absurd (let e : true ≡ false = sym ends ∙ ap is_some i.1 in cc)
             | inr taken ↦ (let item : Item Element = taken.0.item in
                 let n = counts item taken.1 in (
                   items ++ item ∷ [],
@@ -265,7 +273,7 @@ module _ {S : Type 0} (writer : Writer S) (t : TerminalType) (keys : List (ℕ �
               writer mid to (text_of (outcome side (due records (drop old.pressed keys))).written))
               → RunUnwritten (asked t keys) (outflow writer start to) (bytes ++ piece)
           keys_fail to failed = elim fronted [
-            | inl i ↦ absurd (let e : true ≡ false = sym ends ∙ i.1 in cc)
+            | inl i ↦ absurd (let e : true ≡ false = sym ends ∙ ap is_some i.1 in cc)
             | inr taken ↦ keys_unwritten step.reply taken.0 mid to went
                 (rw (← now_due taken.0.item taken.1) (failed longer (items ++ taken.0.item ∷ [])
                 taken.0.next taken.0.leads room))

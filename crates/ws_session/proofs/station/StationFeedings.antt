@@ -2,9 +2,10 @@ use Rattle.ws_session.proofs.Common as C
 use C.{◌≡◌, ◌+◌, ◌≤◌, List, [], ◌∷◌, ◌++◌, refl, subst, ◌∙◌, ℕ, ◌<◌, Option, None, take, ap, sym, arith, ◌^◌, inl, inr}
 use C.{length, append_assoc, length-append, Bool, true, false, Err, Ok, ◌==◌, nat_tests, Rules, left_of}
 use C.{CompletesUnit, Item, answer_rules, AnswerPart, bytes_came, as_list, host_at_item, goes_on, told_by, GoesOn}
-use C.{Order, HostEvent, HostStep, Refusal, At, Failed, Memory, StationStep, HasHostFed, EndsAt, IsHostFronted, AtHost}
+use C.{Order, HostEvent, HostStep, Refusal, At, Failed, Memory, EndStep, Applied, HasHostFed, EndsAt, IsHostFronted}
+use C.{AtHost}
 use C.{HostLeads, HostParts, HostSide}
-use Rattle.ws_session.proofs.Common.{suc, ◌-◌}
+use Rattle.ws_session.proofs.Common.{suc, ◌-◌, is_some, Some}
 use Rattle.ws_record.specs.Taking.{EndIn}
 use Rattle.ws_session.specs.host_end.HostFeeds.{HasHostTakenAll}
 use Rattle.ws_session.specs.station.Displays.{DisplayOf, SideOn}
@@ -24,17 +25,17 @@ module _ {D P U H PlaceV V K R : Type 0} (rules : Rules P U) (d : DisplayOf D U 
       (bytes : List ℕ) (items : List (Item U)) (side : SideOn H) (left : List ℕ) (used : ℕ)
       (within : used ≤ length left) (some : 0 < used) (held : AreHeld rules K bytes items left used) where
     -- what its last byte gives
-    front_fed : (step : StationStep R)
+    front_fed : (step : EndStep Applied R)
         → IsFrontedOn (on_display rules d) old new (bytes ++ take used left) items side (Ok step)
         → HasFedOn (on_display rules d) new bytes items side (take used left) (d.written new.screen step.reply)
-        step.ends_record
+        step.event
     front_fed step (inl q) = none_went (bytes_came K (take used left)) (front_silent rules K bytes items
-        left used within held (on_holds rules d q.0.leads)) q.0.silent (ap (λ (b : Bool). as_list (told_by b)) q.1)
+        left used within held (on_holds rules d q.0.leads)) q.0.silent (ap (λ (o : Option Applied). as_list o) q.1)
         q.0.leads
     front_fed step (inr q) = one_went (bytes_came K (take used left)) q.0.item
         (at_item_on d side q.0.item (GoesOn q.0.next q.0.writes)) (ap (at_item_on d side q.0.item) q.0.goes_on)
         (front_brings rules K bytes items q.0.item left used within some held (on_holds rules d q.0.leads))
-        (ap goes_on q.0.goes_on) q.0.spelled (ap (λ (b : Bool). as_list (told_by b)) q.1 ∙ told_of q.0.item)
+        (ap goes_on q.0.goes_on) q.0.spelled (ap (λ (o : Option Applied). as_list o) q.1 ∙ told_of q.0.item)
         q.0.leads
 
   pushed_at_last : (old mid new : PartsOn D P) (bytes : List ℕ) (items : List (Item U))
@@ -47,9 +48,9 @@ module _ {D P U H PlaceV V K R : Type 0} (rules : Rules P U) (d : DisplayOf D U 
   pushed_at_last old mid new bytes items side byte why same f = f
 
   module _ (bytes : List ℕ) (items : List (Item U)) (side : SideOn H) (piece : List ℕ) (i : ℕ)
-      (now : PartsOn D P) (before : HasFedOn (on_display rules d) now bytes items side (take i piece) [] false) where
+      (now : PartsOn D P) (before : HasFedOn (on_display rules d) now bytes items side (take i piece) [] None) where
     -- a front more is fed
-    pub fed_on : (new : PartsOn D P) (k : ℕ) (step : StationStep R)
+    pub fed_on : (new : PartsOn D P) (k : ℕ) (step : EndStep Applied R)
         → k ≤ length (left_of piece i) → 0 < k
         → AtStationOn (on_display rules d) now (λ b its s. length b + length (left_of piece i) < 2 ^ 64
         → IsFrontedOn (on_display rules d) now new (b ++ take k (left_of piece i)) its s (Ok step))
@@ -57,7 +58,7 @@ module _ {D P U H PlaceV V K R : Type 0} (rules : Rules P U) (d : DisplayOf D U 
         (λ b its s. AreHeld rules K b its (left_of piece i) k) → length bytes + length piece < 2 ^ 64
         → i ≤ length piece
         → HasFedOn (on_display rules d) new bytes items side (take (i + k) piece) (d.written new.screen step.reply)
-        step.ends_record
+        step.event
     fed_on new k step within some fronted held fits inside = front_on _ _ _ bytes items side piece i
         (LeadsOn (on_display rules d) now) before _ k _ _ (λ b its s l room. front_fed now new b its s _ k within some
         (held b its s l) step (fronted b its s l room)) fits inside
@@ -85,6 +86,16 @@ module _ {D P U H PlaceV V K R : Type 0} (rules : Rules P U) (d : DisplayOf D U 
         (subst (λ (x : List ℕ). IsFrontedOn (on_display rules d) now new x its s
         (Err refusal))
         (ap (λ z. b ++ z) upto ∙ sym (append_assoc b front (byte ∷ []))) (fronted b its s l room))) held fits inside
+
+-- an event that is none
+pub no_event : {Event : Type 0} (event : Option Event) → is_some event ≡ false → event ≡ None
+no_event None e = refl
+no_event (Some told) e = cc
+
+-- an event is told by whether there is one
+pub told_again : (event : Option Applied) → told_by (is_some event) ≡ event
+told_again None = refl
+told_again (Some told) = refl
 
 -- a reply that is empty
 no_bytes : (xs : List ℕ) → length xs ≡ 0 → xs ≡ []

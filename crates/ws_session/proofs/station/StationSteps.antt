@@ -6,7 +6,7 @@ use C.{arith, ◌^◌, min, inl, inr, length, length-append, length-drop, if◌t
 use C.{Err, Ok, Result, length-take-le, Rules, Kept, RecordBeforeNegotiation, telnet_spelling, Telnet, telnet_bytes}
 use C.{station_allows_records, station_answer, record_of, plain_spelling, Watching, Leads, LeadsWith, RecordSoFar}
 use C.{no_record, Keeping, HasRead, IsHead, News, Head, Item, RecordItem, TelnetItem, Record, fetched, Read, Attention}
-use C.{SystemRequest, KeyRefusal, Refuses, Refusal, At, StationStep, KeyFault, NotReady, keeps_body, RefusesKey}
+use C.{SystemRequest, KeyRefusal, Refuses, Refusal, At, EndStep, Applied, KeyFault, NotReady, keeps_body, RefusesKey}
 use Rattle.std.proofs.Math.ListN.{drop_of_length-le}
 use Rattle.ws_code.specs.declared.keep.Kept.TheVariants as answer
 use Rattle.ws_telnet.specs.Words.{telnet_of}
@@ -17,7 +17,7 @@ use Rattle.ws_keys.specs.declared.answer.Answer.{Answer}
 use Rattle.ws_session.specs.declared.station.key_fault.KeyFault.TheVariants.{Key as Refused}
 use Rattle.ws_session.specs.station.Displays.{DisplayOf, SideOn, IsApplied, IsPressedOnDisplay, ComesTo}
 use Rattle.ws_session.specs.station.PartsOn.{PartsOn}
-use Rattle.ws_session.specs.station.StationManners.{takes_on, key_on}
+use Rattle.ws_session.specs.station.StationManners.{applied, takes_on, key_on}
 use Rattle.ws_session.specs.station.StationNews.{IsFrontedOn, IsAnsweredOn, IsMid, IsNewsTakenOn}
 use Rattle.ws_session.specs.station.Stations.{LeadsOn, IsClosedOn, TakesItemOn, IsKeyedOn}
 use Rattle.ws_session.specs.station.Stations.{HasStoppedOn}
@@ -46,7 +46,7 @@ module _ {D P U H PlaceV V K R : Type 0} (rules : Rules P U) (d : DisplayOf D U 
         screen = screen;
         records = min (old.records + 1)
             (2 ^ 64 - 1);
-      }) side (record_of head units) place (Ok (record { reply = reply; ends_record = true }))
+      }) side (record_of head units) place (Ok (record { reply = reply; event = Some applied }))
   closes old screen side head units place reply same allows a = (
     a.0,
     a.1,
@@ -85,13 +85,13 @@ module _ {D P U H PlaceV V K R : Type 0} (rules : Rules P U) (d : DisplayOf D U 
       abbrev Mid : PartsOn D P
       Mid = record old { live = live; body_bytes = kept }
 
-      abbrev Fronted : PartsOn D P → Result (StationStep R) Refusal → Type 0
+      abbrev Fronted : PartsOn D P → Result (EndStep Applied R) Refusal → Type 0
       Fronted new result = IsFrontedOn (on_display rules d) old new (bytes ++ front) items side result
 
       -- no item is complete
       stays : (head : Option Head) (units : List U)
           (n : LeadsWith rules live (bytes ++ front) items head units) → kept ≡ drop 10 n.0 → (new : PartsOn D P)
-          (result : Result (StationStep R) Refusal) → IsMid (on_display rules d) new result [] × (new ≡ Mid)
+          (result : Result (EndStep Applied R) Refusal) → IsMid (on_display rules d) new result [] × (new ≡ Mid)
           → Fronted new result
       stays head units n body new result r = rw r.0.1 (inl (
         record {
@@ -120,7 +120,7 @@ module _ {D P U H PlaceV V K R : Type 0} (rules : Rules P U) (d : DisplayOf D U 
 
       -- a Telnet command is
       answered : (from : Watching P) (token : Telnet) → Leads rules from (bytes ++ front) (items ++ TelnetItem
-          token ∷ []) so_far → kept ≡ old.body_bytes → (new : PartsOn D P) (result : Result (StationStep R) Refusal)
+          token ∷ []) so_far → kept ≡ old.body_bytes → (new : PartsOn D P) (result : Result (EndStep Applied R) Refusal)
           → IsAnsweredOn (on_display rules d) (record Mid { live = from }) token new result → Fronted new result
       answered from token n same new result r = rw r.0.1 (inr (
         record {
@@ -148,7 +148,7 @@ module _ {D P U H PlaceV V K R : Type 0} (rules : Rules P U) (d : DisplayOf D U 
       closed : (head : Head) → Leads rules live (bytes ++ front)
           (items ++ RecordItem (record_of head l.units) ∷ []) no_record → length (bytes ++ front) < 2 ^ 64
           → live.taken ≡ length (bytes ++ front) → (place : ℕ) → length (bytes ++ front) ≡ place + 1
-          → (new : PartsOn D P) (result : Result (StationStep R) Refusal)
+          → (new : PartsOn D P) (result : Result (EndStep Applied R) Refusal)
           → IsClosedOn (on_display rules d) Mid new side (record_of head l.units) place result → Fronted new result
       closed head n few count place at new (Ok step) c =
           let last : Item U = RecordItem (record_of head l.units) in
@@ -199,7 +199,7 @@ module _ {D P U H PlaceV V K R : Type 0} (rules : Rules P U) (d : DisplayOf D U 
       pub fronted : (news : News) → IsBodyAdvance news → live.taken ≡ length (bytes ++ front)
           → ((news ≡ told.Failed → ⊥) → 0 < length (bytes ++ front)) → length (bytes ++ front) < 2 ^ 64 →
           (new : PartsOn D P)
-          (result : Result (StationStep R) Refusal) → IsNewsTakenOn (on_display rules d) Mid news new result
+          (result : Result (EndStep Applied R) Refusal) → IsNewsTakenOn (on_display rules d) Mid news new result
           → Fronted new result
       fronted told.More a count some few new result r =
           let on = a.2 in
@@ -231,18 +231,18 @@ module _ {D P U H PlaceV V K R : Type 0} (rules : Rules P U) (d : DisplayOf D U 
       fronted told.Failed a count some few new result r = absurd a
 
   -- a command is answered, for which a subnegotiation may have been taken out
-  pub command_answered : (old new : PartsOn D P) (live : Watching P) (said token : Telnet) (step : StationStep R)
+  pub command_answered : (old new : PartsOn D P) (live : Watching P) (said token : Telnet) (step : EndStep Applied R)
       → old.live ≡ live → token ≡ said
       → d.written new.screen step.reply ≡ telnet_bytes (station_answer old.options token).reply
-      → step.ends_record ≡ false → new ≡ record old { options = (station_answer old.options token).after }
+      → step.event ≡ None → new ≡ record old { options = (station_answer old.options token).after }
       → IsAnsweredOn (on_display rules d) (record old { live = live }) said new (Ok step)
   command_answered old new live said token step kept same reply ends options =
       rw (← kept, ← same) ((step, refl, reply, ends), options)
 
   -- where nothing is complete
-  pub none_complete : (old : PartsOn D P) (news : News) (step : StationStep R) → (news ≡ told.More)
+  pub none_complete : (old : PartsOn D P) (news : News) (step : EndStep Applied R) → (news ≡ told.More)
       ⊎ ((news ≡ told.Unit) ⊎ ((head : Head) × (news ≡ told.Open head))) → d.written old.screen step.reply ≡ []
-      → step.ends_record ≡ false → IsNewsTakenOn (on_display rules d) old news old (Ok step)
+      → step.event ≡ None → IsNewsTakenOn (on_display rules d) old news old (Ok step)
   none_complete old news step (inl e) reply ends = rw e ((step, refl, reply, ends), refl)
   none_complete old news step (inr (inl e)) reply ends = rw e ((step, refl, reply, ends), refl)
   none_complete old news step (inr (inr q)) reply ends = rw q.1 ((step, refl, reply, ends), refl)

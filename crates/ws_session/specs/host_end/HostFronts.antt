@@ -13,11 +13,11 @@ use Rattle.ws_record.specs.declared.news.News.{News}
 use Rattle.ws_record.specs.declared.news.News.TheVariants as news
 use Rattle.ws_stream.specs.AnswerParts.{answer_rules}
 use Rattle.ws_stream.specs.declared.answer_part.AnswerPart.{AnswerPart}
-use Rattle.ws_session.specs.declared.host_end.host_event.HostStep.{HostStep}
 use Rattle.ws_session.specs.declared.refusal.Refusal.{Refusal}
 use Rattle.ws_session.specs.declared.refusal.Refusal.TheVariants.{At, Failed, Memory}
 use Rattle.ws_session.specs.Ends.{HasSettled}
-use Rattle.ws_session.specs.host_end.HostLeads.{HostParts, HostStands, IsReacted, HostStaysInside, HostTakesItem}
+use Rattle.ws_session.specs.host_end.HostLeads.{HostParts, HostStep, HostStands, IsReacted, HostStaysInside}
+use Rattle.ws_session.specs.host_end.HostLeads.{HostTakesItem}
 use Rattle.ws_session.specs.host_end.HostLeads.{HostRefusesItem, HostWantsItem}
 use Rattle.ws_session.specs.host_end.HostSide.{HostSide, host_takes}
 

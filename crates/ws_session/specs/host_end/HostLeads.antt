@@ -22,13 +22,16 @@ use Rattle.ws_session.specs.declared.end_step.Order.{Order}
 use Rattle.ws_session.specs.declared.end_step.Order.TheVariants.{Send, Cancel}
 use Rattle.ws_session.specs.declared.end_step.Sent.{Sent}
 use Rattle.ws_session.specs.declared.end_step.Sent.TheVariants.{Record as OfRecord, Cancel as OfCancel}
-use Rattle.ws_session.specs.declared.host_end.host_event.HostStep.{HostStep}
+use Rattle.ws_session.specs.declared.end_step.EndStep.{EndStep}
+use Rattle.ws_session.specs.declared.host_end.host_event.HostEvent.{HostEvent}
 use Rattle.ws_session.specs.declared.host_end.send_fault.SendFault.{SendFault}
-use Rattle.ws_session.specs.declared.host_end.send_fault.SendFault.TheVariants.{Failed as SendFailed, Memory as SendMemory}
+use Rattle.ws_session.specs.declared.host_end.send_fault.SendFault.TheVariants.{Failed as SendFailed}
+use Rattle.ws_session.specs.declared.host_end.send_fault.SendFault.TheVariants.{Memory as SendMemory}
 use Rattle.ws_session.specs.declared.refusal.Refusal.{Refusal}
 use Rattle.ws_session.specs.declared.refusal.Refusal.TheVariants.{At, Failed, Memory}
 use Rattle.ws_session.specs.Reaction.{Reaction, Refuses, GoesOn}
-use Rattle.ws_session.specs.host_end.HostSide.{HostSide, HostOutput, TellsAnswer, host_takes, host_orders, SendReaction, RefusesSend, Sends}
+use Rattle.ws_session.specs.host_end.HostSide.{HostSide, HostOutput, TellsAnswer, host_takes, host_orders, SendReaction}
+use Rattle.ws_session.specs.host_end.HostSide.{RefusesSend, Sends}
 
 -- What a host end keeps: a live decoder with the units of the open record, its options, the screen to which it applies
 -- what it sends, whether a cancel is unanswered, and why it takes no more bytes.
@@ -38,6 +41,10 @@ pub record HostParts : Type 0 where
   pub screen : ScreenParts
   pub cancelling : Bool
   pub ended : Option Refusal
+
+-- what a byte gives: what is written, and what is told
+abbrev pub HostStep : Type 0
+HostStep = EndStep HostEvent (List ℕ)
 
 -- the host end's options, screen and cancel are those of this side
 pub record HostStands (host : HostParts) (side : HostSide) : Type 0 where

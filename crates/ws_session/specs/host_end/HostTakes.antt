@@ -4,15 +4,15 @@ use Rattle.std.specs.Prelude.{◌≡◌, ◌≢◌, ℕ, ◌+◌, ◌-◌, ◌^�
 use Rattle.std.specs.Prelude.{Result, Err, IfOk, IfErr, OnErr}
 use Rattle.ws_stream.specs.AnswerParts.{answer_rules}
 use Rattle.ws_session.specs.declared.host_end.host_fed.HostFed.{HostFed}
-use Rattle.ws_session.specs.declared.host_end.HostFront.{HostFront}
-use Rattle.ws_session.specs.declared.host_end.host_event.HostStep.{HostStep}
+use Rattle.ws_session.specs.declared.end_step.EndFed.{EndFed}
+use Rattle.ws_session.specs.declared.host_end.host_event.HostEvent.{HostEvent}
 use Rattle.ws_session.specs.declared.refusal.Refusal.{Refusal}
 use Rattle.ws_session.specs.declared.refusal.Refusal.TheVariants.{Failed}
 use Rattle.ws_session.specs.Acts.{HoldsItems}
 use Rattle.ws_session.specs.Ends.{CountsUpTo}
 use Rattle.ws_session.specs.host_end.HostFeeds.{HasHostFed, HasHostRefused, HostStopsWithin, IsHostSilent}
 use Rattle.ws_session.specs.host_end.HostFronts.{IsHostFronted, HasHostSettled}
-use Rattle.ws_session.specs.host_end.HostLeads.{AtHost, HostParts, IsHostPushed}
+use Rattle.ws_session.specs.host_end.HostLeads.{AtHost, HostParts, HostStep, IsHostPushed}
 
 -- how many bytes the host end has taken
 abbrev pub taken_by : HostParts → ℕ
@@ -54,7 +54,7 @@ module _ (old : HostParts) where
     pub seen : OnErr result (new.screen ≡ old.screen)
 
   -- What a piece gives one that goes on. Where a byte is refused, it is the next behind those used.
-  pub record HostTakesPiece (piece : List ℕ) (new : HostParts) (front : HostFront) : Type 0 where
+  pub record HostTakesPiece (piece : List ℕ) (new : HostParts) (front : EndFed HostEvent (List ℕ)) : Type 0 where
     -- how much of the piece is used: all, unless something comes of it, and no less than a byte
     pub within : front.used ≤ length piece
     pub some : IfOk front.step (λ step. 0 < length piece → 0 < front.used)
@@ -76,7 +76,7 @@ module _ (old : HostParts) where
     pub quiet : IfOk front.step (λ step. step.event ≡ None → new.screen ≡ old.screen)
 
   -- What a front of a piece gives, of which no item is complete before its last byte.
-  pub record HostTakesFront (piece : List ℕ) (new : HostParts) (front : HostFront) : Type 0 where
+  pub record HostTakesFront (piece : List ℕ) (new : HostParts) (front : EndFed HostEvent (List ℕ)) : Type 0 where
     pub within : front.used ≤ length piece
     pub used : front.step ≢ Err Failed → 0 < front.used
     pub fronted : AtHost old (λ bytes items side. length bytes + length piece < 2 ^ 64

@@ -1,6 +1,6 @@
 -- A station on any display: what it makes of a piece of bytes, and of all that is done at it (RFC 1205, 4777)
 
-use Rattle.std.specs.Prelude.{◌≡◌, ℕ, ◌+◌, ◌^◌, ◌<◌, Bool, List}
+use Rattle.std.specs.Prelude.{◌≡◌, ℕ, ◌+◌, ◌^◌, ◌<◌, Option, List}
 use Rattle.std.specs.Prelude.{[], ◌∷◌, ◌++◌, length, Err}
 use Rattle.ws_session.specs.declared.refusal.Refusal.{Refusal}
 use Rattle.ws_session.specs.declared.refusal.Refusal.TheVariants.{Failed}
@@ -11,7 +11,7 @@ use Rattle.ws_session.specs.declared.end_step.Applied.{Applied}
 use Rattle.ws_session.specs.Acts.{Act, Goes, all_came, as_list, HasGone}
 use Rattle.ws_session.specs.station.Displays.{RefusesKey}
 use Rattle.ws_session.specs.station.PartsOn.{PartsOn}
-use Rattle.ws_session.specs.station.StationManners.{told_by, key_on, manner_on}
+use Rattle.ws_session.specs.station.StationManners.{key_on, manner_on}
 use Rattle.ws_session.specs.station.Stations.{AtStationOn, LeadsOn, IsPushedOn}
 use Rattle.ws_session.specs.Acts.{ways}
 use Rattle.ws_session.specs.station.Displays.{OnDisplay}
@@ -31,9 +31,10 @@ module _ (on : OnDisplay) where
       (all_came {Deed = on.Pressed} came)
 
   -- bytes of a piece come to a station one after another: they lead it to this one, which wrote and told this
-  abbrev pub HasFedOn : StationOf on → List ℕ → ItemsOf on → SideOf on → List ℕ → List ℕ → Bool → Type 0
-  HasFedOn new bytes items side came reply ends_record =
-      HasTakenAllOn (LeadsOn on new) bytes items side came reply (as_list (told_by ends_record))
+  abbrev pub HasFedOn : StationOf on → List ℕ → ItemsOf on → SideOf on → List ℕ → List ℕ → Option Applied
+      → Type 0
+  HasFedOn new bytes items side came reply event = HasTakenAllOn (LeadsOn on new) bytes items side came reply
+      (as_list event)
 
   -- at these bytes of a piece a station writes and tells nothing
   abbrev pub IsSilentOn : List ℕ → ItemsOf on → SideOf on → List ℕ → Type 0

@@ -1,7 +1,7 @@
 -- A station on any display: what it makes of news, and of a front of a piece (RFC 1205, 4777)
 
-use Rattle.std.specs.Prelude.{◌≡◌, ℕ, ◌+◌, ◌-◌, ◌^◌, ◌<◌, ◌++◌, ◌∷◌, false, List, take}
-use Rattle.std.specs.Prelude.{[], ◌⊎◌, Some, length, Result, Ok, Err}
+use Rattle.std.specs.Prelude.{◌≡◌, ℕ, ◌+◌, ◌-◌, ◌^◌, ◌<◌, ◌++◌, ◌∷◌, List, take}
+use Rattle.std.specs.Prelude.{[], ◌⊎◌, Some, None, length, Result, Ok, Err}
 use Rattle.ws_code.specs.Code.{IsChain, spelling_of}
 use Rattle.ws_telnet.specs.Words.{telnet_of}
 use Rattle.ws_telnet.specs.declared.token.Sub.{Sub as ASub}
@@ -14,35 +14,38 @@ use Rattle.ws_record.specs.DataStep.{record_of}
 use Rattle.ws_record.specs.Refusal.{IsRefused}
 use Rattle.ws_session.specs.declared.refusal.Refusal.{Refusal}
 use Rattle.ws_session.specs.declared.refusal.Refusal.TheVariants.{At, Failed, Memory}
-use Rattle.ws_session.specs.declared.station.StationStep.{StationStep}
+use Rattle.ws_session.specs.declared.end_step.Applied.{Applied}
+use Rattle.ws_session.specs.declared.end_step.EndStep.{EndStep}
 use Rattle.ws_session.specs.Ends.{HasSettled}
 use Rattle.ws_session.specs.station.StationCounts.{is_record}
 use Rattle.ws_session.specs.station.PartsOn.{PartsOn}
-use Rattle.ws_session.specs.station.Stations.{StaysInsideOn, TakesItemOn, RefusesItemOn, IsClosedOn, HasStoppedOn, AtStationOn}
+use Rattle.ws_session.specs.station.Stations.{StaysInsideOn, TakesItemOn, RefusesItemOn, IsClosedOn, HasStoppedOn}
+use Rattle.ws_session.specs.station.Stations.{AtStationOn}
 use Rattle.ws_session.specs.station.Stations.{IsPushedOn}
 use Rattle.ws_session.specs.station.StationActs.{HasTakenAllOn}
+use Rattle.ws_session.specs.station.StationManners.{told_by}
 use Rattle.ws_session.specs.station.Displays.{OnDisplay}
 use Rattle.ws_session.specs.station.Stations.{StationOf, ItemsOf, SideOf}
 
 -- how a station stands with the last byte taken: its display changes with a record's end alone
-abbrev pub HasSettledOn : {D P R : Type 0} → PartsOn D P → PartsOn D P → ℕ → Result (StationStep R) Refusal → Type 0
+abbrev pub HasSettledOn : {D P R : Type 0} → PartsOn D P → PartsOn D P → ℕ → Result (EndStep Applied R) Refusal → Type 0
 HasSettledOn {R = R} old new place result =
-    HasSettled (λ (step : StationStep R). step.ends_record ≡ false) place new.ended (new.screen ≡ old.screen) result
+    HasSettled (λ (step : EndStep Applied R). step.event ≡ None) place new.ended (new.screen ≡ old.screen) result
 
 module _ (on : OnDisplay) where
   -- what a station answers where these bytes are written, and no record ends
-  abbrev pub IsMid : StationOf on → Result (StationStep on.Replied) Refusal → List ℕ → Type 0
-  IsMid new result bytes = (step : StationStep on.Replied) × (result ≡ Ok step)
+  abbrev pub IsMid : StationOf on → Result (EndStep Applied on.Replied) Refusal → List ℕ → Type 0
+  IsMid new result bytes = (step : EndStep Applied on.Replied) × (result ≡ Ok step)
       × (on.does.written new.screen step.reply ≡ bytes)
-      × (step.ends_record ≡ false)
+      × (step.event ≡ None)
 
   -- what a station makes of a Telnet command: it answers it
-  abbrev pub IsAnsweredOn : StationOf on → Telnet → StationOf on → Result (StationStep on.Replied) Refusal → Type 0
+  abbrev pub IsAnsweredOn : StationOf on → Telnet → StationOf on → Result (EndStep Applied on.Replied) Refusal → Type 0
   IsAnsweredOn old token new result = IsMid new result (telnet_bytes (station_answer old.options token).reply)
       × (new ≡ record old { options = (station_answer old.options token).after })
 
   -- what a station makes of news that came with the last byte taken; a subnegotiation is taken out
-  abbrev pub IsNewsTakenOn : StationOf on → News → StationOf on → Result (StationStep on.Replied) Refusal → Type 0
+  abbrev pub IsNewsTakenOn : StationOf on → News → StationOf on → Result (EndStep Applied on.Replied) Refusal → Type 0
   IsNewsTakenOn old news.More new result = IsMid new result [] × (new ≡ old)
   IsNewsTakenOn old news.Unit new result = IsMid new result [] × (new ≡ old)
   IsNewsTakenOn old (news.Open head) new result = IsMid new result [] × (new ≡ old)
@@ -69,10 +72,10 @@ module _ (on : OnDisplay) where
 
   -- what the last of these bytes gives, where no item is complete before it
   abbrev pub IsFrontedOn : StationOf on → StationOf on → List ℕ → ItemsOf on → SideOf on
-      → Result (StationStep on.Replied) Refusal → Type 0
+      → Result (EndStep Applied on.Replied) Refusal → Type 0
   IsFrontedOn old new bytes items side (Ok step) =
-      (StaysInsideOn on old new bytes items side step.reply × (step.ends_record ≡ false))
-      ⊎ ((taken : TakesItemOn on new bytes items side step.reply) × (step.ends_record ≡ is_record taken.item))
+      (StaysInsideOn on old new bytes items side step.reply × (step.event ≡ None))
+      ⊎ ((taken : TakesItemOn on new bytes items side step.reply) × (step.event ≡ told_by (is_record taken.item)))
   IsFrontedOn old new bytes items side (Err (At place reason)) = (length bytes ≡ place + 1)
       × (new.screen ≡ old.screen) × (IsRefused on.rules bytes place reason ⊎ RefusesItemOn on bytes items side reason)
       × HasStoppedOn on new (length bytes) items side

@@ -1,15 +1,18 @@
 -- What a station's calls for bytes come to: one byte, a piece, and a front of a piece
 
-use Rattle.std.specs.Prelude.{◌≡◌, ◌≢◌, ℕ, ◌+◌, ◌-◌, ◌^◌, ◌<◌, ◌≤◌, List, [], ◌++◌, false, Some, None, IsSome, length, take}
+use Rattle.std.specs.Prelude.{◌≡◌, ◌≢◌, ℕ, ◌+◌, ◌-◌, ◌^◌, ◌<◌, ◌≤◌, List, [], ◌++◌, false, Some, None, IsSome, length}
+use Rattle.std.specs.Prelude.{take}
 use Rattle.std.specs.Prelude.{Result, Err, IfOk, IfErr, OnErr}
+use Rattle.ws_session.specs.declared.end_step.Applied.{Applied}
+use Rattle.ws_session.specs.declared.end_step.EndFed.{EndFed}
 use Rattle.ws_session.specs.declared.refusal.Refusal.{Refusal}
 use Rattle.ws_session.specs.declared.refusal.Refusal.TheVariants.{Failed}
 use Rattle.ws_session.specs.declared.station.station_fed.StationFed.{StationFed}
-use Rattle.ws_session.specs.declared.station.station_fed.StationFront.{StationFront}
 use Rattle.ws_session.specs.Acts.{HoldsItems}
 use Rattle.ws_session.specs.Ends.{CountsUpTo}
 use Rattle.ws_session.specs.station.Displays.{OnDisplay}
 use Rattle.ws_session.specs.station.StationActs.{HasFedOn, HasRefusedOn, IsSilentOn}
+use Rattle.ws_session.specs.station.StationManners.{told_by}
 use Rattle.ws_session.specs.station.StationNews.{IsFrontedOn, HasSettledOn, StopsWithinOn}
 use Rattle.ws_session.specs.station.Stations.{AtStationOn, IsPushedOn}
 use Rattle.ws_session.specs.station.Stations.{StationOf}
@@ -36,7 +39,7 @@ module _ (on : OnDisplay) (old : StationOf on) where
     -- what it brings, and that nothing was written, and no record ended, before the last byte that was used
     pub fed : IfOk result (λ fed. AtStationOn on old (λ bytes items side. length bytes + length piece + 1 < 2 ^ 64
         → HasFedOn on new bytes items side (take fed.used piece) (on.does.written new.screen fed.reply)
-        fed.ends_record))
+        (told_by fed.ends_record)))
     pub first : IfOk result (λ fed. AtStationOn on old (λ bytes items side. length bytes + length piece + 1 < 2 ^ 64
         → (n : ℕ)
         → n < fed.used → IsSilentOn on bytes items side (take n piece)))
@@ -54,16 +57,16 @@ module _ (on : OnDisplay) (old : StationOf on) where
     pub seen : OnErr result (new.screen ≡ old.screen)
 
   -- What a piece gives one that goes on. Where a byte is refused, it is the next behind those used.
-  pub record TakesPieceOn (piece : List ℕ) (new : StationOf on) (front : StationFront on.Replied) : Type 0 where
+  pub record TakesPieceOn (piece : List ℕ) (new : StationOf on) (front : EndFed Applied on.Replied) : Type 0 where
     -- how much of the piece is used: all, unless something comes of it, and no less than a byte
     pub within : front.used ≤ length piece
     pub some : IfOk front.step (λ step. 0 < length piece → 0 < front.used)
-    pub whole : IfOk front.step (λ step. on.does.written new.screen step.reply ≡ [] → step.ends_record ≡ false
+    pub whole : IfOk front.step (λ step. on.does.written new.screen step.reply ≡ [] → step.event ≡ None
         → front.used ≡ length piece)
     -- what it brings, and that nothing came before its last byte
     pub fed : IfOk front.step (λ step. AtStationOn on old (λ bytes items side. length bytes + length piece < 2 ^ 64
         → HasFedOn on new bytes items side (take front.used piece) (on.does.written new.screen step.reply)
-        step.ends_record))
+        step.event))
     pub first : IfOk front.step (λ step. AtStationOn on old (λ bytes items side. length bytes + length piece < 2 ^ 64
         → (n : ℕ)
         → n < front.used → IsSilentOn on bytes items side (take n piece)))
@@ -76,10 +79,10 @@ module _ (on : OnDisplay) (old : StationOf on) where
     -- what a refusal leaves, and that the screen changes with a record's end alone
     pub after : IfErr front.step (λ why. new.ended ≡ Some why)
     pub seen : OnErr front.step (new.screen ≡ old.screen)
-    pub quiet : IfOk front.step (λ step. step.ends_record ≡ false → new.screen ≡ old.screen)
+    pub quiet : IfOk front.step (λ step. step.event ≡ None → new.screen ≡ old.screen)
 
   -- What a front of a piece gives, of which no item is complete before its last byte.
-  pub record TakesFrontOn (piece : List ℕ) (new : StationOf on) (front : StationFront on.Replied) : Type 0 where
+  pub record TakesFrontOn (piece : List ℕ) (new : StationOf on) (front : EndFed Applied on.Replied) : Type 0 where
     pub within : front.used ≤ length piece
     pub used : front.step ≢ Err Failed → 0 < front.used
     pub fronted : AtStationOn on old (λ bytes items side. length bytes + length piece < 2 ^ 64

@@ -1,6 +1,6 @@
 -- A station on any display, by the bytes that lead to it, and what a byte or a key makes of it (RFC 1205, 4777)
 
-use Rattle.std.specs.Prelude.{◌≡◌, ℕ, ◌+◌, ◌-◌, ◌^◌, min, true, List}
+use Rattle.std.specs.Prelude.{◌≡◌, ℕ, ◌+◌, ◌-◌, ◌^◌, min, List}
 use Rattle.std.specs.Prelude.{[], ◌∷◌, ◌++◌, ◌⊎◌, Option, Some, None, length, drop, Result, Ok, Err}
 use Rattle.ws_code.specs.Code.{IsChain, spelling_of}
 use Rattle.ws_code.specs.declared.reason.Reason.{Reason}
@@ -20,14 +20,15 @@ use Rattle.ws_keys.specs.declared.answer.Answer.{Answer}
 use Rattle.ws_keys.specs.declared.answer.Answer.TheVariants.{Read, Attention, SystemRequest}
 use Rattle.ws_session.specs.declared.refusal.Refusal.{Refusal}
 use Rattle.ws_session.specs.declared.refusal.Refusal.TheVariants.{At, Failed, Memory}
-use Rattle.ws_session.specs.declared.station.StationStep.{StationStep}
+use Rattle.ws_session.specs.declared.end_step.Applied.{Applied}
+use Rattle.ws_session.specs.declared.end_step.EndStep.{EndStep}
 use Rattle.ws_session.specs.declared.station.key_fault.KeyFault.{KeyFault}
 use Rattle.ws_session.specs.declared.station.answer.TheConstants.{ATN, SRQ}
 use Rattle.ws_session.specs.Reaction.{Refuses, GoesOn}
 use Rattle.ws_session.specs.station.Displays.{SideOn, RefusesKey, Silent, Answers, Signals}
 use Rattle.ws_session.specs.station.StationCounts.{records_in}
 use Rattle.ws_session.specs.station.PartsOn.{PartsOn}
-use Rattle.ws_session.specs.station.StationManners.{new_side_on, takes_on, key_on}
+use Rattle.ws_session.specs.station.StationManners.{applied, new_side_on, takes_on, key_on}
 use Rattle.ws_session.specs.station.Displays.{OnDisplay}
 
 -- a station that stands on this
@@ -107,10 +108,10 @@ module _ (on : OnDisplay) where
 
   -- what the end of a record gives, whose elements are these: the reply, or the refusal of the record
   abbrev pub IsClosedOn : StationOf on → StationOf on → SideOf on → Record on.Reads → ℕ
-      → Result (StationStep on.Replied) Refusal → Type 0
+      → Result (EndStep Applied on.Replied) Refusal → Type 0
   IsClosedOn old new side r place (Ok step) = (next : SideOf on) × (writes : List (Item on.Writes))
       × (takes_on on.does side (RecordItem r) ≡ GoesOn next writes)
-      × (on.does.written new.screen step.reply ≡ plain_spelling on.does.out writes) × (step.ends_record ≡ true)
+      × (on.does.written new.screen step.reply ≡ plain_spelling on.does.out writes) × (step.event ≡ Some applied)
       × (new ≡ record old { body_bytes = []; screen = new.screen; records = min (old.records + 1) (2 ^ 64 - 1) })
       × (old.options ≡ next.options)
       × on.does.gives next.happened new.screen

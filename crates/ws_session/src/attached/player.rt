@@ -11,7 +11,7 @@ ghost use Rattle.ws_session.specs.station.StationLeads.{AtStation};
 ghost use Rattle.ws_session.specs.attached.StationRun.{IsRunFault, outflow};
 
 use crate::attached::writing::{fault_of, press_key};
-use crate::station::station_fed::StationFront;
+use crate::end_step::EndFed;
 use crate::{Acted, Played, Station, StationDisplay};
 use ws_code::{Fault, Sink, write_whole};
 use ws_keys::Key;
@@ -95,11 +95,11 @@ impl Player {
             (λ run start bytes. IsRunFault run (outflow S.writer start sink.new)
             (length bytes) (bytes ++ piece.now) fault)) }
     {
-        let StationFront { used, step } = self.station.take_front(piece);
+        let EndFed { used, step } = self.station.take_front(piece);
         match step {
             Ok(step) => {
                 write_whole(sink, self.station.display().bytes(&step.reply))?;
-                if step.ends_record {
+                if step.event.is_some() {
                     self.records = self.records.saturating_add(1);
                     self.press_due(sink, keys)?;
                 }

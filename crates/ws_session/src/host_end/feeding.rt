@@ -4,23 +4,23 @@ ghost use Rattle.ws_session.specs.host_end.HostTakes.{HostTakesPiece};
 ghost use Rattle.ws_session.specs.Conduct.{TakesSome};
 ghost use Rattle.ws_session.specs.Conducts.{host_conduct};
 
-use super::{HostFront, silence};
-use crate::end_step::{EndFed, EndStep};
-use crate::{HostEnd, HostEvent, HostStep};
+use super::silence;
+use crate::end_step::EndFed;
+use crate::{HostEnd, HostEvent};
 
 impl HostEnd {
     // Takes bytes of the piece up to and with the first at which the host end writes or tells something, or all. One
     // that is refused is the next behind those used.
-    pub(crate) fn take_piece(&mut self, piece: &[u8]) -> HostFront
+    pub(crate) fn take_piece(&mut self, piece: &[u8]) -> EndFed<HostEvent>
         ensures { HostTakesPiece self.old piece.now self.new result }
     {
         let mut used = 0;
         while used < piece.len() {
-            let HostFront { used: more, step } = self.take_front(&piece[used..]);
+            let EndFed { used: more, step } = self.take_front(&piece[used..]);
             let step = match step {
                 Ok(step) => step,
                 Err(refusal) => {
-                    return HostFront {
+                    return EndFed {
                         used: used + more.saturating_sub(1),
                         step: Err(refusal),
                     };
@@ -28,13 +28,13 @@ impl HostEnd {
             };
             used += more;
             if step.event.is_some() || !step.reply.as_slice().is_empty() {
-                return HostFront {
+                return EndFed {
                     used,
                     step: Ok(step),
                 };
             }
         }
-        HostFront {
+        EndFed {
             used,
             step: Ok(silence()),
         }
@@ -53,16 +53,6 @@ impl HostEnd {
         }
         let room = u64::MAX - self.live.taken();
         let count = room.min(piece.len() as u64) as usize;
-        let HostFront { used, step } = self.take_piece(&piece[..count]);
-        match step {
-            Ok(HostStep { reply, event }) => EndFed {
-                used,
-                step: Ok(EndStep { reply, event }),
-            },
-            Err(refusal) => EndFed {
-                used,
-                step: Err(refusal),
-            },
-        }
+        self.take_piece(&piece[..count])
     }
 }

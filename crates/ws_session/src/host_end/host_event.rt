@@ -1,5 +1,6 @@
+use crate::end_step::EndStep;
 use ws_keys::HostAnswer;
-use ws_nego::{Reply, TerminalType};
+use ws_nego::TerminalType;
 
 /// What a host end tells its caller.
 #[derive(Debug, Drop, PartialEq, Eq)]
@@ -17,10 +18,4 @@ pub enum HostEvent {
 }
 
 /// What a byte gives a host end.
-#[derive(Debug, Drop, PartialEq, Eq)]
-pub struct HostStep {
-    /// What it writes.
-    pub reply: Reply,
-    /// What it tells its caller.
-    pub event: Option<HostEvent>,
-}
+pub type HostStep = EndStep<HostEvent>;

@@ -2,42 +2,40 @@
 ghost use Rattle.std.specs.Prelude.{◌≡◌, ◌<◌, ◌+◌, Err, length};
 ghost use Rattle.ws_session.specs.Conduct.{TakesSome};
 ghost use Rattle.ws_session.specs.Conducts.{station_conduct};
-ghost use Rattle.ws_session.specs.station.StationManners.{told_by};
 ghost use Rattle.ws_session.specs.station.Displays.{on_display as on};
 ghost use Rattle.ws_session.specs.station.StationTakes.{TakesPieceOn};
 
-use super::{StationStep, silence};
-use crate::end_step::{Applied, EndFed, EndStep};
-use crate::station::station_fed::StationFront;
+use super::silence;
+use crate::end_step::{Applied, EndFed};
 use crate::{StationDisplay, StationOn};
 
 impl<D: StationDisplay> StationOn<D> {
     // Takes bytes of the piece up to and with the first at which the station writes or a record ends, or all. One that
     // is refused is the next behind those used.
-    pub(crate) fn take_piece(&mut self, piece: &[u8]) -> StationFront<D::Reply>
+    pub(crate) fn take_piece(&mut self, piece: &[u8]) -> EndFed<Applied, D::Reply>
         ensures { TakesPieceOn (on D.Commands.rules D.does) self.old piece.now self.new result }
     {
         let mut used = 0;
         while used < piece.len() {
-            let StationFront { used: more, step } = self.take_front(&piece[used..]);
+            let EndFed { used: more, step } = self.take_front(&piece[used..]);
             let step = match step {
                 Ok(step) => step,
                 Err(refusal) => {
-                    return StationFront {
+                    return EndFed {
                         used: used + more.saturating_sub(1),
                         step: Err(refusal),
                     };
                 }
             };
             used += more;
-            if step.ends_record || !self.display.bytes(&step.reply).is_empty() {
-                return StationFront {
+            if step.event.is_some() || !self.display.bytes(&step.reply).is_empty() {
+                return EndFed {
                     used,
                     step: Ok(step),
                 };
             }
         }
-        StationFront {
+        EndFed {
             used,
             step: Ok(silence::<D>()),
         }
@@ -58,25 +56,6 @@ impl<D: StationDisplay> StationOn<D> {
         }
         let room = u64::MAX - self.live.taken();
         let count = room.min(piece.len() as u64) as usize;
-        let StationFront { used, step } = self.take_piece(&piece[..count]);
-        match step {
-            Ok(StationStep { reply, ends_record }) => {
-                let event = told(ends_record);
-                EndFed {
-                    used,
-                    step: Ok(EndStep { reply, event }),
-                }
-            }
-            Err(refusal) => EndFed {
-                used,
-                step: Err(refusal),
-            },
-        }
+        self.take_piece(&piece[..count])
     }
-}
-
-fn told(ends_record: bool) -> Option<Applied>
-    ensures { result ≡ told_by ends_record }
-{
-    if ends_record { Some(Applied) } else { None }
 }

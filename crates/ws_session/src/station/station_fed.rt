@@ -1,5 +1,3 @@
-use crate::Refusal;
-use crate::station::StationStep;
 use ws_nego::Reply;
 
 /// What a piece gave.
@@ -11,11 +9,4 @@ pub struct StationFed<R = Reply> {
     pub reply: R,
     /// Whether a record has ended with it.
     pub ends_record: bool,
-}
-
-// What a front of a piece gives: how many bytes it has, and what its last byte gives.
-#[derive(Drop)]
-pub(crate) struct StationFront<R> {
-    pub(crate) used: usize,
-    pub(crate) step: Result<StationStep<R>, Refusal>,
 }

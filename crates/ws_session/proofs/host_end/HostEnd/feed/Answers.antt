@@ -5,7 +5,7 @@ pub returns : goal.returns
 returns c =
     let f = c.take_piece-used.ensures in
     let is = c.in_ok-reply.was in
-    let here = c.in_ok-go_on.ensures.open in
+    let here = c.in_ok-go_on.ensures.works in
     rw (← here.0) (record {
       within = f.within;
       some = rw is at f.some;

@@ -1,8 +1,11 @@
-use Rattle.ws_session.proofs.Common.{rules, ◌≡◌, ◌+◌, ◌≤◌, refl, ◌∙◌, ℕ, ◌<◌, take, drop, ap, sym, arith, take-append-drop}
-use Rattle.ws_session.proofs.Common.{◌^◌, min, inl, length, ◌-◌, Some, Failed, length-take-le, answer_rules, Refusal}
+use Rattle.std.specs.Prelude.{IsSome}
+use Rattle.std.proofs.lemmas.Result.{IfOk-weaker, IfErr-weaker}
+use Rattle.ws_session.proofs.Common.{rules, ◌≡◌, ◌≤◌, refl, ◌∙◌, ℕ, ◌<◌, take, drop, ap, sym, arith, take-append-drop}
+use Rattle.ws_session.proofs.Common.{min, inl, length, ◌-◌, Some, Failed, length-take-le, answer_rules}
 use Rattle.ws_session.proofs.Common.{element_rules, as_list, host_manner, HostLeads, HostParts}
 use Rattle.ws_session.specs.Manners.{IsHostShut}
-use Rattle.ws_session.proofs.EndFeeds.{part_stays, is_over, none_leads, goes_by, host_count, host_shut, host_stops, host_silent}
+use Rattle.ws_session.proofs.EndFeeds.{fits, some_fit, part_stays, is_over, none_leads, goes_by, host_count, host_shut}
+use Rattle.ws_session.proofs.EndFeeds.{host_stops, host_silent}
 use Rattle.ws_session.proofs.host_end.HostEnd.take_countable.Goals as goal
 
 pub returns-in-Err : goal.returns-in-Err
@@ -22,63 +25,38 @@ returns-in-Err c =
       after = is_over (λ (z : HostParts). z.ended) now c.go_on.new.self e.failed stopped e.after refl;
     }
 
--- the part of a piece that can be counted
-fits : (taken read length count part : ℕ) → read < 2 ^ 64 → taken ≡ read → count ≡ min (2 ^ 64 - 1 - read) length
-    → (count ≤ length → part ≡ count) → taken + part < 2 ^ 64
-fits taken read length count part below is least size = grind (arith, below, is, least, size)
-
-pub returns-in-Ok : goal.returns-in-Ok
-returns-in-Ok c =
-    let here = c.in_default.ensures.open in
+pub returns : goal.returns
+returns c =
+    let here = c.in_default.ensures.works in
     let now = c.go_on.new.self in
     let piece = c.args.piece.now in
     let room : ℕ = c.min-count.result in
     let part = take room piece in
     let whole = sym (take-append-drop room piece) in
-    let f = c.take_piece-used in
+    let f = c.take_piece in
+    let used = f.result.used in
+    let step = f.result.step in
     let to = f.new.self in
-    let few = fits now.receiver.live.taken c.taken-room.result (length piece) room (length part) c.taken-room.type_inv
-    (ap (λ (z : HostParts). z.receiver.live.taken) (sym c.self.view_is) ∙ sym c.taken-room.ensures) c.min-count.ensures
-    (λ le. length-take-le room piece le) in
+    let count = ap (λ (z : HostParts). z.receiver.live.taken) (sym c.self.view_is) ∙ sym c.taken-room.ensures in
+    let size : room ≤ length piece → length part ≡ room = λ le. length-take-le room piece le in
+    let few = fits now.receiver.live.taken c.taken-room.result (length piece) room
+        (length part) c.taken-room.type_inv count
+    c.min-count.ensures size in
+    let many = some_fit now.receiver.live.taken c.taken-room.result (length piece) room (length part) count (rw
+        (← here.0) at here.2)
+    c.requires c.min-count.ensures size in
     let works = none_leads now.ended now.receiver.live.taken now.receiver.live.taken (rw (← here.0) at here.1) refl
     (rw (← here.0) at here.2) in
     rw (← here.0) (record {
       within = search rules;
-      some = search rules;
-      fed = goes_by answer_rules element_rules host_manner HostLeads IsHostShut
-          (λ (z : HostParts). z.receiver.live.taken) host_count now piece part (drop room piece) whole
-          f.result.used f.ensures.within few to c.in-Ok.field-0.reply (as_list c.in-Ok.field-0.event) works
-          (rw c.in-Ok.is at f.ensures.fed);
-      first = host_silent now piece part (drop room piece) whole f.result.used f.ensures.within few works
-          (rw c.in-Ok.is at f.ensures.first);
-      refused = tt;
+      some = IfOk-weaker step _ (λ s. 0 < used) (λ s some. some many) f.ensures.some;
+      fed = IfOk-weaker step _ _ (λ s come. goes_by answer_rules element_rules host_manner HostLeads IsHostShut
+          (λ (z : HostParts). z.receiver.live.taken) host_count now piece part
+          (drop room piece) whole used f.ensures.within few to s.reply (as_list s.event) works come) f.ensures.fed;
+      first = IfOk-weaker step _ _ (λ s quiet. host_silent now piece part (drop room piece) whole used
+          f.ensures.within few works quiet) f.ensures.first;
+      refused = IfErr-weaker step _ _ (host_stops now to piece part (drop room piece) whole used f.ensures.within few
+          works) f.ensures.refused;
       over = λ over. absurd (works (inl over));
-      after = tt;
-    })
-
-pub returns-in-Err-step : goal.returns-in-Err-step
-returns-in-Err-step c =
-    let here = c.in_default.ensures.open in
-    let now = c.go_on.new.self in
-    let piece = c.args.piece.now in
-    let room : ℕ = c.min-count.result in
-    let part = take room piece in
-    let whole = sym (take-append-drop room piece) in
-    let f = c.take_piece-used in
-    let to = f.new.self in
-    let few = fits now.receiver.live.taken c.taken-room.result (length piece) room (length part) c.taken-room.type_inv
-    (ap (λ (z : HostParts). z.receiver.live.taken) (sym c.self.view_is) ∙ sym c.taken-room.ensures) c.min-count.ensures
-    (λ le. length-take-le room piece le) in
-    let works = none_leads now.ended now.receiver.live.taken now.receiver.live.taken (rw (← here.0) at here.1) refl
-    (rw (← here.0) at here.2) in
-    let why : Refusal = c.in-Err-step.refusal in
-    rw (← here.0) (record {
-      within = search rules;
-      some = tt;
-      fed = tt;
-      first = tt;
-      refused = host_stops now to piece part (drop room piece) whole f.result.used f.ensures.within few works
-          why (rw c.in-Err-step.is at f.ensures.refused);
-      over = λ over. absurd (works (inl over));
-      after = rw (rw c.in-Err-step.is at f.ensures.after) refl;
+      after = IfErr-weaker step _ (λ why. IsSome to.ended) (λ why e. rw e refl) f.ensures.after;
     })

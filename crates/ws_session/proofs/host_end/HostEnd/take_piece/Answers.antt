@@ -1,15 +1,10 @@
-use Rattle.ws_session.proofs.Common.{rules, ◌<◌, ◌≡◌, ◌+◌, [], refl, ◌∙◌, Option, Some, None, take, sym, arith, length, false}
+use Rattle.ws_session.proofs.Common.{rules, ◌<◌, ◌≡◌, ◌+◌, [], refl, ◌∙◌, None, take, sym, arith, length, false}
 use Rattle.ws_session.proofs.Common.{is_some, ◌-◌, length_rest, left_of, answer_rules, element_rules, host_manner}
-use Rattle.ws_session.proofs.Common.{HostEvent, HostStep, Refusal, Failed, HasHostFed, HostLeads}
+use Rattle.ws_session.proofs.Common.{HostStep, Refusal, Failed, HasHostFed, HostLeads}
 use Rattle.ws_session.proofs.Counts.{counted_on, counted_up}
 use Rattle.ws_session.proofs.Feedings.{none_silent, quiet_upto, none_come, quiet_on, value_at, split_on}
 use Rattle.ws_session.proofs.host_end.HostEnd.take_piece.Goals as goal
-use Rattle.ws_session.proofs.station.StationFeedings.{host_refused_on, host_fed_on, no_reply}
-
--- an event that is none
-no_event : (event : Option HostEvent) → is_some event ≡ false → event ≡ None
-no_event None h = refl
-no_event (Some e) h = cc
+use Rattle.ws_session.proofs.station.StationFeedings.{host_refused_on, host_fed_on, no_event, no_reply}
 
 pub loop-used-init : goal.loop-used-init
 loop-used-init c = (

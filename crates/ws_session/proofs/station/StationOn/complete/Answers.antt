@@ -6,7 +6,7 @@ use Rattle.ws_session.proofs.station.StationSteps.{none_complete, command_answer
 pub returns-in-More-clause-reacted : goal.returns-in-More-clause-reacted
 returns-in-More-clause-reacted g c =
     none_complete g.D.Commands.Code.rules g.D.StationDisplay.does c.args.self.now c.args.news _ c.in-More.is
-    (c.silence.ensures.reply _) c.silence.ensures.ends
+    (c.silence.ensures.reply _) c.silence.ensures.event
 
 pub returns-in-Some-clause-reacted : goal.returns-in-Some-clause-reacted
 returns-in-Some-clause-reacted g c =
@@ -16,5 +16,5 @@ returns-in-Some-clause-reacted g c =
     (let e = sym c.in-Some.is ∙ c.telnet.ensures.telnet begun in cc) in (
       c.telnet.ensures.kept.0,
       command_answered g.D.Commands.Code.rules g.D.StationDisplay.does _ a.new.self _ _ _ a.result
-          c.telnet.ensures.kept.1 same a.ensures.reply a.ensures.ends a.ensures.options,
+          c.telnet.ensures.kept.1 same a.ensures.reply a.ensures.event a.ensures.options,
     )))

@@ -1,16 +1,18 @@
-use Rattle.ws_session.proofs.Common.{◌≡◌, false, true, arith}
+use Rattle.ws_session.proofs.Common.{◌≡◌, ◌∙◌, false, true, arith, sym}
+use Rattle.ws_session.proofs.station.StationFeedings.{no_event, told_again}
 use Rattle.ws_session.proofs.station.StationOn.feed.Goals as goal
 
 pub returns : goal.returns
 returns g c =
     let f = c.take_piece-used.ensures in
     let is = c.in_ok-reply.was in
-    let here = c.in_ok-go_on.ensures.open in
+    let here = c.in_ok-go_on.ensures.works in
     rw (← here.0) (record {
       within = f.within;
       some = rw is at f.some;
-      whole = rw is at f.whole;
-      fed = λ bytes items side l fits. (rw is at f.fed) bytes items side l (omega (arith, fits));
+      whole = λ unwritten inside. (rw is at f.whole) unwritten (no_event _ (sym c.is_some.ensures ∙ inside));
+      fed = λ bytes items side l fits. rw (c.is_some.ensures, told_again c.in_ok-reply.field-0.event)
+          ((rw is at f.fed) bytes items side l (omega (arith, fits)));
       first = λ bytes items side l fits. (rw is at f.first) bytes items side l (omega (arith, fits));
       refused = tt;
       counted = rw is at f.counted;

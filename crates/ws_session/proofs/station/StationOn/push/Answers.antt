@@ -4,7 +4,7 @@ use Rattle.ws_session.proofs.station.StationOn.push.Goals as goal
 
 pub returns : goal.returns
 returns g c =
-    let here = c.in_ok-go_on.ensures.open.0 in
+    let here = c.in_ok-go_on.ensures.works.0 in
     let taken = c.take_piece in
     let one : taken.result.used ≡ 1 = omega (
       arith,
@@ -29,7 +29,7 @@ returns-in_err-take_piece g c =
     rw (p.1, p.2) (record {
       pushed = one_stopped g.D.Commands.Code.rules g.D.StationDisplay.does c.args.self.now c.take_piece.new.self
           c.args.byte c.take_piece.result.used _
-          (rw (c.in_err-take_piece.was, c.in_ok-go_on.ensures.open.0) at c.take_piece.ensures.refused);
+          (rw (c.in_err-take_piece.was, c.in_ok-go_on.ensures.works.0) at c.take_piece.ensures.refused);
       full = search rules;
       failed = search rules;
       after = search rules;

@@ -1,12 +1,13 @@
-use Rattle.ws_session.proofs.Common.{rules, ◌≡◌, ◌<◌, ◌+◌, [], refl, ◌∙◌, take, ap, arith, length, false, ◌-◌, length_rest, left_of}
-use Rattle.ws_session.proofs.Common.{Refusal, Failed, StationStep}
+use Rattle.ws_session.proofs.Common.{rules, ◌≡◌, ◌<◌, ◌+◌, [], refl, ◌∙◌, take, ap, arith, length, false, ◌-◌}
+use Rattle.ws_session.proofs.Common.{length_rest, left_of, sym}
+use Rattle.ws_session.proofs.Common.{Refusal, Failed, EndStep, Applied, None}
 use Rattle.ws_session.specs.station.PartsOn.{PartsOn}
 use Rattle.ws_session.specs.station.StationActs.{HasFedOn}
 use Rattle.ws_session.specs.station.StationManners.{manner_on}
 use Rattle.ws_session.specs.station.Stations.{LeadsOn}
 use Rattle.ws_session.proofs.Counts.{counted_on, counted_up}
 use Rattle.ws_session.proofs.Feedings.{none_silent, quiet_upto, none_come, quiet_on, value_at, split_on}
-use Rattle.ws_session.proofs.station.StationFeedings.{refused_on, no_reply, fed_on}
+use Rattle.ws_session.proofs.station.StationFeedings.{refused_on, no_event, no_reply, fed_on}
 use Rattle.ws_session.proofs.station.StationOn.take_piece.Goals as goal
 use Rattle.ws_session.specs.station.Displays.{on_display}
 
@@ -54,14 +55,14 @@ returns-in-Err g c =
       quiet = tt;
     })
 
-pub returns-then-step : goal.returns-then-step
-returns-then-step g c =
+pub returns-then-is_some : goal.returns-then-is_some
+returns-then-is_some g c =
     let now = c.loop-used.self in
     let f = c.take_front-more in
     let piece = c.args.piece.now in
     let i = c.loop-used.used in
     let k = f.result.used in
-    let step : StationStep _ = c.in-Ok.step in
+    let step : EndStep Applied _ = c.in-Ok.step in
     let some : 0 < k = f.ensures.used (λ e. cc (c.in-Ok.is, e)) in
     record {
       within = omega (arith, f.ensures.within, length_rest piece i, c.loop-used.invariant.0);
@@ -92,7 +93,7 @@ returns g c =
       within = c.loop-used.invariant.0;
       some = λ any. omega (arith, all, any);
       whole = λ unwritten inside. all;
-      fed = λ bytes items side l fits. rw (silent.reply c.loop-used.self.screen, silent.ends)
+      fed = λ bytes items side l fits. rw (silent.reply c.loop-used.self.screen, silent.event)
           (c.loop-used.invariant.2 bytes items side l fits).0;
       first = λ bytes items side l fits n lt. (c.loop-used.invariant.2 bytes items side l fits).1 n (omega (arith, lt));
       refused = tt;
@@ -104,39 +105,42 @@ returns g c =
     }
 
 pub loop-used-preserved : goal.loop-used-preserved
-loop-used-preserved g c = (
-  omega (
-    arith,
-    c.take_front-more.ensures.within,
-    length_rest c.args.piece.now c.loop-used.used,
-    c.loop-used.invariant.0,
-  ),
-  (rw c.in-Ok.is at c.take_front-more.ensures.settled.quiet) c.if-step.false ∙ c.loop-used.invariant.1,
-  λ bytes items side l fits. (let now = c.loop-used.self in
-      let f = c.take_front-more in
-      let piece = c.args.piece.now in
-      let i = c.loop-used.used in
-      let k = f.result.used in
-      let step : StationStep _ = c.in-Ok.step in
-      let inv = c.loop-used.invariant.2 bytes items side l fits in
-      let fed = fed_on g.D.Commands.Code.rules g.D.StationDisplay.does bytes items side piece i now inv.0 f.new.self k
-      step f.ensures.within
-      (f.ensures.used (λ e. cc (c.in-Ok.is, e))) (λ b its s m room. rw c.in-Ok.is at
-      (f.ensures.fronted b its s m room)) f.ensures.first fits c.loop-used.invariant.0 in
-      let still : HasFedOn (on_display g.D.Commands.Code.rules g.D.StationDisplay.does) f.new.self bytes items side
-      (take (i + k) piece) [] false = rw (
-        no_reply (g.D.StationDisplay.does.written f.new.self.screen step.reply) _
-            (c.bytes.ensures.written ∙ ap (λ (z : PartsOn _ _). g.D.StationDisplay.does.written z.screen step.reply)
-            c.self.view_is) c.is_empty.result c.is_empty.ensures c.if-not-is_empty.false,
-        c.if-step.false,
-      ) at fed in (
-        still,
-        quiet_upto g.D.Commands.Code.rules g.D.StationDisplay.does.out (manner_on g.D.StationDisplay.does) bytes items
-            side piece i
-            (LeadsOn (on_display g.D.Commands.Code.rules g.D.StationDisplay.does) now) inv.0
-            (LeadsOn (on_display g.D.Commands.Code.rules g.D.StationDisplay.does) f.new.self) k still
-            (quiet_on _ _ _ bytes items side piece i _ inv.0 k f.ensures.within f.ensures.first inv.1),
-      )),
-  counted_on c.args.self.now.live.taken c.loop-used.self.live.taken c.take_front-more.new.self.live.taken
-      c.loop-used.used c.take_front-more.result.used c.loop-used.invariant.3 c.take_front-more.ensures.counted,
-)
+loop-used-preserved g c =
+    let untold = no_event c.in-Ok.step.event (sym c.is_some.ensures ∙ c.if-is_some.false) in (
+      omega (
+        arith,
+        c.take_front-more.ensures.within,
+        length_rest c.args.piece.now c.loop-used.used,
+        c.loop-used.invariant.0,
+      ),
+      (rw c.in-Ok.is at c.take_front-more.ensures.settled.quiet) untold ∙ c.loop-used.invariant.1,
+      λ bytes items side l fits. (let now = c.loop-used.self in
+          let f = c.take_front-more in
+          let piece = c.args.piece.now in
+          let i = c.loop-used.used in
+          let k = f.result.used in
+          let step : EndStep Applied _ = c.in-Ok.step in
+          let inv = c.loop-used.invariant.2 bytes items side l fits in
+          let fed = fed_on g.D.Commands.Code.rules g.D.StationDisplay.does bytes items side piece i now inv.0
+              f.new.self k
+          step f.ensures.within
+          (f.ensures.used (λ e. cc (c.in-Ok.is, e))) (λ b its s m room. rw c.in-Ok.is at
+          (f.ensures.fronted b its s m room)) f.ensures.first fits c.loop-used.invariant.0 in
+          let still : HasFedOn (on_display g.D.Commands.Code.rules g.D.StationDisplay.does) f.new.self bytes items side
+          (take (i + k) piece) [] None = rw (
+            no_reply (g.D.StationDisplay.does.written f.new.self.screen step.reply) _
+                (c.bytes.ensures.written ∙ ap (λ (z : PartsOn _ _). g.D.StationDisplay.does.written z.screen step.reply)
+                c.self.view_is) c.is_empty.result c.is_empty.ensures c.if-not-is_empty.false,
+            untold,
+          ) at fed in (
+            still,
+            quiet_upto g.D.Commands.Code.rules g.D.StationDisplay.does.out
+                (manner_on g.D.StationDisplay.does) bytes items
+                side piece i
+                (LeadsOn (on_display g.D.Commands.Code.rules g.D.StationDisplay.does) now) inv.0
+                (LeadsOn (on_display g.D.Commands.Code.rules g.D.StationDisplay.does) f.new.self) k still
+                (quiet_on _ _ _ bytes items side piece i _ inv.0 k f.ensures.within f.ensures.first inv.1),
+          )),
+      counted_on c.args.self.now.live.taken c.loop-used.self.live.taken c.take_front-more.new.self.live.taken
+          c.loop-used.used c.take_front-more.result.used c.loop-used.invariant.3 c.take_front-more.ensures.counted,
+    )

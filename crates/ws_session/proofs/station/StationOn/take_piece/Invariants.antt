@@ -1,4 +1,4 @@
-use Rattle.ws_session.proofs.Common.{◌≡◌, ◌+◌, ◌≤◌, List, [], ℕ, ◌<◌, take, ◌^◌, length, false, ◌-◌, Item}
+use Rattle.ws_session.proofs.Common.{◌≡◌, ◌+◌, ◌≤◌, List, [], ℕ, ◌<◌, take, ◌^◌, length, None, ◌-◌, Item}
 use Rattle.ws_session.specs.station.Displays.{SideOn}
 use Rattle.ws_session.specs.station.StationActs.{HasFedOn, IsSilentOn}
 use Rattle.ws_session.specs.station.Stations.{LeadsOn}
@@ -13,7 +13,7 @@ invariant-loop-used g l = let d = g.D.StationDisplay.does in let rules = g.D.Com
     → LeadsOn (on_display rules d) l.fn.self bytes items side
     → length bytes + length l.piece < 2 ^ 64
     → HasFedOn (on_display rules d) l.self bytes items side (take l.used l.piece) []
-    false
+    None
     × ((n : ℕ) → n ≤ l.used → IsSilentOn (on_display rules d) bytes items side (take n l.piece)))
     × (l.fn.self.live.taken + l.used < 2 ^ 64 → l.self.live.taken ≡ l.fn.self.live.taken + l.used)
 
