@@ -140,7 +140,7 @@ module _ {S : Type 0} (writer : Writer S) (t : TerminalType) (keys : List (ℕ �
       text_more = ap (λ z. run_text (asked t keys) items ++ (z ++ text_of keyed.written)) taken.spelled
           ∙ ap (λ z. run_text (asked t keys) items ++ z) (sym (text_append taken.writes keyed.written))
           ∙ sym (text_append so_far.written (taken.writes ++ keyed.written)) ∙ ap (λ (o : Outcome). text_of o.written)
-              (sym one_more)
+          (sym one_more)
 
       -- an item is, and the keys that are due behind it are pressed
       item_comes : (records : ℕ) (new : Player) (mid to : S) → records ≡ old.records + records_in_item taken.item
@@ -214,7 +214,7 @@ module _ {S : Type 0} (writer : Writer S) (t : TerminalType) (keys : List (ℕ �
           | inl i ↦ (items, inside_comes step.reply to i.0.silent i.0.leads went)
           | inr taken ↦ (let item : Item Element = taken.0.item in
               let one : records_in_item item ≡ 0 = one_of item (is_some step.event)
-                  (ends_with step.event _ taken.1) e in
+              (ends_with step.event _ taken.1) e in
               let same : records_from 0 items + records_in_item item ≡ records_from 0 items = omega (arith, one) in
               let settled = left_settled 0 keys items in
               let none : due (records_from 0 items + records_in_item item)
@@ -242,7 +242,7 @@ module _ {S : Type 0} (writer : Writer S) (t : TerminalType) (keys : List (ℕ �
               × (records ≡ old.records + records_in_item item) × (records ≡ records_from 0 items + records_in_item item)
           counts item e =
               let one : records_in_item item ≡ 1 = one_of_record item (is_some step.event)
-                  (ends_with step.event _ e) ends in
+              (ends_with step.event _ e) ends in
               let f : records ≡ old.records + records_in_item item =
               omega (arith, one, is, c.few, few) in
               (one, f, f ∙ ap (λ n. n + records_in_item item) c.records)

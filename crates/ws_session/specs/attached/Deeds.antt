@@ -1,9 +1,9 @@
 -- A deed at an end on devices: whether it was done, and what a fault leaves
 
 use Rattle.std.specs.Prelude.{◌≡◌, ◌≢◌, [], ◌∷◌, Bool, true, false, Result, Err, OnOk, OnErr, IfOk, IfErr}
-use Rattle.ws_code.specs.Device.{Devices}
+use Rattle.ws_code.specs.Device.{Devices, Writer}
 use Rattle.ws_code.specs.declared.fault.Fault.{Fault}
-use Rattle.ws_code.specs.declared.fault.Fault.TheVariants.{Failed, Memory}
+use Rattle.ws_code.specs.declared.fault.Fault.TheVariants.{Failed, Memory, Write}
 use Rattle.ws_session.specs.declared.end_step.Applied.{Applied}
 use Rattle.ws_session.specs.declared.end_step.Order.{Order}
 use Rattle.ws_session.specs.declared.end_step.Sent.{Sent}
@@ -18,6 +18,7 @@ use Rattle.ws_session.specs.Conduct.{Conduct}
 use Rattle.ws_session.specs.Conducts.{host_conduct, station_conduct}
 use Rattle.ws_session.specs.Manners.{IsSendRefusal, IsSendTaken, IsSendWanting}
 use Rattle.ws_session.specs.attached.Attachments.{AttachedParts, HaveLed, IsSendFailure}
+use Rattle.ws_session.specs.attached.Written.{HasWritten, HasWrittenFront}
 use Rattle.ws_session.specs.host_end.HostLeads.{HostParts, sent_bytes}
 use Rattle.ws_session.specs.station.Displays.{OnDisplay}
 use Rattle.ws_session.specs.station.StationActs.{IsKeyRefusalOn, IsKeyTakenOn}
@@ -83,6 +84,17 @@ pub record HasDoneDeed {E Deed Event : Type 0} (j : Judged E Deed Event SendFaul
       → j.refrains old fault × j.conduct.goes old (Did j.deed ∷ []) [] [] new)
   pub wanting : result ≡ Err NoMemory → j.wants old
   pub same : OnErr result (new ≡ old)
+
+-- What a deed at an end comes to, and what of it goes into a sink at once: what it writes, or a front of that.
+pub record WritesDeed {E Deed Event Why S : Type 0} (writer : Writer S) (j : Judged E Deed Event Why) (old new : E)
+    (from to : S) (result : Result (Acted Why) Fault) : Type 0 where
+  pub pressed : IfOk result (λ acted. HasWritten j.conduct writer old new from to (Did j.deed ∷ []) [])
+  pub refused : IfOk result (λ acted. IfRefused acted (λ why. (new ≡ old) × (to ≡ from)))
+  -- which deeds are refused, and why, and which are done
+  pub told : IfOk result (λ acted. IfRefused acted (j.refrains old))
+  pub taken : IfOk result (λ acted. IfDone acted (j.acts old))
+  pub fault : IfErr result (λ fault. (fault ≡ Write)
+      × HasWrittenFront j.conduct writer old new from to (Did j.deed ∷ []))
 
 -- What a deed at an end on devices comes to.
 pub record HasActed {E Deed Event Why S K : Type 0} (devices : Devices S K) (j : Judged E Deed Event Why)

@@ -1,13 +1,11 @@
 // What an end does at bytes or a key, and writes at once into a sink: the steps of `Attached` and of `run_station`.
 
-ghost use Rattle.std.specs.Prelude.{◌≡◌, ◌<◌, ◌≤◌, ◌∷◌, [], true, length, take, IfOk, IfErr};
-ghost use Rattle.ws_session.specs.Acts.{Did, all_came, as_list};
-ghost use Rattle.ws_session.specs.attached.Deeds.{IfDone, IfRefused};
+ghost use Rattle.std.specs.Prelude.{◌≡◌, ◌<◌, ◌≤◌, [], true, length, take, IfOk, IfErr};
+ghost use Rattle.ws_session.specs.Acts.{all_came, as_list};
+ghost use Rattle.ws_session.specs.attached.Deeds.{WritesDeed, key_judged};
 ghost use Rattle.ws_session.specs.attached.Attachments as spec;
 ghost use Rattle.ws_session.specs.attached.Attachments.{breaks, IfTold, TellsAtLast};
-ghost use Rattle.ws_session.specs.Conducts.{station_conduct};
-ghost use Rattle.ws_session.specs.station.StationActs.{IsKeyRefusalOn, IsKeyTakenOn};
-ghost use Rattle.ws_session.specs.attached.Written.{HasWritten, HasWrittenFront, IsUnheard};
+ghost use Rattle.ws_session.specs.attached.Written.{HasWritten, IsUnheard};
 ghost use Rattle.ws_session.specs.station.Displays.{on_display as on};
 
 use crate::end::End;
@@ -79,21 +77,8 @@ pub(crate) fn press_key<D: StationDisplay, K: Sink>(
     sink: &mut K,
     key: D::Key,
 ) -> Result<Acted<KeyFault>, Fault>
-    // What is written of a key that is taken.
-    ensures pressed { IfOk result (λ acted.
-        HasWritten (station_conduct (on D.Commands.rules D.does)) K.writer
-        station.old station.new sink.old sink.new (Did key ∷ []) []) }
-    // Which keys are refused, and why, and which are taken.
-    ensures refused { IfOk result (λ acted. IfRefused acted
-        (λ fault. (station.new ≡ station.old) × (sink.new ≡ sink.old))) }
-    ensures told { IfOk result (λ acted. IfRefused acted
-        (IsKeyRefusalOn (on D.Commands.rules D.does) station.old key)) }
-    ensures taken { IfOk result (λ acted. IfDone acted
-        (IsKeyTakenOn (on D.Commands.rules D.does) station.old key)) }
-    // What a failed write leaves.
-    ensures fault { IfErr result (λ fault. (fault ≡ Fault.Write)
-        × HasWrittenFront (station_conduct (on D.Commands.rules D.does)) K.writer
-        station.old station.new sink.old sink.new (Did key ∷ [])) }
+    ensures { WritesDeed K.writer (key_judged (on D.Commands.rules D.does) key)
+        station.old station.new sink.old sink.new result }
 {
     match station.key(key) {
         Ok(None) => Ok(Acted::Done),

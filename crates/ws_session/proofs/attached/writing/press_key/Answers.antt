@@ -1,73 +1,89 @@
-use Rattle.ws_session.proofs.Common.{◌≡◌, [], Some, None, Err, err_from_is_err_and, went_out_none, KeyFailed}
+use Rattle.ws_session.proofs.Common.{rules, ◌≡◌, [], None, Some, Err, err_from_is_err_and, went_out_none, KeyFailed}
 use Rattle.ws_session.proofs.Common.{answer_spelling}
 use Rattle.ws_session.proofs.EndDeeds.{key_silent_goes, key_sent_goes, key_refused_goes, key_taken}
 use Rattle.ws_session.proofs.Shuts.{not_shut, shut_fails}
 use Rattle.ws_session.proofs.attached.writing.press_key.Goals as goal
 
-pub returns-in_err-write_answer-in-Ok-Some-clause-fault : goal.returns-in_err-write_answer-in-Ok-Some-clause-fault
-returns-in_err-write_answer-in-Ok-Some-clause-fault g c =
+pub returns-in_err-write_answer-in-Ok-Some : goal.returns-in_err-write_answer-in-Ok-Some
+returns-in_err-write_answer-in-Ok-Some g c =
     let p = err_from_is_err_and c.from_residual.result c.from_residual.ensures.1 in
     let answer = c.in-Ok-Some.answer in
     let failed = c.in_err-write_answer-in-Ok-Some.ensures.err in
-    rw (p.1, p.2) (
-      failed.0,
-      record {
-        written = answer_spelling answer;
-        told = [];
-        led = key_sent_goes g.D.Commands.Code.rules g.D.StationDisplay.does g.met.D.StationDisplay.spells _ _ _ _
-            (rw c.in-Ok-Some.field-0-is at c.in-Ok-Some.ensures.keyed)
-            (not_shut _ _ KeyFailed _ c.in-Ok-Some.ensures.failed c.in-Ok-Some.ensures.full);
-        failed = failed.1;
-      },
-    )
+    rw (p.1, p.2) (record {
+      pressed = tt;
+      refused = tt;
+      told = tt;
+      taken = tt;
+      fault = (
+        failed.0,
+        record {
+          written = answer_spelling answer;
+          told = [];
+          led = key_sent_goes g.D.Commands.Code.rules g.D.StationDisplay.does g.met.D.StationDisplay.spells _ _ _ _
+              (rw c.in-Ok-Some.field-0-is at c.in-Ok-Some.ensures.keyed)
+              (not_shut _ _ KeyFailed _ c.in-Ok-Some.ensures.failed c.in-Ok-Some.ensures.full);
+          failed = failed.1;
+        },
+      );
+    })
 
-pub returns-in-Ok-None-clause-pressed : goal.returns-in-Ok-None-clause-pressed
-returns-in-Ok-None-clause-pressed g c = record {
-  written = [];
-  led = key_silent_goes g.D.Commands.Code.rules g.D.StationDisplay.does g.met.D.StationDisplay.spells _ _ _
-      (rw c.in-Ok-None.field-0-is at c.in-Ok-None.ensures.keyed)
-      (not_shut _ _ KeyFailed _ c.in-Ok-None.ensures.failed c.in-Ok-None.ensures.full);
-  wrote = went_out_none g.K.Sink.writer c.args.sink.now;
-}
-
-pub returns-in-Ok-None-clause-taken : goal.returns-in-Ok-None-clause-taken
-returns-in-Ok-None-clause-taken g c = record {
-  led = λ bytes items side l few. key_taken g.D.Commands.Code.rules g.D.StationDisplay.does
-      g.met.D.StationDisplay.spells c.args.station.now _ bytes items side _ None
-      ((rw c.in-Ok-None.field-0-is at c.in-Ok-None.ensures.keyed) bytes items side l few);
-  works = not_shut _ _ KeyFailed _ c.in-Ok-None.ensures.failed c.in-Ok-None.ensures.full;
-}
-
-pub returns-in_ok-write_answer-in-Ok-Some-clause-pressed : goal.returns-in_ok-write_answer-in-Ok-Some-clause-pressed
-returns-in_ok-write_answer-in-Ok-Some-clause-pressed g c =
-    let answer = c.in-Ok-Some.answer in
+pub returns-in-Ok-None : goal.returns-in-Ok-None
+returns-in-Ok-None g c =
+    let works = not_shut _ _ KeyFailed _ c.in-Ok-None.ensures.failed c.in-Ok-None.ensures.full in
     record {
-      written = answer_spelling answer;
-      led = key_sent_goes g.D.Commands.Code.rules g.D.StationDisplay.does g.met.D.StationDisplay.spells _ _ _ _
-          (rw c.in-Ok-Some.field-0-is at c.in-Ok-Some.ensures.keyed)
-          (not_shut _ _ KeyFailed _ c.in-Ok-Some.ensures.failed c.in-Ok-Some.ensures.full);
-      wrote = c.in_ok-write_answer-in-Ok-Some.ensures.ok;
+      pressed = record {
+        written = [];
+        led = key_silent_goes g.D.Commands.Code.rules g.D.StationDisplay.does g.met.D.StationDisplay.spells _ _ _
+            (rw c.in-Ok-None.field-0-is at c.in-Ok-None.ensures.keyed) works;
+        wrote = went_out_none g.K.Sink.writer c.args.sink.now;
+      };
+      refused = tt;
+      told = tt;
+      taken = record {
+        led = λ bytes items side l few. key_taken g.D.Commands.Code.rules g.D.StationDisplay.does
+            g.met.D.StationDisplay.spells c.args.station.now _ bytes items side _ None
+            ((rw c.in-Ok-None.field-0-is at c.in-Ok-None.ensures.keyed) bytes items side l few);
+        works = works;
+      };
+      fault = tt;
     }
 
-pub returns-in_ok-write_answer-in-Ok-Some-clause-taken : goal.returns-in_ok-write_answer-in-Ok-Some-clause-taken
-returns-in_ok-write_answer-in-Ok-Some-clause-taken g c = record {
-  led = λ bytes items side l few. key_taken g.D.Commands.Code.rules g.D.StationDisplay.does
-      g.met.D.StationDisplay.spells c.args.station.now c.key.new.self bytes items side _ (Some c.in-Ok-Some.answer)
-      ((rw c.in-Ok-Some.field-0-is at c.in-Ok-Some.ensures.keyed) bytes items side l few);
-  works = not_shut _ _ KeyFailed _ c.in-Ok-Some.ensures.failed c.in-Ok-Some.ensures.full;
-}
+pub returns-in_ok-write_answer-in-Ok-Some : goal.returns-in_ok-write_answer-in-Ok-Some
+returns-in_ok-write_answer-in-Ok-Some g c =
+    let answer = c.in-Ok-Some.answer in
+    let works = not_shut _ _ KeyFailed _ c.in-Ok-Some.ensures.failed c.in-Ok-Some.ensures.full in
+    record {
+      pressed = record {
+        written = answer_spelling answer;
+        led = key_sent_goes g.D.Commands.Code.rules g.D.StationDisplay.does g.met.D.StationDisplay.spells _ _ _ _
+            (rw c.in-Ok-Some.field-0-is at c.in-Ok-Some.ensures.keyed) works;
+        wrote = c.in_ok-write_answer-in-Ok-Some.ensures.ok;
+      };
+      refused = tt;
+      told = tt;
+      taken = record {
+        led = λ bytes items side l few. key_taken g.D.Commands.Code.rules g.D.StationDisplay.does
+            g.met.D.StationDisplay.spells c.args.station.now c.key.new.self bytes items side _ (Some answer)
+            ((rw c.in-Ok-Some.field-0-is at c.in-Ok-Some.ensures.keyed) bytes items side l few);
+        works = works;
+      };
+      fault = tt;
+    }
 
-pub returns-in-Err-clause-pressed : goal.returns-in-Err-clause-pressed
-returns-in-Err-clause-pressed g c = record {
-  written = [];
-  led = key_refused_goes g.D.Commands.Code.rules g.D.StationDisplay.does g.met.D.StationDisplay.spells _ _ _
-      c.in-Err.fault c.in-Err.ensures.keyed c.in-Err.ensures.same;
-  wrote = went_out_none g.K.Sink.writer c.args.sink.now;
-}
-
-pub returns-in-Err-clause-told : goal.returns-in-Err-clause-told
-returns-in-Err-clause-told g c = record {
-  led = λ bytes items side l few. (c.in-Err.ensures.keyed bytes items side l few).0;
-  shut = λ shut. (let e : Err c.in-Err.fault ≡ Err KeyFailed = shut_fails _ _ KeyFailed _ c.in-Err.ensures.failed
-      c.in-Err.ensures.full shut in cc);
+pub returns-in-Err : goal.returns-in-Err
+returns-in-Err g c = record {
+  pressed = record {
+    written = [];
+    led = key_refused_goes g.D.Commands.Code.rules g.D.StationDisplay.does g.met.D.StationDisplay.spells _ _ _
+        c.in-Err.fault c.in-Err.ensures.keyed c.in-Err.ensures.same;
+    wrote = went_out_none g.K.Sink.writer c.args.sink.now;
+  };
+  refused = search rules;
+  told = record {
+    led = λ bytes items side l few. (c.in-Err.ensures.keyed bytes items side l few).0;
+    shut = λ shut. (let e : Err c.in-Err.fault ≡ Err KeyFailed = shut_fails _ _ KeyFailed _ c.in-Err.ensures.failed
+        c.in-Err.ensures.full shut in cc);
+  };
+  taken = tt;
+  fault = tt;
 }

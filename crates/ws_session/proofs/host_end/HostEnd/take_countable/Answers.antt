@@ -40,10 +40,10 @@ returns c =
     let count = ap (λ (z : HostParts). z.receiver.live.taken) (sym c.self.view_is) ∙ sym c.taken-room.ensures in
     let size : room ≤ length piece → length part ≡ room = λ le. length-take-le room piece le in
     let few = fits now.receiver.live.taken c.taken-room.result (length piece) room
-        (length part) c.taken-room.type_inv count
+    (length part) c.taken-room.type_inv count
     c.min-count.ensures size in
     let many = some_fit now.receiver.live.taken c.taken-room.result (length piece) room (length part) count (rw
-        (← here.0) at here.2)
+    (← here.0) at here.2)
     c.requires c.min-count.ensures size in
     let works = none_leads now.ended now.receiver.live.taken now.receiver.live.taken (rw (← here.0) at here.1) refl
     (rw (← here.0) at here.2) in

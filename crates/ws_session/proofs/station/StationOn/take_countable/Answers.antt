@@ -47,7 +47,7 @@ returns g c =
     let few = fits now.live.taken c.taken-room.result (length piece) room (length part) c.taken-room.type_inv count
     c.min-count.ensures size in
     let many = some_fit now.live.taken c.taken-room.result (length piece) room (length part) count (rw
-        (← here.0) at here.2)
+    (← here.0) at here.2)
     c.requires c.min-count.ensures size in
     let works = none_leads now.ended now.live.taken now.live.taken (rw (← here.0) at here.1) refl
     (rw (← here.0) at here.2) in
@@ -57,7 +57,7 @@ returns g c =
       fed = IfOk-weaker step _ _ (λ s come. goes_by reads d.out (manner_on d) (LeadsOn (on_display reads d)) IsShutOn
           (λ (z : PartsOn _ _). z.live.taken) (station_count reads d) now piece part
           (drop room piece) whole used f.ensures.within few to (d.written to.screen s.reply)
-              (as_list s.event) works come) f.ensures.fed;
+          (as_list s.event) works come) f.ensures.fed;
       first = IfOk-weaker step _ _ (λ s quiet. station_silent reads d now piece part (drop room piece) whole used
           f.ensures.within few works quiet) f.ensures.first;
       refused = IfErr-weaker step _ _ (station_stops reads d now to piece part

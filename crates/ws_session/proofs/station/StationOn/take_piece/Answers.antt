@@ -122,7 +122,7 @@ loop-used-preserved g c =
           let step : EndStep Applied _ = c.in-Ok.step in
           let inv = c.loop-used.invariant.2 bytes items side l fits in
           let fed = fed_on g.D.Commands.Code.rules g.D.StationDisplay.does bytes items side piece i now inv.0
-              f.new.self k
+          f.new.self k
           step f.ensures.within
           (f.ensures.used (λ e. cc (c.in-Ok.is, e))) (λ b its s m room. rw c.in-Ok.is at
           (f.ensures.fronted b its s m room)) f.ensures.first fits c.loop-used.invariant.0 in

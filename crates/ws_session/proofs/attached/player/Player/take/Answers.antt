@@ -29,7 +29,7 @@ returns-in_err-write_whole-in-Ok-clause-fault g c =
     let fronted = rw c.in-Ok.is at f.ensures.fronted bytes items _ h.is_behind.leads (omega (arith, few)) in
     rw failed.0 (reply_fails _ t _ start _ (record c.args.self.now { station = f.new.self }) _ bytes items
     c.args.piece.now f.result.used f.ensures.within (f.ensures.used (λ e. cc
-        (c.in-Ok.is, e))) h few c.in-Ok.step fronted
+    (c.in-Ok.is, e))) h few c.in-Ok.step fronted
     c.write_whole.new.sink (rw c.bytes.ensures.written at failed.1)))
 
 pub returns-in_err-press_due-in-Ok-clause-fault : goal.returns-in_err-press_due-in-Ok-clause-fault
@@ -42,7 +42,7 @@ returns-in_err-press_due-in-Ok-clause-fault g c =
     let fronted = rw c.in-Ok.is at f.ensures.fronted bytes items _ h.is_behind.leads (omega (arith, few)) in
     rw failed.0 (keys_fail _ t _ start _ (record c.args.self.now { station = f.new.self }) _ bytes items
     c.args.piece.now f.result.used f.ensures.within (f.ensures.used (λ e. cc
-        (c.in-Ok.is, e))) h few c.in-Ok.step fronted
+    (c.in-Ok.is, e))) h few c.in-Ok.step fronted
     (sym c.is_some.ensures ∙ c.if-is_some.true) _ c.saturating_add-self.ensures _
     (rw c.bytes.ensures.written at c.in_ok-write_whole-in-Ok.ensures.ok) c.press_due.new.sink failed.1))
 
@@ -54,7 +54,7 @@ returns-in_ok-press_due-in-Ok-clause-come g c =
     let fronted = rw c.in-Ok.is at f.ensures.fronted bytes items _ h.is_behind.leads (omega (arith, few)) in
     record_comes _ t _ start _ (record c.args.self.now { station = f.new.self }) _ bytes items
     c.args.piece.now f.result.used f.ensures.within (f.ensures.used (λ e. cc
-        (c.in-Ok.is, e))) h few c.in-Ok.step fronted
+    (c.in-Ok.is, e))) h few c.in-Ok.step fronted
     (sym c.is_some.ensures ∙ c.if-is_some.true) _ c.saturating_add-self.ensures _
     (rw c.bytes.ensures.written at c.in_ok-write_whole-in-Ok.ensures.ok) _ _ done.done done.left
 
@@ -65,5 +65,5 @@ returns-else-is_some-clause-come g c =
     let fronted = rw c.in-Ok.is at f.ensures.fronted bytes items _ h.is_behind.leads (omega (arith, few)) in
     no_record _ t _ start _ (record c.args.self.now { station = f.new.self }) _ bytes items
     c.args.piece.now f.result.used f.ensures.within (f.ensures.used (λ e. cc
-        (c.in-Ok.is, e))) h few c.in-Ok.step fronted
+    (c.in-Ok.is, e))) h few c.in-Ok.step fronted
     _ (sym c.is_some.ensures ∙ c.if-is_some.false) (rw c.bytes.ensures.written at c.in_ok-write_whole-in-Ok.ensures.ok)
