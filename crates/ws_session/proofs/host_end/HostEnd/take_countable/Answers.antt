@@ -1,7 +1,7 @@
 use Rattle.std.specs.Prelude.{IsSome}
 use Rattle.std.proofs.lemmas.Result.{IfOk-weaker, IfErr-weaker}
 use Rattle.ws_session.proofs.Common.{rules, ◌≡◌, ◌≤◌, refl, ◌∙◌, ℕ, ◌<◌, take, drop, ap, sym, arith, take-append-drop}
-use Rattle.ws_session.proofs.Common.{min, inl, length, ◌-◌, Some, Failed, length-take-le, answer_rules}
+use Rattle.ws_session.proofs.Common.{inl, length, Some, Failed, length-take-le, answer_rules}
 use Rattle.ws_session.proofs.Common.{element_rules, as_list, host_manner, HostLeads, HostParts}
 use Rattle.ws_session.specs.Manners.{IsHostShut}
 use Rattle.ws_session.proofs.EndFeeds.{fits, some_fit, part_stays, is_over, none_leads, goes_by, host_count, host_shut}

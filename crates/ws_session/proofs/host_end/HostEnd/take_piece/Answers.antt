@@ -1,5 +1,5 @@
-use Rattle.ws_session.proofs.Common.{rules, ◌<◌, ◌≡◌, ◌+◌, [], refl, ◌∙◌, None, take, sym, arith, length, false}
-use Rattle.ws_session.proofs.Common.{is_some, ◌-◌, length_rest, left_of, answer_rules, element_rules, host_manner}
+use Rattle.ws_session.proofs.Common.{rules, ◌<◌, ◌≡◌, ◌+◌, [], refl, ◌∙◌, None, take, sym, arith, length}
+use Rattle.ws_session.proofs.Common.{◌-◌, length_rest, left_of, answer_rules, element_rules, host_manner}
 use Rattle.ws_session.proofs.Common.{HostStep, Refusal, Failed, HasHostFed, HostLeads}
 use Rattle.ws_session.proofs.Counts.{counted_on, counted_up}
 use Rattle.ws_session.proofs.Feedings.{none_silent, quiet_upto, none_come, quiet_on, value_at, split_on}

@@ -1,7 +1,7 @@
 use Rattle.std.specs.Prelude.{IsSome}
 use Rattle.std.proofs.lemmas.Result.{IfOk-weaker, IfErr-weaker}
 use Rattle.ws_session.proofs.Common.{rules, ◌≡◌, ◌≤◌, refl, ◌∙◌, ℕ, ◌<◌, take, drop, ap, sym, arith, take-append-drop}
-use Rattle.ws_session.proofs.Common.{min, inl, length, ◌-◌, Some, Failed, length-take-le, as_list}
+use Rattle.ws_session.proofs.Common.{inl, length, Some, Failed, length-take-le, as_list}
 use Rattle.ws_session.specs.station.Displays.{on_display}
 use Rattle.ws_session.specs.station.PartsOn.{PartsOn}
 use Rattle.ws_session.specs.station.StationActs.{IsShutOn}

@@ -1,4 +1,4 @@
-use Rattle.ws_session.proofs.Common.{rules, ◌≡◌, ◌<◌, ◌+◌, [], refl, ◌∙◌, take, ap, arith, length, false, ◌-◌}
+use Rattle.ws_session.proofs.Common.{rules, ◌≡◌, ◌<◌, ◌+◌, [], refl, ◌∙◌, take, ap, arith, length, ◌-◌}
 use Rattle.ws_session.proofs.Common.{length_rest, left_of, sym}
 use Rattle.ws_session.proofs.Common.{Refusal, Failed, EndStep, Applied, None}
 use Rattle.ws_session.specs.station.PartsOn.{PartsOn}
