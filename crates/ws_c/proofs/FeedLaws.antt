@@ -1,7 +1,7 @@
 -- What feeds of a station and of a host's end come to, one behind another
 
-use Rattle.std.specs.Prelude.{min}
-use Rattle.std.proofs.Common.{◌≡◌, ℕ, ◌+◌, ◌-◌, ◌^◌, ◌<◌, ◌≤◌, inl, inr, Bool, List, [], ◌∷◌, ◌++◌, Some, None, IsSome}
+use Rattle.std.specs.Prelude.{min, Option}
+use Rattle.std.proofs.Common.{◌≡◌, ℕ, ◌+◌, ◌-◌, ◌^◌, ◌<◌, ◌≤◌, inl, inr, List, [], ◌∷◌, ◌++◌, Some, None, IsSome}
 use Rattle.std.proofs.Common.{length, take, drop, refl, ap, subst, sym, ◌∙◌, arith, length-append}
 use Rattle.std.proofs.lemmas.Bool.{cases_lt}
 use Rattle.ws_record.specs.declared.record.Item.{Item}
@@ -11,7 +11,8 @@ use Rattle.ws_stream.specs.declared.answer_part.AnswerPart.{AnswerPart}
 use Rattle.ws_session.specs.ActLaws.{bytes_came}
 use Rattle.ws_session.specs.Acts.{all_came, as_list, bytes_of}
 use Rattle.ws_session.specs.Ends.{CountsUpTo}
-use Rattle.ws_session.specs.Manners.{host_manner, told_by}
+use Rattle.ws_session.specs.Manners.{host_manner}
+use Rattle.ws_session.specs.declared.end_step.Applied.{Applied}
 use Rattle.ws_session.specs.declared.end_step.Order.{Order}
 use Rattle.ws_session.specs.declared.refusal.Refusal.{Refusal}
 use Rattle.ws_session.specs.declared.refusal.Refusal.TheVariants.{At, Failed, Memory}
@@ -47,19 +48,19 @@ module _ (kind : OnDisplay) where
 
   -- more of them are
   pub station_takes_on : (old now new : StationOf kind) (bytes : List ℕ) (n k : ℕ) (written reply : List ℕ)
-      (ends : Bool) → n ≤ length bytes → 0 < k → StationTakesOn kind old (first_bytes bytes n) written now
+      (event : Option Applied) → n ≤ length bytes → 0 < k → StationTakesOn kind old (first_bytes bytes n) written now
       → ((b : List ℕ) (its : ItemsOf kind) (s : SideOf kind) → LeadsOn kind now b its s
       → length b + length (drop n bytes) + 1 < 2 ^ 64
-      → HasFedOn kind new b its s (take k (drop n bytes)) reply ends)
+      → HasFedOn kind new b its s (take k (drop n bytes)) reply event)
       → (now.live.taken + k < 2 ^ 64 → new.live.taken ≡ now.live.taken + k)
       → (IsSome now.ended → ⊥) → (now.live.taken + 1 ≡ 2 ^ 64 → ⊥)
       → StationTakesOn kind old (first_bytes bytes (n + k)) (written ++ reply) new
-  station_takes_on old now new bytes n k written reply ends inside some t fed counted works counts = record {
+  station_takes_on old now new bytes n k written reply event inside some t fed counted works counts = record {
     counted = counted_on old.live.taken now.live.taken new.live.taken n k t.counted counted;
     taken = λ before items side l fits. (let g = t.taken before items side l fits in (
-      g.0 ++ as_list (told_by ends),
+      g.0 ++ as_list event,
       come_on kind.rules kind.does.out (manner_on kind.does) (LeadsOn kind now) (LeadsOn kind new) bytes n k
-          before items side written reply g.0 (as_list (told_by ends)) inside fits g.1 fed,
+          before items side written reply g.0 (as_list event) inside fits g.1 fed,
     ));
     works = λ _ e. elim (cases_lt 0 n) [
       | inl lt ↦ t.works lt e

@@ -9,6 +9,7 @@ use Rattle.ws_c.proofs.FeedLaws.{station_takes_none, station_takes_on, station_r
 use Rattle.ws_c.proofs.PushLaws.{feeding_more, rest_is, told_again}
 use Rattle.ws_c.proofs.station.push_all.Goals as goal
 use Rattle.ws_session.specs.station.StationActs.{HasFedOn, HasRefusedOn}
+use Rattle.ws_session.specs.station.StationManners.{told_by}
 use Rattle.ws_session.specs.station.StationSide.{on_profile}
 
 pub loop-told-init : goal.loop-told-init
@@ -51,9 +52,10 @@ loop-told-preserved c =
           (subst (λ (r : List ℕ). StationTakes c.args.station.now (first_bytes bytes (n + k)) (f.written ++ r)
           c.feed.new.self) (sym same)
           (station_takes_on on_profile c.args.station.now now.station c.feed.new.self bytes n k f.written fed.reply
-          fed.ends_record f.inside some f.takes
+          (told_by fed.ends_record) f.inside some f.takes
           (λ b its s l fits. subst
-          (λ (x : List ℕ). HasFedOn on_profile c.feed.new.self b its s (take k x) fed.reply fed.ends_record) is
+          (λ (x : List ℕ). HasFedOn on_profile c.feed.new.self b its s (take k x) fed.reply
+          (told_by fed.ends_record)) is
           (e.fed b its s l (subst (λ (x : List ℕ). length b + length x + 1 < 2 ^ 64) (sym is) fits)))
           e.counted (λ ended. (let x = (e.failed ended).0 in cc)) (λ full. (let x = e.full full in cc))))
           (c.put_behind.ensures f.written c.args.buffer.now (sym f.replied_is) f.put);

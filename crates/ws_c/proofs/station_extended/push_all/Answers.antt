@@ -4,6 +4,7 @@ use Rattle.std.proofs.Common.{arith}
 use Rattle.std.proofs.lemmas.List.{length-drop}
 use Rattle.ws_session.specs.Ends.{CountsUpTo}
 use Rattle.ws_session.specs.station.StationActs.{HasFedOn, HasRefusedOn, IsSilentOn}
+use Rattle.ws_session.specs.station.StationManners.{told_by}
 use Rattle.ws_extended_station.specs.ExtendedDisplays.{DisplayParts, extended_written}
 use Rattle.ws_c.specs.HeldStations.{waiting}
 use Rattle.ws_c.specs.Pushes.{StationRefusesOn, first_bytes, place_refused_at}
@@ -40,9 +41,9 @@ loop-told-preserved c =
     c.hand_out-in-Ok.new.buffer now.told _ c.hand_out-in-Ok.new.told k f none refl
     (omega (arith, within, length-drop n bytes, f.inside))
     (station_takes_on on_extended c.args.held.now.station now.held.station new bytes n k f.written reply
-    fed.ends_record f.inside some f.takes
+    (told_by fed.ends_record) f.inside some f.takes
     (λ b its s l fits. subst (λ (x : List ℕ). HasFedOn on_extended new b its s (take k x) reply
-    fed.ends_record) is
+    (told_by fed.ends_record)) is
     (e.fed b its s l (subst (λ (x : List ℕ). length b + length x + 1 < 2 ^ 64) (sym is) fits)))
     e.counted (λ ended. (let x = (e.failed ended).0 in cc)) (λ full. (let x = e.full full in cc)))
     (λ j less b its s l fits. subst (λ (x : List ℕ). IsSilentOn on_extended b its s (take j x)) is
