@@ -85,6 +85,7 @@ static void test_not_held(void)
         FILL(answer);
         CHECK(ribbon_host_answer(held[at], &answer) == RIBBON_NOTHING_HELD && answer.field_count == 0);
         FILL(field);
+        FILL(content);
         CHECK(ribbon_host_answer_field(held[at], 0, content, sizeof content, &field) == RIBBON_NOTHING_HELD
               && field.length == 0 && IS_FILLED(content));
     }
