@@ -162,11 +162,11 @@ static void test_sends(ribbon_host *host)
 
 static void test_answer(ribbon_host *host)
 {
+    uint8_t reply[64], content[16];
     ribbon_pushed pushed;
     ribbon_event event;
     ribbon_answer answer;
     ribbon_read_field field;
-    uint8_t reply[64], content[16];
 
     CHECK(ribbon_host_push(host, came, sizeof came, reply, sizeof reply, &pushed, &event) == RIBBON_DONE
           && event.kind == RIBBON_EVENT_ANSWER && pushed.taken == sizeof came);
