@@ -79,11 +79,7 @@ fn any_display_is_attached(rt: HostRuntime) {
     let mut attached = Attached::new(second_station(), source, VecSink::new(alloc));
     same(&rt, attached.hear(), Ok(Some(Applied)));
     same(&rt, attached.press(None), Ok(Acted::Done));
-    same(
-        &rt,
-        attached.press(Some(Key::Attention)),
-        Ok(Acted::Done),
-    );
+    same(&rt, attached.press(Some(Key::Attention)), Ok(Acted::Done));
     holds(&rt, !attached.end().display().rings());
     let mut wanted = OPENED.to_vec(alloc).expect(&rt, "memory");
     wanted.extend_from_slice(CANCEL).expect(&rt, "memory");

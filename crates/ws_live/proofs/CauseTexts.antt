@@ -16,7 +16,8 @@ use Rattle.ws_live.proofs.ScriptWords.{no_blank_from}
 -- Where words stand in a line.
 
 -- what stands behind a blank at a line's end, with what is before it
-pub word_in : (line words word behind : List ℕ) → EndsWith line (32 ∷ words) → words ≡ word ++ behind → StandsIn line word
+pub word_in : (line words word behind : List ℕ) → EndsWith line (32 ∷ words) → words ≡ word ++ behind
+    → StandsIn line word
 word_in line words word behind e is = (
   e.0 ++ (32 ∷ []),
   behind,

@@ -104,12 +104,14 @@ follows_all {Place} {U} {rules} {live} {head} {units} {bytes} f =
 
 -- Whether a record is open behind tokens.
 
-opens_append : (is_open : Bool) (xs ys : List Token) → open_behind_tokens is_open (xs ++ ys) ≡ open_behind_tokens (open_behind_tokens is_open xs) ys
+opens_append : (is_open : Bool) (xs ys : List Token) → open_behind_tokens is_open (xs ++ ys) ≡ open_behind_tokens
+    (open_behind_tokens is_open xs) ys
 opens_append is_open [] ys = refl
 opens_append is_open (x ∷ xs) ys = opens_append (open_behind is_open x) xs ys
 
 -- none is behind an EOR
-opens_joined : (parts : List (List Token)) (rest : List Token) → open_behind_tokens false (joined parts rest) ≡ open_behind_tokens false rest
+opens_joined : (parts : List (List Token)) (rest : List Token) → open_behind_tokens false
+    (joined parts rest) ≡ open_behind_tokens false rest
 opens_joined [] rest = refl
 opens_joined (part ∷ parts) rest =
     let ended : List Token = part ++ Eor ∷ [] in
@@ -179,7 +181,8 @@ pub tokens_all : {begun bytes : List ℕ} {is_open : Bool} → TokensRead begun 
 tokens_all {begun} {bytes} {is_open} r parts rest left hp hr cut =
     let same = one_cut token_rules token_prefix_free tt r.tokens (joined parts rest) begun left r.cut.chain cut.chain
     r.cut.more cut.more (r.cut.spelled ∙ sym cut.spelled) in
-    let is : is_open ≡ open_behind_tokens false rest = r.is ∙ ap (open_behind_tokens false) same.0 ∙ opens_joined parts rest in
+    let is : is_open ≡ open_behind_tokens false rest = r.is ∙ ap (open_behind_tokens false) same.0
+        ∙ opens_joined parts rest in
     let c = opens_carried rest hr in
     ((λ e. c.0 (sym is ∙ e)), λ e. c.1 (sym is ∙ e))
 

@@ -1,6 +1,7 @@
 -- Why an end takes no more bytes, and which of them it has refused
 
-use Rattle.std.specs.Prelude.{◌≡◌, ◌<◌, ◌≤◌, ◌+◌, ◌^◌, ◌⊎◌, ℕ, Option, Some, None, IsSome, Result, IfOk, IfErr, OnOk, OnErr}
+use Rattle.std.specs.Prelude.{◌≡◌, ◌<◌, ◌≤◌, ◌+◌, ◌^◌, ◌⊎◌, ℕ, Option, Some, None, IsSome, Result, IfOk, IfErr, OnOk}
+use Rattle.std.specs.Prelude.{OnErr}
 use Rattle.ws_code.specs.declared.reason.Reason.{Reason}
 use Rattle.ws_session.specs.declared.refusal.Refusal.{Refusal}
 use Rattle.ws_session.specs.declared.refusal.Refusal.TheVariants.{At, Failed, Memory}
@@ -30,8 +31,9 @@ abbrev pub CountsUpTo : Refusal → ℕ → ℕ → ℕ → Type 0
 CountsUpTo (At place reason) before after length = (before ≤ place) × (after ≡ place + 1) × (after ≤ before + length)
 CountsUpTo Memory before after length = (before < after) × (after ≤ before + length)
 CountsUpTo Failed before after length = (before ≤ after) × (after ≤ before + length)
+    -- How an end stands with the last byte taken, which stands at this place. Where it refuses, it is that byte, it takes
+    no
 
--- How an end stands with the last byte taken, which stands at this place. Where it refuses, it is that byte, it takes no
 -- more from then on, and its screen is as it was; so is the screen where this byte brings nothing.
 pub record HasSettled {Step : Type 0} (BringsNothing : Step → Type 0) (place : ℕ) (ended : Option Refusal)
     (SameScreen : Type 0) (result : Result Step Refusal) : Type 0 where

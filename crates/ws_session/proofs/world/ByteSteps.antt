@@ -145,7 +145,8 @@ station_next : {H : OfHost} {t : TerminalType} {w : World} {old : WorldParts} (T
       events = old.events ++ flat_map (λ (a : Applied). let z : List Event = [] in z) told';
     }) (byte_to_station w)
 station_next {H} {t} {w} {old} Then x xs v told r more is = elim (gone_first element_rules answer_rules station_manner
-    Then (take w.at_station (down_bytes w)) (arrived element_rules w.down w.at_station) w.station x xs v told r.station) [
+    Then (take w.at_station (down_bytes w)) (arrived element_rules w.down w.at_station) w.station x xs v told
+    r.station) [
       | inl n ↦ (
         [],
         v,
@@ -181,7 +182,8 @@ bytes_on = many_on byte_to_station bytes_to_station (λ w. refl) (λ n w. refl)
 -- so many of the bytes in flight, or all that are
 pub station_delivered : {t : TerminalType} {w : World} {old : WorldParts}
     → Runs t old w → {station : StationParts} {from to : WireParts} {events : List Event} {count : ℕ}
-    → AreDelivered profile_conduct station_telling (at_station_end old) count (at_end station from to events) → Runs t (record old {
+    → AreDelivered profile_conduct station_telling (at_station_end old) count (at_end station from to events) → Runs t
+    (record old {
       station = station;
       down = from.bytes;
       at_station = from.at;
@@ -250,7 +252,8 @@ module _ {S : OfStation} {H : OfHost} {t : TerminalType} {w : World} {old : Worl
 
       goes_up : (side : HostSide) (writes : List (Item Element)) (event : Option HostEvent)
           (reply : List ℕ) (events : List Event) (items : List (Item AnswerPart)) → reply
-          ≡ plain_spelling element_rules writes → AreWritable element_rules writes → events ≡ events_with old.events event
+          ≡ plain_spelling element_rules writes → AreWritable element_rules writes
+          → events ≡ events_with old.events event
           → HoldsItems answer_rules front_up items → Then front_up items side → byte_to_host w ≡ record w {
             at_host = w.at_host + 1;
             host = side;
@@ -269,7 +272,8 @@ module _ {S : OfStation} {H : OfHost} {t : TerminalType} {w : World} {old : Worl
           ∙ ap (λ z. record w { at_host = w.at_host + 1; down = z }) (sym (append-nil w.down)))
 
       -- an item that is whole, by the reaction to it
-      pub host_taken : (reply : List ℕ) (events : List Event) (item : Item AnswerPart) (z : Reaction HostSide HostOutput)
+      pub host_taken : (reply : List ℕ) (events : List Event) (item : Item AnswerPart)
+          (z : Reaction HostSide HostOutput)
           → events ≡ old.events ++ flat_map host_tells (host_at_item w.host z).told
           → host_takes w.host item ≡ z → goes_on z ≡ true
           → reply ≡ plain_spelling element_rules (host_at_item w.host z).written

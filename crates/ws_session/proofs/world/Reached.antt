@@ -139,11 +139,13 @@ refrains reaction fault ne f = f
 module _ {t : TerminalType} {w : World} {old : WorldParts} (r : Runs t old w) (move : Move)
     (order : Order) (moves_by : after_move w move ≡ after_send w (host_orders w.host order)) where
   host_wrote : length old.up + 1 < 2 ^ 64 → (host : HostParts) (text : List ℕ)
-      → AtHost old.host (λ bytes items side. length bytes + 1 < 2 ^ 64 → IsSent host bytes items (host_orders side order) text)
+      → AtHost old.host (λ bytes items side. length bytes + 1 < 2 ^ 64 → IsSent host bytes items
+      (host_orders side order) text)
       → Runs t (record old { host = host; down = old.down ++ text }) (after_send w (host_orders w.host order))
   host_wrote few host text p =
       let x = p _ _ _ r.host (few_up r few) in
-      rw (← moves_by) (host_writes r move (HostLeads host) x.0 (x.1 ∷ []) w.at_host w.events host text old.at_host old.events
+      rw (← moves_by) (host_writes r move (HostLeads host) x.0
+      (x.1 ∷ []) w.at_host w.events host text old.at_host old.events
       (moves_by ∙ by_going w (host_orders w.host order) (going_host r) ∙ ap (host_sent w) x.2)
       (x.3 ∙ sym (append-nil (item_spelling element_rules x.1))) ((x.4, tt), (x.5, tt)) r.at_host r.events x.6)
 
@@ -229,7 +231,8 @@ module _ {t : TerminalType} {w : World} {old : WorldParts} (r : Runs t old w) (k
         → after_press w key ≡ record w { station = side; up = w.up ++ item ∷ []; answered = told }
         → Runs t (record old { station = station; up = old.up ++ text }) (after_press w key)
     wrote side item told text spelled fit range leads does =
-        station_writes r (Press key) (StationLeads station) side (item ∷ []) w.at_station told station text old.at_station does
+        station_writes r (Press key) (StationLeads station) side
+        (item ∷ []) w.at_station told station text old.at_station does
         (spelled ∙ sym (append-nil (item_spelling answer_rules item))) ((fit, tt), (range, tt)) r.at_station leads
 
     pub key_wrote : IsKey key → IsLegal old.station.screen.screen → AreBytes old.station.screen.screen.cells

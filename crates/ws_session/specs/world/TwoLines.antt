@@ -17,7 +17,8 @@ use Rattle.ws_session.specs.declared.end_step.Order.TheVariants.{Send as Sending
 use Rattle.ws_session.specs.declared.end_step.Sent.{Sent}
 use Rattle.ws_session.specs.declared.station.key_fault.KeyFault.TheVariants.{Failed as KeyFailed}
 use Rattle.ws_session.specs.declared.host_end.send_fault.SendFault.{SendFault}
-use Rattle.ws_session.specs.declared.host_end.send_fault.SendFault.TheVariants.{Failed as SendFailed, Memory as SendMemory}
+use Rattle.ws_session.specs.declared.host_end.send_fault.SendFault.TheVariants.{Failed as SendFailed}
+use Rattle.ws_session.specs.declared.host_end.send_fault.SendFault.TheVariants.{Memory as SendMemory}
 use Rattle.ws_session.specs.declared.world.Event.{Event}
 use Rattle.ws_session.specs.declared.world.Event.TheVariants.{KeyRefused, SendRefused}
 use Rattle.ws_session.specs.declared.world.Move.{Move}

@@ -21,5 +21,6 @@ pub trait Acting: End {
     ///
     /// Why it refuses; the end is then as it was. `Memory` where a growth was refused for what it would have written.
     fn act(&mut self, deed: &Self::Deed) -> Result<Sent, SendFault>
-        ensures { HasDoneDeed (judged Self.conduct refrains acts wants deed.now) self.old self.new result };
+        ensures { HasDoneDeed (judged Self.conduct refrains acts wants deed.now)
+            self.old self.new result };
 }

@@ -1,5 +1,5 @@
 use Rattle.ws_session.proofs.Common.{rules}
-use Rattle.ws_session.proofs.EndDeeds.{cancel_fault}
+use Rattle.ws_session.proofs.CancelFaults.{cancel_fault}
 use Rattle.ws_session.proofs.host_end.HostEnd.order_cancel.Goals as goal
 
 pub returns-in-Err : goal.returns-in-Err
