@@ -182,7 +182,7 @@ tokens_all {begun} {bytes} {is_open} r parts rest left hp hr cut =
     let same = one_cut token_rules token_prefix_free tt r.tokens (joined parts rest) begun left r.cut.chain cut.chain
     r.cut.more cut.more (r.cut.spelled ∙ sym cut.spelled) in
     let is : is_open ≡ open_behind_tokens false rest = r.is ∙ ap (open_behind_tokens false) same.0
-        ∙ opens_joined parts rest in
+    ∙ opens_joined parts rest in
     let c = opens_carried rest hr in
     ((λ e. c.0 (sym is ∙ e)), λ e. c.1 (sym is ∙ e))
 

@@ -116,9 +116,15 @@ pieced line rest hex sender e word =
 are_sent_more : (end : RecordedEnd) (before : List (List ℕ)) (sent line : List ℕ) (sender : RecordedEnd)
     (piece : List ℕ) → AreSent end before sent → IsPieceLine line sender piece
     → AreSent end (before ++ line ∷ []) (sent ++ piece_of end sender piece)
-are_sent_more end [] sent line sender piece e l =
-    (sender, piece, [], l, refl, ap (λ z. z ++ piece_of end sender piece) e ∙ sym (append-nil
-        (piece_of end sender piece)))
+are_sent_more end [] sent line sender piece e l = (
+  sender,
+  piece,
+  [],
+  l,
+  refl,
+  ap (λ z. z ++ piece_of end sender piece) e ∙ sym (append-nil
+      (piece_of end sender piece)),
+)
 are_sent_more end (first ∷ before) sent line sender piece h l = (
   h.0,
   h.1,

@@ -31,10 +31,9 @@ abbrev pub CountsUpTo : Refusal → ℕ → ℕ → ℕ → Type 0
 CountsUpTo (At place reason) before after length = (before ≤ place) × (after ≡ place + 1) × (after ≤ before + length)
 CountsUpTo Memory before after length = (before < after) × (after ≤ before + length)
 CountsUpTo Failed before after length = (before ≤ after) × (after ≤ before + length)
-    -- How an end stands with the last byte taken, which stands at this place. Where it refuses, it is that byte, it takes
-    no
 
--- more from then on, and its screen is as it was; so is the screen where this byte brings nothing.
+-- How an end stands with the last byte taken, which stands at this place. Where it refuses, it is that byte, it takes
+-- no more from then on, and its screen is as it was; so is the screen where this byte brings nothing.
 pub record HasSettled {Step : Type 0} (BringsNothing : Step → Type 0) (place : ℕ) (ended : Option Refusal)
     (SameScreen : Type 0) (result : Result Step Refusal) : Type 0 where
   pub at : IfErr result (λ why. StandsAt why place)
