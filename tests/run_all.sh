@@ -15,7 +15,12 @@ source tests/parts.sh
 cores=$(nproc)
 jobs=$((cores > 3 ? cores - 1 : 2))
 export MIMALLOC_PURGE_DELAY=-1
-[ "${1:-}" != --prove ] || part "rt ci" 168 env RT_JOBS=$jobs rt ci
+if [ "${1:-}" = --prove ]; then
+    part "rt ci" 150 python3 tests/measure.py "$folder/kinds" env RT_JOBS=$jobs rt ci
+    [ ! -e "$folder/kinds" ] || cat "$folder/kinds" >>"$folder/table"
+    kind="rounds and twins" part "wrong bodies" 60 python3 tests/wrong_bodies.py --jobs $jobs
+fi
+kind=scripts
 # The C library comes first: a live session of the program is compared with one of C programs over it.
 if command -v cc >/dev/null && command -v make >/dev/null; then
     part "C library" 60 tests/build_c_library.sh
