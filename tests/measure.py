@@ -1,5 +1,5 @@
 #!/usr/bin/env python3
-"""Runs `rt ci`, or another command of the checker's, and tells what its checks took by kind: measure.py FILE COMMAND ..
+"""Runs a command that checks crates, and tells what the checks took by kind: measure.py FILE COMMAND ..
 
 FILE gets a line a kind: its name, processor seconds, and the seconds in which such a check ran. The status is the
 command's.
@@ -12,7 +12,10 @@ import sys
 import time
 from pathlib import Path
 
-PROOFS, TESTS, NAMED, REST = "proofs", "proofs of tests", "named wrong bodies", "programs and the rest"
+PROOFS, TESTS, NAMED, ROUNDS = "proofs", "proofs of tests", "named wrong bodies", "rounds and twins"
+REST = "programs and the rest"
+# The folders in which `rt ci` and tests/wrong_bodies.py check what is edited.
+EDITED = {"rt-edit": NAMED, "wrong-bodies-": ROUNDS}
 TICK = os.sysconf("SC_CLK_TCK")
 # How often is looked, in seconds: a check takes ten and more.
 PAUSE = 0.5
@@ -23,9 +26,9 @@ def kind_of(process: Path) -> str | None:
     words = (process / "cmdline").read_bytes().split(b"\0")
     if not words[0].endswith(b"/rattle") or words[1] not in (b"check", b"build"):
         return None
-    if "rt-edit" in os.readlink(process / "cwd"):
-        return NAMED
-    return TESTS if b"--test" in words else PROOFS
+    folder = os.readlink(process / "cwd")
+    edited = [kind for part, kind in EDITED.items() if part in folder]
+    return edited[0] if edited else TESTS if b"--test" in words else PROOFS
 
 
 def look(used: dict[tuple[str, str], tuple[str, float]]) -> set[str]:
@@ -45,7 +48,7 @@ def look(used: dict[tuple[str, str], tuple[str, float]]) -> set[str]:
 
 def main(file: str, *command: str) -> int:
     used: dict[tuple[str, str], tuple[str, float]] = {}
-    wall = dict.fromkeys((PROOFS, TESTS, NAMED, REST), 0.0)
+    wall = dict.fromkeys((PROOFS, TESTS, NAMED, ROUNDS, REST), 0.0)
     begun = last = time.monotonic()
     ran = subprocess.Popen(command, stdin=subprocess.DEVNULL)
     while ran.poll() is None:
@@ -54,11 +57,12 @@ def main(file: str, *command: str) -> int:
         for kind in look(used) or {REST}:
             wall[kind] += now - last
         last = now
-    spent = {kind: sum(seconds for it, seconds in used.values() if it == kind) for kind in (PROOFS, TESTS, NAMED)}
+    spent = {kind: sum(seconds for it, seconds in used.values() if it == kind) for kind in wall}
     whole = resource.getrusage(resource.RUSAGE_CHILDREN)
     spent[REST] = max(whole.ru_utime + whole.ru_stime - sum(spent.values()), 0)
     with open(file, "w", encoding="utf-8") as to:
-        for kind, seconds in spent.items():
+        for kind in (it for it in wall if spent[it] or wall[it]):
+            seconds = spent[kind]
             to.write(f"{kind}\t{seconds:.0f}\t{wall[kind]:.0f}\n")
     return ran.returncode
 

@@ -16,9 +16,12 @@ cores=$(nproc)
 jobs=$((cores > 3 ? cores - 1 : 2))
 export MIMALLOC_PURGE_DELAY=-1
 if [ "${1:-}" = --prove ]; then
-    part "rt ci" 150 python3 tests/measure.py "$folder/kinds" env RT_JOBS=$jobs rt ci
-    [ ! -e "$folder/kinds" ] || cat "$folder/kinds" >>"$folder/table"
-    kind="rounds and twins" part "wrong bodies" 60 python3 tests/wrong_bodies.py --jobs $jobs
+    checks() {
+        part "$1" "$2" python3 tests/measure.py "$folder/kinds" "${@:3}"
+        cat "$folder/kinds" >>"$folder/table"
+    }
+    checks "rt ci" 150 env RT_JOBS=$jobs rt ci
+    checks "wrong bodies" 60 python3 tests/wrong_bodies.py --jobs $jobs
 fi
 kind=scripts
 # The C library comes first: a live session of the program is compared with one of C programs over it.

@@ -107,7 +107,8 @@ def functions(path: str, text: str) -> dict[str, Function]:
 
 def outside(path: str, text: str) -> list[str]:
     """The words and signs that stand in a file beside its functions and comments."""
-    hidden = list(blanked(text))
-    for it in functions(path, text).values():
-        hidden[it.start : it.end] = " " * (it.end - it.start)
-    return re.findall(r"\w+|[^\w\s]", "".join(hidden))
+    rest, last = "", 0
+    for it in sorted(functions(path, text).values(), key=lambda it: it.start):
+        rest, last = rest + text[last : it.start], it.end
+    rest = HIDDEN.sub(lambda found: "" if found[0].startswith("/") else found[0], rest + text[last:])
+    return re.findall(r"\w+|[^\w\s]", rest)
