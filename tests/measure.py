@@ -32,13 +32,13 @@ def kind_of(process: Path) -> str | None:
 
 
 def look(used: dict[tuple[str, str], tuple[str, float]]) -> set[str]:
-    """Notes the processor seconds of each check that runs, and tells which kinds do."""
-    running = set()
+    """Notes the processor seconds of each check of this session that runs, and tells which kinds do."""
+    running, session = set(), str(os.getsid(0))
     for process in Path("/proc").glob("[0-9]*"):
         try:
             kind = kind_of(process)
-            if kind:
-                stat = (process / "stat").read_text().rsplit(")", 1)[1].split()
+            stat = (process / "stat").read_text().rsplit(")", 1)[1].split()
+            if kind and stat[3] == session:
                 used[process.name, stat[19]] = kind, (int(stat[11]) + int(stat[12])) / TICK
                 running.add(kind)
         except (OSError, IndexError):
