@@ -1,5 +1,5 @@
 #!/usr/bin/env python3
-"""Tries the wrong bodies in crates/NAME/wrong-bodies, many in one check: wrong_bodies.py [--named] [--jobs N] [CRATE ..]
+"""Tries the wrong bodies in crates/NAME/wrong-bodies, many in one check: wrong_bodies.py [--named] [--only EDIT] [--jobs N] [CRATE ..]
 
 A wrong body is an edit that makes a function wrong. It counts as refused where its own function then has an open goal
 that a contract states: a clause, what a call requires, an invariant. So it does not where the function only calls
@@ -58,14 +58,16 @@ def verdict(edit: Edit, check: Check) -> tuple[str, str]:
 class Trial:
     """The edits of one crate, and what is told of them."""
 
-    def __init__(self, root: Path, name: str, named: bool, show: bool):
-        self.crate, self.report, self.show = Crate(root, name), Report(name), show
+    def __init__(self, given: argparse.Namespace, name: str):
+        self.crate, self.report, self.given = Crate(given.root, name), Report(name), given
         self.texts = sources(self.crate.folder)
         self.edits = self.read("wrong-bodies", "*.edit")
         stage = self.read("must-fail", "*.edit")
         self.twins = self.read("wrong-bodies", "*.twin")
         self.look_at_twins([*self.edits, *stage])
-        self.edits += stage if named else []
+        self.edits += stage if given.named else []
+        if given.only:
+            self.edits, self.twins = ([it for it in edits if it.name in given.only] for edits in (self.edits, self.twins))
 
     def read(self, folder: str, pattern: str) -> list[Edit]:
         """The edits of a folder that fit."""
@@ -98,7 +100,7 @@ class Trial:
     def settle(self, edit: Edit, means: str, why: str) -> None:
         if means == "refused":
             self.report.passed += 1
-            if self.show:
+            if self.given.show:
                 self.report.say(f"refused: {edit.name}: {why}")
         else:
             self.report.fail(f"{edit.name} isn't refused at a contract: {means}: {why}")
@@ -140,8 +142,8 @@ class Trial:
                 self.report.fail(f"the twins aren't proved together: {', '.join(unproved or found.unread or found.text.splitlines()[-3:])[:300]}")
 
 
-def try_crate(root: Path, name: str, named: bool, show: bool) -> Report:
-    trial = Trial(root, name, named, show)
+def try_crate(given: argparse.Namespace, name: str) -> Report:
+    trial = Trial(given, name)
     if trial.edits:
         trial.try_edits()
     if trial.twins:
@@ -154,13 +156,14 @@ def main(words: list[str]) -> int:
     parser.add_argument("--root", type=Path, default=Path(__file__).resolve().parent.parent, help="the repository (default: this one)")
     parser.add_argument("--named", action="store_true", help="try the wrong bodies of must-fail/ too")
     parser.add_argument("--show", action="store_true", help="tell the goal that refuses each")
+    parser.add_argument("--only", action="append", metavar="EDIT", help="try this edit and its twin alone (may be given again)")
     parser.add_argument("--jobs", type=int, default=1, help="how many crates at a time (default 1)")
     parser.add_argument("crates", nargs="*", metavar="CRATE", help="crates (default: all that have wrong bodies)")
     given = parser.parse_args(words)
     names = given.crates or sorted({it.parent.parent.name for it in given.root.glob("crates/*/wrong-bodies/*") if it.suffix in (".edit", ".twin")})
     passed = failed = 0
     with ThreadPoolExecutor(given.jobs) as pool:
-        for report in pool.map(lambda it: try_crate(given.root, it, given.named, given.show), names):
+        for report in pool.map(lambda it: try_crate(given, it), names):
             passed, failed = passed + report.passed, failed + report.failed
     print(f"{passed} passed, {failed} failed")
     return 1 if failed else 0
