@@ -108,10 +108,21 @@ def run(words: list[str], room: str, name: str) -> Check:
     return Check(told, unread, used.ru_utime + used.ru_stime, slow, "\n".join(lines), proved)
 
 
+def joined(lines: list[str]) -> list[str]:
+    """The lines with those that go on with what a line says, which begin with two blanks, at its end."""
+    whole: list[str] = []
+    for line in lines:
+        if line.startswith("  ") and whole:
+            whole[-1] += line[1:]
+        else:
+            whole.append(line)
+    return whole
+
+
 def read(lines: list[str], name: str) -> tuple[dict[str, Told], list[str]]:
     """What the lines of a check tell: by function, and what couldn't be read."""
     told: dict[str, Told] = {}
-    for line in lines:
+    for line in joined(lines):
         if found := ANSWER.match(line):
             told.setdefault(found[1].replace("/", "::"), Told()).add(found[2] or "", found[3])
         elif found := FUNCTION.match(line):
