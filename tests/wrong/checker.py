@@ -8,11 +8,14 @@ import time
 from dataclasses import dataclass, field
 from pathlib import Path
 
+from .source import functions
+
 # A name that a hand proof cites and the text no longer gives: this tells nothing of a contract.
 STALE = re.compile(r"has no field|is not in scope|has no `|was not admitted|is no name")
 # Goals that no contract states: that a sum fits, an index is within, a divisor isn't 0, a loop ends.
 SAFETY = re.compile(r"(?:overflow|nonzero|bounds|slice_bounds|offset_bounds)[_-]|.*-smaller$")
 ANSWER = re.compile(r"\./proofs/(\S+)/(?:Answers|Proof|Invariants)\.antt:\d+:\d+: error: (?:`([^`]+)`: )?(.*)")
+NOTE = re.compile(r"note: (?:\./)?(src/\S+\.rt):(\d+):(\d+): it is not proved that .*?\(`([^`]+)`\)")
 FUNCTION = re.compile(r"fn ([\w:+]+): (.*)")
 OPEN = re.compile(r"`search` did not prove (.*)")
 
@@ -87,7 +90,19 @@ class Crate:
                 to = Path(room) / path
                 to.parent.mkdir(parents=True, exist_ok=True)
                 to.write_text(text, encoding="utf-8")
-            return run([f"{self.kit}/bin/rattle", "check", *self.words(), *flags], room, self.name)
+            found = run([f"{self.kit}/bin/rattle", "check", *self.words(), *flags], room, self.name)
+            add_notes(found, {**texts, **changed})
+            return found
+
+
+def add_notes(check: Check, texts: dict[str, str]) -> None:
+    """Adds the goals that a check tells of by their places in these texts."""
+    for found in (NOTE.match(line) for line in check.text.split("\n")):
+        if found:
+            place = sum(len(line) + 1 for line in texts[found[1]].split("\n")[: int(found[2]) - 1]) + int(found[3]) - 1
+            for it in functions(found[1], texts[found[1]]).values():
+                if it.start <= place < it.end:
+                    check.told.setdefault(it.path, Told()).add(found[4], "")
 
 
 def run(words: list[str], room: str, name: str) -> Check:
