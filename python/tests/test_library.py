@@ -5,16 +5,18 @@ import ctypes
 import os
 import pathlib
 import re
+import resource
 import shutil
 import subprocess
 import sys
 import tempfile
+import time
 import unittest
 from enum import IntEnum
 
 import ribbonscarp
 from ribbonscarp import KeyRefusal, Opcode, Reason, Status, codes, library
-from support import TOP
+from support import FORM, PROGRAM, TOP, record
 
 HEADER = (TOP / "c/ribbonscarp.h").read_text(encoding="utf-8")
 LIBRARY = str(library.library()._name)
@@ -80,6 +82,25 @@ class HeaderTest(unittest.TestCase):
         self.assertEqual(library.reason_text(Reason.ROLL), "33: rolling of the screen isn't part of the profile")
         self.assertEqual(library.refusal_text(KeyRefusal.LOCKED), "the keyboard is locked")
         self.assertEqual(library.status_text(Status.NOT_READY), "both ends haven't agreed on records yet")
+
+
+class FastTest(unittest.TestCase):
+    """The library and the program are compiled as fast code, proved or not: unoptimised code takes fifty times as long."""
+
+    def test_station(self) -> None:
+        times = []
+        for _ in range(20):
+            begun = time.process_time()
+            ribbonscarp.Station().close()
+            times.append(time.process_time() - begun)
+        self.assertLess(sorted(times)[10], 0.001)
+
+    def test_program(self) -> None:
+        """Three million bytes by `check --raw`."""
+        before = resource.getrusage(resource.RUSAGE_CHILDREN).ru_utime
+        done = subprocess.run([PROGRAM, "check", "--raw"], input=record(FORM) * 100000, capture_output=True, check=True)
+        self.assertIn(b"accepted: 100000 records", done.stdout)
+        self.assertLess(resource.getrusage(resource.RUSAGE_CHILDREN).ru_utime - before, 0.5)
 
 
 class FindingTest(unittest.TestCase):
