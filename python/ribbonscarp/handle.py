@@ -4,38 +4,41 @@ from __future__ import annotations
 import ctypes
 import threading
 import warnings
-from collections.abc import Callable
 from typing import Any, TypeVar
 
 from .codes import Reason, Status
 from .errors import Refused, StatusError
-from .library import reason_text, status_text
+from .library import library, reason_text, status_text
 
 Self = TypeVar("Self", bound="Held")
 
 
 class Held:
-    """An object of the library, which is freed by `close`, or where a `with` ends.
+    """An object of the library, which is freed by `close`, where a `with` ends, or once it is forgotten.
 
-    It stays on the thread that made it.
+    Any thread may use it: a call waits until that of another thread is over.
     """
 
-    def __init__(self, handle: ctypes.Structure, free: Callable[[Any], None]) -> None:
+    def __init__(self, kind: str, handle: ctypes.Structure) -> None:
+        self._library = library()
+        self._kind = kind
         self._handle = handle
-        self._free: Callable[[Any], None] | None = free
-        self._thread = threading.get_ident()
+        self._is_held = True
+        self._lock = threading.RLock()
 
-    def _held(self) -> Any:
-        """The handle, for a call of the library."""
-        if threading.get_ident() != self._thread:
-            raise RuntimeError(f"{type(self).__name__} is used by another thread than made it")
-        return ctypes.byref(self._handle)
+    def _call(self, name: str, *arguments: Any) -> int:
+        """A call of the library for such a handle. `StatusError` with `NOTHING_HELD` once it is closed."""
+        with self._lock:
+            if not self._is_held:
+                raise closed(self)
+            return int(getattr(self._library, f"ribbon_{self._kind}_{name}")(ctypes.byref(self._handle), *arguments))
 
     def close(self) -> None:
         """Frees it. A second call does nothing."""
-        if self._free is not None:
-            self._free(self._held())
-            self._free = None
+        with self._lock:
+            if self._is_held:
+                self._is_held = False
+                getattr(self._library, f"ribbon_{self._kind}_free")(ctypes.byref(self._handle))
 
     def __enter__(self: Self) -> Self:
         return self
@@ -44,10 +47,15 @@ class Held:
         self.close()
 
     def __del__(self) -> None:
-        if getattr(self, "_free", None) is not None:
+        if getattr(self, "_is_held", False):
             warnings.warn(f"unclosed {type(self).__name__}", ResourceWarning, source=self)
-            if threading.get_ident() == self._thread:
-                self.close()
+            self.close()
+
+
+def closed(thing: object) -> StatusError:
+    """The error of a call on something that is closed."""
+    text = f"this {type(thing).__name__} is closed: by close(), or since its `with` has ended"
+    return StatusError(Status.NOTHING_HELD, text)
 
 
 def check(status: int) -> None:

@@ -171,7 +171,7 @@ class FieldTest(unittest.TestCase):
     def test_not_found(self) -> None:
         screen = screen_of(WRITE + at(3, 2, "Day") + field(3, 20, 4) + at(5, 2, "Day") + field(5, 20, 4))
         rows: list[tuple[int | str | tuple[int, int], str]] = [
-            ("Month", "no field is 'Month'; there are: 1 'Day', 2 'Day'"),
+            ("Month", "no field is 'Month'; there are: 1 'Day' at 3 20, 2 'Day' at 5 20"),
             ("Day", "2 fields are 'Day'"),
             (3, "no field is 3"),
             (0, "no field is 0"),
