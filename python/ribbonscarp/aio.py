@@ -13,7 +13,7 @@ from typing import TypeVar
 
 from .body import Body
 from .codes import Key, Opcode
-from .connection import FAREWELL, PIECE, Tls, check_port, context_of, late_handshake, prepare
+from .connection import FAREWELL, check_port, prepare
 from .end import End, Goal, Wait, check_wait
 from .errors import ConnectionEnded, WaitedTooLong
 from .fields import Field, Which
@@ -26,9 +26,13 @@ from .records import Record
 from .screen import Screen
 from .station import Station
 from .station_end import S, StationEnd
+from .tls import Tls, context_of, late_handshake
 
 T = TypeVar("T")
 Self = TypeVar("Self", bound="Live")
+
+LIMIT = 16384
+"""How many bytes a stream keeps, and how many are read at once."""
 
 TURNS = 4
 """Turns of the loop by which bytes that the system has are here."""
@@ -47,7 +51,7 @@ async def connect(
     port, context = check_port(port, tls), context_of(tls)
     station = Station(terminal, strict=strict)
     try:
-        opening = asyncio.open_connection(host, port, ssl=context, limit=PIECE)
+        opening = asyncio.open_connection(host, port, ssl=context, limit=LIMIT)
         streams = await asyncio.wait_for(opening, check_wait(wait))
         return Session(*streams, station=station, wait=wait)
     except BaseException as cause:
@@ -70,7 +74,7 @@ async def listen(
     """Listens for stations at an address, as `ribbonscarp.listen` does."""
     listener = Listener(wait, any)
     check_port(port, first=0)
-    listener._server = await asyncio.start_server(listener._came, address, port, ssl=tls, limit=PIECE, backlog=1024)
+    listener._server = await asyncio.start_server(listener._came, address, port, ssl=tls, limit=LIMIT, backlog=1024)
     listener.port = listener._server.sockets[0].getsockname()[1]
     return listener
 
@@ -138,7 +142,7 @@ class Live:
         data: bytes | None = b""
         while data is not None:
             try:
-                data = await self._reader.read(PIECE) or None
+                data = await self._reader.read(LIMIT) or None
             except OSError:
                 data = None
             if not self._is_closed:

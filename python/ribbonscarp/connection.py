@@ -3,24 +3,23 @@ from __future__ import annotations
 
 import contextlib
 import socket
-import ssl
 import time
+from typing import TYPE_CHECKING
 
 from .end import check_wait
 from .errors import ConnectionEnded
 
-PIECE = 16384
-"""How many bytes are read at once, at most: what a record of TLS holds."""
+if TYPE_CHECKING:
+    from .tls import Tls
+
+PIECE = 4096
+"""How many bytes are read at once, at most."""
 
 FAREWELL = 1.0
 """Seconds for what the other side still sends when a session is closed."""
 
 PORT, TLS_PORT = 23, 992
 """The ports of Telnet and of Telnet over TLS."""
-
-Tls = bool | ssl.SSLContext
-"""Whether a host is spoken to by TLS, and how: `True` is by the certificates that the system trusts."""
-
 
 def check_port(port: int | None, tls: Tls = False, *, first: int = 1) -> int:
     """A port's number; of `None` the one for Telnet, by TLS or without. `ValueError` where it is none."""
@@ -29,18 +28,6 @@ def check_port(port: int | None, tls: Tls = False, *, first: int = 1) -> int:
     if not first <= port <= 65535:
         raise ValueError(f"port {port} isn't {first} to 65535")
     return port
-
-
-def context_of(tls: Tls) -> ssl.SSLContext | None:
-    """What TLS is spoken by; `None` where it isn't."""
-    if isinstance(tls, ssl.SSLContext):
-        return tls
-    return ssl.create_default_context() if tls else None
-
-
-def late_handshake(host: str, port: int, wait: float) -> TimeoutError:
-    """The error of a host that says nothing to the first words of TLS."""
-    return TimeoutError(f"{host} port {port} hasn't spoken TLS within {wait:g} seconds")
 
 
 def open_line(host: str, port: int, wait: float, tls: Tls = False) -> socket.socket:
@@ -62,22 +49,13 @@ def open_line(host: str, port: int, wait: float, tls: Tls = False) -> socket.soc
             line.close()
             fault = cause
             continue
+        if not tls:
+            return line
+        from .tls import secured
+
         line.settimeout(max(end - time.monotonic(), 0.001))
-        return _secured(line, host, port, wait, context_of(tls))
+        return secured(line, host, port, wait, tls)
     raise fault
-
-
-def _secured(line: socket.socket, host: str, port: int, wait: float, context: ssl.SSLContext | None) -> socket.socket:
-    """A connection behind its TLS handshake, where there is to be one."""
-    if context is None:
-        return line
-    try:
-        return context.wrap_socket(line, server_hostname=host)
-    except TimeoutError:
-        raise late_handshake(host, port, wait) from None
-    finally:
-        # Where it was wrapped this does nothing: the wrapped one has the socket.
-        line.close()
 
 
 def prepare(sock: socket.socket) -> None:
@@ -96,6 +74,12 @@ class Connection:
         self._sock = sock
         self.wait = check_wait(wait)
         self._fault: str | None = None
+        self._waits: tuple[type[OSError], ...] = (TimeoutError, BlockingIOError)
+        self._is_tls = hasattr(sock, "unwrap")
+        if self._is_tls:
+            from .tls import WAITS
+
+            self._waits += WAITS
         prepare(sock)
 
     def read(self, seconds: float) -> bytes | None:
@@ -104,7 +88,7 @@ class Connection:
         self._sock.settimeout(seconds)
         try:
             return self._sock.recv(PIECE) or None
-        except (TimeoutError, BlockingIOError, ssl.SSLWantReadError, ssl.SSLWantWriteError):
+        except self._waits:
             return b""
         except OSError:
             return None
@@ -136,10 +120,10 @@ class Connection:
 
     def _take_leave(self) -> None:
         """Says that nothing more is written, and reads what still comes, for a second at most."""
-        if isinstance(self._sock, ssl.SSLSocket):
-            self._sock.settimeout(0)
-            with contextlib.suppress(OSError):
-                self._sock.unwrap()
+        if self._is_tls:
+            from .tls import end_tls
+
+            end_tls(self._sock)
         # What comes is read as it is: nobody looks at it.
         socket.socket.shutdown(self._sock, socket.SHUT_WR)
         end = time.monotonic() + FAREWELL

@@ -1,9 +1,12 @@
 """What an object of the library is held by."""
 from __future__ import annotations
 
+import contextlib
 import ctypes
+import queue
 import threading
 import warnings
+from collections.abc import Callable, Iterator
 from typing import Any, TypeVar
 
 from .codes import Reason, Status
@@ -50,6 +53,52 @@ class Held:
         if getattr(self, "_is_held", False):
             warnings.warn(f"unclosed {type(self).__name__}", ResourceWarning, source=self)
             self.close()
+
+
+class _Maker:
+    """A thread on which objects of the library are made, which takes far more stack than any other call. A thread keeps
+    what its stack has grown to, so that hundreds of them would keep as much each."""
+
+    def __init__(self) -> None:
+        self._lock = threading.Lock()
+        self._asked: queue.SimpleQueue[Callable[[], int]] = queue.SimpleQueue()
+        self._told: queue.SimpleQueue[int] = queue.SimpleQueue()
+        self._thread: threading.Thread | None = None
+
+    def made(self, call: Callable[[], int]) -> int:
+        """What a call comes to there; on the main thread what it comes to here."""
+        if threading.current_thread() is threading.main_thread():
+            return call()
+        with self._lock:
+            if self._thread is None:
+                self._thread = threading.Thread(target=self._work, name="ribbonscarp", daemon=True)
+                self._thread.start()
+            self._asked.put(call)
+            return self._told.get()
+
+    def _work(self) -> None:
+        while True:
+            self._told.put(self._asked.get()())
+
+
+made_aside = _Maker().made
+
+
+@contextlib.contextmanager
+def lent(room: int) -> Iterator[Any]:
+    """A buffer of so many bytes for the time of a call. It is kept for the next one, by whatever object."""
+    kept = _buffers.setdefault(room, [])
+    try:
+        buffer = kept.pop()
+    except IndexError:
+        buffer = ctypes.create_string_buffer(room)
+    try:
+        yield buffer
+    finally:
+        kept.append(buffer)
+
+
+_buffers: dict[int, list[Any]] = {}
 
 
 def closed(thing: object) -> StatusError:

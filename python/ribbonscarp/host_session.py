@@ -3,7 +3,7 @@ from __future__ import annotations
 
 import contextlib
 import socket
-import ssl
+from typing import TYPE_CHECKING
 
 from .body import Body
 from .codes import Opcode
@@ -15,6 +15,9 @@ from .host import Answer, Event
 from .host_end import HostEnd, make_host
 from .live import Live
 from .records import Record
+
+if TYPE_CHECKING:
+    import ssl
 
 
 def listen(

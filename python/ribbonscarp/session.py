@@ -4,14 +4,18 @@ from __future__ import annotations
 import re
 import socket
 from collections.abc import Callable
+from typing import TYPE_CHECKING
 
 from .codes import Key
-from .connection import Tls, check_port, open_line
+from .connection import check_port, open_line
 from .fields import Field, Which
 from .live import Live
 from .screen import Screen
 from .station import Station
 from .station_end import S, StationEnd
+
+if TYPE_CHECKING:
+    from .tls import Tls
 
 
 def connect(

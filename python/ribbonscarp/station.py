@@ -8,7 +8,7 @@ from .codes import AID, CHARACTER, INSERTED_CHARACTER, TERMINALS, Key, KeyRefusa
 from .errors import KeyRefused
 from .fields import Field, Which
 from .filling import keys_to_fill, refusal_of, typed_of
-from .handle import Held, bytes_of, check, front, refused
+from .handle import Held, bytes_of, check, front, lent, made_aside, refused
 from .library import (
     ANSWER_ROOM,
     CELLS,
@@ -34,13 +34,12 @@ class Station(Held):
 
     def __init__(self, terminal: str = "IBM-3179-2", *, strict: bool = False) -> None:
         super().__init__("station", StationHandle())
-        status = self._call("new" if strict else "new_extended", terminal.encode("ascii", "replace"))
+        name, make = terminal.encode("ascii", "replace"), "new" if strict else "new_extended"
+        status = made_aside(lambda: self._call(make, name))
         if status == Status.BAD_ARGUMENT:
             self.close()
             raise ValueError(f"no terminal type is {terminal!r}; there are {', '.join(TERMINALS)}")
         check(status)
-        self._answer = ctypes.create_string_buffer(ANSWER_ROOM)
-        self._reply = ctypes.create_string_buffer(PUSH_ROOM)
 
     def push(self, data: bytes) -> bytes:
         """Takes bytes of the host, and gives what the station writes in answer.
@@ -50,12 +49,12 @@ class Station(Held):
         """
         given, at, written = bytes_of(data), 0, bytearray()
         pushed, status = Pushed(), int(Status.NO_ROOM)
-        with self._lock:
+        with self._lock, lent(PUSH_ROOM) as reply:
             while status == Status.NO_ROOM:
                 rest = ctypes.byref(given, at), len(data) - at
-                status = self._call("push", *rest, self._reply, PUSH_ROOM, ctypes.byref(pushed))
+                status = self._call("push", *rest, reply, PUSH_ROOM, ctypes.byref(pushed))
                 at += pushed.taken
-                written += front(self._reply, pushed.replied)
+                written += front(reply, pushed.replied)
         if status == Status.REFUSED:
             error = refused(pushed.reason, pushed.place)
             error.reply = bytes(written)
@@ -172,9 +171,9 @@ class Station(Held):
 
     def _press(self, key: Key | str, kind: int, value: int) -> bytes:
         told = Told()
-        with self._lock:
-            status = self._call("key", kind, value, self._answer, ANSWER_ROOM, ctypes.byref(told))
-            sent = front(self._answer, told.length)
+        with lent(ANSWER_ROOM) as answer:
+            status = self._call("key", kind, value, answer, ANSWER_ROOM, ctypes.byref(told))
+            sent = front(answer, told.length)
         if status == Status.BAD_ARGUMENT and kind != AID:
             # Half of a surrogate pair, which is no character.
             status, told.reason = int(Status.KEY_REFUSED), int(KeyRefusal.WRONG_CHARACTER)
