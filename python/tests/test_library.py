@@ -54,6 +54,21 @@ class HeaderTest(unittest.TestCase):
         self.assertEqual(len(of_kind), 15)
         self.assertEqual((kinds["CHAR"], kinds["INSERT"], kinds["AID"]), (1, 2, codes.AID))
 
+    def test_names_of_keys(self) -> None:
+        """Each name of the program, and those of a PC's keys; in any case, and with blanks, hyphens or underscores."""
+        page = (TOP / "docs/PROFILE.md").read_text(encoding="utf-8")
+        row = re.search(r"^`key NAME` \| that key: (.*)$", page, re.M)
+        assert row is not None
+        names = [name for name in re.findall(r"`(\w+)`", row[1]) if name not in ("F1", "F24")]
+        self.assertEqual(len(names), 21)
+        for name in names:
+            self.assertEqual(ribbonscarp.Key.named(name).name.replace("_", "").lower(), name.lower())
+        for name in ("Page Down", "page-down", "PAGE_DOWN", "pagedown", "Roll Up"):
+            self.assertIs(ribbonscarp.Key.named(name), ribbonscarp.Key.ROLL_UP)
+        self.assertIs(ribbonscarp.Key.named("f24"), ribbonscarp.Key.F24)
+        with self.assertRaisesRegex(ValueError, "no key is 'F25'; a character is typed by type"):
+            ribbonscarp.Key.named("F25")
+
     def test_terminals(self) -> None:
         named = constants("TERMINAL_")
         self.assertEqual(named.pop("NONE"), 0)
@@ -121,6 +136,7 @@ class FindingTest(unittest.TestCase):
         run = self.load(TOP / "python", RIBBONSCARP_LIBRARY="/nowhere.so", LD_LIBRARY_PATH=os.path.dirname(LIBRARY))
         self.assertEqual(run.stdout, "")
         self.assertIn("LibraryNotFound: no libribbonscarp: /nowhere.so", run.stderr)
+        self.assertIn("RIBBONSCARP_LIBRARY is to name the file of the library", run.stderr)
 
     def test_installed(self) -> None:
         run = self.load(TOP / "python", LD_LIBRARY_PATH=os.path.dirname(os.path.realpath(LIBRARY)))
