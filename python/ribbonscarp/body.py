@@ -86,8 +86,8 @@ class Body:
     def text(self, row: int, column: int, text: str, attribute: int | None = None) -> Body:
         """A text from a cell on. With an attribute, 20 to 3F, the cell before the text gets it, and the one behind 20."""
         if attribute is None:
-            return self.address(row, column).more(text)
-        return self._before(row, column).attribute(attribute).more(text).attribute(0x20)
+            return self._add(Body().address(row, column).more(text))
+        return self._add(_before(row, column).attribute(attribute).more(text).attribute(0x20))
 
     def more(self, text: str) -> Body:
         """A text from the next cell on."""
@@ -99,11 +99,12 @@ class Body:
         gets, and what it holds."""
         if len(text) > length:
             raise ValueError(f"a field of {length} cells doesn't hold {text!r}")
-        return self._before(row, column)._spell("field", _word(ffw), _byte(attribute), _word(length)).more(text)
+        start = _before(row, column)._spell("field", _word(ffw), _byte(attribute), _word(length))
+        return self._add(start.more(text))
 
     def output(self, row: int, column: int, length: int, *, attribute: int = 0x20) -> Body:
         """An output field of so many cells from a cell on, and the attribute that the cell before it gets."""
-        return self._before(row, column)._spell("output_field", _byte(attribute), _word(length))
+        return self._add(_before(row, column)._spell("output_field", _byte(attribute), _word(length)))
 
     def data(self, data: bytes) -> Body:
         """Bytes as they are, which may spell elements too."""
@@ -127,14 +128,11 @@ class Body:
 
     def write_error(self, text: str) -> Body:
         """Write Error Code: an error on the station's error row, until Reset."""
-        return self.data(_ERROR).more(text)
+        return self._add(Body().data(_ERROR).more(text))
 
-    def _before(self, row: int, column: int) -> Body:
-        """The address of the cell before one, which has to be there."""
-        _cell(row, column)
-        if (row, column) == (1, 1):
-            raise ValueError("row 1, column 1 has no cell before it for an attribute")
-        return self.address(row, column - 1) if column > 1 else self.address(row - 1, 80)
+    def _add(self, part: Body) -> Body:
+        self._spelled += part._spelled
+        return self
 
     def _spell(self, name: str, *arguments: Any) -> Body:
         """Appends what a call of the library spells: no more bytes than ten and those of a text."""
@@ -149,6 +147,14 @@ class Body:
         check(status)
         self._spelled += front(buffer, told.size)
         return self
+
+
+def _before(row: int, column: int) -> Body:
+    """The address of the cell before one, which has to be there."""
+    _cell(row, column)
+    if (row, column) == (1, 1):
+        raise ValueError("row 1, column 1 has no cell before it for an attribute")
+    return Body().address(row, column - 1) if column > 1 else Body().address(row - 1, 80)
 
 
 def _byte(number: int) -> int:

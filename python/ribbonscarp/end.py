@@ -18,8 +18,8 @@ T = TypeVar("T")
 AROUND = 32
 """How many bytes before and behind a refused one are told, at most."""
 
-LATE_READS = 256
-"""How many reads a wait goes on for with what has come, once its time is over."""
+LATE = 0.5
+"""For how many seconds a wait goes on with what has come, at most, once its time is over."""
 
 
 @dataclass(frozen=True)
@@ -133,7 +133,7 @@ class Wait(Generic[T]):
         self.found: T | None = None
         self._end, self._goal = end, goal
         self._over = time.monotonic() + seconds
-        self._heard_late, self._late = -1, 0
+        self._heard_late = -1
 
     def step(self) -> float | None:
         """Takes what has come, a record at a time, until the goal is found; `None` then, and else for how many seconds
@@ -156,9 +156,9 @@ class Wait(Generic[T]):
         if end.has_closed:
             raise ConnectionEnded(f"{self._goal.what} hasn't come", end.screen)
         if now >= self._over:
-            if end.heard == self._heard_late or self._late == LATE_READS:
+            if end.heard == self._heard_late or now >= self._over + LATE:
                 raise WaitedTooLong(self._goal.what, self.seconds, end.screen, self._hint())
-            self._heard_late, self._late = end.heard, self._late + 1
+            self._heard_late = end.heard
         return max(0.0, min(self._over, self._goal.due()) - now)
 
     def _hint(self) -> str:

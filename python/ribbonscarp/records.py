@@ -67,12 +67,13 @@ class Tokens:
         self._come += data
         while self._come:
             at = self._come.find(0xFF)
-            self._record += self._come if at < 0 else self._come[:at]
-            command = None if at < 0 else _COMMAND.match(self._come, at)
-            del self._come[: len(self._come) if at < 0 else at]
+            at = len(self._come) if at < 0 else at
+            self._record += self._come[:at]
+            del self._come[:at]
+            command = _COMMAND.match(self._come)
             if command is None:
                 return
-            spelling = command.group()
+            spelling = bytes(command.group())
             del self._come[: len(spelling)]
             if spelling == b"\xff\xff":
                 self._record.append(0xFF)

@@ -100,7 +100,7 @@ class GoalsTest(PairTest):
         beside, begun = Beside(work), time.monotonic()
         screen = self.session.wait_quiet(0.4)
         self.assertEqual(screen.row(1), "THREE")
-        self.assertGreaterEqual(time.monotonic() - begun, 0.6)
+        self.assertGreaterEqual(time.monotonic() - begun, 0.5)
         beside.finish()
         with self.assertRaisesRegex(WaitedTooLong, "quiet of 9 seconds"):
             self.session.wait_quiet(9, wait=0.1)
