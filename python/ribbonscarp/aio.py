@@ -21,7 +21,7 @@ from .handle import closed
 from .host import Answer, Event
 from .host_end import HostEnd, make_host
 from .live import PENDING
-from .recording import Recorder, StrPath
+from .recording import StrPath
 from .records import Record
 from .screen import Screen
 from .station import Station
@@ -100,10 +100,7 @@ class Live:
     def record_to(self, file: StrPath) -> str:
         """Records what crosses the connection from now on, as `ribbonscarp.Session.record_to` does."""
         self._check_open()
-        if self._end.recorder is not None:
-            self._end.recorder.close()
-        self._end.recorder = Recorder(file)
-        return self._end.recorder.file
+        return self._end.record_to(file)
 
     async def close(self) -> None:
         """Closes the connection, and frees what the library holds. A second call does nothing."""
@@ -120,8 +117,7 @@ class Live:
         self._writer.close()
         with contextlib.suppress(OSError, asyncio.TimeoutError):
             await asyncio.wait_for(self._writer.wait_closed(), FAREWELL)
-        if self._end.recorder is not None:
-            self._end.recorder.close()
+        self._end.end_recording()
         self._free()
 
     async def __aenter__(self: Self) -> Self:

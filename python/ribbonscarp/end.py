@@ -10,7 +10,7 @@ from dataclasses import dataclass
 from typing import Generic, TypeVar
 
 from .errors import ConnectionEnded, Refused, WaitedTooLong
-from .recording import Recorder
+from .recording import Recorder, StrPath
 from .screen import Screen
 
 T = TypeVar("T")
@@ -45,7 +45,8 @@ class End(ABC):
         self.heard = 0
         """How many bytes have come."""
         self.heard_at = time.monotonic()
-        self.recorder: Recorder | None = None
+        self._recorder: Recorder | None = None
+        self._is_inside = self._is_recorded = False
         self._come = bytearray()
         self._replies = bytearray()
         self._record_begin = b""
@@ -83,8 +84,9 @@ class End(ABC):
         if not self._come or self.refused is not None:
             return False
         piece = self._next_piece()
-        if self.recorder is not None:
-            self.recorder.write(self.other, piece)
+        self._is_recorded |= not self._is_inside
+        if self._recorder is not None and self._is_recorded:
+            self._recorder.write(self.other, piece)
         try:
             self._replies += self.push(piece)
         except Refused as refused:
@@ -92,7 +94,9 @@ class End(ABC):
             self._tell(refused, piece)
             raise
         begin = self._record_begin + piece
-        self._record_begin = b"" if begin.endswith(b"\xff\xef") else begin[-AROUND:]
+        is_whole = begin.endswith(b"\xff\xef")
+        self._record_begin = b"" if is_whole else begin[-AROUND:]
+        self._is_inside = not is_whole and (self._is_inside or not piece.startswith(b"\xff"))
         return True
 
     def replies(self) -> bytes:
@@ -103,9 +107,22 @@ class End(ABC):
 
     def sends(self, data: bytes) -> bytes:
         """Bytes that are to be written, and are recorded."""
-        if self.recorder is not None:
-            self.recorder.write(self.name, data)
+        if self._recorder is not None:
+            self._recorder.write(self.name, data)
         return data
+
+    def record_to(self, file: StrPath) -> str:
+        """Records what is taken and sent from now on, beginning at a record or a Telnet command; the file's name."""
+        recorder = Recorder(file)
+        self.end_recording()
+        self._recorder, self._is_recorded = recorder, False
+        return recorder.file
+
+    def end_recording(self) -> None:
+        """Closes the recording's file, where there is one."""
+        if self._recorder is not None:
+            self._recorder.close()
+            self._recorder = None
 
     def _next_piece(self) -> bytes:
         """Up to IAC EOR, or all. A cut within a record does no harm, so that its FF was doubled isn't looked for."""

@@ -11,7 +11,7 @@ from .connection import Connection
 from .end import End, Goal, Wait
 from .errors import ConnectionEnded
 from .handle import closed
-from .recording import Recorder, StrPath
+from .recording import StrPath
 
 T = TypeVar("T")
 Self = TypeVar("Self", bound="Live")
@@ -46,10 +46,7 @@ class Live:
         the file: FILE, or with a number behind it where that is there. The file holds what is typed into hidden
         fields."""
         with self._in_use():
-            if self._end.recorder is not None:
-                self._end.recorder.close()
-            self._end.recorder = Recorder(file)
-            return self._end.recorder.file
+            return self._end.record_to(file)
 
     def close(self) -> None:
         """Closes the connection, and frees what the library holds; a wait on another thread ends. A second call does
@@ -60,8 +57,7 @@ class Live:
             self._lock.acquire()
         try:
             self._connection.close()
-            if self._end.recorder is not None:
-                self._end.recorder.close()
+            self._end.end_recording()
             self._free()
         finally:
             self._lock.release()
