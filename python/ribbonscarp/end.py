@@ -11,6 +11,7 @@ from typing import Generic, TypeVar
 
 from .errors import ConnectionEnded, Refused, WaitedTooLong
 from .recording import Recorder, StrPath
+from .records import COMMAND
 from .screen import Screen
 
 T = TypeVar("T")
@@ -96,7 +97,7 @@ class End(ABC):
         begin = self._record_begin + piece
         is_whole = begin.endswith(b"\xff\xef")
         self._record_begin = b"" if is_whole else begin[-AROUND:]
-        self._is_inside = not is_whole and (self._is_inside or not piece.startswith(b"\xff"))
+        self._is_inside = not is_whole and (self._is_inside or COMMAND.sub(b"", piece) != b"")
         return True
 
     def replies(self) -> bytes:

@@ -11,8 +11,8 @@ HEADER = 10
 END_OF_RECORD = b"\xff\xef"
 """IAC EOR."""
 
-# IAC with a command; of an option with its number, of a subnegotiation up to its IAC SE.
-_COMMAND = re.compile(rb"\xff(?:[\xfb-\xfe].|\xfa(?:[^\xff]|\xff[^\xf0])*\xff\xf0|[^\xfa-\xfe])", re.DOTALL)
+COMMAND = re.compile(rb"\xff(?:[\xfb-\xfe].|\xfa(?:[^\xff]|\xff[^\xf0])*\xff\xf0|[^\xfa-\xfe])", re.DOTALL)
+"""IAC with a command; of an option with its number, of a subnegotiation up to its IAC SE."""
 
 
 def escaped(data: bytes) -> bytes:
@@ -70,7 +70,7 @@ class Tokens:
             at = len(self._come) if at < 0 else at
             self._record += self._come[:at]
             del self._come[:at]
-            command = _COMMAND.match(self._come)
+            command = COMMAND.match(self._come)
             if command is None:
                 return
             spelling = bytes(command.group())
