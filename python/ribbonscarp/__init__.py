@@ -29,6 +29,7 @@ from .recording import Piece, Recording
 from .screen import Screen, State
 from .session import Session, connect
 from .station import Station
+from .station_end import Sought
 from .version import __version__
 
 __all__ = [
@@ -69,6 +70,7 @@ __all__ = [
     "SendRefused",
     "Session",
     "Shift",
+    "Sought",
     "State",
     "Station",
     "Status",

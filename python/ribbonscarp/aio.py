@@ -25,7 +25,7 @@ from .recording import StrPath
 from .records import Record
 from .screen import Screen
 from .station import Station
-from .station_end import S, StationEnd
+from .station_end import Sought, StationEnd
 from .tls import Tls, context_of, late_handshake
 
 T = TypeVar("T")
@@ -298,7 +298,7 @@ class Session(Live):
         """Until a row shows a text or a match, or it stands at a row and a column."""
         return await self._wait(self._station_end.text(text, at), wait)
 
-    async def wait_any(self, *sought: S, wait: float | None = None) -> S:
+    async def wait_any(self, *sought: Sought, wait: float | None = None) -> Sought:
         """Until one of several is there; the first that is."""
         return await self._wait(self._station_end.any_of(sought), wait)
 

@@ -12,7 +12,7 @@ from .fields import Field, Which
 from .live import Live
 from .screen import Screen
 from .station import Station
-from .station_end import S, StationEnd
+from .station_end import Sought, StationEnd
 
 if TYPE_CHECKING:
     from .tls import Tls
@@ -127,7 +127,7 @@ class Session(Live):
         and a column; nothing where it does. It looks after each record."""
         return self._wait(self._station_end.text(text, at), wait)
 
-    def wait_any(self, *sought: S, wait: float | None = None) -> S:
+    def wait_any(self, *sought: Sought, wait: float | None = None) -> Sought:
         """Takes what comes until one of several is there, and gives the first that is: texts and compiled regular
         expressions that a row shows, functions of the screen that are true."""
         return self._wait(self._station_end.any_of(sought), wait)

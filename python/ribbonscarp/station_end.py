@@ -4,7 +4,7 @@ from __future__ import annotations
 import re
 import time
 from collections.abc import Callable
-from typing import TypeAlias, TypeVar
+from typing import TypeAlias
 
 from .end import End, Goal
 from .screen import Screen
@@ -13,8 +13,6 @@ from .station import Station
 Sought: TypeAlias = str | re.Pattern[str] | Callable[[Screen], bool]
 """What a screen may be waited for to show: a text in a row, a match of a regular expression in a row, or what a function
 of the screen says."""
-
-S = TypeVar("S", bound=Sought)
 
 
 class StationEnd(End):
@@ -69,10 +67,10 @@ class StationEnd(End):
 
         return Goal(what, find)
 
-    def any_of(self, sought: tuple[S, ...]) -> Goal[S]:
+    def any_of(self, sought: tuple[Sought, ...]) -> Goal[Sought]:
         """The first of several."""
 
-        def find() -> S | None:
+        def find() -> Sought | None:
             screen = self.screen
             return next((one for one in sought if _is_shown(one, screen)), None)
 

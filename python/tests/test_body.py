@@ -92,7 +92,11 @@ class BodyTest(unittest.TestCase):
         ]
         line, station = socket.socketpair()
         with HostSession(sock=line, wait=5) as host, Session(sock=station, wait=5) as session:
-            beside = Beside(lambda: session.wait_for(lambda screen: screen.state.is_ready) and None)
+
+            def settle() -> None:
+                session.wait_for(lambda screen: screen.state.is_ready)
+
+            beside = Beside(settle)
             host.wait_ready()
             beside.finish()
             for body, text in rows:

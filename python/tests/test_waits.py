@@ -6,6 +6,7 @@ import re
 import socket
 import time
 import unittest
+from collections.abc import Callable
 
 from ribbonscarp import ConnectionEnded, Key, KeyRefusal, KeyRefused, Reason, Refused, Session, StatusError, WaitedTooLong
 from ribbonscarp import connect, listen
@@ -173,7 +174,9 @@ class SaidTest(PairTest):
     def test_closed(self) -> None:
         self.send(OPENING, record(FORM))
         self.session.close()
-        for call in (self.session.wait_unlocked, lambda: self.session.screen, lambda: self.session.press(Key.ENTER)):
+        calls: list[Callable[[], object]] = [self.session.wait_unlocked, lambda: self.session.screen]
+        calls.append(lambda: self.session.press(Key.ENTER))
+        for call in calls:
             with self.assertRaisesRegex(StatusError, "this Session is closed"):
                 call()
 
@@ -195,6 +198,19 @@ class SaidTest(PairTest):
         self.assertLess(time.monotonic() - begun, 5)
         self.assertEqual(len(told), 1)
         self.assertIn("this Session is closed", told[0])
+
+    def test_threads(self) -> None:
+        """A session that one thread made is used by others, one at a time."""
+        self.send(OPENING, record(FORM))
+        self.session.wait_unlocked()
+
+        def work() -> None:
+            for _ in range(100):
+                self.session.fill(1, "BOB")
+                self.assertEqual(self.session.field(1).text, "BOB")
+
+        for beside in [Beside(work) for _ in range(4)]:
+            beside.finish()
 
     def test_time(self) -> None:
         for wait in (math.inf, math.nan, 1e30):
