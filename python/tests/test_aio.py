@@ -16,6 +16,9 @@ INQUIRY = (EXAMPLES / "inquiry.serve").read_text(encoding="utf-8")
 
 
 class AioTest(unittest.IsolatedAsyncioTestCase):
+    async def asyncSetUp(self) -> None:
+        asyncio.get_running_loop().slow_callback_duration = 5
+
     async def begin(self, *pieces: bytes) -> tuple[aio.Session, socket.socket]:
         """A session over one end of a pair of sockets, and the other end, which has sent some pieces."""
         line, host = socket.socketpair()

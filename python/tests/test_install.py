@@ -27,17 +27,31 @@ def has_pip() -> bool:
 
 @unittest.skipUnless(has_pip(), "ensurepip isn't here")
 class InstallTest(unittest.TestCase):
-    def setUp(self) -> None:
+    @classmethod
+    def setUpClass(cls) -> None:
         folder = tempfile.TemporaryDirectory()
-        self.addCleanup(folder.cleanup)
-        self.folder = pathlib.Path(folder.name)
+        cls.addClassCleanup(folder.cleanup)
+        cls.folder = pathlib.Path(folder.name)
+        venv.create(cls.folder / "fresh", with_pip=True)
+        cls.python = cls.folder / "fresh/bin/python"
+
+    folder: pathlib.Path
+    python: pathlib.Path
+
+    def setUp(self) -> None:
+        """A fresh copy of the source, and an environment that the package isn't in."""
         self.source = self.folder / "source"
         shutil.copytree(TOP / "python", self.source, ignore=shutil.ignore_patterns("__pycache__", "tests"))
-        venv.create(self.folder / "fresh", with_pip=True)
-        self.python = self.folder / "fresh/bin/python"
+        self.addCleanup(shutil.rmtree, self.source)
+        self.addCleanup(self.uninstall)
         self.environment = {name: value for name, value in os.environ.items() if not name.startswith(("PYTHON", "PIP_"))}
         # As where no host of packages can be reached.
         self.environment.update(PIP_INDEX_URL="http://127.0.0.1:9", PYTHONDONTWRITEBYTECODE="1")
+
+    def uninstall(self) -> None:
+        words = ["-m", "pip", "uninstall", "-q", "-y", "ribbonscarp"]
+        subprocess.run([self.python, *words], env=self.environment, capture_output=True, check=True)
+        self.assertEqual(list((self.folder / "fresh").rglob("ribbonscarp*")), [])
 
     def run_python(self, *words: str) -> str:
         done = subprocess.run([self.python, *words], env=self.environment, cwd=self.folder, capture_output=True, text=True,
@@ -60,8 +74,7 @@ class InstallTest(unittest.TestCase):
             self.assertTrue(self.where("ribbonscarp.pytest_plugin").exists())
             said = self.run_python("-m", "pip", "show", "--disable-pip-version-check", "ribbonscarp")
             self.assertIn(f"Name: ribbonscarp\nVersion: {ribbonscarp.__version__}\nSummary: IBM 5250", said)
-            self.run_python("-m", "pip", "uninstall", "-q", "-y", "ribbonscarp")
-            self.assertEqual(list(fresh.rglob("ribbonscarp*")), [])
+            self.uninstall()
 
     def test_wheels(self) -> None:
         """One without the library is for any platform, one with it for this one, and needs no variable."""
