@@ -1,23 +1,60 @@
+/* The reading of a command line, by getopt_long. */
+#define _GNU_SOURCE
 #include "options.h"
 
 #include "ribbonscarp.h"
 
+#include <getopt.h>
 #include <stdio.h>
 #include <string.h>
 
 static const char usage[] =
     "usage: term5250 [OPTION].. HOST[:PORT]\n"
-    "  --terminal NAME        IBM-5251-11, IBM-5291-1, IBM-5292-2, IBM-3196-A1 or IBM-3179-2, which is the default\n"
-    "  --record FILE          records what both ends send; FILE-1, FILE-2 .. where FILE is there already\n"
-    "  --keys FILE            a keys file in place of ~/.config/term5250/keys\n"
-    "  --no-hold              a refused key rings, and doesn't hold the keyboard until Reset\n"
-    "  --strict               a station of the profile: it refuses what live hosts send beside that, as a 5250 Query\n"
-    "  --mono                 no colours, as with NO_COLOR in the environment\n"
-    "  --background WHICH     black, or own: the window's; without it black unless the window says that it is dark\n"
-    "  --separators HOW       dim, which is the default, or off\n"
-    "  --no-mouse             leaves the mouse to the window\n"
+    "  --terminal NAME     IBM-5251-11, IBM-5291-1, IBM-5292-2, IBM-3196-A1 or\n"
+    "                      IBM-3179-2, which is the default\n"
+    "  --record FILE       records what both ends send; FILE-1, FILE-2 .. where FILE\n"
+    "                      is there already\n"
+    "  --keys FILE         a keys file in place of ~/.config/term5250/keys\n"
+    "  --no-hold           a refused key rings, and doesn't hold the keyboard until\n"
+    "                      Reset\n"
+    "  --strict            a station of the profile: it refuses what live hosts send\n"
+    "                      beside that, as a 5250 Query\n"
+    "  --mono              no colours, as with NO_COLOR in the environment\n"
+    "  --background WHICH  black, or own: the window's; without it black, unless the\n"
+    "                      window says that it is dark\n"
+    "  --separators HOW    dim, which is the default, or off\n"
+    "  --no-mouse          leaves the mouse to the window\n"
     "  --version, --help\n"
     "PORT is 23 where none is named. ^] opens a menu with the keys; q there leaves.\n";
+
+typedef enum {
+    WORD_HELP = 'h',
+    WORD_VERSION = 0x100,
+    WORD_TERMINAL,
+    WORD_RECORD,
+    WORD_KEYS,
+    WORD_NO_HOLD,
+    WORD_STRICT,
+    WORD_MONO,
+    WORD_BACKGROUND,
+    WORD_SEPARATORS,
+    WORD_NO_MOUSE
+} word;
+
+static const struct option known[] = {
+    {"help", no_argument, NULL, WORD_HELP},
+    {"version", no_argument, NULL, WORD_VERSION},
+    {"terminal", required_argument, NULL, WORD_TERMINAL},
+    {"record", required_argument, NULL, WORD_RECORD},
+    {"keys", required_argument, NULL, WORD_KEYS},
+    {"no-hold", no_argument, NULL, WORD_NO_HOLD},
+    {"strict", no_argument, NULL, WORD_STRICT},
+    {"mono", no_argument, NULL, WORD_MONO},
+    {"background", required_argument, NULL, WORD_BACKGROUND},
+    {"separators", required_argument, NULL, WORD_SEPARATORS},
+    {"no-mouse", no_argument, NULL, WORD_NO_MOUSE},
+    {NULL, 0, NULL, 0},
+};
 
 static options_result end(int *status, int with)
 {
@@ -25,10 +62,10 @@ static options_result end(int *status, int with)
     return OPTIONS_END;
 }
 
-static options_result refuse(int *status, const char *format, const char *word)
+static options_result refuse(int *status, const char *format, const char *about)
 {
     (void)fputs("term5250: ", stderr);
-    (void)fprintf(stderr, format, word);
+    (void)fprintf(stderr, format, about);
     (void)fprintf(stderr, "\n%s", usage);
     return end(status, 2);
 }
@@ -42,84 +79,72 @@ static options_result print(int *status, const char *text)
     return end(status, is_out ? 0 : 2);
 }
 
-/* Options without a value; false where the word is none. */
-static bool read_switch(options *o, const char *word)
+static options_result print_version(int *status)
 {
-    if (strcmp(word, "--no-hold") == 0)
-        o->holds = false;
-    else if (strcmp(word, "--strict") == 0)
-        o->is_strict = true;
-    else if (strcmp(word, "--mono") == 0)
-        o->is_mono = true;
-    else if (strcmp(word, "--no-mouse") == 0)
-        o->has_mouse = false;
-    else
-        return false;
-    return true;
+    char text[400];
+    (void)snprintf(text, sizeof text, "term5250 %s, on ribbonscarp %s\n", RIBBON_VERSION, ribbon_version());
+    return print(status, text);
 }
 
-/* The place of an option's value; null where the word is no option that has one. */
-static const char **valued(options *o, const char *word, const char **background, const char **separators)
+static options_result choose_background(options *o, const char *value, int *status)
 {
-    if (strcmp(word, "--terminal") == 0)
-        return &o->terminal;
-    if (strcmp(word, "--record") == 0)
-        return &o->record;
-    if (strcmp(word, "--keys") == 0)
-        return &o->keys;
-    if (strcmp(word, "--background") == 0)
-        return background;
-    return strcmp(word, "--separators") == 0 ? separators : NULL;
+    bool is_black = strcmp(value, "black") == 0;
+    if (!is_black && strcmp(value, "own") != 0)
+        return refuse(status, "--background is black or own, and not %s", value);
+    o->background = is_black ? BACKGROUND_BLACK : BACKGROUND_OWN;
+    return OPTIONS_RUN;
 }
 
-static bool choose(const char *word, const char *first, const char *second, int *chosen)
+static options_result choose_separators(options *o, const char *value, int *status)
 {
-    *chosen = strcmp(word, first) == 0 ? 0 : strcmp(word, second) == 0 ? 1 : -1;
-    return *chosen >= 0;
+    o->separators = strcmp(value, "dim") == 0;
+    if (!o->separators && strcmp(value, "off") != 0)
+        return refuse(status, "--separators is dim or off, and not %s", value);
+    return OPTIONS_RUN;
+}
+
+static options_result take(options *o, int which, const char *value, int *status)
+{
+    switch (which) {
+    case WORD_HELP: return print(status, usage);
+    case WORD_VERSION: return print_version(status);
+    case WORD_TERMINAL: o->terminal = value; return OPTIONS_RUN;
+    case WORD_RECORD: o->record = value; return OPTIONS_RUN;
+    case WORD_KEYS: o->keys = value; return OPTIONS_RUN;
+    case WORD_NO_HOLD: o->holds = false; return OPTIONS_RUN;
+    case WORD_STRICT: o->is_strict = true; return OPTIONS_RUN;
+    case WORD_MONO: o->is_mono = true; return OPTIONS_RUN;
+    case WORD_BACKGROUND: return choose_background(o, value, status);
+    case WORD_SEPARATORS: return choose_separators(o, value, status);
+    case WORD_NO_MOUSE: o->has_mouse = false; return OPTIONS_RUN;
+    default: (void)fputs(usage, stderr); return end(status, 2); /* getopt_long has told what is wrong */
+    }
 }
 
 static options_result read_words(options *o, int count, char **words, int *status)
 {
-    const char *background = NULL, *separators = "dim";
-    for (int at = 1; at < count; at++) {
-        const char **value = valued(o, words[at], &background, &separators);
-        if (value != NULL && at + 1 == count)
-            return refuse(status, "%s lacks its value", words[at]);
-        if (value != NULL)
-            *value = words[++at];
-        else if (!read_switch(o, words[at]) && words[at][0] == '-')
-            return refuse(status, "there is no option %s", words[at]);
-        else if (words[at][0] != '-' && o->where != NULL)
-            return refuse(status, "%s is one host too many", words[at]);
-        else if (words[at][0] != '-')
-            o->where = words[at];
-    }
-    int which = 0, how = 0;
-    if (background != NULL && !choose(background, "black", "own", &which))
-        return refuse(status, "--background is black or own, and not %s", background);
-    if (!choose(separators, "dim", "off", &how))
-        return refuse(status, "--separators is dim or off, and not %s", separators);
-    o->background = background == NULL ? BACKGROUND_BY_WINDOW : which == 0 ? BACKGROUND_BLACK : BACKGROUND_OWN;
-    o->separators = how == 0;
+    optind = 0; /* begins anew */
+    for (int which; (which = getopt_long(count, words, "h", known, NULL)) != -1;)
+        if (take(o, which, optarg, status) == OPTIONS_END)
+            return OPTIONS_END;
+    if (count - optind > 1)
+        return refuse(status, "%s is one host too many", words[optind + 1]);
+    o->where = words[optind];
     return o->where == NULL ? refuse(status, "%s", "it needs a host") : OPTIONS_RUN;
 }
 
 options_result options_read(options *o, int count, char **words, int *status)
 {
-    char text[400];
-    *o = (options){.terminal = "IBM-3179-2", .holds = true, .has_mouse = true};
-    for (int at = 1; at < count; at++) {
-        if (strcmp(words[at], "--help") == 0 || strcmp(words[at], "-h") == 0)
-            return print(status, usage);
-        if (strcmp(words[at], "--version") != 0)
-            continue;
-        (void)snprintf(text, sizeof text, "term5250 %s, on ribbonscarp %s\n", RIBBON_VERSION, ribbon_version());
-        return print(status, text);
-    }
+    static char name[] = "term5250";
+    char why[400];
+    *o = (options){.terminal = "IBM-3179-2", .holds = true, .has_mouse = true, .separators = true};
+    if (count == 0)
+        return refuse(status, "%s", "it needs a host");
+    words[0] = name; /* before what getopt_long tells */
     if (read_words(o, count, words, status) == OPTIONS_END)
         return OPTIONS_END;
-    if (address_read(&o->to, o->where, text, sizeof text))
+    if (address_read(&o->to, o->where, why, sizeof why))
         return OPTIONS_RUN;
-    (void)fprintf(stderr, "term5250: %s\n", text);
+    (void)fprintf(stderr, "term5250: %s\n", why);
     return end(status, 2);
 }

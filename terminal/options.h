@@ -20,7 +20,8 @@ typedef struct {
 
 typedef enum { OPTIONS_RUN, OPTIONS_END } options_result;
 
-/* Reads the words of a command line. At OPTIONS_END all has been printed, and the program ends with `status`. */
+/* Reads the words of a command line, whose order it may change. At OPTIONS_END all has been printed, and the program
+ * ends with `status`. */
 options_result options_read(options *o, int count, char **words, int *status);
 
 #endif

@@ -8,10 +8,10 @@
 #include "input.h"
 #include "menu.h"
 #include "press.h"
+#include "settings.h"
 #include "signals.h"
 
 #include <errno.h>
-#include <stdlib.h>
 #include <string.h>
 #include <unistd.h>
 
@@ -153,17 +153,10 @@ static int complain(const char *what, const char *why)
 /* The keys file that is asked for, or the usual one where it is there; false where it is wrong. */
 static bool read_keys(session *s, const options *asked)
 {
-    char name[FILE_NAME_ROOM], why[FILE_NAME_ROOM + 400];
-    const char *folder = getenv("XDG_CONFIG_HOME"), *home = getenv("HOME");
-    bool is_set = folder != NULL && folder[0] != 0;
+    char path[FILE_NAME_ROOM], why[FILE_NAME_ROOM + 400];
     bindings_begin(&s->keys);
-    if (asked->keys == NULL && !is_set && (home == NULL || home[0] == 0))
-        return true;
-    int length = asked->keys != NULL ? snprintf(name, sizeof name, "%s", asked->keys)
-                 : is_set            ? snprintf(name, sizeof name, "%s/term5250/keys", folder)
-                                     : snprintf(name, sizeof name, "%s/.config/term5250/keys", home);
-    errno = ENAMETOOLONG;
-    FILE *file = length > 0 && (size_t)length < sizeof name ? fopen(name, "r") : NULL;
+    FILE *file = asked->keys != NULL ? fopen(asked->keys, "r") : settings_open("keys", path, sizeof path);
+    const char *name = asked->keys != NULL ? asked->keys : path;
     if (file == NULL && asked->keys == NULL && (errno == ENOENT || errno == ENOTDIR))
         return true;
     if (file == NULL) {
