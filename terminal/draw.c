@@ -1,5 +1,6 @@
 #include "draw.h"
 
+#include "box.h"
 #include "menu.h"
 
 #include <string.h>
@@ -121,6 +122,8 @@ static void draw_screen(session *s, window *w, const ribbon_state *state, const 
     else if (covers_row(s, state))
         draw_status(parts, SCREEN_ROWS - 1);
     (void)move(state->cursor_row - 1, state->cursor_column - 1);
+    if (s->is_box_open)
+        box_draw(s);
 }
 
 static void ring(session *s, const ribbon_state *state)

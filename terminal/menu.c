@@ -72,6 +72,7 @@ void menu_key(session *s, uint32_t character)
     case 'r': switch_recording(s); break;
     case 's': save_kept(s); break;
     case 'p': print_screen(s); break;
+    case 'c': session_again(s); break;
     default: break;
     }
 }
@@ -113,6 +114,8 @@ static void draw_words(const session *s)
     put(2, 19, "s  save the last 256 KiB of both ends (these hold passwords)");
     if (s->standing[0] != 0)
         put(3, 0, s->standing);
+    if (s->phase == PHASE_OVER)
+        put(KEY_ROWS + 4, 0, "c  connect again");
     draw_keys(s, 4);
     for (size_t at = 0; at < sizeof signs / sizeof signs[0]; at++)
         put(5 + KEY_ROWS + (int)at, 0, signs[at]);

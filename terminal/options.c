@@ -15,6 +15,8 @@ static const char usage[] =
     "  --record FILE       records what both ends send; FILE-1, FILE-2 .. where FILE\n"
     "                      is there already\n"
     "  --keys FILE         a keys file in place of ~/.config/term5250/keys\n"
+    "  --reconnect         connects again by itself where a session is over, after a\n"
+    "                      pause that grows to a minute\n"
     "  --no-hold           a refused key rings, and doesn't hold the keyboard until\n"
     "                      Reset\n"
     "  --strict            a station of the profile: it refuses what live hosts send\n"
@@ -33,6 +35,7 @@ typedef enum {
     WORD_TERMINAL,
     WORD_RECORD,
     WORD_KEYS,
+    WORD_RECONNECT,
     WORD_NO_HOLD,
     WORD_STRICT,
     WORD_MONO,
@@ -47,6 +50,7 @@ static const struct option known[] = {
     {"terminal", required_argument, NULL, WORD_TERMINAL},
     {"record", required_argument, NULL, WORD_RECORD},
     {"keys", required_argument, NULL, WORD_KEYS},
+    {"reconnect", no_argument, NULL, WORD_RECONNECT},
     {"no-hold", no_argument, NULL, WORD_NO_HOLD},
     {"strict", no_argument, NULL, WORD_STRICT},
     {"mono", no_argument, NULL, WORD_MONO},
@@ -111,6 +115,7 @@ static options_result take(options *o, int which, const char *value, int *status
     case WORD_TERMINAL: o->terminal = value; return OPTIONS_RUN;
     case WORD_RECORD: o->record = value; return OPTIONS_RUN;
     case WORD_KEYS: o->keys = value; return OPTIONS_RUN;
+    case WORD_RECONNECT: o->reconnects = true; return OPTIONS_RUN;
     case WORD_NO_HOLD: o->holds = false; return OPTIONS_RUN;
     case WORD_STRICT: o->is_strict = true; return OPTIONS_RUN;
     case WORD_MONO: o->is_mono = true; return OPTIONS_RUN;

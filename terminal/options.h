@@ -15,6 +15,7 @@ typedef struct {
     bool is_strict;   /* the station keeps to the profile */
     bool is_mono;     /* no colours */
     bool separators;  /* are drawn */
+    bool reconnects;  /* by itself, where a session is over */
     enum { BACKGROUND_BY_WINDOW, BACKGROUND_BLACK, BACKGROUND_OWN } background;
 } options;
 

@@ -1,8 +1,8 @@
 #!/usr/bin/env python3
 """Types into the terminal: `run_terminal.py TERM5250 HOST5250 T5250 [--sanitized TERM5250] [--long] [--only WORD]`.
 
-Its parts stand in tests/: what a clerk does, what is shown, faults, what live hosts send, sizes in tmux, random work. A
-terminal that was built with sanitizers takes the random work, which is left out without it. With --long it is ten minutes of random keys
+Its parts stand in tests/: what a clerk does, what is shown, faults, connecting, what live hosts send, sizes in tmux,
+random work. A terminal that was built with sanitizers takes the random work, which is left out without it. With --long it is ten minutes of random keys
 and records, 120 hosts that send garbage, and 5,000 screens; without, a little of each, and all takes about two minutes.
 With --only the parts whose name has a word. Ends with 'N passed, N failed'."""
 import argparse
@@ -13,6 +13,7 @@ import traceback
 
 sys.dont_write_bytecode = True
 sys.path.insert(0, str(pathlib.Path(__file__).resolve().parent / "tests"))
+import connecting
 import faults
 import hosts
 import in_tmux
@@ -43,6 +44,8 @@ def parts(words):
                 faults.kept_is_the_last, faults.bad_peers, faults.synch, faults.ipv6, faults.floods,
                 faults.while_connecting, faults.in_the_menu, faults.command_lines, faults.without_a_terminal,
                 faults.unwritable_files)
+    yield from (connecting.the_box, connecting.again_where_nobody_is, connecting.wrapped, connecting.by_itself,
+                connecting.at_first, connecting.silences)
     yield from (live.asked, live.an_error, live.alarm, live.alarm_refused, live.many_saves, live.strict)
     yield in_tmux.sizes
 

@@ -49,7 +49,11 @@ void session_over(session *s, int status, const char *format, ...)
     s->note[0] = 0;
     s->status = status;
     s->is_held = false;
-    s->rings = true;
+    s->is_box_open = true;
+    s->rings = s->phase == PHASE_OPEN || !s->asked->reconnects; /* and not at each try */
+    s->ended = session_clock();
+    if (s->asked->reconnects)
+        again_plan(&s->again, s->ended, s->phase == PHASE_OPEN ? s->ended - s->begun : 0);
     (void)ahead_drop(&s->ahead); /* nobody will take these keys any more */
     dial_end(&s->dial);
     line_end(&s->line);
@@ -158,6 +162,7 @@ static void hear(session *s)
         s->taken = 0;
         switch (line_hear(&s->line, s->heard, sizeof s->heard, &s->heard_count)) {
         case LINE_CAME:
+            s->has_heard = true;
             keep(s, true, s->heard, s->heard_count);
             scan(s, s->heard, s->heard_count);
             s->has_rest = true;
@@ -173,10 +178,12 @@ static void hear(session *s)
 
 /* ---- The session ---- */
 
+/* Where there was no session yet and none is tried by itself, the program ends. */
 static void fail_to_connect(session *s)
 {
-    session_over(s, 2, "no connection to %s: %s", s->asked->where, s->dial.why);
-    s->is_leaving = true;
+    bool is_first = s->begun == 0;
+    session_over(s, 2, "No connection to %s: %s.", s->asked->where, s->dial.why);
+    s->is_leaving = is_first && !s->asked->reconnects;
 }
 
 static void go_on(session *s, dial_state state)
@@ -194,6 +201,12 @@ static void go_on(session *s, dial_state state)
         session_over(s, 1, "The line can't be used: %s.", strerror(errno));
 }
 
+static void tell_silence(session *s)
+{
+    s->has_heard = true;
+    session_tell(s, "%d seconds of silence: the port may want TLS, or be no 5250 host's.", SILENCE / 1000);
+}
+
 session *session_new(void)
 {
     session *s = calloc(1, sizeof *s);
@@ -203,11 +216,52 @@ session *session_new(void)
     return s;
 }
 
-bool session_begin(session *s, const options *asked)
+ribbon_status session_station(session *s, const options *asked)
 {
     s->asked = asked;
-    go_on(s, dial_begin(&s->dial, &asked->to));
+    return asked->is_strict ? ribbon_station_new(&s->station, asked->terminal)
+                            : ribbon_station_new_extended(&s->station, asked->terminal);
+}
+
+bool session_begin(session *s)
+{
+    s->phase = PHASE_DIALLING;
+    go_on(s, dial_begin(&s->dial, &s->asked->to, session_clock()));
     return !s->is_leaving;
+}
+
+/* What was recorded stays in its file. */
+static void record_anew(session *s)
+{
+    if (s->recording.file == NULL)
+        return;
+    bool is_whole = recording_end(&s->recording);
+    if (!is_whole)
+        session_report(s, "The end of %s couldn't be written.", s->recording.name);
+    else if (!recording_begin(&s->recording, s->recording.base, &s->kept))
+        session_report(s, "%s can't be written: %s.", s->recording.name, strerror(errno));
+}
+
+void session_again(session *s)
+{
+    if (s->phase != PHASE_OVER)
+        return;
+    again_cancel(&s->again);
+    s->heard_count = s->taken = s->said_count = 0;
+    s->has_rest = s->has_part = s->has_heard = s->is_inserting = s->was_lit = s->is_box_open = false;
+    s->scanned = (telnet){.is_in_record = false};
+    s->alarms = 0;
+    s->status = 0;
+    s->note[0] = s->standing[0] = 0;
+    s->draws_all = true;
+    memset(&s->kept, 0, sizeof s->kept);
+    record_anew(s);
+    ribbon_station_free(&s->station);
+    ribbon_status status = session_station(s, s->asked);
+    if (status != RIBBON_DONE)
+        session_over(s, 1, "There is no station: %s.", ribbon_status_text(status));
+    else
+        (void)session_begin(s); /* a failure has been told */
 }
 
 struct pollfd session_wait(const session *s)
@@ -225,18 +279,37 @@ struct pollfd session_wait(const session *s)
     return wait;
 }
 
+int session_due(const session *s)
+{
+    uint64_t now = session_clock(), told = s->begun + SILENCE;
+    if (s->phase == PHASE_DIALLING)
+        return dial_due(&s->dial, now);
+    if (s->phase == PHASE_OVER)
+        return again_due(&s->again, now);
+    if (s->has_heard)
+        return -1;
+    return told > now ? (int)(told - now) : 0;
+}
+
 void session_step(session *s, short ready)
 {
-    if (ready == 0)
+    if (ready == 0 && session_due(s) != 0)
         return;
     if (s->phase == PHASE_DIALLING) {
-        go_on(s, dial_step(&s->dial));
+        go_on(s, dial_step(&s->dial, ready != 0, session_clock()));
         return;
     }
-    if (s->phase == PHASE_OPEN && ((ready & ~POLLOUT) != 0 || s->has_rest))
+    if (s->phase == PHASE_OVER) {
+        if (s->again.is_due && again_left(&s->again, session_clock()) == 0)
+            session_again(s);
+        return;
+    }
+    if ((ready & ~POLLOUT) != 0 || s->has_rest)
         hear(s);
     if (s->phase == PHASE_OPEN && !line_flush(&s->line))
         session_over(s, 1, "The line is lost: %s.", strerror(errno));
+    if (s->phase == PHASE_OPEN && session_due(s) == 0)
+        tell_silence(s);
 }
 
 void session_free(session *s)

@@ -2,6 +2,7 @@
 #ifndef SESSION_H
 #define SESSION_H
 
+#include "again.h"
 #include "ahead.h"
 #include "bindings.h"
 #include "dial.h"
@@ -12,7 +13,11 @@
 #include "recording.h"
 #include "ribbonscarp.h"
 
-enum { SAID_ROOM = 64, NOTE_ROOM = 400 };
+enum {
+    SAID_ROOM = 64,
+    NOTE_ROOM = 400,
+    SILENCE = 10000 /* milliseconds: a host that has sent nothing for so long is told */
+};
 
 typedef struct {
     const options *asked;
@@ -26,7 +31,10 @@ typedef struct {
     size_t taken;
     bool has_rest; /* of that, or of its answers */
     bool has_part; /* of an answer went out, and perhaps not all of it */
-    uint64_t begun; /* the connection, in milliseconds of the system's clock */
+    uint64_t begun; /* the connection, in milliseconds of the system's clock; 0 where there was none yet */
+    bool has_heard; /* of the host, or its silence has been told */
+    uint64_t ended; /* the session, by the same clock */
+    again again;
     kept kept;
     telnet scanned;          /* of what the host sends */
     uint8_t said[SAID_ROOM]; /* the first bytes of its records */
@@ -40,6 +48,7 @@ typedef struct {
     uint64_t alarms;   /* of the host's, when they were looked at last */
     bool rings;        /* the bell is still to be rung */
     bool is_menu_open;
+    bool is_box_open;  /* with the reason for the session's end */
     bool draws_all;    /* all is to be drawn, whatever has changed */
     bool repaints;     /* and the window is to be painted anew */
     bool is_leaving;   /* the program ends */
@@ -57,13 +66,23 @@ uint64_t session_clock(void);
 /* A session that holds nothing yet; null where memory is wanting. */
 session *session_new(void);
 
+/* Makes the station that is asked for. */
+ribbon_status session_station(session *s, const options *asked);
+
 /* Begins to connect; false, with a sentence in `standing`, where that can't be. */
-bool session_begin(session *s, const options *asked);
+bool session_begin(session *s);
+
+/* Connects again where the session is over: with a new station, an empty screen, and nothing kept of what was. What is
+ * recorded goes on in a new file. */
+void session_again(session *s);
 
 /* What is to be waited for at the line; of no events where nothing is. */
 struct pollfd session_wait(const session *s);
 
-/* Goes on at the line, where it is ready: connects, sends, takes what has come. */
+/* The milliseconds after which session_step has something to do, whatever comes; negative where it has nothing. */
+int session_due(const session *s);
+
+/* Goes on at the line, where it is ready or something is due: connects, sends, takes what has come. */
 void session_step(session *s, short ready);
 
 /* Sends a station's bytes, as soon as the host takes them; false where too many wait already. */

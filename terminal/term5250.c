@@ -4,6 +4,7 @@
  *
  * One loop waits for the line, the keyboard and signals; everything else is done between two waits. */
 #define _GNU_SOURCE
+#include "box.h"
 #include "draw.h"
 #include "input.h"
 #include "menu.h"
@@ -61,6 +62,8 @@ static void take_input(session *s, const input *i)
         s->rings = true;
     else if (is_paste)
         press_pasted(s, i->key);
+    else if (s->is_box_open && !is_menu)
+        box_key(s, i->kind == INPUT_CLICK ? STROKE_ESCAPE : i->key);
     else if (i->kind == INPUT_STROKE)
         take_stroke(s, i->key);
     else if (i->kind == INPUT_CHARACTER)
@@ -133,7 +136,7 @@ static void run(session *s, window *w)
             drawn = now;
         }
         if (ready == 0 && !more)
-            ready = signals_wait(waits, 2, -1);
+            ready = signals_wait(waits, 2, session_due(s));
         if (ready <= 0)
             waits[0].revents = waits[1].revents = 0;
         take_events(s, w, &reader, waits, &more);
@@ -174,8 +177,7 @@ static bool read_keys(session *s, const options *asked)
 static int prepare(session *s, const options *asked)
 {
     char why[400];
-    ribbon_status status = asked->is_strict ? ribbon_station_new(&s->station, asked->terminal)
-                                            : ribbon_station_new_extended(&s->station, asked->terminal);
+    ribbon_status status = session_station(s, asked);
     if (status != RIBBON_DONE)
         return complain(asked->terminal, status == RIBBON_BAD_ARGUMENT ? "no such terminal type"
                                                                        : ribbon_status_text(status));
@@ -197,7 +199,7 @@ static int work(session *s, const options *asked)
         window_end(&w);
         return complain("the window can't be used", "");
     }
-    if (session_begin(s, asked))
+    if (session_begin(s))
         run(s, &w);
     window_end(&w);
     bool is_whole = recording_end(&s->recording);

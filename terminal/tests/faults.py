@@ -181,8 +181,8 @@ def bad_peers():
 
     t = Terminal(f"127.0.0.1:{plain(resets)}")
     t.until(lambda: "Connection reset" in t.said.decode("utf-8", "replace"), "a reset")
-    if "no connection" in t.said.decode("utf-8", "replace"):
-        t.ended(2, "no connection")  # It came before the line was there.
+    if "No connection" in t.said.decode("utf-8", "replace"):
+        t.ended(2, "No connection")  # It came before the line was there.
     else:
         t.leave(1, "The line is lost: Connection reset")
     t = Terminal(f"127.0.0.1:{plain(lambda line: time.sleep(20))}")
@@ -334,8 +334,8 @@ def command_lines():
     port = free.getsockname()[1]
     free.close()
     for words, texts, more in (
-        ([f"127.0.0.1:{port}"], ("no connection", "refused"), {}),
-        (["host.invalid:23"], ("no connection to host.invalid:23: ",), {}),
+        ([f"127.0.0.1:{port}"], ("No connection", "refused"), {}),
+        (["host.invalid:23"], ("No connection to host.invalid:23: ",), {}),
         ([], ("usage", "it needs a host"), {}),
         (["--wrong"], ("usage", "term5250: unrecognized option '--wrong'"), {}),
         (["-x"], ("usage", "term5250: invalid option -- 'x'"), {}),
@@ -343,7 +343,7 @@ def command_lines():
         (["a", "b"], ("usage", "b is one host too many"), {}),
         (["--terminal"], ("usage", "option '--terminal' requires an argument"), {}),
         (["--"], ("usage", "it needs a host"), {}),
-        (["--", "--mono"], ("no connection to --mono: ",), {}),
+        (["--", "--mono"], ("No connection to --mono: ",), {}),
         (["--separators=bars", "a"], ("usage", "dim or off, and not bars"), {}),
         (["--background", "red", "a"], ("usage", "black or own, and not red"), {}),
         (["localhost:107333"], ("port 107333 is out of range: it is 1 to 65535",), {}),
@@ -355,7 +355,7 @@ def command_lines():
         (["localhost:1"], ("TERM is dumb, which can't move its cursor",), {"term": "dumb"}),
     ):
         said = Terminal(*words, **more).ended(2, *texts)
-        check("\x1b" not in said or "no connection" in said, "it is told before the window is touched", words)
+        check("\x1b" not in said or "No connection" in said, "it is told before the window is touched", words)
 
 
 def run(*words):
