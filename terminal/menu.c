@@ -104,6 +104,7 @@ static void draw_words(const session *s)
         "Mouse         a click moves the cursor; with Shift the window selects text",
         "Paste         a line's end goes to the next field, and sends nothing",
         "MW  a message waits   INS  insert mode   REC  recording   T  keys wait",
+        "TLS  the host's certificate is right   INSECURE  TLS, and nothing is checked",
         "field 10  length of the cursor's field   06/053  row and column of the cursor",
     };
     char title[100];

@@ -15,6 +15,11 @@ static const char usage[] =
     "  --record FILE       records what both ends send; FILE-1, FILE-2 .. where FILE\n"
     "                      is there already\n"
     "  --keys FILE         a keys file in place of ~/.config/term5250/keys\n"
+    "  --tls               TLS, with the certificate of the host checked\n"
+    "  --ca FILE           of those who sign certificates, in place of the system's\n"
+    "  --cert FILE         this end's own certificate\n"
+    "  --key FILE          its key, where that isn't in the same file\n"
+    "  --insecure          TLS to whoever the host is: nothing is checked\n"
     "  --reconnect         connects again by itself where a session is over, after a\n"
     "                      pause that grows to a minute\n"
     "  --no-hold           a refused key rings, and doesn't hold the keyboard until\n"
@@ -27,7 +32,8 @@ static const char usage[] =
     "  --separators HOW    dim, which is the default, or off\n"
     "  --no-mouse          leaves the mouse to the window\n"
     "  --version, --help\n"
-    "PORT is 23 where none is named. ^] opens a menu with the keys; q there leaves.\n";
+    "PORT is 23 where none is named, and 992 with --tls. ^] opens a menu with the\n"
+    "keys; q there leaves.\n";
 
 typedef enum {
     WORD_HELP = 'h',
@@ -35,6 +41,11 @@ typedef enum {
     WORD_TERMINAL,
     WORD_RECORD,
     WORD_KEYS,
+    WORD_TLS,
+    WORD_CA,
+    WORD_CERT,
+    WORD_KEY,
+    WORD_INSECURE,
     WORD_RECONNECT,
     WORD_NO_HOLD,
     WORD_STRICT,
@@ -50,6 +61,11 @@ static const struct option known[] = {
     {"terminal", required_argument, NULL, WORD_TERMINAL},
     {"record", required_argument, NULL, WORD_RECORD},
     {"keys", required_argument, NULL, WORD_KEYS},
+    {"tls", no_argument, NULL, WORD_TLS},
+    {"ca", required_argument, NULL, WORD_CA},
+    {"cert", required_argument, NULL, WORD_CERT},
+    {"key", required_argument, NULL, WORD_KEY},
+    {"insecure", no_argument, NULL, WORD_INSECURE},
     {"reconnect", no_argument, NULL, WORD_RECONNECT},
     {"no-hold", no_argument, NULL, WORD_NO_HOLD},
     {"strict", no_argument, NULL, WORD_STRICT},
@@ -86,7 +102,8 @@ static options_result print(int *status, const char *text)
 static options_result print_version(int *status)
 {
     char text[400];
-    (void)snprintf(text, sizeof text, "term5250 %s, on ribbonscarp %s\n", RIBBON_VERSION, ribbon_version());
+    (void)snprintf(text, sizeof text, "term5250 %s, on ribbonscarp %s, %s\n", RIBBON_VERSION, ribbon_version(),
+                   tls_version());
     return print(status, text);
 }
 
@@ -115,6 +132,11 @@ static options_result take(options *o, int which, const char *value, int *status
     case WORD_TERMINAL: o->terminal = value; return OPTIONS_RUN;
     case WORD_RECORD: o->record = value; return OPTIONS_RUN;
     case WORD_KEYS: o->keys = value; return OPTIONS_RUN;
+    case WORD_TLS: o->tls.is_on = true; return OPTIONS_RUN;
+    case WORD_CA: o->tls.authorities = value; return OPTIONS_RUN;
+    case WORD_CERT: o->tls.certificate = value; return OPTIONS_RUN;
+    case WORD_KEY: o->tls.key = value; return OPTIONS_RUN;
+    case WORD_INSECURE: o->tls.is_unchecked = true; return OPTIONS_RUN;
     case WORD_RECONNECT: o->reconnects = true; return OPTIONS_RUN;
     case WORD_NO_HOLD: o->holds = false; return OPTIONS_RUN;
     case WORD_STRICT: o->is_strict = true; return OPTIONS_RUN;
@@ -138,6 +160,17 @@ static options_result read_words(options *o, int count, char **words, int *statu
     return o->where == NULL ? refuse(status, "%s", "it needs a host") : OPTIONS_RUN;
 }
 
+/* Without `--tls` these would go unheard, and the line would be plain. */
+static options_result check_tls(const options *o, int *status)
+{
+    bool is_for_tls = o->tls.authorities != NULL || o->tls.certificate != NULL || o->tls.is_unchecked;
+    if (o->tls.key != NULL && o->tls.certificate == NULL)
+        return refuse(status, "%s", "--key is for --cert, which isn't there");
+    if (is_for_tls && !o->tls.is_on)
+        return refuse(status, "%s", "--ca, --cert and --insecure are for --tls, which isn't there");
+    return OPTIONS_RUN;
+}
+
 options_result options_read(options *o, int count, char **words, int *status)
 {
     static char name[] = "term5250";
@@ -146,9 +179,9 @@ options_result options_read(options *o, int count, char **words, int *status)
     if (count == 0)
         return refuse(status, "%s", "it needs a host");
     words[0] = name; /* before what getopt_long tells */
-    if (read_words(o, count, words, status) == OPTIONS_END)
+    if (read_words(o, count, words, status) == OPTIONS_END || check_tls(o, status) == OPTIONS_END)
         return OPTIONS_END;
-    if (address_read(&o->to, o->where, why, sizeof why))
+    if (address_read(&o->to, o->where, o->tls.is_on ? "992" : "23", why, sizeof why))
         return OPTIONS_RUN;
     (void)fprintf(stderr, "term5250: %s\n", why);
     return end(status, 2);

@@ -3,6 +3,7 @@
 #define OPTIONS_H
 
 #include "address.h"
+#include "tls.h"
 
 typedef struct {
     const char *terminal; /* its type's name */
@@ -10,6 +11,7 @@ typedef struct {
     const char *keys;     /* the keys file's name, or null */
     const char *where;    /* HOST[:PORT] as written */
     address to;
+    tls_asked tls;
     bool holds;       /* a refused key holds the keyboard until Reset */
     bool has_mouse;
     bool is_strict;   /* the station keeps to the profile */

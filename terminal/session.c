@@ -162,14 +162,14 @@ static void hear(session *s)
         s->taken = 0;
         switch (line_hear(&s->line, s->heard, sizeof s->heard, &s->heard_count)) {
         case LINE_CAME:
-            s->has_heard = true;
+            s->silent = 0;
             keep(s, true, s->heard, s->heard_count);
             scan(s, s->heard, s->heard_count);
             s->has_rest = true;
             break;
         case LINE_NOTHING: return;
         case LINE_CLOSED: tell_closed(s); return;
-        case LINE_LOST: session_over(s, 1, "The line is lost: %s.", strerror(errno)); return;
+        case LINE_LOST: session_over(s, 1, "The line is lost: %s.", line_why(&s->line)); return;
         }
     }
     if (s->phase == PHASE_OPEN && s->has_rest)
@@ -178,33 +178,71 @@ static void hear(session *s)
 
 /* ---- The session ---- */
 
-/* Where there was no session yet and none is tried by itself, the program ends. */
-static void fail_to_connect(session *s)
+/* No session came about. At first the program ends with that, unless another try is due by itself. */
+static void fail_to_begin(session *s)
 {
-    bool is_first = s->begun == 0;
-    session_over(s, 2, "No connection to %s: %s.", s->asked->where, s->dial.why);
-    s->is_leaving = is_first && !s->asked->reconnects;
+    s->is_leaving = !s->was_open && !s->again.is_due;
 }
 
-static void go_on(session *s, dial_state state)
+static void begin_session(session *s)
 {
-    if (state == DIAL_FAILED)
-        fail_to_connect(s);
+    s->phase = PHASE_OPEN;
+    s->was_open = true;
+    s->silent = session_clock();
+}
+
+/* A host whose certificate is refused isn't tried again by itself. */
+static void go_on_securing(session *s)
+{
+    s->phase = PHASE_SECURING;
+    tls_state state = tls_step(s->tls);
+    if (state == TLS_DONE)
+        begin_session(s);
+    if (state != TLS_FAILED && state != TLS_REFUSED)
+        return;
+    session_over(s, 2, "%s", tls_why(s->tls));
+    if (state == TLS_REFUSED)
+        again_cancel(&s->again);
+    fail_to_begin(s);
+}
+
+static void begin_line(session *s, int socket)
+{
+    s->phase = PHASE_OPEN; /* what fails now is an end of the line's */
+    s->begun = s->silent = session_clock();
+    if (!line_begin(&s->line, socket))
+        session_over(s, 1, "The line can't be used: %s.", strerror(errno));
+    else if (s->tls == NULL)
+        begin_session(s);
+    else if (!line_secure(&s->line, s->tls, s->asked->to.host))
+        session_over(s, 1, "TLS can't begin: memory is wanting.");
+    else
+        go_on_securing(s);
+}
+
+static void go_on_dialling(session *s, dial_state state)
+{
+    if (state == DIAL_FAILED) {
+        session_over(s, 2, "No connection to %s: %s.", s->asked->where, s->dial.why);
+        fail_to_begin(s);
+    }
     if (state != DIAL_DONE)
         return;
     int socket = s->dial.line;
     s->dial.line = -1;
     dial_end(&s->dial);
-    s->phase = PHASE_OPEN;
-    s->begun = session_clock();
-    if (!line_begin(&s->line, socket))
-        session_over(s, 1, "The line can't be used: %s.", strerror(errno));
+    begin_line(s, socket);
 }
 
 static void tell_silence(session *s)
 {
-    s->has_heard = true;
-    session_tell(s, "%d seconds of silence: the port may want TLS, or be no 5250 host's.", SILENCE / 1000);
+    if (s->phase == PHASE_SECURING)
+        session_tell(s, "%d seconds of silence: it may be no port for TLS.", SILENCE / 1000);
+    else if (s->tls != NULL)
+        session_tell(s, "%d seconds of silence: it may be no 5250 host's port.", SILENCE / 1000);
+    else
+        session_tell(s, "%d seconds of silence: the port may want TLS, or be no 5250 host's.", SILENCE / 1000);
+    s->silent = 0;
 }
 
 session *session_new(void)
@@ -226,7 +264,7 @@ ribbon_status session_station(session *s, const options *asked)
 bool session_begin(session *s)
 {
     s->phase = PHASE_DIALLING;
-    go_on(s, dial_begin(&s->dial, &s->asked->to, session_clock()));
+    go_on_dialling(s, dial_begin(&s->dial, &s->asked->to, session_clock()));
     return !s->is_leaving;
 }
 
@@ -248,7 +286,7 @@ void session_again(session *s)
         return;
     again_cancel(&s->again);
     s->heard_count = s->taken = s->said_count = 0;
-    s->has_rest = s->has_part = s->has_heard = s->is_inserting = s->was_lit = s->is_box_open = false;
+    s->has_rest = s->has_part = s->is_inserting = s->was_lit = s->is_box_open = false;
     s->scanned = (telnet){.is_in_record = false};
     s->alarms = 0;
     s->status = 0;
@@ -272,6 +310,10 @@ struct pollfd session_wait(const session *s)
     if (s->phase == PHASE_OVER)
         return wait;
     wait.fd = s->line.socket;
+    if (s->phase == PHASE_SECURING) {
+        wait.events = tls_waits(s->tls);
+        return wait;
+    }
     if (s->line.count > 0 || s->has_rest)
         wait.events |= POLLOUT;
     if (has_room(s))
@@ -281,34 +323,50 @@ struct pollfd session_wait(const session *s)
 
 int session_due(const session *s)
 {
-    uint64_t now = session_clock(), told = s->begun + SILENCE;
+    uint64_t now = session_clock(), told = s->silent + SILENCE;
     if (s->phase == PHASE_DIALLING)
         return dial_due(&s->dial, now);
     if (s->phase == PHASE_OVER)
         return again_due(&s->again, now);
-    if (s->has_heard)
+    if (s->phase == PHASE_OPEN && has_room(s) && line_has_more(&s->line))
+        return 0;
+    if (s->silent == 0)
         return -1;
     return told > now ? (int)(told - now) : 0;
+}
+
+/* A line of TLS may have more than its socket tells of. */
+static void step_open(session *s, short ready)
+{
+    if ((ready & ~POLLOUT) != 0 || s->has_rest || s->tls != NULL)
+        hear(s);
+    if (s->phase == PHASE_OPEN && !line_flush(&s->line))
+        session_over(s, 1, "The line is lost: %s.", line_why(&s->line));
+}
+
+static void step(session *s, short ready)
+{
+    switch (s->phase) {
+    case PHASE_DIALLING: go_on_dialling(s, dial_step(&s->dial, ready != 0, session_clock())); break;
+    case PHASE_SECURING:
+        if (ready != 0)
+            go_on_securing(s);
+        break;
+    case PHASE_OPEN: step_open(s, ready); break;
+    case PHASE_OVER:
+        if (s->again.is_due && again_left(&s->again, session_clock()) == 0)
+            session_again(s);
+        break;
+    }
 }
 
 void session_step(session *s, short ready)
 {
     if (ready == 0 && session_due(s) != 0)
         return;
-    if (s->phase == PHASE_DIALLING) {
-        go_on(s, dial_step(&s->dial, ready != 0, session_clock()));
-        return;
-    }
-    if (s->phase == PHASE_OVER) {
-        if (s->again.is_due && again_left(&s->again, session_clock()) == 0)
-            session_again(s);
-        return;
-    }
-    if ((ready & ~POLLOUT) != 0 || s->has_rest)
-        hear(s);
-    if (s->phase == PHASE_OPEN && !line_flush(&s->line))
-        session_over(s, 1, "The line is lost: %s.", strerror(errno));
-    if (s->phase == PHASE_OPEN && session_due(s) == 0)
+    step(s, ready);
+    bool is_connected = s->phase == PHASE_SECURING || s->phase == PHASE_OPEN;
+    if (is_connected && s->silent != 0 && session_clock() >= s->silent + SILENCE)
         tell_silence(s);
 }
 
@@ -316,6 +374,7 @@ void session_free(session *s)
 {
     dial_end(&s->dial);
     line_end(&s->line);
+    tls_free(s->tls);
     ribbon_station_free(&s->station);
     free(s);
 }

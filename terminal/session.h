@@ -23,16 +23,23 @@ typedef struct {
     const options *asked;
     bindings keys;
     ribbon_station station;
-    enum { PHASE_DIALLING, PHASE_OPEN, PHASE_OVER } phase;
+    enum {
+        PHASE_DIALLING,
+        PHASE_SECURING, /* the line is there, and TLS begins on it */
+        PHASE_OPEN,
+        PHASE_OVER
+    } phase;
     dial dial;
+    tls *tls; /* null where none is asked for */
     line line;
     uint8_t heard[KEPT_PIECE]; /* what came last, up to `heard_count`; the station has taken the first `taken` */
     size_t heard_count;
     size_t taken;
     bool has_rest; /* of that, or of its answers */
     bool has_part; /* of an answer went out, and perhaps not all of it */
-    uint64_t begun; /* the connection, in milliseconds of the system's clock; 0 where there was none yet */
-    bool has_heard; /* of the host, or its silence has been told */
+    uint64_t begun; /* the connection, in milliseconds of the system's clock */
+    bool was_open;  /* a session has been there, this one or one before */
+    uint64_t silent; /* since when the host is; 0 where it has sent something, or that has been told */
     uint64_t ended; /* the session, by the same clock */
     again again;
     kept kept;

@@ -176,7 +176,7 @@ static bool read_keys(session *s, const options *asked)
 /* All that can go wrong before the line is there is told before; 0 where nothing has. */
 static int prepare(session *s, const options *asked)
 {
-    char why[400];
+    char why[TLS_WHY_ROOM];
     ribbon_status status = session_station(s, asked);
     if (status != RIBBON_DONE)
         return complain(asked->terminal, status == RIBBON_BAD_ARGUMENT ? "no such terminal type"
@@ -187,6 +187,8 @@ static int prepare(session *s, const options *asked)
         return complain(why, "");
     if (!read_keys(s, asked))
         return 2;
+    if (asked->tls.is_on && (s->tls = tls_new(&asked->tls, why)) == NULL)
+        return complain(why, "");
     if (asked->record != NULL && !recording_begin(&s->recording, asked->record, &s->kept))
         return complain(s->recording.name, strerror(errno));
     return signals_begin() ? 0 : complain("signals", strerror(errno));

@@ -1,11 +1,13 @@
 """What becomes of a connection: the box at a session's end, connecting again, addresses that don't answer, silence."""
 import os
 import pathlib
+import shutil
 import socket
 import subprocess
 import tempfile
 import time
 
+from certificates import Authority, Front, context_of
 from faults import ROLL, silent_listener
 from hosts import Host, field, inputs, plain, text, write
 from window import Terminal, check
@@ -19,7 +21,7 @@ QUIET = 1.1  # Seconds, after which the box takes keys.
 def box(t):
     """The text in the box: rows that are reversed from the fifth column on."""
     rows = [row for row in range(24) if t.window.looks(row, 4).get("reverse") and t.window.looks(row, 75).get("reverse")]
-    return " ".join(" ".join(t.window.text(row).split()) for row in rows).strip()
+    return " ".join(" ".join(t.window.text(row) for row in rows).split())
 
 
 def in_box(t, words):
@@ -206,8 +208,20 @@ def two_addresses(folder):
     return made
 
 
+def mute():
+    """A port that says nothing."""
+    return plain(lambda line: time.sleep(25))
+
+
+def mute_by_tls(folder):
+    """The same behind TLS, and the file of who has signed its certificate."""
+    own = Authority(folder)
+    return Front(context_of(own.sign("mute", "DNS:localhost")), mute()).port, own.file("ca.pem")
+
+
 def silences():
     """An address that swallows what it gets has ten seconds, then comes the next; a port that says nothing is told."""
+    told = "10 seconds of silence: "
     with tempfile.TemporaryDirectory() as folder:
         listening, held = silent_listener()
         host = Host(where="127.0.0.2", port=listening.getsockname()[1])
@@ -215,15 +229,19 @@ def silences():
         begun = time.monotonic()
         swallowed = Terminal(f"two.example:{host.port}", LD_PRELOAD=names)
         alone = Terminal(f"127.0.0.1:{host.port}")
-        silent = Terminal(f"127.0.0.1:{plain(lambda line: time.sleep(25))}")
+        silent = Terminal(f"127.0.0.1:{mute()}")
+        more = [(Terminal("--tls", f"127.0.0.1:{mute()}"), "it may be no port for TLS.")]
+        if shutil.which("openssl") is not None:
+            port, known = mute_by_tls(folder)
+            more.append((Terminal("--tls", "--ca", known, f"localhost:{port}"), "it may be no 5250 host's port."))
         swallowed.tells("connecting")
         silent.tells("the session hasn't begun")
         silent.idles("meanwhile")
         silent.until(lambda: "silence" in silent.status(), "silence is told", 15)
         check(9.5 < time.monotonic() - begun < 13, "after ten seconds", time.monotonic() - begun)
-        check(silent.status().startswith(" 10 seconds of silence: the port may want TLS, or be no 5250 host's."),
-              "with what it may be", silent.status())
-        silent.settle()
+        more.append((silent, "the port may want TLS, or be no 5250 host's."))
+        for t, may_be in more:
+            t.until(lambda t=t, may_be=may_be: t.status().startswith(f" {told}{may_be} "), f"with what it may be: {may_be}")
         silent.type("a")
         silent.tells("the session hasn't begun")
         silent.idles("behind it")
@@ -232,7 +250,8 @@ def silences():
         host.send(FORM)
         swallowed.at("03/020")
         swallowed.leave()
-        silent.leave()
+        for t, _ in more:
+            t.leave()
         host.close()
         for line in held + [listening]:
             line.close()
