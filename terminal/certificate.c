@@ -77,7 +77,8 @@ void certificate_refused(X509_STORE_CTX *at, const char *host, char *why, size_t
     case X509_V_ERR_HOSTNAME_MISMATCH:
     case X509_V_ERR_IP_ADDRESS_MISMATCH:
         names_text(of, text);
-        (void)snprintf(why, room, "The host's certificate is for another name: for %s, and not for %.100s.", text, host);
+        (void)snprintf(why, room, "The host's certificate is for another name: for %s, and not for %.100s.", text,
+                       host);
         break;
     case X509_V_ERR_DEPTH_ZERO_SELF_SIGNED_CERT:
         (void)snprintf(why, room, "The host's certificate is signed by itself, and isn't known here: --ca names a file "

@@ -1,5 +1,5 @@
-/* A connection in the making, which never waits: names are looked up by a child, and each address is tried in turn for a
- * time of its own. */
+/* A connection in the making, which never waits: names are looked up by a child, and each address is tried in turn, for
+ * a time of its own. */
 #ifndef DIAL_H
 #define DIAL_H
 

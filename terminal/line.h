@@ -1,5 +1,5 @@
-/* The connection to a host, plain or by TLS: what is to be sent waits here, so that nobody waits for a host that doesn't
- * read. */
+/* The connection to a host, plain or by TLS: what is to be sent waits here, so that nobody waits for a host that
+ * doesn't read. */
 #ifndef LINE_H
 #define LINE_H
 

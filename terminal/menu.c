@@ -1,5 +1,6 @@
 #include "menu.h"
 
+#include "connecting.h"
 #include "draw.h"
 #include "window.h"
 
@@ -72,7 +73,7 @@ void menu_key(session *s, uint32_t character)
     case 'r': switch_recording(s); break;
     case 's': save_kept(s); break;
     case 'p': print_screen(s); break;
-    case 'c': session_again(s); break;
+    case 'c': connecting_again(s); break;
     default: break;
     }
 }

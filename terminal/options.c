@@ -9,7 +9,8 @@
 #include <string.h>
 
 static const char usage[] =
-    "usage: term5250 [OPTION].. HOST[:PORT]\n"
+    "usage: term5250 [OPTION].. HOST[:PORT] | NAME\n"
+    "       term5250 --list\n"
     "  --terminal NAME     IBM-5251-11, IBM-5291-1, IBM-5292-2, IBM-3196-A1 or\n"
     "                      IBM-3179-2, which is the default\n"
     "  --record FILE       records what both ends send; FILE-1, FILE-2 .. where FILE\n"
@@ -31,13 +32,18 @@ static const char usage[] =
     "                      window says that it is dark\n"
     "  --separators HOW    dim, which is the default, or off\n"
     "  --no-mouse          leaves the mouse to the window\n"
+    "  --list              the names in ~/.config/term5250/hosts, where a line is a\n"
+    "                      name, a colon, and words of a command line\n"
     "  --version, --help\n"
     "PORT is 23 where none is named, and 992 with --tls. ^] opens a menu with the\n"
     "keys; q there leaves.\n";
 
+static const char hint[] = "term5250 --help has all options.\n";
+
 typedef enum {
     WORD_HELP = 'h',
     WORD_VERSION = 0x100,
+    WORD_LIST,
     WORD_TERMINAL,
     WORD_RECORD,
     WORD_KEYS,
@@ -55,9 +61,12 @@ typedef enum {
     WORD_NO_MOUSE
 } word;
 
+enum { OWN_WORDS = 3 }; /* the first so many aren't for the hosts file */
+
 static const struct option known[] = {
     {"help", no_argument, NULL, WORD_HELP},
     {"version", no_argument, NULL, WORD_VERSION},
+    {"list", no_argument, NULL, WORD_LIST},
     {"terminal", required_argument, NULL, WORD_TERMINAL},
     {"record", required_argument, NULL, WORD_RECORD},
     {"keys", required_argument, NULL, WORD_KEYS},
@@ -76,59 +85,80 @@ static const struct option known[] = {
     {NULL, 0, NULL, 0},
 };
 
-static options_result end(int *status, int with)
+/* A reading of words, and what it comes to. */
+typedef struct {
+    options *asked;
+    const char *by; /* the program, or a file's line: it stands before what is wrong */
+    int status;
+} reading;
+
+static options_result end(reading *r, int with)
 {
-    *status = with;
+    r->status = with;
     return OPTIONS_END;
 }
 
-static options_result refuse(int *status, const char *format, const char *about)
+static options_result complain(reading *r, const char *why)
 {
-    (void)fputs("term5250: ", stderr);
+    (void)fprintf(stderr, "%s: %s\n", r->by, why);
+    return end(r, 2);
+}
+
+static options_result refuse(reading *r, const char *format, const char *about)
+{
+    (void)fprintf(stderr, "%s: ", r->by);
     (void)fprintf(stderr, format, about);
-    (void)fprintf(stderr, "\n%s", usage);
-    return end(status, 2);
+    (void)fprintf(stderr, "\n%s", hint);
+    return end(r, 2);
 }
 
 /* Standard output may be a file on a full disk. */
-static options_result print(int *status, const char *text)
+static options_result print(reading *r, const char *text)
 {
     bool is_out = fputs(text, stdout) >= 0 && fflush(stdout) == 0;
     if (!is_out)
         perror("term5250");
-    return end(status, is_out ? 0 : 2);
+    return end(r, is_out ? 0 : 2);
 }
 
-static options_result print_version(int *status)
+static options_result print_version(reading *r)
 {
     char text[400];
     (void)snprintf(text, sizeof text, "term5250 %s, on ribbonscarp %s, %s\n", RIBBON_VERSION, ribbon_version(),
                    tls_version());
-    return print(status, text);
+    return print(r, text);
 }
 
-static options_result choose_background(options *o, const char *value, int *status)
+static options_result print_hosts(reading *r)
+{
+    char why[HOSTS_WHY_ROOM];
+    return hosts_list(stdout, why) ? print(r, "") : complain(r, why);
+}
+
+static options_result choose_background(reading *r, const char *value)
 {
     bool is_black = strcmp(value, "black") == 0;
     if (!is_black && strcmp(value, "own") != 0)
-        return refuse(status, "--background is black or own, and not %s", value);
-    o->background = is_black ? BACKGROUND_BLACK : BACKGROUND_OWN;
+        return refuse(r, "--background is black or own, and not %s", value);
+    r->asked->background = is_black ? BACKGROUND_BLACK : BACKGROUND_OWN;
     return OPTIONS_RUN;
 }
 
-static options_result choose_separators(options *o, const char *value, int *status)
+static options_result choose_separators(reading *r, const char *value)
 {
-    o->separators = strcmp(value, "dim") == 0;
-    if (!o->separators && strcmp(value, "off") != 0)
-        return refuse(status, "--separators is dim or off, and not %s", value);
+    r->asked->separators = strcmp(value, "dim") == 0;
+    if (!r->asked->separators && strcmp(value, "off") != 0)
+        return refuse(r, "--separators is dim or off, and not %s", value);
     return OPTIONS_RUN;
 }
 
-static options_result take(options *o, int which, const char *value, int *status)
+static options_result take(reading *r, int which, const char *value)
 {
+    options *o = r->asked;
     switch (which) {
-    case WORD_HELP: return print(status, usage);
-    case WORD_VERSION: return print_version(status);
+    case WORD_HELP: return print(r, usage);
+    case WORD_VERSION: return print_version(r);
+    case WORD_LIST: return print_hosts(r);
     case WORD_TERMINAL: o->terminal = value; return OPTIONS_RUN;
     case WORD_RECORD: o->record = value; return OPTIONS_RUN;
     case WORD_KEYS: o->keys = value; return OPTIONS_RUN;
@@ -141,48 +171,102 @@ static options_result take(options *o, int which, const char *value, int *status
     case WORD_NO_HOLD: o->holds = false; return OPTIONS_RUN;
     case WORD_STRICT: o->is_strict = true; return OPTIONS_RUN;
     case WORD_MONO: o->is_mono = true; return OPTIONS_RUN;
-    case WORD_BACKGROUND: return choose_background(o, value, status);
-    case WORD_SEPARATORS: return choose_separators(o, value, status);
+    case WORD_BACKGROUND: return choose_background(r, value);
+    case WORD_SEPARATORS: return choose_separators(r, value);
     case WORD_NO_MOUSE: o->has_mouse = false; return OPTIONS_RUN;
-    default: (void)fputs(usage, stderr); return end(status, 2); /* getopt_long has told what is wrong */
+    default: (void)fputs(hint, stderr); return end(r, 2); /* getopt_long has told what is wrong */
     }
 }
 
-static options_result read_words(options *o, int count, char **words, int *status)
+/* Reads words by the options that they may have. A host is taken where they name one. */
+static options_result read_words(reading *r, int count, char **words, const struct option *may_have)
 {
+    r->by = words[0];
     optind = 0; /* begins anew */
-    for (int which; (which = getopt_long(count, words, "h", known, NULL)) != -1;)
-        if (take(o, which, optarg, status) == OPTIONS_END)
+    for (int which; (which = getopt_long(count, words, "h", may_have, NULL)) != -1;)
+        if (take(r, which, optarg) == OPTIONS_END)
             return OPTIONS_END;
     if (count - optind > 1)
-        return refuse(status, "%s is one host too many", words[optind + 1]);
-    o->where = words[optind];
-    return o->where == NULL ? refuse(status, "%s", "it needs a host") : OPTIONS_RUN;
+        return refuse(r, "%s is one host too many", words[optind + 1]);
+    if (optind < count)
+        r->asked->where = words[optind];
+    return OPTIONS_RUN;
+}
+
+/* Reads the line of the hosts file that has been found, and over it once more what the command line says. */
+static options_result read_line(reading *r, int count, char **words)
+{
+    options *o = r->asked;
+    wordexp_t *line = &o->line.words;
+    line->we_wordv[0] = o->line.what;
+    o->where = NULL;
+    if (read_words(r, (int)line->we_wordc + 1, line->we_wordv, known + OWN_WORDS) == OPTIONS_END)
+        return OPTIONS_END;
+    const char *host = o->where;
+    if (host == NULL)
+        return refuse(r, "%s", "it needs a host");
+    options_result result = read_words(r, count, words, known);
+    o->where = host;
+    return result;
+}
+
+/* Looks in the hosts file for what could be a name there: all that has no port and no brackets. */
+static options_result look_up(reading *r, int count, char **words)
+{
+    options *o = r->asked;
+    if (o->where == NULL)
+        return refuse(r, "%s", "it needs a host");
+    if (strpbrk(o->where, ":[") != NULL)
+        return OPTIONS_RUN;
+    hosts_result found = hosts_find(o->where, &o->line);
+    if (found == HOSTS_WRONG)
+        return complain(r, o->line.what);
+    o->is_named = found == HOSTS_FOUND;
+    return o->is_named ? read_line(r, count, words) : OPTIONS_RUN;
 }
 
 /* Without `--tls` these would go unheard, and the line would be plain. */
-static options_result check_tls(const options *o, int *status)
+static options_result check_tls(reading *r)
 {
-    bool is_for_tls = o->tls.authorities != NULL || o->tls.certificate != NULL || o->tls.is_unchecked;
-    if (o->tls.key != NULL && o->tls.certificate == NULL)
-        return refuse(status, "%s", "--key is for --cert, which isn't there");
-    if (is_for_tls && !o->tls.is_on)
-        return refuse(status, "%s", "--ca, --cert and --insecure are for --tls, which isn't there");
+    const tls_asked *asked = &r->asked->tls;
+    bool is_for_tls = asked->authorities != NULL || asked->certificate != NULL || asked->is_unchecked;
+    if (asked->key != NULL && asked->certificate == NULL)
+        return refuse(r, "%s", "--key is for --cert, which isn't there");
+    if (is_for_tls && !asked->is_on)
+        return refuse(r, "%s", "--ca, --cert and --insecure are for --tls, which isn't there");
     return OPTIONS_RUN;
+}
+
+static options_result read_all(reading *r, int count, char **words)
+{
+    char why[400];
+    options *o = r->asked;
+    if (count == 0)
+        return refuse(r, "%s", "it needs a host");
+    if (read_words(r, count, words, known) == OPTIONS_END || look_up(r, count, words) == OPTIONS_END)
+        return OPTIONS_END;
+    if (check_tls(r) == OPTIONS_END)
+        return OPTIONS_END;
+    if (address_read(&o->to, o->where, o->tls.is_on ? "992" : "23", why, sizeof why))
+        return OPTIONS_RUN;
+    return complain(r, why);
 }
 
 options_result options_read(options *o, int count, char **words, int *status)
 {
     static char name[] = "term5250";
-    char why[400];
+    reading r = {.asked = o, .by = name};
     *o = (options){.terminal = "IBM-3179-2", .holds = true, .has_mouse = true, .separators = true};
-    if (count == 0)
-        return refuse(status, "%s", "it needs a host");
-    words[0] = name; /* before what getopt_long tells */
-    if (read_words(o, count, words, status) == OPTIONS_END || check_tls(o, status) == OPTIONS_END)
-        return OPTIONS_END;
-    if (address_read(&o->to, o->where, o->tls.is_on ? "992" : "23", why, sizeof why))
-        return OPTIONS_RUN;
-    (void)fprintf(stderr, "term5250: %s\n", why);
-    return end(status, 2);
+    if (count > 0)
+        words[0] = name;
+    options_result result = read_all(&r, count, words);
+    *status = r.status;
+    return result;
+}
+
+void options_free(options *o)
+{
+    if (o->is_named)
+        hosts_end(&o->line);
+    o->is_named = false;
 }

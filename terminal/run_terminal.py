@@ -1,11 +1,12 @@
 #!/usr/bin/env python3
 """Types into the terminal: `run_terminal.py TERM5250 HOST5250 T5250 [OPTION]..`.
 
-Its parts stand in tests/: what a clerk does, what is shown, faults, connecting, TLS, what live hosts send, sizes in
-tmux, random work. With `--sanitized TERM5250` a terminal that was built with sanitizers takes the random work, which is
-left out without it, and with `--without-tls TERM5250` one that was built without TLS says so. With --long it is ten
-minutes of random keys and records, 120 hosts that send garbage, and 5,000 screens; without, a little of each, and all
-takes about two minutes. With --only the parts whose name has a word. Ends with 'N passed, N failed'."""
+Its parts stand in tests/: what a clerk does, what is shown, faults, connecting, TLS, the hosts file, what live hosts
+send, sizes in tmux, random work. With `--sanitized TERM5250` a terminal that was built with sanitizers takes the random
+work, which is left out without it, and with `--without-tls TERM5250` one that was built without TLS says so. With
+--long it is ten minutes of random keys and records, 120 hosts that send garbage, and 5,000 screens; without, a little
+of each, and all takes about two minutes. With --only the parts whose name has a word. Ends with 'N passed, N failed'.
+"""
 import argparse
 import pathlib
 import sys
@@ -17,6 +18,7 @@ sys.path.insert(0, str(pathlib.Path(__file__).resolve().parent / "tests"))
 import connecting
 import faults
 import hosts
+import hosts_file
 import in_tmux
 import live
 import long
@@ -51,6 +53,7 @@ def parts(words):
                 connecting.at_first, connecting.silences)
     yield from (secured.right, secured.refused_certificates, secured.refused_later, secured.own_certificate,
                 secured.no_tls_there, secured.tls_words)
+    yield from (hosts_file.named, hosts_file.wrong_hosts, hosts_file.listed)
     yield from (live.asked, live.an_error, live.alarm, live.alarm_refused, live.many_saves, live.strict)
     yield in_tmux.sizes
 

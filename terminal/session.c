@@ -1,6 +1,7 @@
 #define _GNU_SOURCE
 #include "session.h"
 
+#include "connecting.h"
 #include "sentence.h"
 
 #include <errno.h>
@@ -178,60 +179,13 @@ static void hear(session *s)
 
 /* ---- The session ---- */
 
-/* No session came about. At first the program ends with that, unless another try is due by itself. */
-static void fail_to_begin(session *s)
+session *session_new(void)
 {
-    s->is_leaving = !s->was_open && !s->again.is_due;
-}
-
-static void begin_session(session *s)
-{
-    s->phase = PHASE_OPEN;
-    s->was_open = true;
-    s->silent = session_clock();
-}
-
-/* A host whose certificate is refused isn't tried again by itself. */
-static void go_on_securing(session *s)
-{
-    s->phase = PHASE_SECURING;
-    tls_state state = tls_step(s->tls);
-    if (state == TLS_DONE)
-        begin_session(s);
-    if (state != TLS_FAILED && state != TLS_REFUSED)
-        return;
-    session_over(s, 2, "%s", tls_why(s->tls));
-    if (state == TLS_REFUSED)
-        again_cancel(&s->again);
-    fail_to_begin(s);
-}
-
-static void begin_line(session *s, int socket)
-{
-    s->phase = PHASE_OPEN; /* what fails now is an end of the line's */
-    s->begun = s->silent = session_clock();
-    if (!line_begin(&s->line, socket))
-        session_over(s, 1, "The line can't be used: %s.", strerror(errno));
-    else if (s->tls == NULL)
-        begin_session(s);
-    else if (!line_secure(&s->line, s->tls, s->asked->to.host))
-        session_over(s, 1, "TLS can't begin: memory is wanting.");
-    else
-        go_on_securing(s);
-}
-
-static void go_on_dialling(session *s, dial_state state)
-{
-    if (state == DIAL_FAILED) {
-        session_over(s, 2, "No connection to %s: %s.", s->asked->where, s->dial.why);
-        fail_to_begin(s);
-    }
-    if (state != DIAL_DONE)
-        return;
-    int socket = s->dial.line;
-    s->dial.line = -1;
-    dial_end(&s->dial);
-    begin_line(s, socket);
+    session *s = calloc(1, sizeof *s);
+    if (s == NULL)
+        return NULL;
+    s->dial.pipe = s->dial.line = s->line.socket = -1;
+    return s;
 }
 
 static void tell_silence(session *s)
@@ -243,63 +197,6 @@ static void tell_silence(session *s)
     else
         session_tell(s, "%d seconds of silence: the port may want TLS, or be no 5250 host's.", SILENCE / 1000);
     s->silent = 0;
-}
-
-session *session_new(void)
-{
-    session *s = calloc(1, sizeof *s);
-    if (s == NULL)
-        return NULL;
-    s->dial.pipe = s->dial.line = s->line.socket = -1;
-    return s;
-}
-
-ribbon_status session_station(session *s, const options *asked)
-{
-    s->asked = asked;
-    return asked->is_strict ? ribbon_station_new(&s->station, asked->terminal)
-                            : ribbon_station_new_extended(&s->station, asked->terminal);
-}
-
-bool session_begin(session *s)
-{
-    s->phase = PHASE_DIALLING;
-    go_on_dialling(s, dial_begin(&s->dial, &s->asked->to, session_clock()));
-    return !s->is_leaving;
-}
-
-/* What was recorded stays in its file. */
-static void record_anew(session *s)
-{
-    if (s->recording.file == NULL)
-        return;
-    bool is_whole = recording_end(&s->recording);
-    if (!is_whole)
-        session_report(s, "The end of %s couldn't be written.", s->recording.name);
-    else if (!recording_begin(&s->recording, s->recording.base, &s->kept))
-        session_report(s, "%s can't be written: %s.", s->recording.name, strerror(errno));
-}
-
-void session_again(session *s)
-{
-    if (s->phase != PHASE_OVER)
-        return;
-    again_cancel(&s->again);
-    s->heard_count = s->taken = s->said_count = 0;
-    s->has_rest = s->has_part = s->is_inserting = s->was_lit = s->is_box_open = false;
-    s->scanned = (telnet){.is_in_record = false};
-    s->alarms = 0;
-    s->status = 0;
-    s->note[0] = s->standing[0] = 0;
-    s->draws_all = true;
-    memset(&s->kept, 0, sizeof s->kept);
-    record_anew(s);
-    ribbon_station_free(&s->station);
-    ribbon_status status = session_station(s, s->asked);
-    if (status != RIBBON_DONE)
-        session_over(s, 1, "There is no station: %s.", ribbon_status_text(status));
-    else
-        (void)session_begin(s); /* a failure has been told */
 }
 
 struct pollfd session_wait(const session *s)
@@ -347,15 +244,15 @@ static void step_open(session *s, short ready)
 static void step(session *s, short ready)
 {
     switch (s->phase) {
-    case PHASE_DIALLING: go_on_dialling(s, dial_step(&s->dial, ready != 0, session_clock())); break;
+    case PHASE_DIALLING: connecting_dials(s, ready != 0); break;
     case PHASE_SECURING:
         if (ready != 0)
-            go_on_securing(s);
+            connecting_secures(s);
         break;
     case PHASE_OPEN: step_open(s, ready); break;
     case PHASE_OVER:
         if (s->again.is_due && again_left(&s->again, session_clock()) == 0)
-            session_again(s);
+            connecting_again(s);
         break;
     }
 }

@@ -73,16 +73,6 @@ uint64_t session_clock(void);
 /* A session that holds nothing yet; null where memory is wanting. */
 session *session_new(void);
 
-/* Makes the station that is asked for. */
-ribbon_status session_station(session *s, const options *asked);
-
-/* Begins to connect; false, with a sentence in `standing`, where that can't be. */
-bool session_begin(session *s);
-
-/* Connects again where the session is over: with a new station, an empty screen, and nothing kept of what was. What is
- * recorded goes on in a new file. */
-void session_again(session *s);
-
 /* What is to be waited for at the line; of no events where nothing is. */
 struct pollfd session_wait(const session *s);
 

@@ -5,6 +5,7 @@
  * One loop waits for the line, the keyboard and signals; everything else is done between two waits. */
 #define _GNU_SOURCE
 #include "box.h"
+#include "connecting.h"
 #include "draw.h"
 #include "input.h"
 #include "menu.h"
@@ -177,7 +178,7 @@ static bool read_keys(session *s, const options *asked)
 static int prepare(session *s, const options *asked)
 {
     char why[TLS_WHY_ROOM];
-    ribbon_status status = session_station(s, asked);
+    ribbon_status status = connecting_station(s, asked);
     if (status != RIBBON_DONE)
         return complain(asked->terminal, status == RIBBON_BAD_ARGUMENT ? "no such terminal type"
                                                                        : ribbon_status_text(status));
@@ -201,7 +202,7 @@ static int work(session *s, const options *asked)
         window_end(&w);
         return complain("the window can't be used", "");
     }
-    if (session_begin(s))
+    if (connecting_begin(s))
         run(s, &w);
     window_end(&w);
     bool is_whole = recording_end(&s->recording);
@@ -211,21 +212,27 @@ static int work(session *s, const options *asked)
     return is_whole || s->status != 0 ? s->status : 1;
 }
 
+static int run_asked(const options *asked, const char *locale)
+{
+    session *s = session_new();
+    if (s == NULL)
+        return complain("memory is wanting", "");
+    int status = prepare(s, asked);
+    if (status == 0) {
+        session_report(s, "%s", locale);
+        status = work(s, asked);
+    }
+    session_free(s);
+    return status;
+}
+
 int main(int count, char **words)
 {
     options asked;
     int status = 0;
     const char *locale = window_locale();
-    if (options_read(&asked, count, words, &status) == OPTIONS_END)
-        return status;
-    session *s = session_new();
-    if (s == NULL)
-        return complain("memory is wanting", "");
-    status = prepare(s, &asked);
-    if (status == 0) {
-        session_report(s, "%s", locale);
-        status = work(s, &asked);
-    }
-    session_free(s);
+    if (options_read(&asked, count, words, &status) == OPTIONS_RUN)
+        status = run_asked(&asked, locale);
+    options_free(&asked);
     return status;
 }

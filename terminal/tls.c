@@ -89,7 +89,8 @@ tls *tls_new(const tls_asked *asked, char *why)
     if (wrong == NULL)
         return t;
     bool is_no_key = ERR_GET_REASON(ERR_peek_error()) == ERR_R_UNSUPPORTED;
-    (void)snprintf(why, TLS_WHY_ROOM, "%.250s: %.120s", wrong, is_no_key ? "it holds no key that can be read" : told_first());
+    (void)snprintf(why, TLS_WHY_ROOM, "%.250s: %.120s", wrong,
+                   is_no_key ? "it holds no key that can be read" : told_first());
     tls_free(t);
     return NULL;
 }

@@ -20,7 +20,8 @@ QUIET = 1.1  # Seconds, after which the box takes keys.
 
 def box(t):
     """The text in the box: rows that are reversed from the fifth column on."""
-    rows = [row for row in range(24) if t.window.looks(row, 4).get("reverse") and t.window.looks(row, 75).get("reverse")]
+    look = t.window.looks
+    rows = [row for row in range(24) if look(row, 4).get("reverse") and look(row, 75).get("reverse")]
     return " ".join(" ".join(t.window.text(row) for row in rows).split())
 
 
@@ -241,7 +242,8 @@ def silences():
         check(9.5 < time.monotonic() - begun < 13, "after ten seconds", time.monotonic() - begun)
         more.append((silent, "the port may want TLS, or be no 5250 host's."))
         for t, may_be in more:
-            t.until(lambda t=t, may_be=may_be: t.status().startswith(f" {told}{may_be} "), f"with what it may be: {may_be}")
+            wanted = f" {told}{may_be} "
+            t.until(lambda t=t, wanted=wanted: t.status().startswith(wanted), f"with what it may be: {may_be}")
         silent.type("a")
         silent.tells("the session hasn't begun")
         silent.idles("behind it")

@@ -82,6 +82,7 @@ class Host:
                 raise OSError
             self.raw += data
         last = max(self.raw.rfind(token) + 3 for token in wanted)
+        self.began = self.raw[:last]  # The station's side of the negotiation.
         self.raw = self.raw[last:]
 
     def take(self, data):

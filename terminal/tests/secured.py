@@ -6,7 +6,7 @@ import tempfile
 import time
 
 import hosts
-from certificates import Authority, Front, context_of
+from certificates import NEW_KEY, Authority, Front, context_of
 from connecting import NEXT, box, in_box
 from hosts import Host, READ, field, inputs, plain, text, write
 from window import Terminal, check
@@ -102,9 +102,10 @@ def refused_certificates():
     with tempfile.TemporaryDirectory() as folder:
         own = Authority(folder)
         at_home = "DNS:localhost"
-        own.run("req", "-x509", "-newkey", "ec", "-pkeyopt", "ec_paramgen_curve:prime256v1", "-nodes", "-keyout", "a.key",
-                "-out", "a.crt", "-subj", "/CN=localhost", "-addext", "subjectAltName=DNS:localhost")
-        (own.folder / "alone.pem").write_text((own.folder / "a.crt").read_text() + (own.folder / "a.key").read_text())
+        own.run("req", "-x509", *NEW_KEY, "-keyout", "alone.pem", "-out", "a.crt", "-subj", "/CN=localhost",
+                "-addext", "subjectAltName=DNS:localhost")
+        with open(own.file("alone.pem"), "a") as both:
+            both.write((own.folder / "a.crt").read_text())
         rows = (
             (own.sign("name", "DNS:other.example,DNS:as400.example"), ["--ca", own.file("ca.pem")],
              "The host's certificate is for another name: for DNS:other.example, DNS:as400.example, and not for "
@@ -114,8 +115,8 @@ def refused_certificates():
             (own.sign("early", at_home, begin="20480304050607Z"), ["--ca", own.file("ca.pem")],
              "The host's certificate isn't valid yet: it will be from Mar  4 05:06:07 2048 GMT on."),
             (own.sign("right", at_home), [],
-             "The issuer of the host's certificate, CN = A test authority, isn't known here: --ca names a file of those "
-             "that are."),
+             "The issuer of the host's certificate, CN = A test authority, isn't known here: --ca names a file of "
+             "those that are."),
             (own.file("alone.pem"), [],
              "The host's certificate is signed by itself, and isn't known here: --ca names a file of those that are."),
         )

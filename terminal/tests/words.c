@@ -60,7 +60,8 @@ static void shows(const status_parts *parts, const char *wanted)
 
 static void the_line_is_in_words(void)
 {
-    status_parts parts = {.turn = "waiting for the host", .where = "as400:23", .note = "", .way = "^] menu", .security = ""};
+    status_parts parts = {.turn = "waiting for the host", .where = "as400:23", .note = "", .way = "^] menu"};
+    parts.security = "";
     parts.row = parts.column = 1;
     shows(&parts, " waiting for the host  as400:23                                 ^] menu  01/001 ");
     parts.turn = "";
