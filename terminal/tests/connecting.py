@@ -44,6 +44,8 @@ def the_box():
         t.rings("a key that was meant for the session", lambda: t.type("q"))
         time.sleep(QUIET)
         check("Order" in t.window.text(0) and "42" in t.window.text(2), "the screen stays beside it")
+        t.rings("pasted text", lambda: t.paste("q"))
+        in_box(t, "c connect again")
         t.type("s")
         t.tells("Saved in term5250.rec. It holds passwords.")
         in_box(t, "c connect again")

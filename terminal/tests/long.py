@@ -3,10 +3,12 @@ the terminal as it was found."""
 import os
 import pathlib
 import random
+import shutil
 import tempfile
 import time
 
 import hosts
+from certificates import Authority, Front, context_of
 from hosts import Host, READ, field, plain, text, write
 from window import Terminal, check
 
@@ -102,12 +104,21 @@ def end_is_right(status, said):
     return status == 1 or (status == 0 and "Refused at" not in last)
 
 
+def secured(dice, host, folder):
+    """Words for a way to the host, in the clear or by TLS."""
+    if shutil.which("openssl") is None or dice.random() < 0.6:
+        return [f"127.0.0.1:{host.port}"]
+    own = Authority(os.path.join(folder, "own"))
+    front = Front(context_of(own.sign("host", "DNS:localhost")), host.port)
+    return ["--tls", "--ca", own.file("ca.pem"), f"localhost:{front.port}"]
+
+
 def one_session(dice, sanitized, seconds, counts, folder):
     host = Host()
     words = dice.choice([[], ["--no-hold"], ["--mono"], ["--separators", "off"], ["--background", "own"],
                          ["--no-mouse"], ["--reconnect"]])
     rows, columns = dice.choice(SIZES[:3])
-    t = Terminal(*words, f"127.0.0.1:{host.port}", rows=rows, columns=columns, program=sanitized,
+    t = Terminal(*words, *secured(dice, host, folder), rows=rows, columns=columns, program=sanitized,
                  term=dice.choice(["xterm", "screen", "vt100", "linux", "xterm-256color"]), folder=folder, **CAREFUL)
     host.ready()
     end = time.monotonic() + seconds
