@@ -26,7 +26,7 @@ static void name_text(const X509_NAME *name, char *text)
     text[0] = 0;
     if (out == NULL)
         return;
-    if (X509_NAME_print_ex(out, name, 0, XN_FLAG_ONELINE) >= 0)
+    if (X509_NAME_print_ex(out, name, 0, XN_FLAG_RFC2253) >= 0)
         take_text(out, text);
     (void)BIO_free(out);
 }

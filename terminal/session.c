@@ -195,7 +195,7 @@ static void tell_silence(session *s)
     else if (s->tls != NULL)
         session_tell(s, "%d seconds of silence: it may be no 5250 host's port.", SILENCE / 1000);
     else
-        session_tell(s, "%d seconds of silence: the port may want TLS, or be no 5250 host's.", SILENCE / 1000);
+        session_tell(s, "%d seconds of silence: it may want TLS, or be no 5250 host's port.", SILENCE / 1000);
     s->silent = 0;
 }
 

@@ -1,11 +1,15 @@
 """Certificates that tests make by `openssl`, and TLS in front of a plain host."""
+import functools
 import os
 import pathlib
 import select
+import shutil
 import socket
 import ssl
 import subprocess
 import threading
+
+from window import Terminal
 
 NEW_KEY = ("-newkey", "ec", "-pkeyopt", "ec_paramgen_curve:prime256v1", "-nodes")
 AUTHORITY = """[ca]
@@ -20,6 +24,16 @@ copy_extensions = copy
 [any]
 commonName = supplied
 """
+
+
+@functools.cache
+def has_tls():
+    """Whether TLS can be tested here; it is told once where it can't."""
+    told = subprocess.run([Terminal.program, "--version"], capture_output=True, text=True).stdout
+    lacking = "libssl-dev" if "without TLS" in told else "openssl" if shutil.which("openssl") is None else None
+    if lacking is not None:
+        print(f"left out: TLS at the terminal, since {lacking} isn't here")
+    return lacking is None
 
 
 class Authority:

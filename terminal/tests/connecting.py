@@ -1,13 +1,12 @@
 """What becomes of a connection: the box at a session's end, connecting again, addresses that don't answer, silence."""
 import os
 import pathlib
-import shutil
 import socket
 import subprocess
 import tempfile
 import time
 
-from certificates import Authority, Front, context_of
+from certificates import Authority, Front, context_of, has_tls
 from faults import ROLL, silent_listener
 from hosts import Host, field, inputs, plain, text, write
 from window import Terminal, check
@@ -233,16 +232,17 @@ def silences():
         swallowed = Terminal(f"two.example:{host.port}", LD_PRELOAD=names)
         alone = Terminal(f"127.0.0.1:{host.port}")
         silent = Terminal(f"127.0.0.1:{mute()}")
-        more = [(Terminal("--tls", f"127.0.0.1:{mute()}"), "it may be no port for TLS.")]
-        if shutil.which("openssl") is not None:
+        more = []
+        if has_tls():
             port, known = mute_by_tls(folder)
+            more.append((Terminal("--tls", f"127.0.0.1:{mute()}"), "it may be no port for TLS."))
             more.append((Terminal("--tls", "--ca", known, f"localhost:{port}"), "it may be no 5250 host's port."))
         swallowed.tells("connecting")
         silent.tells("the session hasn't begun")
         silent.idles("meanwhile")
         silent.until(lambda: "silence" in silent.status(), "silence is told", 15)
         check(9.5 < time.monotonic() - begun < 13, "after ten seconds", time.monotonic() - begun)
-        more.append((silent, "the port may want TLS, or be no 5250 host's."))
+        more.append((silent, "it may want TLS, or be no 5250 host's port."))
         for t, may_be in more:
             wanted = f" {told}{may_be} "
             t.until(lambda t=t, wanted=wanted: t.status().startswith(wanted), f"with what it may be: {may_be}")

@@ -370,6 +370,7 @@ def without_a_terminal():
         helped = run(*words)
         is_right = helped.returncode == 0 and helped.stdout.startswith("usage: ") and not helped.stderr
         check(is_right, "help", words, helped)
+        check(all(len(line) <= 80 for line in helped.stdout.splitlines()), "in 80 columns", helped.stdout)
     version = run("--version")
     check(version.returncode == 0 and version.stdout.startswith("term5250 ") and not version.stderr, "version", version)
     with open("/dev/full", "w") as full:

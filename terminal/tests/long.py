@@ -3,12 +3,11 @@ the terminal as it was found."""
 import os
 import pathlib
 import random
-import shutil
 import tempfile
 import time
 
 import hosts
-from certificates import Authority, Front, context_of
+from certificates import Authority, Front, context_of, has_tls
 from hosts import Host, READ, field, plain, text, write
 from window import Terminal, check
 
@@ -106,7 +105,7 @@ def end_is_right(status, said):
 
 def secured(dice, host, folder):
     """Words for a way to the host, in the clear or by TLS."""
-    if shutil.which("openssl") is None or dice.random() < 0.6:
+    if dice.random() < 0.6 or not has_tls():
         return [f"127.0.0.1:{host.port}"]
     own = Authority(os.path.join(folder, "own"))
     front = Front(context_of(own.sign("host", "DNS:localhost")), host.port)

@@ -1,13 +1,13 @@
 """TLS: certificates that are right, for another name, expired, of nobody known, and a host that asks for one."""
-import shutil
+import os
 import ssl
 import subprocess
 import tempfile
 import time
 
 import hosts
-from certificates import NEW_KEY, Authority, Front, context_of
-from connecting import NEXT, box, in_box
+from certificates import NEW_KEY, Authority, Front, context_of, has_tls
+from connecting import NEXT, QUIET, box, in_box
 from hosts import Host, READ, field, inputs, plain, text, write
 from window import Terminal, check
 from work import FORM
@@ -15,17 +15,15 @@ from work import FORM
 NOWHERE = {"SSL_CERT_FILE": "/nowhere", "SSL_CERT_DIR": "/nowhere"}
 
 
-def has_openssl():
-    if shutil.which("openssl") is None:
-        print("left out: TLS, since openssl isn't here")
-        return False
-    return True
-
-
-def behind(authority, pem, **more):
+def behind(pem, **more):
     """A host, and TLS in front of it."""
     host = Host()
     return host, Front(context_of(pem, **more), host.port)
+
+
+def store(own):
+    """An environment whose store of certificates has one who signs, and no other."""
+    return {"SSL_CERT_FILE": own.file("ca.pem"), "SSL_CERT_DIR": "/nowhere"}
 
 
 def works(t, host, sign):
@@ -41,18 +39,20 @@ def works(t, host, sign):
 
 def right():
     """A certificate for the name or the address that was asked for, of one who is known: by `--ca` or to the system."""
-    if not has_openssl():
+    if not has_tls():
         return
     with tempfile.TemporaryDirectory() as folder:
         own = Authority(folder)
         pem = own.sign("right", "DNS:localhost,IP:127.0.0.1")
-        store = {"SSL_CERT_FILE": own.file("ca.pem"), "SSL_CERT_DIR": "/nowhere"}
         for words, name, environment in ((["--ca", own.file("ca.pem")], "localhost", NOWHERE),
                                          (["--ca", own.file("ca.pem")], "127.0.0.1", NOWHERE),
-                                         (["--ca", pem], "localhost", NOWHERE), ([], "localhost", store)):
-            host, front = behind(own, pem)
+                                         (["--ca", pem], "localhost", NOWHERE), ([], "localhost", store(own))):
+            host, front = behind(pem)
+            asked = []
+            front.context.sni_callback = lambda line, asked_for, context, asked=asked: asked.append(asked_for)
             t = Terminal("--tls", *words, f"{name}:{front.port}", **environment)
             works(t, host, " TLS ")
+            check(asked == ["localhost" if name == "localhost" else None], "the name that the host is asked for", asked)
             t.leave(0, "Left.")
             check(host.answer() is None, "the host is told of the end")
             front.close()
@@ -63,7 +63,7 @@ def right():
 
 def carries_much(own, pem):
     """More at once than a record of TLS or a look at the line takes, both ways; then the host closes."""
-    host, front = behind(own, pem)
+    host, front = behind(pem)
     host.window = t = Terminal("--tls", "--ca", own.file("ca.pem"), f"localhost:{front.port}")
     t.until(host.is_ready.is_set, "the session begins")
     body = write() + b"\x11\x05\x01" + b"\xc1" * 1500 + b"\x04\x11\x00\x00"
@@ -95,35 +95,38 @@ def at_its_port(own, pem):
     host.close()
 
 
+def wrong_ones(own, folder):
+    """Certificates that are refused, each with its sentence."""
+    stranger = Authority(os.path.join(folder, "stranger"), "A stranger")
+    stranger.run("req", "-x509", *NEW_KEY, "-keyout", "alone.pem", "-out", "a.crt", "-subj", "/CN=localhost",
+                 "-addext", "subjectAltName=DNS:localhost")
+    with open(stranger.file("alone.pem"), "a") as both:
+        both.write((stranger.folder / "a.crt").read_text())
+    return (
+        (own.sign("name", "DNS:other.example,DNS:as400.test"),
+         "The host's certificate is for another name: for DNS:other.example, DNS:as400.test, and not for localhost."),
+        (own.sign("expired", "DNS:localhost", end="20210304050607Z"),
+         "The host's certificate has expired: it was valid up to Mar 4 05:06:07 2021 GMT."),
+        (own.sign("early", "DNS:localhost", begin="20480304050607Z"),
+         "The host's certificate isn't valid yet: it will be from Mar 4 05:06:07 2048 GMT on."),
+        (stranger.sign("unknown", "DNS:localhost"),
+         "The issuer of the host's certificate, CN=A stranger, isn't known here: --ca names a file of those that are."),
+        (stranger.file("alone.pem"),
+         "The host's certificate is signed by itself, and isn't known here: --ca names a file of those that are."),
+    )
+
+
 def refused_certificates():
     """A check that fails is told, with what is wrong; no byte of the session goes out."""
-    if not has_openssl():
+    if not has_tls():
         return
     with tempfile.TemporaryDirectory() as folder:
         own = Authority(folder)
-        at_home = "DNS:localhost"
-        own.run("req", "-x509", *NEW_KEY, "-keyout", "alone.pem", "-out", "a.crt", "-subj", "/CN=localhost",
-                "-addext", "subjectAltName=DNS:localhost")
-        with open(own.file("alone.pem"), "a") as both:
-            both.write((own.folder / "a.crt").read_text())
-        rows = (
-            (own.sign("name", "DNS:other.example,DNS:as400.example"), ["--ca", own.file("ca.pem")],
-             "The host's certificate is for another name: for DNS:other.example, DNS:as400.example, and not for "
-             "localhost."),
-            (own.sign("expired", at_home, end="20210304050607Z"), ["--ca", own.file("ca.pem")],
-             "The host's certificate has expired: it was valid up to Mar  4 05:06:07 2021 GMT."),
-            (own.sign("early", at_home, begin="20480304050607Z"), ["--ca", own.file("ca.pem")],
-             "The host's certificate isn't valid yet: it will be from Mar  4 05:06:07 2048 GMT on."),
-            (own.sign("right", at_home), [],
-             "The issuer of the host's certificate, CN = A test authority, isn't known here: --ca names a file of "
-             "those that are."),
-            (own.file("alone.pem"), [],
-             "The host's certificate is signed by itself, and isn't known here: --ca names a file of those that are."),
-        )
-        for pem, words, sentence in rows:
-            host, front = behind(own, pem)
-            t = Terminal("--tls", "--reconnect", *words, f"localhost:{front.port}", **NOWHERE)
-            t.ended(2, f"term5250: {sentence}\r\n")
+        for pem, sentence in wrong_ones(own, folder):
+            host, front = behind(pem)
+            t = Terminal("--tls", "--reconnect", f"localhost:{front.port}", **store(own))
+            said = t.ended(2)
+            check(f"term5250: {sentence}" in " ".join(said.split()), "its sentence", sentence, said[-300:])
             check(not host.is_ready.is_set() and not host.raw, "nothing goes to such a host")
             t = Terminal("--tls", "--insecure", f"localhost:{front.port}", **NOWHERE)
             works(t, host, " INSECURE ")
@@ -134,20 +137,25 @@ def refused_certificates():
 
 def refused_later():
     """A certificate that is refused when connecting again is told in the box, and not tried again by itself."""
-    if not has_openssl():
+    if not has_tls():
         return
     with tempfile.TemporaryDirectory() as folder:
         own = Authority(folder)
-        host, front = behind(own, own.sign("right", "DNS:localhost"))
-        t = Terminal("--tls", "--reconnect", "--ca", own.file("ca.pem"), f"localhost:{front.port}")
+        pem = own.sign("right", "DNS:localhost")
+        host, front = behind(pem)
+        t = Terminal("--tls", "--reconnect", f"localhost:{front.port}", **store(own))
         works(t, host, " TLS ")
-        front.context = context_of(own.sign("other", "DNS:other.example"))
         host.again()
-        host.hang_up()
-        in_box(t, "The host's certificate is for another name: for DNS:other.example, and not for localhost. c connect")
-        t.settle(1.5)
+        for at, (wrong, sentence) in enumerate(wrong_ones(own, folder)):
+            front.context = context_of(wrong)
+            if at == 0:
+                host.hang_up()
+            else:
+                t.type("c")
+            in_box(t, f"{sentence} c connect again")
+            t.settle(QUIET)
         check("It begins again" not in box(t), "not by itself", box(t))
-        front.context = context_of(own.sign("good", "DNS:localhost"))
+        front.context = context_of(pem)
         t.type("c")
         t.until(host.is_ready.is_set, "by a key it is tried again")
         host.send(NEXT)
@@ -159,7 +167,7 @@ def refused_later():
 
 def own_certificate():
     """A host that asks for a certificate gets this end's, whose key may have a password."""
-    if not has_openssl():
+    if not has_tls():
         return
     with tempfile.TemporaryDirectory() as folder:
         own = Authority(folder)
@@ -167,7 +175,7 @@ def own_certificate():
         own.run("ec", "-in", "mine.key", "-aes256", "-out", "locked.key", "-passout", "pass:some words")
         known = ["--tls", "--ca", own.file("ca.pem")]
         for words in (["--cert", mine], ["--cert", own.file("mine.crt"), "--key", own.file("mine.key")]):
-            host, front = behind(own, pem, clients=own.file("ca.pem"))
+            host, front = behind(pem, clients=own.file("ca.pem"))
             t = Terminal(*known, *words, f"localhost:{front.port}")
             works(t, host, " TLS ")
             t.leave()
@@ -178,6 +186,10 @@ def own_certificate():
         works(t, host, " TLS ")
         t.leave()
         check("some words" not in t.said.decode("utf-8", "replace"), "and not shown")
+        t = Terminal(*known, "--cert", own.file("mine.crt"), "--key", own.file("locked.key"), f"localhost:{front.port}")
+        t.until(lambda: b"Enter PEM pass phrase:" in t.said, "the password is asked for")
+        t.type("other words\r")
+        t.ended(2, f"term5250: {own.file('locked.key')}: bad decrypt")
         t = Terminal(*known, f"localhost:{front.port}")
         in_box(t, "The line is lost: tlsv13 alert certificate required.")
         t.leave(1)
@@ -189,6 +201,8 @@ def own_certificate():
 
 def no_tls_there():
     """Ports that don't speak TLS, and hosts that close."""
+    if not has_tls():
+        return
     host = Host()
     host.window = t = Terminal("--tls", f"127.0.0.1:{host.port}")
     t.ended(2, "term5250: What this port speaks isn't TLS.\r\n")
@@ -202,23 +216,25 @@ def no_tls_there():
 
 def tls_words():
     """What can't be loaded is told by its file, and options that need another."""
+    rows = [
+        (["--ca", "/nowhere/ca.pem", "a"], "--ca, --cert and --insecure are for --tls, which isn't there"),
+        (["--insecure", "a"], "--ca, --cert and --insecure are for --tls, which isn't there"),
+        (["--cert", "x", "a"], "--ca, --cert and --insecure are for --tls, which isn't there"),
+        (["--tls", "--key", "x", "a"], "--key is for --cert, which isn't there"),
+    ]
     with tempfile.TemporaryDirectory() as folder:
-        rows = [
-            (["--ca", "/nowhere/ca.pem", "a"], "--ca, --cert and --insecure are for --tls, which isn't there"),
-            (["--insecure", "a"], "--ca, --cert and --insecure are for --tls, which isn't there"),
-            (["--cert", "x", "a"], "--ca, --cert and --insecure are for --tls, which isn't there"),
-            (["--tls", "--key", "x", "a"], "--key is for --cert, which isn't there"),
-            (["--tls", "--ca", "/nowhere/ca.pem", "a"], "term5250: /nowhere/ca.pem: No such file or directory\r\n"),
-            (["--tls", "--cert", "/nowhere/me.pem", "a"], "term5250: /nowhere/me.pem: No such file or directory\r\n"),
-            (["--tls", "--ca", "/dev/null", "a"], "term5250: /dev/null: no certificate or crl found\r\n"),
-        ]
-        if has_openssl():
+        if has_tls():
             own = Authority(folder)
             own.sign("mine", "DNS:clerk")
             own.sign("other", "DNS:clerk")
             mine, key = own.file("mine.crt"), own.file("other.key")
-            rows += [(["--tls", "--cert", mine, "a"], f"term5250: {mine}: it holds no key that can be read\r\n"),
-                     (["--tls", "--cert", mine, "--key", key, "a"], f"term5250: {key}: key values mismatch\r\n")]
+            rows += [
+                (["--tls", "--ca", "/nowhere/ca", "a"], "term5250: /nowhere/ca: No such file or directory\r\n"),
+                (["--tls", "--cert", "/nowhere/me", "a"], "term5250: /nowhere/me: No such file or directory\r\n"),
+                (["--tls", "--ca", "/dev/null", "a"], "term5250: /dev/null: no certificate or crl found\r\n"),
+                (["--tls", "--cert", mine, "a"], f"term5250: {mine}: it holds no key that can be read\r\n"),
+                (["--tls", "--cert", mine, "--key", key, "a"], f"term5250: {key}: key values mismatch\r\n"),
+            ]
         for words, sentence in rows:
             said = Terminal(*words).ended(2, sentence)
             check("\x1b" not in said, "it is told before the window is touched", words)
