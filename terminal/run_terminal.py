@@ -52,7 +52,7 @@ def parts(words):
     yield from (connecting.the_box, connecting.again_where_nobody_is, connecting.wrapped, connecting.by_itself,
                 connecting.at_first, connecting.silences)
     yield from (secured.right, secured.refused_certificates, secured.refused_later, secured.own_certificate,
-                secured.no_tls_there, secured.tls_words)
+                secured.broken, secured.no_tls_there, secured.tls_words)
     yield from (hosts_file.named, hosts_file.wrong_hosts, hosts_file.listed)
     yield from (live.asked, live.an_error, live.alarm, live.alarm_refused, live.many_saves, live.strict)
     yield in_tmux.sizes

@@ -83,6 +83,7 @@ class Front:
     def __init__(self, context, host_port, port=0):
         self.context, self.host_port = context, host_port
         self.listening = socket.create_server(("127.0.0.1", port))
+        self.secured = None  # The last line that came.
         self.port = self.listening.getsockname()[1]
         threading.Thread(target=self.serve, daemon=True).start()
 
@@ -98,6 +99,7 @@ class Front:
         try:
             with self.context.wrap_socket(line, server_side=True) as secured, \
                     socket.create_connection(("127.0.0.1", self.host_port)) as clear:
+                self.secured = secured
                 while both_ways(secured, clear):
                     pass
         except OSError:
@@ -105,6 +107,10 @@ class Front:
 
     def close(self):
         self.listening.close()
+
+    def close_line(self):
+        """Closes the line as it is, though a thread waits at it."""
+        self.secured.shutdown(socket.SHUT_RD)
 
 
 def both_ways(secured, clear):

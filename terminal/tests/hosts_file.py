@@ -86,6 +86,10 @@ def listed():
         write(home, "# All.\nprod:   --tls as400.example.com  \n\ntest: --mono 'a'\n")
         both = listing(HOME=home)
         check(both == (0, "prod: --tls as400.example.com\ntest: --mono 'a'\n", ""), "both", both)
+        with open("/dev/full", "w") as full:
+            done = subprocess.run([Terminal.program, "--list"], stdout=full, stderr=subprocess.PIPE, text=True,
+                                  env=os.environ | {"HOME": home, "XDG_CONFIG_HOME": ""})
+        check(done.returncode == 2 and "No space" in done.stderr, "to a full disk", done)
         write(home, "other: b\n", "term5250")
         check(listing(HOME=home, XDG_CONFIG_HOME=home) == (0, "other: b\n", ""), "in XDG_CONFIG_HOME")
         write(home, "prod: a\nnothing\n")

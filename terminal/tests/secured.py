@@ -1,6 +1,8 @@
 """TLS: certificates that are right, for another name, expired, of nobody known, and a host that asks for one."""
 import os
+import socket
 import ssl
+import struct
 import subprocess
 import tempfile
 import time
@@ -197,6 +199,38 @@ def own_certificate():
         Terminal(*known, f"localhost:{front.port}").ended(2, "The host refuses TLS: ", "alert handshake failure.")
         front.close()
         host.close()
+
+
+def broken():
+    """Bytes that aren't TLS in a session by TLS, a line that is reset, and garbage that came by TLS."""
+    if not has_tls():
+        return
+    with tempfile.TemporaryDirectory() as folder:
+        own = Authority(folder)
+        pem = own.sign("right", "DNS:localhost")
+
+        def write_by(front):
+            os.write(front.secured.fileno(), bytes(range(64)))
+
+        def reset(front):
+            front.secured.setsockopt(socket.SOL_SOCKET, socket.SO_LINGER, struct.pack("ii", 1, 0))
+            front.close_line()
+
+        for act, sentence in ((write_by, "The line is lost: wrong version number."),
+                              (reset, "The line is lost: Connection reset by peer.")):
+            host, front = behind(pem)
+            t = Terminal("--tls", "--ca", own.file("ca.pem"), f"localhost:{front.port}")
+            works(t, host, " TLS ")
+            act(front)
+            in_box(t, f"{sentence} c connect again")
+            t.leave(1, sentence)
+            front.close()
+            host.close()
+        front = Front(context_of(pem), plain(lambda line: (line.sendall(b"login: "), time.sleep(3))))
+        t = Terminal("--tls", "--ca", own.file("ca.pem"), f"localhost:{front.port}")
+        in_box(t, "This is no 5250 host: it sent `login: `.")
+        t.leave(1)
+        front.close()
 
 
 def no_tls_there():
