@@ -1,3 +1,4 @@
+/* The pauses before a session begins again. */
 #include "again.h"
 
 void again_plan(again *a, uint64_t now, uint64_t lasted)

@@ -1,3 +1,4 @@
+/* The box at a session's end. */
 #define _GNU_SOURCE
 #include "box.h"
 

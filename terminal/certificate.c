@@ -1,3 +1,4 @@
+/* Why a certificate is refused: the failed check, and what of the certificate it is about. */
 #include "certificate.h"
 
 #include <openssl/x509v3.h>

@@ -1,3 +1,4 @@
+/* The beginning of a session: dialling, TLS, and all anew. */
 #define _GNU_SOURCE
 #include "connecting.h"
 

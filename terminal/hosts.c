@@ -1,3 +1,4 @@
+/* The reading of the hosts file. */
 #define _GNU_SOURCE
 #include "hosts.h"
 

@@ -1,3 +1,4 @@
+/* Where the user's settings are. */
 #include "settings.h"
 
 #include <errno.h>

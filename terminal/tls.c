@@ -1,3 +1,4 @@
+/* TLS by OpenSSL: what is loaded, the handshake, and what is sent and received. */
 #define _GNU_SOURCE
 #include "tls.h"
 
