@@ -148,7 +148,7 @@ def one_session(dice, sanitized, seconds, counts, folder):
     if t.child.poll() is None and "--reconnect" not in words:
         same_screen(t, folder)
         counts["windows"] += 1
-    t.type("\x1dx\x1dq")
+    t.type("\x1b[201~\x1dx\x1dq")
     status = ended_with(t, 30)
     said = t.ended(status)
     check(end_is_right(status, said), "its status", status, said[-200:])
