@@ -118,6 +118,8 @@ TOLD_LINES = [
 
 # Lines behind `record opcode 3`, of which the last but none is bad.
 BAD_LINES = [
+    ["query"],
+    ["QUERY "],
     ["QUERY 1"],
     ["WRITE-ERRORS"],
     ["IC 1 1"],
@@ -171,6 +173,9 @@ SCREENS = [
     # what asks
     ([FORM, ERROR, "0402"], STANDS),
     ([FORM, ERROR, "04F3 0005 D970 00"], STANDS),
+    # an opcode: the light comes on, and a read is dropped
+    ([FORM, ERROR, ("", 11)], STANDS.replace("message off", "message on")),
+    ([FORM, ERROR, ("", 10)], STANDS),
     # another error
     ([FORM, ERROR, "0421 C1"], "24 A\n" + LOCKED % ("6 53", 1) + "error row 24\n"),
     # the row that a header names, and the last one without
@@ -240,7 +245,8 @@ def line_runs(runs):
 
 def screen_runs(runs):
     for bodies, screen in SCREENS:
-        done = run(["show", "--extended"], "".join(map(spelled, bodies)))
+        records = [spelled(*body) if isinstance(body, tuple) else spelled(body) for body in bodies]
+        done = run(["show", "--extended"], "".join(records))
         found = (done.returncode, done.stdout.partition("screen\n")[2])
         runs.count(f"show of {bodies} gave {done.stdout}", found == (0, screen))
     # A second command that asks, and a text of 81 bytes.

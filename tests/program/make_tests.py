@@ -11,6 +11,15 @@ STREAMS = [
     ("telnet DO 24\nat 8 telnet SB 24 01\n\ntelnet NOP\n", "FFFD18\nFFFA1801FFF0\nFFF1\n"),
     ("record opcode 3\n  WRITE 00 08\n  TEXT Ab 1\n  PUT c8C9\ntelnet AYT\nrecord opcode 2\nscreen\n",
      "001412A000000400000304110008C18240F1C8C9FFEF\nFFF6\n000A12A0000004000002FFEF\n"),
+    # what `show` prints of a stream
+    ("at 44 record flags 0000 opcode 3\n  CLEAR-UNIT\n  WRITE 00 08\n  SBA 6 40\n  PUT D581948540404B404B404B\n  SBA 6 52\n"
+     "  SF 4000 20 10\n  READ-MDT 00 00\nat 56 record flags 0000 opcode 10\nscreen\n"
+     " 6                                        Name  . . .\ncursor 6 53, locked, message off, blink off, fields 1\n",
+     "002B12A00000040000030440041100081106" "28D581948540404B404B404B110634" "1D400020000A" "04520000FFEF\n"
+     "000A12A000000400000AFFEF\n"),
+    # no flags, lower case, characters, comments, blank lines and CR
+    ("# a comment\r\n\nrecord opcode 3\r\n  WRITE 00 08\n  TEXT Ab 1\ntelnet DO 024",
+     "001212A000000400000304110008C18240F1FFEF\nFFFD18\n"),
 ]
 # The same of a station's items.
 ANSWERS = [
@@ -35,6 +44,19 @@ BAD_LINES_OF_TEXT = [
     ("record opcode 3\n  WRITE 00 08\n  PUT C", 3),
     ("record opcode 3\n  WRITE 00 08\n  TEXT \u20ac", 3),
     ("telnet DO 24\ntelnet DO 256\ntelnet DO 257", 2),
+    ("  SBA 1 1", 1),
+    ("record opcode 7", 1),
+    ("record opcode 3\n  SBA 1 1", 2),
+    ("record opcode 3\n  WRITE 00 08\n  SBA 1 81", 3),
+    ("record opcode 3\n  WRITE 00 08\n  PUT 04", 3),
+    ("record opcode 3\n  WRITE 00", 2),
+    ("record opcode 3\n  WRITE 00 08 ", 2),
+    ("record opcode 3\n  READ-MDT 00 00\n  PUT C1", 3),
+    ("record opcode 3\n  WRITE 00 08\n  SF 3000 20 1", 3),
+    ("record opcode 3\n  WRITE 00 08\n  SF 20 65536", 3),
+    ("record flags 0 opcode 3", 1),
+    ("telnet DO 256", 1),
+    ("at 18446744073709551616 telnet NOP", 1),
 ]
 # The same of a station's items, whose parts can't stand everywhere.
 BAD_LINES_OF_ANSWERS = [

@@ -19,8 +19,6 @@ mod answer_rows;
 mod key_rows;
 #[cfg(test)]
 mod split_rows;
-#[cfg(test)]
-mod stroke_rows;
 
 // Expects two values to be the same, and shows both where they aren't. One call of it is proved sooner than an
 // `assert_eq!`.
