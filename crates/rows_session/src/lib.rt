@@ -1,5 +1,5 @@
-//! The tests of sessions, and of scripts: `ws_session` and `ws_live`. They call what these crates hand out, and nothing
-//! else.
+//! The tests of sessions, of scripts, and of lines over devices in memory: `ws_session` and `ws_live`. They call what
+//! these crates hand out, and nothing else.
 #![tactic(auto)]
 
 // What the rows of ws_session share, the callers that docs/CALLING.md shows, and a display of their own.
@@ -35,6 +35,8 @@ mod size_rows;
 mod station_rows;
 
 // Rows of ws_live.
+#[cfg(test)]
+mod live_rows;
 #[cfg(test)]
 mod script_rows;
 
