@@ -115,6 +115,14 @@ def erased_to_the_end():
 
 
 @test
+def fields_that_are_emptied():
+    """A field by its number, unless keys don't enter it, or there is none."""
+    at_host(showing(THREE % "47"), ["--wait", "5"],
+            "await\ntype 123\nkey FieldMinus\nfield 1 4\nfield 2 X\nfield 3 Y\nfield 4 Z\nshow 2 2 4\nshow 3 2 2\nshow 4 2 4\n", 1,
+            "key refused Protected\nfield refused NoSuchField\n4\nJK\nY\n")
+
+
+@test
 def characters_that_are_refused():
     """Each refused key tells its character, and those of a line behind it are pressed all the same."""
     script = "await\ntype A\u20ac \u03b1\ninsert \u20ac\nfield 1 A\u20acB\nkey Dup\nfields\n"

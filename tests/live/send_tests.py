@@ -105,6 +105,18 @@ def the_largest_record():
 
 
 @test
+def a_record_that_is_too_big():
+    for kind, ready in ([], "host ready IBM-3179-2\n"), (["--any"], "terminal IBM-3179-2\n"):
+        with script_file(".serve", "await\nsend 2 %s40\nsend 2\n" % LARGEST.hex()) as script:
+            serve = Run(["serve", "--wait", "10"] + kind + ["127.0.0.1:0", script.name])
+            side = station_at(serve)
+            negotiate_as_station(side)
+            side.take(record(2))
+            side.close()
+            serve.end(1, ready + "send refused TooBig\n")
+
+
+@test
 def bad_lines_of_sends_in_words():
     rows = [("  CLEAR-UNIT", 1), ("send 3\n  WRITE", 2), ("send 3\n  CLEAR-UNIT\n  WRITE 00 08\n  SBA 25 1", 4),
             ("send 3 0440\n  CLEAR-UNIT", 2), ("send 3\n  CLEAR-UNIT\n\n  WRITE 00 08", 4),

@@ -88,6 +88,10 @@ COLORED = [
     ("11184E3A5CC1", "24 \x1b[0;32m" + " " * 78 + "\x1b[0;34m*A\x1b[0m\n"),
     # a row that is blank between two, in an attribute that goes on
     ("11010131C1110302C2", " 1 \x1b[0;32m \x1b[0;36;7mA\x1b[0m\n 3 \x1b[0;36;7m B\x1b[0m\n"),
+    # Dup in a hidden part, which goes on in the next row, and behind that
+    ("11014F3F1CC1221CC2", " 2 \x1b[0;32m \x1b[0;32m \x1b[0;37;1m*B\x1b[0m\n"),
+    # an attribute in the last cell changes nothing at the first
+    ("11185027110101C121", " 1 \x1b[0;32mA\x1b[0m\n"),
     # characters of two bytes, and one that the code page lacks
     ("1101014A205FFF", " 1 \x1b[0;32m¢ ¬.\x1b[0m\n"),
 ]

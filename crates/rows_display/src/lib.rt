@@ -8,8 +8,6 @@ mod screens;
 
 // Rows of ws_screen.
 #[cfg(test)]
-mod attribute_rows;
-#[cfg(test)]
 mod screen_rows;
 
 // Rows of ws_keys.
