@@ -132,7 +132,7 @@ def an_error_is_not_saved():
 
 @test
 def keys_while_an_error_stands():
-    """Attention and System Request are sent, a read behind the text unlocks for Reset alone, and a form takes its place."""
+    """Attention and System Request are sent, a read behind the text unlocks for Reset alone, a form takes its place."""
     steps = [
         (record(3, hexed(FORM)), [ATTENTION]),
         (record(3, hexed(ERROR + "0452 0008")), [ATTENTION, record(0, b"", 0x0400)]),

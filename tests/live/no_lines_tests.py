@@ -4,8 +4,8 @@ from live.runner import test
 
 # Lines that a station's script hasn't.
 STATION = [
-    "await text", "await text ", "await at", "await at ", "await at 1", "await at 1 1", "await at 1 1 ", "await at 0 1 A",
-    "await at 25 1 A", "await at 1 81 A", "await at  1 1 A", "await quiet", "await quiet ", "await quiet 0",
+    "await text", "await text ", "await at", "await at ", "await at 1", "await at 1 1", "await at 1 1 ",
+    "await at 0 1 A", "await at 25 1 A", "await at 1 81 A", "await at  1 1 A", "await quiet", "await quiet ", "await quiet 0",
     "await quiet 3600001", "await quiet 5ms", "await quiet  5",
     "cursor", "cursor ", "cursor 1", "cursor 1 ", "cursor 0 1", "cursor 25 1", "cursor 1 81", "cursor 257 1",
     "cursor 1 1 1", "cursor  1 1", "field", "field 1", "field 0 A", "field 257 A", "field X A", "newline ", "erase 1",
@@ -15,8 +15,8 @@ STATION = [
 
 # A host's scripts, and the first line that is none.
 HOST = [
-    ("await answer ", 1), ("await Left", 1), ("await Attention", 1), ("await enter", 1), ("await  Enter", 1), ("show 1", 1),
-    ("Show", 1), ("raw", 1), ("raw ", 1), ("raw 0", 1), ("raw 0G", 1), ("raw 00 00", 1), ("telnet", 1), ("telnet ", 1),
+    ("await answer ", 1), ("await Left", 1), ("await Attention", 1), ("await enter", 1), ("await  Enter", 1),
+    ("show 1", 1), ("Show", 1), ("raw", 1), ("raw ", 1), ("raw 0", 1), ("raw 0G", 1), ("raw 00 00", 1), ("telnet", 1), ("telnet ", 1),
     ("telnet do 39", 1), ("telnet DO 256", 1), ("telnet NOP 1", 1), ("pause 0", 1), ("pause 3600001", 1), ("close 1", 1),
     ("end 1\n", 1),
     # elements that belong to no line

@@ -9,7 +9,7 @@ FORM = "044004110008110634" "1D400020000A" "04520000"
 # Fields of four cells: one at 2, 2, one with bypass at 3, 2, and a last one at 4, 2.
 THREE = "044004110008110201" "1D%s0020000400000000" "1103011D6000200004D1D20000" "1104011D4000200004E2E30000" "04520000"
 
-# Waits for a text, each by itself, at a host that has closed: what is shown meets it, and `ended` tells that nothing does.
+# Waits for a text at a host that has closed: what is shown meets one, and `ended` tells that nothing does.
 AWAITED = [
     ("await text B", True), ("await text B. \u00fcQ", True), ("await text .", True), ("await text Q  ", True),
     ("await text b", False), ("await text \u00fcQ.", False), ("await text \u20ac", False), ("await at 6 53 B", True),
@@ -56,7 +56,8 @@ key refused Locked
 """
 
 # Where New Line leads from a cell.
-NEW_LINES = [((1, 1), (2, 2)), ((2, 2), (4, 2)), ((2, 80), (4, 2)), ((3, 2), (4, 2)), ((4, 1), (2, 2)), ((24, 80), (2, 2))]
+NEW_LINES = [((1, 1), (2, 2)), ((2, 2), (4, 2)), ((2, 80), (4, 2)), ((3, 2), (4, 2)), ((4, 1), (2, 2)),
+             ((24, 80), (2, 2))]
 
 # A field's format, what is typed, the cursor's column, and what Erase EOF leaves. A sign goes too.
 ERASED = [("40", "type ABCD", 2, ""), ("40", "type ABCD", 3, "A"), ("40", "type ABCD", 5, "ABC"),
@@ -118,8 +119,8 @@ def erased_to_the_end():
 def fields_that_are_emptied():
     """A field by its number, unless keys don't enter it, or there is none."""
     at_host(showing(THREE % "47"), ["--wait", "5"],
-            "await\ntype 123\nkey FieldMinus\nfield 1 4\nfield 2 X\nfield 3 Y\nfield 4 Z\nshow 2 2 4\nshow 3 2 2\nshow 4 2 4\n", 1,
-            "key refused Protected\nfield refused NoSuchField\n4\nJK\nY\n")
+            "await\ntype 123\nkey FieldMinus\nfield 1 4\nfield 2 X\nfield 3 Y\nfield 4 Z\n"
+            "show 2 2 4\nshow 3 2 2\nshow 4 2 4\n", 1, "key refused Protected\nfield refused NoSuchField\n4\nJK\nY\n")
 
 
 @test

@@ -12,8 +12,8 @@ STREAMS = [
     ("record opcode 3\n  WRITE 00 08\n  TEXT Ab 1\n  PUT c8C9\ntelnet AYT\nrecord opcode 2\nscreen\n",
      "001412A000000400000304110008C18240F1C8C9FFEF\nFFF6\n000A12A0000004000002FFEF\n"),
     # what `show` prints of a stream
-    ("at 44 record flags 0000 opcode 3\n  CLEAR-UNIT\n  WRITE 00 08\n  SBA 6 40\n  PUT D581948540404B404B404B\n  SBA 6 52\n"
-     "  SF 4000 20 10\n  READ-MDT 00 00\nat 56 record flags 0000 opcode 10\nscreen\n"
+    ("at 44 record flags 0000 opcode 3\n  CLEAR-UNIT\n  WRITE 00 08\n  SBA 6 40\n  PUT D581948540404B404B404B\n"
+     "  SBA 6 52\n  SF 4000 20 10\n  READ-MDT 00 00\nat 56 record flags 0000 opcode 10\nscreen\n"
      " 6                                        Name  . . .\ncursor 6 53, locked, message off, blink off, fields 1\n",
      "002B12A00000040000030440041100081106" "28D581948540404B404B404B110634" "1D400020000A" "04520000FFEF\n"
      "000A12A000000400000AFFEF\n"),
