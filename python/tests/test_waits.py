@@ -85,6 +85,8 @@ class GoalsTest(PairTest):
         self.assertEqual(self.session.wait_any(failed, "MAIN MENU", lambda screen: True), "MAIN MENU")
         with self.assertRaisesRegex(WaitedTooLong, "a match of 'x.y' or the text 'Z' hasn't come within 0 seconds"):
             self.session.wait_any(re.compile("x.y"), "Z", wait=0)
+        with self.assertRaisesRegex(ValueError, "there is nothing to wait for"):
+            self.session.wait_any()
 
     def test_regular_expression(self) -> None:
         self.send(OPENING, text("Job 004711"))
