@@ -193,11 +193,14 @@ class Listener:
         return session
 
     async def close(self) -> None:
-        """Listens no more; an `accept` of another task ends."""
+        """Listens no more; an `accept` of another task ends. Sessions that were accepted go on."""
         self._is_closed = True
         self._server.close()
+        while not self._come.empty():
+            session = self._come.get_nowait()
+            if session is not None:
+                await session.close()
         self._come.put_nowait(None)
-        await self._server.wait_closed()
 
     async def __aenter__(self) -> Listener:
         return self
