@@ -1,4 +1,5 @@
-use Rattle.ws_record.proofs.Common.{refl, inl, inr, arith, common_steps, append-nil, length_rest, bytes_on, room_next, handed_on}
+use Rattle.ws_record.proofs.Common.{refl, inl, inr, arith, common_steps, append-nil, length_rest, bytes_on}
+use Rattle.ws_record.proofs.Common.{room_next, handed_on}
 use Rattle.ws_record.proofs.Faults.{item_completed}
 use Rattle.ws_record.proofs.Receivers.{left_feeds, same_received}
 use Rattle.ws_record.proofs.receiver.Receiver.take_all.Goals as goal
