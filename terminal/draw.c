@@ -1,5 +1,6 @@
 #include "draw.h"
 
+#include "box.h"
 #include "menu.h"
 
 #include <string.h>
@@ -47,6 +48,8 @@ static const char *turn_words(const session *s, const ribbon_state *state)
 {
     if (s->phase == PHASE_DIALLING)
         return "connecting";
+    if (s->phase == PHASE_SECURING)
+        return "connected, TLS begins";
     if (s->phase == PHASE_OVER)
         return "the session is over";
     if (!state->is_ready)
@@ -77,6 +80,7 @@ status_parts draw_parts(session *s, const ribbon_state *state)
     parts.note = s->note[0] != 0 ? s->note : s->standing;
     parts.way = way_words(s, state->error_row != 0);
     parts.is_way_out = s->is_held || s->phase == PHASE_OVER || state->error_row != 0;
+    parts.security = !s->asked->tls.is_on ? "" : s->asked->tls.is_unchecked ? " INSECURE" : " TLS";
     parts.is_message_lit = state->is_message_lit;
     parts.is_inserting = s->is_inserting;
     parts.is_recording = s->recording.file != NULL;
@@ -121,6 +125,8 @@ static void draw_screen(session *s, window *w, const ribbon_state *state, const 
     else if (covers_row(s, state))
         draw_status(parts, SCREEN_ROWS - 1);
     (void)move(state->cursor_row - 1, state->cursor_column - 1);
+    if (s->is_box_open)
+        box_draw(s);
 }
 
 static void ring(session *s, const ribbon_state *state)

@@ -1,5 +1,6 @@
 #include "menu.h"
 
+#include "connecting.h"
 #include "draw.h"
 #include "window.h"
 
@@ -72,6 +73,7 @@ void menu_key(session *s, uint32_t character)
     case 'r': switch_recording(s); break;
     case 's': save_kept(s); break;
     case 'p': print_screen(s); break;
+    case 'c': connecting_again(s); break;
     default: break;
     }
 }
@@ -103,6 +105,7 @@ static void draw_words(const session *s)
         "Mouse         a click moves the cursor; with Shift the window selects text",
         "Paste         a line's end goes to the next field, and sends nothing",
         "MW  a message waits   INS  insert mode   REC  recording   T  keys wait",
+        "TLS  the host's certificate is right   INSECURE  TLS, and nothing is checked",
         "field 10  length of the cursor's field   06/053  row and column of the cursor",
     };
     char title[100];
@@ -113,6 +116,8 @@ static void draw_words(const session *s)
     put(2, 19, "s  save the last 256 KiB of both ends (these hold passwords)");
     if (s->standing[0] != 0)
         put(3, 0, s->standing);
+    if (s->phase == PHASE_OVER)
+        put(KEY_ROWS + 4, 0, "c  connect again");
     draw_keys(s, 4);
     for (size_t at = 0; at < sizeof signs / sizeof signs[0]; at++)
         put(5 + KEY_ROWS + (int)at, 0, signs[at]);

@@ -189,7 +189,10 @@ static bool press_own(session *s, action key)
     switch (key.kind) {
     case ACTION_NOTHING: return true;
     case ACTION_REDRAW: s->draws_all = s->repaints = true; return true;
-    case ACTION_MENU: s->is_menu_open = s->draws_all = true; return true;
+    case ACTION_MENU:
+        s->is_box_open = false;
+        s->is_menu_open = s->draws_all = true;
+        return true;
     case ACTION_INSERT_MODE:
         if (s->is_held || s->phase == PHASE_OVER)
             s->rings = true;

@@ -1,10 +1,12 @@
 #!/usr/bin/env python3
-"""Types into the terminal: `run_terminal.py TERM5250 HOST5250 T5250 [--sanitized TERM5250] [--long] [--only WORD]`.
+"""Types into the terminal: `run_terminal.py TERM5250 HOST5250 T5250 [OPTION]..`.
 
-Its parts stand in tests/: what a clerk does, what is shown, faults, what live hosts send, sizes in tmux, random work. A
-terminal that was built with sanitizers takes the random work, which is left out without it. With --long it is ten minutes of random keys
-and records, 120 hosts that send garbage, and 5,000 screens; without, a little of each, and all takes about two minutes.
-With --only the parts whose name has a word. Ends with 'N passed, N failed'."""
+Its parts stand in tests/: what a clerk does, what is shown, faults, connecting, TLS, the hosts file, what live hosts
+send, sizes in tmux, random work. With `--sanitized TERM5250` a terminal that was built with sanitizers takes the random
+work, which is left out without it, and with `--without-tls TERM5250` one that was built without TLS says so. With
+--long it is ten minutes of random keys and records, 120 hosts that send garbage, and 5,000 screens; without, a little
+of each, and all takes about two minutes. With --only the parts whose name has a word. Ends with 'N passed, N failed'.
+"""
 import argparse
 import pathlib
 import sys
@@ -13,11 +15,14 @@ import traceback
 
 sys.dont_write_bytecode = True
 sys.path.insert(0, str(pathlib.Path(__file__).resolve().parent / "tests"))
+import connecting
 import faults
 import hosts
+import hosts_file
 import in_tmux
 import live
 import long
+import secured
 import shown
 import window
 import work
@@ -27,6 +32,7 @@ def arguments():
     reader = argparse.ArgumentParser(description=__doc__.split("\n", maxsplit=1)[0])
     reader.add_argument("programs", nargs=3)
     reader.add_argument("--sanitized")
+    reader.add_argument("--without-tls")
     reader.add_argument("--long", action="store_true")
     reader.add_argument("--only", default="")
     reader.add_argument("--times", action="store_true")
@@ -43,6 +49,11 @@ def parts(words):
                 faults.kept_is_the_last, faults.bad_peers, faults.synch, faults.ipv6, faults.floods,
                 faults.while_connecting, faults.in_the_menu, faults.command_lines, faults.without_a_terminal,
                 faults.unwritable_files)
+    yield from (connecting.the_box, connecting.again_where_nobody_is, connecting.wrapped, connecting.by_itself,
+                connecting.at_first, connecting.silences)
+    yield from (secured.right, secured.refused_certificates, secured.refused_later, secured.own_certificate,
+                secured.broken, secured.no_tls_there, secured.tls_words)
+    yield from (hosts_file.named, hosts_file.wrong_hosts, hosts_file.listed)
     yield from (live.asked, live.an_error, live.alarm, live.alarm_refused, live.many_saves, live.strict)
     yield in_tmux.sizes
 
@@ -55,6 +66,11 @@ def parts(words):
     def garbage_hosts():
         long.garbage_hosts(1205, words.sanitized, 120 if words.long else 20)
 
+    def built_without_tls():
+        secured.without_tls(words.without_tls)
+
+    if words.without_tls:
+        yield built_without_tls
     yield screens
     if words.sanitized:
         yield from (random_work, garbage_hosts)

@@ -2,6 +2,7 @@
 #ifndef SESSION_H
 #define SESSION_H
 
+#include "again.h"
 #include "ahead.h"
 #include "bindings.h"
 #include "dial.h"
@@ -12,14 +13,24 @@
 #include "recording.h"
 #include "ribbonscarp.h"
 
-enum { SAID_ROOM = 64, NOTE_ROOM = 400 };
+enum {
+    SAID_ROOM = 64,
+    NOTE_ROOM = 400,
+    SILENCE = 10000 /* milliseconds: a host that has sent nothing for so long is told */
+};
 
 typedef struct {
     const options *asked;
     bindings keys;
     ribbon_station station;
-    enum { PHASE_DIALLING, PHASE_OPEN, PHASE_OVER } phase;
+    enum {
+        PHASE_DIALLING,
+        PHASE_SECURING, /* the line is there, and TLS begins on it */
+        PHASE_OPEN,
+        PHASE_OVER
+    } phase;
     dial dial;
+    tls *tls; /* null where none is asked for */
     line line;
     uint8_t heard[KEPT_PIECE]; /* what came last, up to `heard_count`; the station has taken the first `taken` */
     size_t heard_count;
@@ -27,6 +38,10 @@ typedef struct {
     bool has_rest; /* of that, or of its answers */
     bool has_part; /* of an answer went out, and perhaps not all of it */
     uint64_t begun; /* the connection, in milliseconds of the system's clock */
+    bool was_open;  /* a session has been there, this one or one before */
+    uint64_t silent; /* since when the host is; 0 where it has sent something, or that has been told */
+    uint64_t ended; /* the session, by the same clock */
+    again again;
     kept kept;
     telnet scanned;          /* of what the host sends */
     uint8_t said[SAID_ROOM]; /* the first bytes of its records */
@@ -40,6 +55,7 @@ typedef struct {
     uint64_t alarms;   /* of the host's, when they were looked at last */
     bool rings;        /* the bell is still to be rung */
     bool is_menu_open;
+    bool is_box_open;  /* with the reason for the session's end */
     bool draws_all;    /* all is to be drawn, whatever has changed */
     bool repaints;     /* and the window is to be painted anew */
     bool is_leaving;   /* the program ends */
@@ -57,13 +73,13 @@ uint64_t session_clock(void);
 /* A session that holds nothing yet; null where memory is wanting. */
 session *session_new(void);
 
-/* Begins to connect; false, with a sentence in `standing`, where that can't be. */
-bool session_begin(session *s, const options *asked);
-
 /* What is to be waited for at the line; of no events where nothing is. */
 struct pollfd session_wait(const session *s);
 
-/* Goes on at the line, where it is ready: connects, sends, takes what has come. */
+/* The milliseconds after which session_step has something to do, whatever comes; negative where it has nothing. */
+int session_due(const session *s);
+
+/* Goes on at the line, where it is ready or something is due: connects, sends, takes what has come. */
 void session_step(session *s, short ready);
 
 /* Sends a station's bytes, as soon as the host takes them; false where too many wait already. */

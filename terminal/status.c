@@ -7,14 +7,14 @@
 /* The signs that are on, with a blank before each. */
 static void put_signs(const status_parts *parts, char *text, size_t room)
 {
-    (void)snprintf(text, room, "%s%s%s%s", parts->is_message_lit ? " MW" : "", parts->is_inserting ? " INS" : "",
-                   parts->is_recording ? " REC" : "", parts->waits ? " T" : "");
+    (void)snprintf(text, room, "%s%s%s%s%s", parts->security, parts->is_message_lit ? " MW" : "",
+                   parts->is_inserting ? " INS" : "", parts->is_recording ? " REC" : "", parts->waits ? " T" : "");
 }
 
 /* What stands at the right; the way on and the field's length only where a long sentence leaves room for them. */
 static void put_right(const status_parts *parts, size_t left_needs, char *text, size_t room)
 {
-    char signs[20], place[12], way[40], field[24] = "";
+    char signs[30], place[12], way[40], field[24] = "";
     put_signs(parts, signs, sizeof signs);
     (void)snprintf(place, sizeof place, "  %02u/%03u ", parts->row % 100, parts->column % 1000);
     (void)snprintf(way, sizeof way, "  %s", parts->way);
@@ -48,7 +48,7 @@ void status_line(const status_parts *parts, wchar_t line[STATUS_COLUMNS + 1])
     if (length == (size_t)-1)
         length = 0;
     put_right(parts, length + 1, right, sizeof right);
-    size_t room = STATUS_COLUMNS - strlen(right); /* it has 66 characters at most */
+    size_t room = STATUS_COLUMNS - strlen(right); /* it has 75 characters at most */
     put_left(wide, length, line, room);
     for (size_t at = room; at < STATUS_COLUMNS; at++)
         line[at] = (wchar_t)right[at - room];
@@ -57,7 +57,7 @@ void status_line(const status_parts *parts, wchar_t line[STATUS_COLUMNS + 1])
 
 void status_title(const status_parts *parts, char *text, size_t room)
 {
-    char signs[20];
+    char signs[30];
     put_signs(parts, signs, sizeof signs);
     (void)snprintf(text, room, "%s%s%s%s%s - term5250", parts->where, parts->turn[0] != 0 ? ": " : "", parts->turn,
                    signs[0] != 0 ? ":" : "", signs);

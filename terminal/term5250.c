@@ -4,14 +4,16 @@
  *
  * One loop waits for the line, the keyboard and signals; everything else is done between two waits. */
 #define _GNU_SOURCE
+#include "box.h"
+#include "connecting.h"
 #include "draw.h"
 #include "input.h"
 #include "menu.h"
 #include "press.h"
+#include "settings.h"
 #include "signals.h"
 
 #include <errno.h>
-#include <stdlib.h>
 #include <string.h>
 #include <unistd.h>
 
@@ -61,6 +63,8 @@ static void take_input(session *s, const input *i)
         s->rings = true;
     else if (is_paste)
         press_pasted(s, i->key);
+    else if (s->is_box_open && !is_menu)
+        box_key(s, i->kind == INPUT_CLICK ? STROKE_ESCAPE : i->key);
     else if (i->kind == INPUT_STROKE)
         take_stroke(s, i->key);
     else if (i->kind == INPUT_CHARACTER)
@@ -133,7 +137,7 @@ static void run(session *s, window *w)
             drawn = now;
         }
         if (ready == 0 && !more)
-            ready = signals_wait(waits, 2, -1);
+            ready = signals_wait(waits, 2, session_due(s));
         if (ready <= 0)
             waits[0].revents = waits[1].revents = 0;
         take_events(s, w, &reader, waits, &more);
@@ -153,17 +157,10 @@ static int complain(const char *what, const char *why)
 /* The keys file that is asked for, or the usual one where it is there; false where it is wrong. */
 static bool read_keys(session *s, const options *asked)
 {
-    char name[FILE_NAME_ROOM], why[FILE_NAME_ROOM + 400];
-    const char *folder = getenv("XDG_CONFIG_HOME"), *home = getenv("HOME");
-    bool is_set = folder != NULL && folder[0] != 0;
+    char path[FILE_NAME_ROOM], why[FILE_NAME_ROOM + 400];
     bindings_begin(&s->keys);
-    if (asked->keys == NULL && !is_set && (home == NULL || home[0] == 0))
-        return true;
-    int length = asked->keys != NULL ? snprintf(name, sizeof name, "%s", asked->keys)
-                 : is_set            ? snprintf(name, sizeof name, "%s/term5250/keys", folder)
-                                     : snprintf(name, sizeof name, "%s/.config/term5250/keys", home);
-    errno = ENAMETOOLONG;
-    FILE *file = length > 0 && (size_t)length < sizeof name ? fopen(name, "r") : NULL;
+    FILE *file = asked->keys != NULL ? fopen(asked->keys, "r") : settings_open("keys", path, sizeof path);
+    const char *name = asked->keys != NULL ? asked->keys : path;
     if (file == NULL && asked->keys == NULL && (errno == ENOENT || errno == ENOTDIR))
         return true;
     if (file == NULL) {
@@ -180,9 +177,8 @@ static bool read_keys(session *s, const options *asked)
 /* All that can go wrong before the line is there is told before; 0 where nothing has. */
 static int prepare(session *s, const options *asked)
 {
-    char why[400];
-    ribbon_status status = asked->is_strict ? ribbon_station_new(&s->station, asked->terminal)
-                                            : ribbon_station_new_extended(&s->station, asked->terminal);
+    char why[TLS_WHY_ROOM];
+    ribbon_status status = connecting_station(s, asked);
     if (status != RIBBON_DONE)
         return complain(asked->terminal, status == RIBBON_BAD_ARGUMENT ? "no such terminal type"
                                                                        : ribbon_status_text(status));
@@ -192,6 +188,8 @@ static int prepare(session *s, const options *asked)
         return complain(why, "");
     if (!read_keys(s, asked))
         return 2;
+    if (asked->tls.is_on && (s->tls = tls_new(&asked->tls, why)) == NULL)
+        return complain(why, "");
     if (asked->record != NULL && !recording_begin(&s->recording, asked->record, &s->kept))
         return complain(s->recording.name, strerror(errno));
     return signals_begin() ? 0 : complain("signals", strerror(errno));
@@ -204,7 +202,7 @@ static int work(session *s, const options *asked)
         window_end(&w);
         return complain("the window can't be used", "");
     }
-    if (session_begin(s, asked))
+    if (connecting_begin(s))
         run(s, &w);
     window_end(&w);
     bool is_whole = recording_end(&s->recording);
@@ -214,21 +212,27 @@ static int work(session *s, const options *asked)
     return is_whole || s->status != 0 ? s->status : 1;
 }
 
+static int run_asked(const options *asked, const char *locale)
+{
+    session *s = session_new();
+    if (s == NULL)
+        return complain("memory is wanting", "");
+    int status = prepare(s, asked);
+    if (status == 0) {
+        session_report(s, "%s", locale);
+        status = work(s, asked);
+    }
+    session_free(s);
+    return status;
+}
+
 int main(int count, char **words)
 {
     options asked;
     int status = 0;
     const char *locale = window_locale();
-    if (options_read(&asked, count, words, &status) == OPTIONS_END)
-        return status;
-    session *s = session_new();
-    if (s == NULL)
-        return complain("memory is wanting", "");
-    status = prepare(s, &asked);
-    if (status == 0) {
-        session_report(s, "%s", locale);
-        status = work(s, &asked);
-    }
-    session_free(s);
+    if (options_read(&asked, count, words, &status) == OPTIONS_RUN)
+        status = run_asked(&asked, locale);
+    options_free(&asked);
     return status;
 }

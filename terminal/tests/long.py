@@ -1,5 +1,5 @@
-"""Random keys and records, and hosts that send garbage, at a terminal with sanitizers: no report, and each time the
-terminal as it was found."""
+"""Random keys, records and losses, and hosts that send garbage, at a terminal with sanitizers: no report, and each time
+the terminal as it was found."""
 import os
 import pathlib
 import random
@@ -7,6 +7,7 @@ import tempfile
 import time
 
 import hosts
+from certificates import Authority, Front, context_of, has_tls
 from hosts import Host, READ, field, plain, text, write
 from window import Terminal, check
 
@@ -80,44 +81,77 @@ def same_screen(t, folder):
     check(not differ, "the window shows the station's screen", name, differ[:4])
 
 
+def connect_again(dice, host, t, counts):
+    """The line is lost, or is already; the next connection comes by the box, by the menu, or by itself."""
+    host.again()
+    host.hang_up()
+    t.type("\x1b[201~")  # A paste would take the keys.
+    end = time.monotonic() + 5
+    while not host.is_ready.is_set() and time.monotonic() < end and t.child.poll() is None:
+        t.type(dice.choice(["c", "\x1dc", "x", "s"]))
+        t.read(0.3)
+    counts["connections"] += 1
+
+
+def end_is_right(status, said):
+    """The status is that of the sentence with which it ends."""
+    last = said.rpartition("term5250: ")[2]
+    if last.startswith("Left."):
+        return status == 0
+    if last.startswith("No connection"):
+        return status == 2
+    return status == 1 or (status == 0 and "Refused at" not in last)
+
+
+def secured(dice, host, folder):
+    """Words for a way to the host, in the clear or by TLS."""
+    if dice.random() < 0.6 or not has_tls():
+        return [f"127.0.0.1:{host.port}"]
+    own = Authority(os.path.join(folder, "own"))
+    front = Front(context_of(own.sign("host", "DNS:localhost")), host.port)
+    return ["--tls", "--ca", own.file("ca.pem"), f"localhost:{front.port}"]
+
+
 def one_session(dice, sanitized, seconds, counts, folder):
     host = Host()
     words = dice.choice([[], ["--no-hold"], ["--mono"], ["--separators", "off"], ["--background", "own"],
-                         ["--no-mouse"]])
+                         ["--no-mouse"], ["--reconnect"]])
     rows, columns = dice.choice(SIZES[:3])
-    t = Terminal(*words, f"127.0.0.1:{host.port}", rows=rows, columns=columns, program=sanitized,
+    t = Terminal(*words, *secured(dice, host, folder), rows=rows, columns=columns, program=sanitized,
                  term=dice.choice(["xterm", "screen", "vt100", "linux", "xterm-256color"]), folder=folder, **CAREFUL)
     host.ready()
     end = time.monotonic() + seconds
-    try:
-        while time.monotonic() < end and t.child.poll() is None:
-            for _ in range(dice.randrange(8)):
-                t.type(dice.choice(KEYS))
-                counts["keys"] += 1
+    while time.monotonic() < end and t.child.poll() is None:
+        for _ in range(dice.randrange(8)):
+            t.type(dice.choice(KEYS))
+            counts["keys"] += 1
+        try:
             if dice.random() < 0.5:
                 host.send_raw(something(dice))
                 counts["records"] += 1
-            if dice.random() < 0.03:
-                t.resize(*dice.choice(SIZES))
-                counts["sizes"] += 1
-            if dice.random() < 0.015 and t.window.rows > 24 and t.window.columns >= 80:
-                same_screen(t, folder)
-                counts["windows"] += 1
-            while t.read(0.002):
-                pass
-    except OSError:
-        pass  # A refused record closes the line.
+        except OSError:
+            connect_again(dice, host, t, counts)  # A refused record closes the line.
+        if dice.random() < 0.004:
+            connect_again(dice, host, t, counts)
+        if dice.random() < 0.03:
+            t.resize(*dice.choice(SIZES))
+            counts["sizes"] += 1
+        if dice.random() < 0.015 and t.window.rows > 24 and t.window.columns >= 80 and "--reconnect" not in words:
+            same_screen(t, folder)
+            counts["windows"] += 1
+        while t.read(0.002):
+            pass
     while t.read(0.2):
         pass
     t.resize(25, 80)
     t.read(0.2)
-    if t.child.poll() is None:
+    if t.child.poll() is None and "--reconnect" not in words:
         same_screen(t, folder)
         counts["windows"] += 1
-    t.type("\x1dx\x1dq")
+    t.type("\x1b[201~\x1dx\x1dq")
     status = ended_with(t, 30)
     said = t.ended(status)
-    check(status == (1 if "Refused at" in said else 0), "its status", status, said[-200:])
+    check(end_is_right(status, said), "its status", status, said[-200:])
     say_nothing(said, "random keys and records")
     host.close()
     counts["sessions"] += 1
@@ -125,7 +159,7 @@ def one_session(dice, sanitized, seconds, counts, folder):
 
 def random_work(seed, sanitized, seconds):
     dice = random.Random(seed)
-    counts = dict.fromkeys(("sessions", "keys", "records", "sizes", "windows"), 0)
+    counts = dict.fromkeys(("sessions", "keys", "records", "sizes", "windows", "connections"), 0)
     end = time.monotonic() + seconds
     while time.monotonic() < end:
         with tempfile.TemporaryDirectory() as folder:
@@ -172,9 +206,9 @@ def garbage_hosts(seed, sanitized, count):
 
 
 def ended_with(t, seconds):
-    """The status with which it ends: 0 or 1 by what was refused, and no other."""
+    """The status with which it ends: 0 or 1 by what was refused, 2 by what wasn't there, and no other."""
     end = time.monotonic() + seconds
     while t.child.poll() is None and time.monotonic() < end:
         t.read(0.02)
-    check(t.child.returncode in (0, 1), "a status of 0 or 1", t.child.returncode)
+    check(t.child.returncode in (0, 1, 2), "a status of 0 to 2", t.child.returncode)
     return t.child.returncode
