@@ -1,5 +1,10 @@
 use Rattle.ws_session.proofs.Common as C
-use C.{◌∙◌}
+use C.{◌∙◌, subst}
+use Rattle.ws_session.specs.declared.end_step.Applied.{Applied}
+use Rattle.ws_session.specs.declared.end_step.EndFed.{EndFed}
+use Rattle.ws_session.specs.station.Displays.{on_display}
+use Rattle.ws_session.specs.station.PartsOn.{PartsOn}
+use Rattle.ws_session.specs.station.StationTakes.{TakesFrontOn}
 use Rattle.ws_session.specs.contracts.station.StationOn.{the_view}
 use Rattle.ws_session.proofs.station.StationOn.take_front.Goals as goal
 use Rattle.ws_session.proofs.station.StationSteps.{front_count, fronted, so_far, is_led}
@@ -13,7 +18,9 @@ returns g c =
     g.row.D-Commands-Place g.D.StationDisplay g.D.Commands.Code c.self.inside in
     let piece = c.args.piece.now in
     let a = c.advance-used in
-    rw (← c.self.view_is) (record {
+    let front : EndFed Applied _ = record { used = a.result.used; step = c.react-step.result } in
+    rw (← c.self.view_is) (subst (λ (z : PartsOn _ _). TakesFrontOn (on_display rules d) old piece z front)
+    {x = c.react-step.new.self} (cc) (record {
       within = a.ensures.within;
       used = λ other. a.ensures.used (λ e. other (let r = rw e at c.react-step.ensures.reacted in r.0));
       fronted = λ bytes items side l fits.
@@ -28,4 +35,4 @@ returns g c =
       counted = λ room. c.react-step.ensures.counted ∙ a.ensures.counted room;
       full = λ full. (let r = rw (a.ensures.full full) at c.react-step.ensures.reacted in r.0);
       settled = rw c.react-step.ensures.counted c.react-step.ensures.settled;
-    })
+    }))
