@@ -19,10 +19,8 @@ static void draw_cell(const window *w, int row, int column, const ribbon_cell *c
         l = look_of(0x20, w->has_colors);
     short pair;
     attr_t attributes = window_look(w, &l, &pair);
-    if (w->separators && l.has_separators && cell->character == ' ') {
-        text[0] = L'_';
-        attributes |= A_DIM;
-    }
+    if (w->separators && l.has_separators) /* no other character stands for a blank: it would be copied */
+        attributes |= A_UNDERLINE;
     if (setcchar(&shown, text, attributes, pair, NULL) == OK)
         (void)mvadd_wch(row, column, &shown); /* at the window's last cell it answers ERR, though it is drawn */
 }

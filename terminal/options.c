@@ -14,7 +14,7 @@ static const char usage[] =
     "  --strict               a station of the profile: it refuses what live hosts send beside that, as a 5250 Query\n"
     "  --mono                 no colours, as with NO_COLOR in the environment\n"
     "  --background WHICH     black, or own: the window's; without it black unless the window says that it is dark\n"
-    "  --separators HOW       dim, which is the default, or off\n"
+    "  --separators HOW       underline, which is the default, or off\n"
     "  --no-mouse             leaves the mouse to the window\n"
     "  --version, --help\n"
     "PORT is 23 where none is named. ^] opens a menu with the keys; q there leaves.\n";
@@ -80,7 +80,7 @@ static bool choose(const char *word, const char *first, const char *second, int 
 
 static options_result read_words(options *o, int count, char **words, int *status)
 {
-    const char *background = NULL, *separators = "dim";
+    const char *background = NULL, *separators = "underline";
     for (int at = 1; at < count; at++) {
         const char **value = valued(o, words[at], &background, &separators);
         if (value != NULL && at + 1 == count)
@@ -97,8 +97,8 @@ static options_result read_words(options *o, int count, char **words, int *statu
     int which = 0, how = 0;
     if (background != NULL && !choose(background, "black", "own", &which))
         return refuse(status, "--background is black or own, and not %s", background);
-    if (!choose(separators, "dim", "off", &how))
-        return refuse(status, "--separators is dim or off, and not %s", separators);
+    if (!choose(separators, "underline", "off", &how))
+        return refuse(status, "--separators is underline or off, and not %s", separators);
     o->background = background == NULL ? BACKGROUND_BY_WINDOW : which == 0 ? BACKGROUND_BLACK : BACKGROUND_OWN;
     o->separators = how == 0;
     return o->where == NULL ? refuse(status, "%s", "it needs a host") : OPTIONS_RUN;

@@ -143,8 +143,12 @@ static void tell_closed(session *s)
 {
     ribbon_state state;
     bool is_ready = ribbon_station_state(&s->station, &state) == RIBBON_DONE && state.is_ready;
-    session_over(s, is_ready ? 0 : 1, "The host has closed the line%s.",
-                 is_ready ? "" : " before a session began");
+    bool is_whole = telnet_is_between(&s->kept.host);
+    if (!is_whole)
+        session_over(s, 1, "The line is lost: the host closed it in mid-record.");
+    else
+        session_over(s, is_ready ? 0 : 1, "The host has closed the line%s.",
+                     is_ready ? "" : " before a session began");
 }
 
 /* Takes what has come: no more than the line has room for the answers to, and so little that keys are looked at soon. */

@@ -60,11 +60,6 @@ def say_nothing(said, what):
     check(not any(word in said for word in SAID), f"no sanitizer speaks: {what}", said[-1500:])
 
 
-def is_shown(printed, shown):
-    """A window's row shows a row of the screen; a column separator stands in a blank."""
-    return all(a == b or (a == " " and b == "_") for a, b in zip(printed.ljust(80), shown.ljust(80)))
-
-
 def same_screen(t, folder):
     """The window shows what the station's screen is, as the menu prints it into a file."""
     t.type("\x1b[201~\x1dx")  # Whether a paste is on or not, and the menu; an earlier note goes.
@@ -76,7 +71,7 @@ def same_screen(t, folder):
     with open(os.path.join(folder, name), encoding="utf-8") as file:
         printed = file.read().split("\n")[:24]
     rows = [t.window.text(row) for row in range(24)]
-    differ = [(a, b) for a, b in zip(printed, rows) if not is_shown(a, b)]
+    differ = [(a, b) for a, b in zip(printed, rows) if a.ljust(80) != b.ljust(80)]
     check(not differ, "the window shows the station's screen", name, differ[:4])
 
 

@@ -56,9 +56,10 @@ def attributes():
             shown = "".join(cell[0] for cell in t.window.cells[row][column : column + 5])
             wanted = expected(0x20 + k, is_color)
             attribute = 0x20 + k
-            separated = 0x30 <= attribute <= 0x33 if is_color else attribute & 0x10 and wanted is not None
-            blank = "_" if separated and "off" not in words else " "
-            words_shown = f"x{blank}y{k:02}" if wanted is not None else "     "
+            separated = 0x30 <= attribute <= 0x33 if is_color else attribute & 0x10
+            if wanted is not None and separated and "off" not in words:
+                wanted["underscore"] = True
+            words_shown = f"x y{k:02}" if wanted is not None else "     "
             check(shown == words_shown, f"{attribute:02X} shows", words, more, shown)
             if wanted is not None:
                 check(t.window.looks(row, column) == wanted, f"{attribute:02X} looks", words, more,
