@@ -8,10 +8,12 @@
 
 typedef enum {
     ACTION_NOTHING,
-    ACTION_CHARACTER, /* its value is a Unicode scalar value, as of the next two */
+    ACTION_CHARACTER, /* its value is a Unicode scalar value, as of ACTION_INSERTED and ACTION_PASTED */
     ACTION_INSERTED,
+    ACTION_PASTE_BEGINS, /* a paste, whose parts are the next three */
     ACTION_PASTED,
     ACTION_PASTED_END, /* the end of a pasted line */
+    ACTION_PASTE_ENDS,
     ACTION_MOVE_TO,    /* its value is a cell's place, counted from 0 in screen order */
     ACTION_AID,        /* its value is RIBBON_AID_... */
     ACTION_LEFT,

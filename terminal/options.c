@@ -11,6 +11,7 @@ static const char usage[] =
     "  --record FILE          records what both ends send; FILE-1, FILE-2 .. where FILE is there already\n"
     "  --keys FILE            a keys file in place of ~/.config/term5250/keys\n"
     "  --no-hold              a refused key rings, and doesn't hold the keyboard until Reset\n"
+    "  --type-ahead WHICH     on, which is the default, or off: keys ring while the host has the keyboard\n"
     "  --strict               a station of the profile: it refuses what live hosts send beside that, as a 5250 Query\n"
     "  --mono                 no colours, as with NO_COLOR in the environment\n"
     "  --background WHICH     black, or own: the window's; without it black unless the window says that it is dark\n"
@@ -67,6 +68,8 @@ static const char **valued(options *o, const char *word, const char **background
         return &o->record;
     if (strcmp(word, "--keys") == 0)
         return &o->keys;
+    if (strcmp(word, "--type-ahead") == 0)
+        return &o->type_ahead;
     if (strcmp(word, "--background") == 0)
         return background;
     return strcmp(word, "--separators") == 0 ? separators : NULL;
@@ -94,7 +97,10 @@ static options_result read_words(options *o, int count, char **words, int *statu
         else if (words[at][0] != '-')
             o->where = words[at];
     }
-    int which = 0, how = 0;
+    int which = 0, how = 0, waits = 0;
+    if (!choose(o->type_ahead, "on", "off", &waits))
+        return refuse(status, "--type-ahead is on or off, and not %s", o->type_ahead);
+    o->types_ahead = waits == 0;
     if (background != NULL && !choose(background, "black", "own", &which))
         return refuse(status, "--background is black or own, and not %s", background);
     if (!choose(separators, "underline", "off", &how))
@@ -107,7 +113,7 @@ static options_result read_words(options *o, int count, char **words, int *statu
 options_result options_read(options *o, int count, char **words, int *status)
 {
     char text[400];
-    *o = (options){.terminal = "IBM-3179-2", .holds = true, .has_mouse = true};
+    *o = (options){.terminal = "IBM-3179-2", .type_ahead = "on", .holds = true, .has_mouse = true};
     for (int at = 1; at < count; at++) {
         if (strcmp(words[at], "--help") == 0 || strcmp(words[at], "-h") == 0)
             return print(status, usage);

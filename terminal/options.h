@@ -11,6 +11,8 @@ typedef struct {
     const char *where;    /* HOST[:PORT] as written */
     address to;
     bool holds;       /* a refused key holds the keyboard until Reset */
+    const char *type_ahead; /* the option's word */
+    bool types_ahead; /* keys wait while the host has the keyboard */
     bool has_mouse;
     bool is_strict;   /* the station keeps to the profile */
     bool is_mono;     /* no colours */

@@ -9,7 +9,8 @@
 typedef struct {
     ribbon_status status;
     uint8_t refusal;
-    bool has_moved_on; /* a character filled its field, and the cursor went to another */
+    bool has_moved_on; /* the cursor stands elsewhere than one cell further in its field */
+    bool is_below;     /* and that is further below */
 } pressed;
 
 /* The keys that are one of the station's. */
@@ -18,7 +19,7 @@ static const struct {
     uint32_t key;
 } station_keys[] = {
     {ACTION_CHARACTER, RIBBON_KEY_CHAR}, {ACTION_INSERTED, RIBBON_KEY_INSERT}, {ACTION_PASTED, RIBBON_KEY_CHAR},
-    {ACTION_PASTED_END, RIBBON_KEY_TAB}, {ACTION_AID, RIBBON_KEY_AID}, {ACTION_LEFT, RIBBON_KEY_LEFT},
+    {ACTION_AID, RIBBON_KEY_AID}, {ACTION_LEFT, RIBBON_KEY_LEFT},
     {ACTION_RIGHT, RIBBON_KEY_RIGHT}, {ACTION_UP, RIBBON_KEY_UP}, {ACTION_DOWN, RIBBON_KEY_DOWN},
     {ACTION_HOME, RIBBON_KEY_HOME}, {ACTION_TAB, RIBBON_KEY_TAB}, {ACTION_BACK_TAB, RIBBON_KEY_BACK_TAB},
     {ACTION_FIELD_EXIT, RIBBON_KEY_FIELD_EXIT}, {ACTION_FIELD_PLUS, RIBBON_KEY_FIELD_EXIT},
@@ -54,6 +55,11 @@ turn press_turn(session *s)
     return now;
 }
 
+static unsigned cursor_of(const ribbon_state *state)
+{
+    return (state->cursor_row - 1U) * RIBBON_COLUMNS + state->cursor_column - 1U;
+}
+
 /* A key of the station's by itself; what it sends goes out. */
 static pressed press_one(session *s, action key)
 {
@@ -68,8 +74,10 @@ static pressed press_one(session *s, action key)
     p.refusal = told.reason;
     if (p.status == RIBBON_DONE && told.length > 0 && !session_send(s, answer, told.length))
         session_over(s, 1, "The host doesn't take what is sent."); /* there was room for it: press_does saw to that */
-    if (ribbon_station_state(&s->station, &after) == RIBBON_DONE)
-        p.has_moved_on = after.cursor_field != before.cursor_field;
+    if (ribbon_station_state(&s->station, &after) == RIBBON_DONE) {
+        p.has_moved_on = after.cursor_field != before.cursor_field || cursor_of(&after) != cursor_of(&before) + 1;
+        p.is_below = cursor_of(&after) > cursor_of(&before);
+    }
     return p;
 }
 
@@ -96,34 +104,88 @@ static pressed press_several(session *s, action key)
     return p;
 }
 
-/* What a refused key leaves: a bell, a sentence and, unless nobody wants it, a hold; the keys behind it are dropped. */
-static void refuse(session *s, action key, const pressed *p)
+static size_t drop_ahead(session *s)
 {
-    char why[NOTE_ROOM - 64], text[NOTE_ROOM];
-    bool is_refused = p->status == RIBBON_KEY_REFUSED; /* and not a request before a session has begun */
-    size_t dropped = is_refused ? ahead_drop(&s->ahead) : 0;
-    if (is_refused)
-        sentence_refused(&s->station, key, p->refusal, why, sizeof why);
-    else
-        (void)snprintf(why, sizeof why, "Nothing can be sent: %s.", ribbon_status_text(p->status));
-    if (key.kind == ACTION_PASTED || key.kind == ACTION_PASTED_END) {
-        paste_stop(&s->paste);
-        (void)snprintf(text, sizeof text, "%zu pasted. %s", s->paste.count, why);
-    } else if (dropped > 0) {
+    size_t dropped = ahead_drop(&s->ahead);
+    if (dropped > 0)
+        s->paste.is_dropped = s->paste.is_on; /* its begin is gone */
+    return dropped;
+}
+
+/* Rings, with a sentence that stands until Reset, as the keyboard is then held, unless nobody wants that; what waits is
+ * dropped. */
+static void hold(session *s, const char *why)
+{
+    char text[NOTE_ROOM];
+    size_t dropped = drop_ahead(s);
+    (void)snprintf(text, sizeof text, "%s", why);
+    if (dropped > 0)
         (void)snprintf(text, sizeof text, "%s %zu dropped.", why, dropped);
-    } else {
-        (void)snprintf(text, sizeof text, "%s", why);
-    }
     s->rings = true;
     s->note[0] = 0;
-    s->is_held = s->asked->holds && is_refused;
+    s->is_held = s->asked->holds;
     if (s->is_held)
         (void)snprintf(s->standing, sizeof s->standing, "%s", text);
     else
         session_tell(s, "%s", text);
 }
 
-/* A key that isn't held off. */
+/* What a refused key leaves. */
+static void refuse(session *s, action key, const pressed *p)
+{
+    char why[PASTE_WHY_ROOM];
+    bool is_refused = p->status == RIBBON_KEY_REFUSED; /* and not a request before a session has begun */
+    if (is_refused)
+        sentence_refused(&s->station, key, p->refusal, why, sizeof why);
+    else
+        (void)snprintf(why, sizeof why, "Nothing can be sent: %s.", ribbon_status_text(p->status));
+    if (paste_is_part(key.kind)) {
+        paste_stop(&s->paste, why);
+    } else if (is_refused) {
+        hold(s, why);
+    } else {
+        session_tell(s, "%s", why);
+        s->rings = true;
+    }
+}
+
+/* What didn't go in is told at a paste's end, so that all of it is counted. */
+static void end_paste(session *s)
+{
+    char text[NOTE_ROOM];
+    turn now = press_turn(s);
+    if (!paste_told(&s->paste, text, sizeof text))
+        return;
+    s->rings = true;
+    if (now.is_over || now.is_held || now.has_error || (now.is_locked && s->paste.count == 0))
+        session_tell(s, "%s", text);
+    else
+        hold(s, text);
+}
+
+static void press_part(session *s, action key)
+{
+    pressed p = {0};
+    switch (key.kind) {
+    case ACTION_PASTE_BEGINS: paste_start(&s->paste); break;
+    case ACTION_PASTED:
+        if (!paste_takes(&s->paste))
+            break;
+        p = press_one(s, key);
+        if (p.status == RIBBON_DONE)
+            paste_went_in(&s->paste, p.has_moved_on, p.is_below);
+        break;
+    case ACTION_PASTED_END:
+        if (paste_line_ends(&s->paste, moves_has_next(&s->station)))
+            p = press_one(s, (action){ACTION_TAB, 0});
+        break;
+    default: end_paste(s); break;
+    }
+    if (p.status != RIBBON_DONE)
+        refuse(s, key, &p);
+}
+
+/* A key that isn't held off; false where it was refused. */
 static bool press_does(session *s, action key)
 {
     pressed p = {0};
@@ -132,25 +194,67 @@ static bool press_does(session *s, action key)
         s->rings = true;
         return false;
     }
-    if (key.kind == ACTION_PASTED_END && !paste_line_ends(&s->paste))
-        return true;
-    p = station_key_of(key.kind, s->is_inserting) != 0 ? press_one(s, key) : press_several(s, key);
+    if (paste_is_part(key.kind))
+        press_part(s, key);
+    else
+        p = station_key_of(key.kind, s->is_inserting) != 0 ? press_one(s, key) : press_several(s, key);
     if (p.status != RIBBON_DONE) {
         refuse(s, key, &p);
         return false;
     }
-    if (key.kind == ACTION_PASTED)
-        paste_went_in(&s->paste, p.has_moved_on);
+    if (key.kind != ACTION_ATTENTION && key.kind != ACTION_SYSTEM_REQUEST)
+        s->sent = key.kind == ACTION_AID ? key : (action){ACTION_NOTHING, 0};
     return true;
+}
+
+/* The same key again behind one that sends would answer a screen that nobody has seen. */
+static bool is_impatient(const session *s, action key)
+{
+    return key.kind == ACTION_AID && action_is(key, s->ahead.count > 0 ? ahead_last(&s->ahead) : s->sent);
 }
 
 static void let_wait(session *s, action key)
 {
-    if (ahead_put(&s->ahead, key))
+    bool has_room = false;
+    if (is_impatient(s, key)) {
+        session_tell(s, "This key again is dropped: the host hasn't answered the first.");
+    } else if ((has_room = ahead_put(&s->ahead, key))) {
         return;
+    } else if (paste_is_part(key.kind)) {
+        ahead_drop_paste(&s->ahead);
+        s->paste.is_dropped = true;
+        session_tell(s, "The paste is dropped: %d keys wait, and no more can.", AHEAD_ROOM);
+    } else {
+        session_tell(s, "%d keys wait, and no more can.", AHEAD_ROOM);
+    }
     s->rings = true;
-    session_tell(s, "%d keys wait, and no more can.", AHEAD_ROOM);
-    paste_stop(&s->paste);
+}
+
+/* Why nothing is taken. */
+static const char *refusal_of(const turn *now)
+{
+    if (now->is_over)
+        return "The session is over.";
+    return now->is_held || now->has_error ? "Press Reset first." : "The host has the keyboard.";
+}
+
+/* A key that is dropped. */
+static void ring_off(session *s, action key, const turn *now)
+{
+    s->rings = true;
+    if (key.kind == ACTION_PASTE_BEGINS)
+        paste_start(&s->paste);
+    if (key.kind == ACTION_PASTE_ENDS)
+        end_paste(s);
+    else if (paste_is_part(key.kind))
+        paste_stop(&s->paste, refusal_of(now));
+    else if (now->has_error && !now->is_held && key.kind == ACTION_AID)
+        session_tell(s, "%s isn't sent while an error of the host's stands.",
+                     key.value == RIBBON_AID_HELP ? "Help" : "This key");
+    else if (!now->is_over && !now->is_held && !now->has_error)
+        session_tell(s, "The host has the keyboard: the key is dropped.");
+    if (key.kind == ACTION_PASTED)
+        (void)paste_takes(&s->paste);
 }
 
 /* The station's Reset, which takes the host's error away and sends nothing. */
@@ -171,7 +275,7 @@ static void reset(session *s, verdict what)
     switch (what) {
     case VERDICT_DROP_AHEAD:
         s->rings = true;
-        session_report(s, "%zu keys typed ahead dropped.", ahead_drop(&s->ahead));
+        session_report(s, "%zu keys typed ahead dropped.", drop_ahead(s));
         break;
     case VERDICT_END_HOLD:
         s->is_held = false;
@@ -180,7 +284,6 @@ static void reset(session *s, verdict what)
     case VERDICT_END_ERROR: end_error(s); break;
     default: s->is_inserting = false; break;
     }
-    paste_stop(&s->paste);
 }
 
 /* What the terminal does by itself, whoever has the keyboard; false where it is another key. */
@@ -209,8 +312,8 @@ void press_key(session *s, action key)
     verdict what = hold_judges(&now, key.kind);
     switch (what) {
     case VERDICT_PRESS: (void)press_does(s, key); break; /* a refusal has been told */
-    case VERDICT_WAIT: let_wait(s, key); break;
-    case VERDICT_RING: s->rings = true; paste_stop(&s->paste); break;
+    case VERDICT_WAIT: (s->asked->types_ahead ? let_wait(s, key) : ring_off(s, key, &now)); break;
+    case VERDICT_RING: ring_off(s, key, &now); break;
     default: reset(s, what); break;
     }
 }
@@ -218,24 +321,41 @@ void press_key(session *s, action key)
 void press_pasted(session *s, uint32_t character)
 {
     action key = paste_character(&s->paste, character);
-    if (key.kind != ACTION_NOTHING)
+    if (key.kind != ACTION_NOTHING && !s->paste.is_dropped)
         press_key(s, key);
 }
 
 void press_paste_begins(session *s)
 {
+    press_paste_ends(s); /* of one whose end is lost */
     paste_begin(&s->paste);
+    press_key(s, (action){ACTION_PASTE_BEGINS, 0});
 }
 
 void press_paste_ends(session *s)
 {
-    paste_end(&s->paste);
+    bool ends = s->paste.is_on && !s->paste.is_dropped;
+    s->paste.is_on = false;
+    if (ends)
+        press_key(s, (action){ACTION_PASTE_ENDS, 0});
+}
+
+/* What was typed for a screen is dropped where an error of the host's has come in its place. */
+static void drop_at_error(session *s)
+{
+    size_t dropped = drop_ahead(s);
+    if (dropped == 0)
+        return;
+    session_report(s, "%zu keys typed ahead dropped.", dropped);
+    s->rings = true;
 }
 
 void press_ahead(session *s)
 {
     turn now = press_turn(s);
     action key;
+    if (now.has_error)
+        drop_at_error(s);
     while (!now.is_over && !now.is_held && !now.has_error && !now.is_locked && ahead_take(&s->ahead, &key)) {
         if (!press_does(s, key))
             return;

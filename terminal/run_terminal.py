@@ -13,6 +13,7 @@ import traceback
 
 sys.dont_write_bytecode = True
 sys.path.insert(0, str(pathlib.Path(__file__).resolve().parent / "tests"))
+import desk
 import faults
 import hosts
 import in_tmux
@@ -44,6 +45,8 @@ def parts(words):
                 faults.while_connecting, faults.in_the_menu, faults.command_lines, faults.without_a_terminal,
                 faults.unwritable_files)
     yield from (live.asked, live.an_error, live.alarm, live.alarm_refused, live.many_saves, live.strict)
+    yield from (desk.pastes_too_long, desk.pastes_into_options, desk.pastes_that_wait, desk.enters_too_many,
+                desk.without_type_ahead)
     yield in_tmux.sizes
 
     def screens():

@@ -51,6 +51,7 @@ void session_over(session *s, int status, const char *format, ...)
     s->is_held = false;
     s->rings = true;
     (void)ahead_drop(&s->ahead); /* nobody will take these keys any more */
+    s->paste.is_dropped = s->paste.is_on;
     dial_end(&s->dial);
     line_end(&s->line);
     s->phase = PHASE_OVER;

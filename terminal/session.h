@@ -34,6 +34,7 @@ typedef struct {
     recording recording;
     ahead ahead;
     paste paste;
+    action sent;       /* the key that was sent last; ACTION_NOTHING where another was pressed behind it */
     bool is_held;      /* by a refused key */
     bool is_inserting;
     bool was_lit;      /* the message light, when it was looked at last */

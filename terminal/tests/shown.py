@@ -255,7 +255,7 @@ def function_keys(terms=("xterm", "screen")):
             answer = inputs(host.answer(3))[0]
             check(answer == wanted, f"{key!r} at {term} sends {wanted:02X}", answer)
             host.send(FORM)
-            t.read(0)
+            t.until(lambda: "waiting" not in t.status(), "the screen comes again")
         t.leave()
         host.close()
 
