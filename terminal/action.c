@@ -37,7 +37,8 @@ const named_action action_names[] = {
     {"record-backspace", "Record Bksp", {ACTION_AID, RIBBON_AID_RECORD_BACKSPACE}},
     {"redraw", "Draw again", {ACTION_REDRAW, 0}},
     {"menu", "Menu", {ACTION_MENU, 0}},
-    {"nothing", "Nothing", {ACTION_NOTHING, 0}},
+    {"character", "", {ACTION_ITSELF, 0}},
+    {"nothing", "", {ACTION_NOTHING, 0}},
 };
 
 const size_t action_name_count = sizeof action_names / sizeof action_names[0];

@@ -36,6 +36,7 @@ typedef enum {
     ACTION_ERASE_INPUT,
     ACTION_ATTENTION,
     ACTION_SYSTEM_REQUEST,
+    ACTION_ITSELF, /* the character that the key types */
     ACTION_RESET,
     ACTION_INSERT_MODE,
     ACTION_REDRAW,
@@ -50,7 +51,7 @@ typedef struct {
 /* An action that a keys file can name. */
 typedef struct {
     const char *name;  /* in a keys file */
-    const char *words; /* in the menu */
+    const char *words; /* in the menu; nothing where it isn't there */
     action does;
 } named_action;
 

@@ -87,7 +87,7 @@ static void put(int row, int column, const char *text)
 
 static void draw_keys(const session *s, int top)
 {
-    for (size_t at = 0; at + 1 < action_name_count; at++) { /* all but `nothing` */
+    for (size_t at = 0; at < action_name_count && action_names[at].words[0] != 0; at++) {
         char keys[KEY_COLUMN - 14], text[64]; /* as many keys as have room behind the words */
         bindings_keys(&s->keys, action_names[at].does, keys, sizeof keys);
         (void)snprintf(text, sizeof text, "%-13s %s", action_names[at].words, keys);

@@ -1,5 +1,7 @@
 #include "moves.h"
 
+#include "label.h"
+
 static ribbon_status press(ribbon_station *station, uint32_t kind, uint8_t *refusal)
 {
     uint8_t answer[RIBBON_ANSWER_ROOM];
@@ -91,6 +93,14 @@ ribbon_status moves_field_end(ribbon_station *station, uint8_t *refusal)
         length--;
     unsigned place = place_of(field.row, field.column) + length;
     return moves_to(station, (uint8_t)(place / RIBBON_COLUMNS + 1), (uint8_t)(place % RIBBON_COLUMNS + 1), refusal);
+}
+
+void moves_to_missing(ribbon_station *station)
+{
+    ribbon_field field;
+    uint8_t refusal;
+    if (label_missing(station, &field))
+        (void)moves_to(station, field.row, field.column, &refusal); /* where it is refused the cursor stays */
 }
 
 bool moves_has_next(ribbon_station *station)

@@ -136,13 +136,16 @@ static void refuse(session *s, action key, const pressed *p)
     char why[PASTE_WHY_ROOM];
     bool is_refused = p->status == RIBBON_KEY_REFUSED; /* and not a request before a session has begun */
     if (is_refused)
-        sentence_refused(&s->station, key, p->refusal, why, sizeof why);
+        sentence_refused(&s->station, &s->keys, key, p->refusal, why, sizeof why);
     else
         (void)snprintf(why, sizeof why, "Nothing can be sent: %s.", ribbon_status_text(p->status));
     if (paste_is_part(key.kind)) {
         paste_stop(&s->paste, why);
     } else if (is_refused) {
         hold(s, why);
+        s->is_insert_refused = key.kind == ACTION_INSERTED;
+        if (p->refusal == RIBBON_KEY_MANDATORY_ENTER)
+            moves_to_missing(&s->station);
     } else {
         session_tell(s, "%s", why);
         s->rings = true;
@@ -280,6 +283,7 @@ static void reset(session *s, verdict what)
     case VERDICT_END_HOLD:
         s->is_held = false;
         s->standing[0] = 0;
+        s->is_inserting = s->is_inserting && !s->is_insert_refused;
         break;
     case VERDICT_END_ERROR: end_error(s); break;
     default: s->is_inserting = false; break;

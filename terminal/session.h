@@ -36,6 +36,7 @@ typedef struct {
     paste paste;
     action sent;       /* the key that was sent last; ACTION_NOTHING where another was pressed behind it */
     bool is_held;      /* by a refused key */
+    bool is_insert_refused; /* by one that was to be inserted: then Reset ends insert mode */
     bool is_inserting;
     bool was_lit;      /* the message light, when it was looked at last */
     uint64_t alarms;   /* of the host's, when they were looked at last */

@@ -28,7 +28,7 @@ static void take_stroke(session *s, stroke key)
     char name[40];
     action does;
     uint32_t typed = stroke_keypad_character(key);
-    if (bindings_find(&s->keys, key, &does)) {
+    if (bindings_find(&s->keys, key, &does) && does.kind != ACTION_ITSELF) {
         press_key(s, does);
     } else if (typed != 0) {
         press_key(s, (action){s->is_inserting ? ACTION_INSERTED : ACTION_CHARACTER, typed});

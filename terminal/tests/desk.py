@@ -143,3 +143,70 @@ def without_type_ahead():
     t.leave()
     host.close()
     Terminal("--type-ahead", "no", "h").ended(2, "--type-ahead is on or off, and not no")
+
+
+# Fields that have to be entered: one with a label and dots, one with a label behind an attribute, one whose row has none.
+MANDATORY = write() + text(3, 2, "Note") + field(3, 20, 6) + text(5, 2, "Order number . . . . . :") \
+    + field(5, 40, 6, 0x4008) + text(7, 10, "Quantity", 0x22) + field(7, 30, 4, 0x4008) + field(9, 30, 4, 0x4008) + READ
+
+
+def missing_fields():
+    """The cursor goes into the field that has to be entered, and the sentence names it."""
+    host, t = at_host(MANDATORY, "03/020")
+    for place, name, key in (("05/040", "'Order number'", "A1"), ("07/030", "'Quantity'", "12"),
+                             ("09/030", "The field at row 9, column 30", "x")):
+        t.rings("Enter where a field lacks something", lambda: t.type("\r"))
+        t.tells(f"{name} has to be filled in.")
+        t.tells("Reset: ^R")
+        t.at(place)
+        t.type("\x12" + key)
+    t.type("\r")
+    answer = inputs(host.answer())
+    check(answer == (0xF1, {(5, 40): "A1", (7, 30): "12", (9, 30): "x"}), "then it is sent", answer)
+    t.leave()
+    host.close()
+
+
+# A signed numeric field, a numeric only one, and one that takes all, whose last cell isn't empty.
+NUMBERS = write() + field(3, 20, 5, 0x4700) + field(4, 20, 5, 0x4300) + field(5, 20, 3, 0x4000) \
+    + text(5, 20, "abc") + READ
+
+
+def numbers():
+    """The keypad's + and - are Field Plus and Field Minus; the sentences say what to press."""
+    host, t = at_host(NUMBERS, "03/020")
+    t.rings("a minus among digits", lambda: t.type("1-"))
+    t.tells("No '-' here: the field takes digits, and ^N for minus.")
+    t.type("\x12\x012\x1bOm")
+    t.at("04/020")
+    t.rings("Field Minus in a numeric only field", lambda: t.type("7\x1bOm"))
+    t.tells("Field Minus isn't for this field: type the - itself.")
+    t.type("\x12-\x1bOk")
+    t.at("05/020")
+    t.rings("Field Minus in another field", lambda: t.type("\x0e"))
+    t.tells("Field Minus is for signed numeric fields alone.")
+    t.type("\x12\r")
+    answer = inputs(host.answer())
+    check(answer == (0xF1, {(3, 20): "   K", (4, 20): "7-"}), "minus two and 7-", answer)
+    t.leave()
+    host.close()
+
+
+def inserting():
+    """Reset behind an insert that was refused ends insert mode; behind another refused key it doesn't."""
+    host, t = at_host(NUMBERS, "03/020")
+    t.type("\x0f")
+    t.tells("INS")
+    t.rings("a letter", lambda: t.type("\t\tx"))
+    t.tells("No room for 'x': press Reset, then type over or Delete.")
+    t.tells("INS")
+    t.type("\x12")
+    t.until(lambda: "INS" not in t.status() and "No room" not in t.status(), "Reset ends insert mode")
+    t.type("x\x0f")
+    t.until(lambda: t.window.text(4)[19:22] == "xbc" and "INS" in t.status(), "then it is typed over")
+    t.rings("Dup", lambda: t.type("\x04"))
+    t.type("\x12")
+    t.until(lambda: "Dup" not in t.status(), "Reset")
+    check("INS" in t.status(), "insert mode stays where no insert was refused")
+    t.leave()
+    host.close()
