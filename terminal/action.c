@@ -36,6 +36,7 @@ const named_action action_names[] = {
     {"print", "Print", {ACTION_AID, RIBBON_AID_PRINT}},
     {"record-backspace", "Record Bksp", {ACTION_AID, RIBBON_AID_RECORD_BACKSPACE}},
     {"redraw", "Draw again", {ACTION_REDRAW, 0}},
+    {"status", "Status line", {ACTION_STATUS, 0}},
     {"menu", "Menu", {ACTION_MENU, 0}},
     {"character", "", {ACTION_ITSELF, 0}},
     {"nothing", "", {ACTION_NOTHING, 0}},

@@ -40,6 +40,7 @@ typedef enum {
     ACTION_RESET,
     ACTION_INSERT_MODE,
     ACTION_REDRAW,
+    ACTION_STATUS,
     ACTION_MENU
 } action_kind;
 

@@ -50,6 +50,7 @@ static const struct {
     {CONTROL('P'), {ACTION_AID, RIBBON_AID_PRINT}},
     {ESCAPED('b'), {ACTION_AID, RIBBON_AID_RECORD_BACKSPACE}},
     {CONTROL('L'), {ACTION_REDRAW, 0}},
+    {CONTROL('S'), {ACTION_STATUS, 0}},
     {STROKE_MENU, {ACTION_MENU, 0}},
 };
 

@@ -4,11 +4,6 @@
 
 #include <string.h>
 
-static bool is_note(const session *s)
-{
-    return s->note[0] != 0 || s->standing[0] != 0;
-}
-
 static void draw_cell(const window *w, int row, int column, const ribbon_cell *cell)
 {
     cchar_t shown;
@@ -103,10 +98,13 @@ static void draw_too_small(void)
     (void)mvprintw(2, 0, "No key goes out. ^] opens the menu.");
 }
 
-/* Whether a sentence lies over the last row of a window without a status line; the host's error is never covered. */
+/* Whether the status line lies over the last row of a window that has no row for it: where it is asked for, when a
+ * session begins, and with a sentence. The host's error is never covered. */
 static bool covers_row(const session *s, const ribbon_state *state)
 {
-    return is_note(s) && state->error_row != SCREEN_ROWS;
+    bool is_told = s->note[0] != 0 ? !s->is_aside : s->standing[0] != 0;
+    bool is_shown = is_told || s->shows_status || session_clock() < s->shown_until;
+    return is_shown && state->error_row != SCREEN_ROWS;
 }
 
 static void draw_screen(session *s, window *w, const ribbon_state *state, const status_parts *parts)

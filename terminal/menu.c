@@ -1,6 +1,7 @@
 #include "menu.h"
 
 #include "draw.h"
+#include "press.h"
 #include "window.h"
 
 #include <errno.h>
@@ -72,6 +73,7 @@ void menu_key(session *s, uint32_t character)
     case 'r': switch_recording(s); break;
     case 's': save_kept(s); break;
     case 'p': print_screen(s); break;
+    case 't': press_status(s); break;
     default: break;
     }
 }
@@ -111,11 +113,13 @@ static void draw_words(const session *s)
     put(1, 0, "q  leave           p  the screen into " SCREEN_NAME "       any other key  back");
     put(2, 0, s->recording.file != NULL ? "r  stop recording" : "r  record");
     put(2, 19, "s  save the last 256 KiB of both ends (these hold passwords)");
+    if (!window_has_status())
+        put(3, 0, "t  the status line over row 24, or off it");
     if (s->standing[0] != 0)
-        put(3, 0, s->standing);
-    draw_keys(s, 4);
+        put(4, 0, s->standing);
+    draw_keys(s, 5);
     for (size_t at = 0; at < sizeof signs / sizeof signs[0]; at++)
-        put(5 + KEY_ROWS + (int)at, 0, signs[at]);
+        put(6 + KEY_ROWS + (int)at, 0, signs[at]);
 }
 
 void menu_draw(session *s, const status_parts *parts)

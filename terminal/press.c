@@ -290,12 +290,19 @@ static void reset(session *s, verdict what)
     }
 }
 
+void press_status(session *s)
+{
+    s->shows_status = !s->shows_status && session_clock() >= s->shown_until;
+    s->shown_until = 0;
+}
+
 /* What the terminal does by itself, whoever has the keyboard; false where it is another key. */
 static bool press_own(session *s, action key)
 {
     switch (key.kind) {
     case ACTION_NOTHING: return true;
     case ACTION_REDRAW: s->draws_all = s->repaints = true; return true;
+    case ACTION_STATUS: press_status(s); return true;
     case ACTION_MENU: s->is_menu_open = s->draws_all = true; return true;
     case ACTION_INSERT_MODE:
         if (s->is_held || s->phase == PHASE_OVER)
@@ -312,6 +319,7 @@ void press_key(session *s, action key)
     s->note[0] = 0;
     if (press_own(s, key))
         return;
+    s->shown_until = 0;
     turn now = press_turn(s);
     verdict what = hold_judges(&now, key.kind);
     switch (what) {

@@ -10,7 +10,7 @@
 #include <time.h>
 #include <unistd.h>
 
-enum { PIECE = KEPT_PIECE, PIECES_AT_ONCE = 16 };
+enum { PIECE = KEPT_PIECE, PIECES_AT_ONCE = 16, SHOWN_AT_FIRST = 3000 /* milliseconds */ };
 
 uint64_t session_clock(void)
 {
@@ -27,6 +27,7 @@ void session_tell(session *s, const char *format, ...)
     va_start(rest, format);
     (void)vsnprintf(s->note, sizeof s->note, format, rest);
     va_end(rest);
+    s->is_aside = false;
     s->is_of_screen = true;
     s->note_records = ribbon_station_state(&s->station, &state) == RIBBON_DONE ? state.records : 0;
 }
@@ -37,7 +38,13 @@ void session_report(session *s, const char *format, ...)
     va_start(rest, format);
     (void)vsnprintf(s->note, sizeof s->note, format, rest);
     va_end(rest);
-    s->is_of_screen = false;
+    s->is_aside = s->is_of_screen = false;
+}
+
+void session_mention(session *s, const char *sentence)
+{
+    session_report(s, "%s", sentence);
+    s->is_aside = true;
 }
 
 void session_over(session *s, int status, const char *format, ...)
@@ -195,6 +202,7 @@ static void go_on(session *s, dial_state state)
     dial_end(&s->dial);
     s->phase = PHASE_OPEN;
     s->begun = session_clock();
+    s->shown_until = s->begun + SHOWN_AT_FIRST;
     if (!line_begin(&s->line, socket))
         session_over(s, 1, "The line can't be used: %s.", strerror(errno));
 }

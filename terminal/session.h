@@ -41,12 +41,15 @@ typedef struct {
     bool was_lit;      /* the message light, when it was looked at last */
     uint64_t alarms;   /* of the host's, when they were looked at last */
     bool rings;        /* the bell is still to be rung */
+    bool shows_status; /* also in a window that has no row for it */
+    uint64_t shown_until; /* milliseconds of session_clock: up to then too, so that whoever begins finds the menu */
     bool is_menu_open;
     bool draws_all;    /* all is to be drawn, whatever has changed */
     bool repaints;     /* and the window is to be painted anew */
     bool is_leaving;   /* the program ends */
     int status;        /* of the program */
     char note[NOTE_ROOM];     /* a sentence up to the next key, and: */
+    bool is_aside;            /* covers nothing of the screen by itself */
     bool is_of_screen;        /* no further than the next record of the host */
     uint64_t note_records;    /* that had come when it was told */
     char standing[NOTE_ROOM]; /* a sentence up to Reset, or to the end */
@@ -76,6 +79,10 @@ void session_tell(session *s, const char *format, ...) __attribute__((format(pri
 
 /* Tells a sentence about what was done, up to the next key. */
 void session_report(session *s, const char *format, ...) __attribute__((format(printf, 2, 3)));
+
+/* The same with one that covers nothing of the screen: in a window without a row for it, it stands in the status line
+ * where that is shown. */
+void session_mention(session *s, const char *sentence);
 
 /* Ends the session, not the program: the screen stays, with a sentence. */
 void session_over(session *s, int status, const char *format, ...) __attribute__((format(printf, 3, 4)));

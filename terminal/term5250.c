@@ -117,6 +117,13 @@ static void take_events(session *s, window *w, input_reader *reader, const struc
     }
 }
 
+/* How long nothing but input changes what is shown, in milliseconds; -1 where it never does. */
+static int quiet_for(const session *s)
+{
+    uint64_t now = session_clock();
+    return s->shown_until > now ? (int)(s->shown_until - now) : -1;
+}
+
 /* What is there is taken first; the screen is drawn when nothing is, or too long ago. */
 static void run(session *s, window *w)
 {
@@ -133,7 +140,7 @@ static void run(session *s, window *w)
             drawn = now;
         }
         if (ready == 0 && !more)
-            ready = signals_wait(waits, 2, -1);
+            ready = signals_wait(waits, 2, quiet_for(s));
         if (ready <= 0)
             waits[0].revents = waits[1].revents = 0;
         take_events(s, w, &reader, waits, &more);
@@ -226,7 +233,7 @@ int main(int count, char **words)
         return complain("memory is wanting", "");
     status = prepare(s, &asked);
     if (status == 0) {
-        session_report(s, "%s", locale);
+        session_mention(s, locale);
         status = work(s, &asked);
     }
     session_free(s);

@@ -26,7 +26,7 @@ const char *window_locale(void)
         return strcmp(set, "UTF-8") == 0 ? "" : "The locale has no UTF-8: some characters can't be shown.";
     if (setlocale(LC_CTYPE, "C.UTF-8") != NULL)
         return "The locale has no UTF-8: C.UTF-8 is taken in its place.";
-    return "The locale has no UTF-8, and C.UTF-8 isn't here: letters beyond ASCII can't be shown.";
+    return "No UTF-8 in the locale, and no C.UTF-8: letters beyond ASCII can't be shown.";
 }
 
 bool window_knows(char *why, size_t room)
