@@ -108,7 +108,8 @@ static void draw_words(const session *s)
         "field 10  length of the cursor's field   06/053  row and column of the cursor",
     };
     char title[100];
-    (void)snprintf(title, sizeof title, "term5250 at %.60s", s->asked->where);
+    (void)snprintf(title, sizeof title, "term5250 at %.50s%s", s->asked->where,
+                   s->keys.is_tn5250 ? ", with the keys of tn5250" : "");
     put(0, 0, title);
     put(1, 0, "q  leave           p  the screen into " SCREEN_NAME "       any other key  back");
     put(2, 0, s->recording.file != NULL ? "r  stop recording" : "r  record");

@@ -9,7 +9,7 @@ static const char usage[] =
     "usage: term5250 [OPTION].. HOST[:PORT]\n"
     "  --terminal NAME        IBM-5251-11, IBM-5291-1, IBM-5292-2, IBM-3196-A1 or IBM-3179-2, which is the default\n"
     "  --record FILE          records what both ends send; FILE-1, FILE-2 .. where FILE is there already\n"
-    "  --keys FILE            a keys file in place of ~/.config/term5250/keys\n"
+    "  --keys FILE            a keys file in place of ~/.config/term5250/keys; tn5250 for that program's keys\n"
     "  --no-hold              a refused key rings, and doesn't hold the keyboard until Reset\n"
     "  --type-ahead WHICH     on, which is the default, or off: keys ring while the host has the keyboard\n"
     "  --strict               a station of the profile: it refuses what live hosts send beside that, as a 5250 Query\n"

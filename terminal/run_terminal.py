@@ -46,7 +46,8 @@ def parts(words):
                 faults.unwritable_files)
     yield from (live.asked, live.an_error, live.alarm, live.alarm_refused, live.many_saves, live.strict)
     yield from (desk.pastes_too_long, desk.pastes_into_options, desk.pastes_that_wait, desk.enters_too_many,
-                desk.without_type_ahead, desk.missing_fields, desk.numbers, desk.inserting)
+                desk.without_type_ahead, desk.missing_fields, desk.numbers, desk.inserting, desk.keys_of_others,
+                desk.wheel, desk.typed_escapes, desk.error_of_the_host)
     yield in_tmux.sizes
 
     def screens():

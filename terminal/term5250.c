@@ -18,7 +18,8 @@
 enum {
     KEYS_AT_ONCE = 1024,
     DRAWN_EVERY = 40,    /* milliseconds, while more comes */
-    PASTE_SILENCE = 5000 /* milliseconds, behind which a paste without its end is over */
+    PASTE_SILENCE = 5000,  /* milliseconds, behind which a paste without its end is over */
+    SEQUENCE_SILENCE = 150 /* and behind which a letter isn't one of a key's sequence */
 };
 
 /* ---- Keys ---- */
@@ -70,13 +71,14 @@ static void take_input(session *s, const input *i)
 }
 
 /* A window that loses a paste's end mustn't take the keyboard away. */
-static void end_silent_paste(session *s, input_reader *reader)
+static void hear_silence(session *s, input_reader *reader)
 {
-    uint64_t now = session_clock();
-    if (reader->is_pasting && now - reader->heard > PASTE_SILENCE) {
+    uint64_t now = session_clock(), silence = now - reader->heard;
+    if (reader->is_pasting && silence > PASTE_SILENCE) {
         reader->is_pasting = false;
         press_paste_ends(s);
     }
+    reader->is_late = silence > SEQUENCE_SILENCE;
     reader->heard = now;
 }
 
@@ -85,7 +87,7 @@ static bool take_keys(session *s, input_reader *reader)
 {
     input i;
     unsigned count = 0;
-    end_silent_paste(s, reader);
+    hear_silence(s, reader);
     while (count < KEYS_AT_ONCE && !s->is_leaving && input_next(reader, &i)) {
         take_input(s, &i);
         count++;
@@ -164,6 +166,10 @@ static bool read_keys(session *s, const options *asked)
     const char *folder = getenv("XDG_CONFIG_HOME"), *home = getenv("HOME");
     bool is_set = folder != NULL && folder[0] != 0;
     bindings_begin(&s->keys);
+    if (asked->keys != NULL && strcmp(asked->keys, "tn5250") == 0) {
+        bindings_tn5250(&s->keys);
+        return true;
+    }
     if (asked->keys == NULL && !is_set && (home == NULL || home[0] == 0))
         return true;
     int length = asked->keys != NULL ? snprintf(name, sizeof name, "%s", asked->keys)
@@ -233,7 +239,10 @@ int main(int count, char **words)
         return complain("memory is wanting", "");
     status = prepare(s, &asked);
     if (status == 0) {
-        session_mention(s, locale);
+        if (s->keys.is_tn5250)
+            session_mention(s, "The keys are those of tn5250: ^] has them all.");
+        if (locale[0] != 0)
+            session_mention(s, locale);
         status = work(s, &asked);
     }
     session_free(s);

@@ -193,7 +193,7 @@ bool window_begin(window *w, const options *asked)
     begin_colors(w, asked);
     if (asked->has_mouse) {
         (void)mouseinterval(0);
-        (void)mousemask(BUTTON1_PRESSED, NULL);
+        (void)mousemask(BUTTON1_PRESSED | BUTTON4_PRESSED | BUTTON5_PRESSED, NULL);
     }
     begin_title(w);
     send(BRACKETED_PASTE);

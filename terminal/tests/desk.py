@@ -1,4 +1,7 @@
 """What hurts at a desk: pastes that don't fit, an Enter too many, what a field lacks, keys as other programs have them."""
+import os
+import tempfile
+
 from hosts import Host, READ, field, inputs, text, write
 from window import Terminal, check
 from work import FORM, at_form
@@ -208,5 +211,106 @@ def inserting():
     t.type("\x12")
     t.until(lambda: "Dup" not in t.status(), "Reset")
     check("INS" in t.status(), "insert mode stays where no insert was refused")
+    t.leave()
+    host.close()
+
+
+def keys_of_others():
+    """Names of keys as other programs have them, and the keys of tn5250."""
+    with tempfile.TemporaryDirectory() as folder:
+        name = os.path.join(folder, "keys")
+        with open(name, "w") as file:
+            file.write("Ctrl-B = f3\nShift-F1 = f4\nAlt-a = f5\nPgUp = f6\nPgDn = f7\nReturn = f8\nEsc-b = f9\n")
+        host, t = at_form("--keys", name)
+        for key, wanted in (("\x02", 0x33), ("\x1b[1;2P", 0x34), ("\x1ba", 0x35), ("\x1b[5~", 0x36),
+                            ("\x1b[6~", 0x37), ("\r", 0x38), ("\x1bb", 0x39)):
+            t.type(key)
+            check(inputs(host.answer())[0] == wanted, f"{key!r} by a name in a keys file")
+            host.send(FORM)
+            t.until(lambda: "waiting" not in t.status(), "the screen comes again")
+        t.leave()
+        host.close()
+    host, t = at_form("--keys", "tn5250")
+    t.tells("The keys are those of tn5250: ^] has them all.")
+    for key, wanted in (("\x02", 0xF4), ("\x06", 0xF5), ("\x15", 0xF4), ("\x04", 0xF5), ("\x1bH", 0xF3)):
+        t.type(key)
+        check(inputs(host.answer())[0] == wanted, f"{key!r} as at tn5250")
+        host.send(FORM)
+        t.until(lambda: "waiting" not in t.status(), "the screen comes again")
+    t.type("\x01\x03")
+    check([host.answer()[1] for _ in range(2)] == [0x4000, 0x0400], "Attention and System Request")
+    t.rings("Test Request, which isn't here", lambda: t.type("\x14"))
+    t.tells("^T is no key here")
+    t.type("12\x0b")
+    t.at("04/020")
+    t.type("\x11")
+    t.shows(0, "with the keys of tn5250")
+    t.type("x")
+    t.leave()
+    host.close()
+
+
+def wheel():
+    host, t = at_form()
+    t.type("\x1b[<64;10;5M")
+    check(inputs(host.answer())[0] == 0xF4, "the wheel up is Roll Down")
+    t.rings("one step more", lambda: t.type("\x1b[<64;10;5M"))
+    host.send(FORM)
+    t.until(lambda: "waiting" not in t.status(), "the screen comes again")
+    t.type("\x1b[<65;10;5M")
+    check(inputs(host.answer())[0] == 0xF5, "the wheel down is Roll Up")
+    check(host.answer(0.3) is None, "and no step more")
+    t.leave()
+    host.close()
+
+
+def typed_escapes():
+    """Esc, [ or O, and a letter, typed by hand: the letter isn't lost. What comes of a key at once is one sequence."""
+    host, t = at_form()
+    t.type("\t")
+    t.at("04/020")
+    for front, letter in ("[", "x"), ("O", "y"), ("[", "z"):
+        for key in "\x1b", front:
+            t.type(key)
+            t.settle(0.3)
+        t.type(letter)
+        t.until(lambda: letter in t.window.text(3)[19:], f"the letter behind Esc {front}")
+    t.type("\x1b")
+    t.settle(0.3)
+    t.rings("the late rest of a key", lambda: t.type("[9;9C"))
+    t.type("\x1b")
+    t.settle(0.3)
+    t.rings("and of an arrow", lambda: t.type("[C"))
+    t.type("w\r")
+    check(inputs(host.answer()) == (0xF1, {(4, 20): "xyzw"}), "and nothing else is typed")
+    t.leave()
+    host.close()
+
+
+# Write Error Code: Insert Cursor 3 20, an attribute and a text.
+ERROR = b"\x04\x21\x13\x03\x14\x22" + "No such item".encode("cp037")
+
+
+def error_of_the_host():
+    """It drops what was typed for a screen; one Reset is enough, and Help says that it isn't sent."""
+    host, t = at_form()
+    t.type("1\r")
+    host.answer()
+    t.type("22\r3")
+    t.tells(" T ")
+    t.rings("an error", lambda: host.send(ERROR + READ))
+    t.shows(23, "No such item")
+    t.tells("4 keys typed ahead dropped.")
+    check(" T " not in t.status(), "no key waits")
+    t.rings("Help then", lambda: t.type("\x07"))
+    t.tells("Help isn't sent while an error of the host's stands.")
+    check(host.answer(0.3) is None, "and it isn't")
+    t.rings("a paste", lambda: t.paste("5"))
+    t.tells("Nothing pasted. Press Reset first.")
+    t.type("\x12")
+    t.until(lambda: "No such item" not in t.window.text(23), "one Reset takes the error away")
+    t.type("4\r")
+    answer = inputs(host.answer())
+    check(answer[0] == 0xF1 and "22" not in answer[1].get((3, 20), ""), "and keys are taken", answer)
     t.leave()
     host.close()
