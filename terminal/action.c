@@ -3,6 +3,7 @@
 #include "ribbonscarp.h"
 #include "stroke.h"
 
+#include <stdio.h>
 #include <string.h>
 
 const named_action action_names[] = {
@@ -52,6 +53,18 @@ action action_of_function(unsigned number)
 bool action_is(action one, action other)
 {
     return one.kind == other.kind && one.value == other.value;
+}
+
+const char *action_name(action does, char *text, size_t room)
+{
+    text[0] = 0;
+    for (size_t at = 0; at < action_name_count; at++)
+        if (action_is(action_names[at].does, does))
+            (void)snprintf(text, room, "%s", action_names[at].name);
+    for (unsigned number = 1; number <= 24; number++)
+        if (action_is(action_of_function(number), does))
+            (void)snprintf(text, room, "f%u", number);
+    return text;
 }
 
 bool action_by_name(const char *name, action *found)

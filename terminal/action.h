@@ -36,7 +36,9 @@ typedef enum {
     ACTION_ERASE_INPUT,
     ACTION_ATTENTION,
     ACTION_SYSTEM_REQUEST,
+    /* What is no key of the station's: */
     ACTION_ITSELF, /* the character that the key types */
+    ACTION_HIDDEN, /* what a macro leaves to whoever plays it */
     ACTION_RESET,
     ACTION_INSERT_MODE,
     ACTION_REDRAW,
@@ -62,6 +64,9 @@ extern const size_t action_name_count;
 
 /* The action of a name; false where none has it. */
 bool action_by_name(const char *name, action *found);
+
+/* The name of an action that has one, also of a function key's; gives `text`, which is empty where it has none. */
+const char *action_name(action does, char *text, size_t room);
 
 bool action_is(action one, action other);
 

@@ -73,6 +73,7 @@ status_parts draw_parts(session *s, const ribbon_state *state)
     parts.is_message_lit = state->is_message_lit;
     parts.is_inserting = s->is_inserting;
     parts.is_recording = s->recording.file != NULL;
+    parts.is_macro = s->macro.state != MACRO_RESTS;
     parts.waits = s->ahead.count > 0;
     if (ribbon_station_field(&s->station, state->cursor_field, &field) == RIBBON_DONE)
         parts.field_length = field.length;

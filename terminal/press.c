@@ -1,5 +1,6 @@
 #include "press.h"
 
+#include "macros.h"
 #include "moves.h"
 #include "sentence.h"
 
@@ -48,8 +49,9 @@ static bool can_send(const session *s)
 turn press_turn(session *s)
 {
     ribbon_state state;
-    turn now = {.is_over = s->phase == PHASE_OVER, .is_held = s->is_held, .waits = s->ahead.count > 0};
+    turn now = {.is_over = s->phase == PHASE_OVER, .is_held = s->is_held};
     bool is_known = ribbon_station_state(&s->station, &state) == RIBBON_DONE;
+    now.waits = s->ahead.count > 0 || s->macro.state == MACRO_PLAYS;
     now.has_error = is_known && state.error_row != 0;
     now.is_locked = !is_known || state.is_locked || !can_send(s);
     return now;
@@ -104,12 +106,23 @@ static pressed press_several(session *s, action key)
     return p;
 }
 
+/* A key that isn't held off; a macro records it where it isn't refused. */
+static pressed press(session *s, action key)
+{
+    bool is_hidden = macros_hides(s, key);
+    pressed p = station_key_of(key.kind, s->is_inserting) != 0 ? press_one(s, key) : press_several(s, key);
+    if (p.status == RIBBON_DONE)
+        macros_record(s, key, is_hidden);
+    return p;
+}
+
+/* Drops what is typed ahead, and the rest of a macro. */
 static size_t drop_ahead(session *s)
 {
     size_t dropped = ahead_drop(&s->ahead);
     if (dropped > 0)
         s->paste.is_dropped = s->paste.is_on; /* its begin is gone */
-    return dropped;
+    return dropped + macro_stop(&s->macro);
 }
 
 /* Rings, with a sentence that stands until Reset, as the keyboard is then held, unless nobody wants that; what waits is
@@ -174,13 +187,13 @@ static void press_part(session *s, action key)
     case ACTION_PASTED:
         if (!paste_takes(&s->paste))
             break;
-        p = press_one(s, key);
+        p = press(s, key);
         if (p.status == RIBBON_DONE)
             paste_went_in(&s->paste, p.has_moved_on, p.is_below);
         break;
     case ACTION_PASTED_END:
         if (paste_line_ends(&s->paste, moves_has_next(&s->station)))
-            p = press_one(s, (action){ACTION_TAB, 0});
+            p = press(s, (action){ACTION_TAB, 0});
         break;
     default: end_paste(s); break;
     }
@@ -188,7 +201,7 @@ static void press_part(session *s, action key)
         refuse(s, key, &p);
 }
 
-/* A key that isn't held off; false where it was refused. */
+/* A key that isn't held off, or a part of a paste; false where a key was refused. */
 static bool press_does(session *s, action key)
 {
     pressed p = {0};
@@ -200,7 +213,7 @@ static bool press_does(session *s, action key)
     if (paste_is_part(key.kind))
         press_part(s, key);
     else
-        p = station_key_of(key.kind, s->is_inserting) != 0 ? press_one(s, key) : press_several(s, key);
+        p = press(s, key);
     if (p.status != RIBBON_DONE) {
         refuse(s, key, &p);
         return false;
@@ -272,13 +285,20 @@ static void end_error(session *s)
     session_tell(s, "The host's error stays: %s.", ribbon_status_text(status));
 }
 
+static void tell_dropped(session *s)
+{
+    bool plays = s->macro.state == MACRO_PLAYS;
+    size_t dropped = drop_ahead(s);
+    session_report(s, plays ? "The macro stops: %zu keys dropped." : "%zu keys typed ahead dropped.", dropped);
+    s->rings = true;
+}
+
 /* What Reset ends of what stands. */
 static void reset(session *s, verdict what)
 {
     switch (what) {
     case VERDICT_DROP_AHEAD:
-        s->rings = true;
-        session_report(s, "%zu keys typed ahead dropped.", drop_ahead(s));
+        tell_dropped(s);
         break;
     case VERDICT_END_HOLD:
         s->is_held = false;
@@ -352,23 +372,14 @@ void press_paste_ends(session *s)
         press_key(s, (action){ACTION_PASTE_ENDS, 0});
 }
 
-/* What was typed for a screen is dropped where an error of the host's has come in its place. */
-static void drop_at_error(session *s)
-{
-    size_t dropped = drop_ahead(s);
-    if (dropped == 0)
-        return;
-    session_report(s, "%zu keys typed ahead dropped.", dropped);
-    s->rings = true;
-}
-
 void press_ahead(session *s)
 {
     turn now = press_turn(s);
     action key;
-    if (now.has_error)
-        drop_at_error(s);
-    while (!now.is_over && !now.is_held && !now.has_error && !now.is_locked && ahead_take(&s->ahead, &key)) {
+    if (now.has_error && now.waits) /* what was typed for a screen isn't for the error in its place */
+        tell_dropped(s);
+    while (!now.is_over && !now.is_held && !now.has_error && !now.is_locked
+           && (macros_next(s, &key) || ahead_take(&s->ahead, &key))) {
         if (!press_does(s, key))
             return;
         now = press_turn(s);

@@ -19,6 +19,7 @@ import hosts
 import in_tmux
 import live
 import long
+import macros
 import shown
 import window
 import work
@@ -48,6 +49,7 @@ def parts(words):
     yield from (desk.pastes_too_long, desk.pastes_into_options, desk.pastes_that_wait, desk.enters_too_many,
                 desk.without_type_ahead, desk.missing_fields, desk.numbers, desk.inserting, desk.keys_of_others,
                 desk.wheel, desk.typed_escapes, desk.error_of_the_host)
+    yield from (macros.over_two_screens, macros.never_into_a_hidden_field, macros.stops, macros.keeping)
     yield in_tmux.sizes
 
     def screens():

@@ -7,12 +7,13 @@
 #include "dial.h"
 #include "kept.h"
 #include "line.h"
+#include "macro.h"
 #include "options.h"
 #include "paste.h"
 #include "recording.h"
 #include "ribbonscarp.h"
 
-enum { SAID_ROOM = 64, NOTE_ROOM = 400 };
+enum { SAID_ROOM = 64, NOTE_ROOM = 400, MACRO_NAME_ROOM = 33 };
 
 typedef struct {
     const options *asked;
@@ -35,6 +36,9 @@ typedef struct {
     ahead ahead;
     paste paste;
     action sent;       /* the key that was sent last; ACTION_NOTHING where another was pressed behind it */
+    macro macro;
+    char macro_name[MACRO_NAME_ROOM]; /* as it is typed, while the menu asks for one: */
+    enum { ASKS_NOTHING, ASKS_TO_KEEP, ASKS_TO_PLAY } asks;
     bool is_held;      /* by a refused key */
     bool is_insert_refused; /* by one that was to be inserted: then Reset ends insert mode */
     bool is_inserting;

@@ -7,8 +7,8 @@
 /* The signs that are on, with a blank before each. */
 static void put_signs(const status_parts *parts, char *text, size_t room)
 {
-    (void)snprintf(text, room, "%s%s%s%s", parts->is_message_lit ? " MW" : "", parts->is_inserting ? " INS" : "",
-                   parts->is_recording ? " REC" : "", parts->waits ? " T" : "");
+    (void)snprintf(text, room, "%s%s%s%s%s", parts->is_message_lit ? " MW" : "", parts->is_inserting ? " INS" : "",
+                   parts->is_recording ? " REC" : "", parts->is_macro ? " MAC" : "", parts->waits ? " T" : "");
 }
 
 /* What stands at the right; the way on, the field's length and the cursor's place only where a long sentence leaves room
@@ -50,7 +50,7 @@ void status_line(const status_parts *parts, wchar_t line[STATUS_COLUMNS + 1])
     if (length == (size_t)-1)
         length = 0;
     put_right(parts, length + 1, right, sizeof right);
-    size_t room = STATUS_COLUMNS - strlen(right); /* it has 66 characters at most */
+    size_t room = STATUS_COLUMNS - strlen(right); /* it has 65 characters at most */
     put_left(wide, length, line, room);
     for (size_t at = room; at < STATUS_COLUMNS; at++)
         line[at] = (wchar_t)right[at - room];

@@ -4,6 +4,7 @@
  *
  * One loop waits for the line, the keyboard and signals; everything else is done between two waits. */
 #define _GNU_SOURCE
+#include "config.h"
 #include "draw.h"
 #include "input.h"
 #include "menu.h"
@@ -103,6 +104,12 @@ static bool take_keys(session *s, input_reader *reader)
 
 /* ---- The loop ---- */
 
+static void press_waiting(session *s)
+{
+    if (window_has_screen()) /* no key goes out unseen */
+        press_ahead(s);
+}
+
 static void take_events(session *s, window *w, input_reader *reader, const struct pollfd waits[2], bool *more)
 {
     if (signals_resized()) {
@@ -110,9 +117,9 @@ static void take_events(session *s, window *w, input_reader *reader, const struc
         s->draws_all = true;
     }
     session_step(s, waits[0].revents);
-    if (window_has_screen()) /* no key goes out unseen */
-        press_ahead(s);
+    press_waiting(s);
     *more = (waits[1].revents != 0 || *more) && take_keys(s, reader);
+    press_waiting(s); /* a macro may have begun */
     if (!*more && (waits[1].revents & (POLLHUP | POLLERR | POLLNVAL)) != 0) {
         session_over(s, 1, "The terminal is gone.");
         s->is_leaving = true;
@@ -163,27 +170,23 @@ static int complain(const char *what, const char *why)
 static bool read_keys(session *s, const options *asked)
 {
     char name[FILE_NAME_ROOM], why[FILE_NAME_ROOM + 400];
-    const char *folder = getenv("XDG_CONFIG_HOME"), *home = getenv("HOME");
-    bool is_set = folder != NULL && folder[0] != 0;
+    const char *keys = asked->keys;
     bindings_begin(&s->keys);
-    if (asked->keys != NULL && strcmp(asked->keys, "tn5250") == 0) {
+    if (keys != NULL && strcmp(keys, "tn5250") == 0) {
         bindings_tn5250(&s->keys);
         return true;
     }
-    if (asked->keys == NULL && !is_set && (home == NULL || home[0] == 0))
+    if (keys == NULL && !config_path("keys", name, sizeof name))
         return true;
-    int length = asked->keys != NULL ? snprintf(name, sizeof name, "%s", asked->keys)
-                 : is_set            ? snprintf(name, sizeof name, "%s/term5250/keys", folder)
-                                     : snprintf(name, sizeof name, "%s/.config/term5250/keys", home);
-    errno = ENAMETOOLONG;
-    FILE *file = length > 0 && (size_t)length < sizeof name ? fopen(name, "r") : NULL;
-    if (file == NULL && asked->keys == NULL && (errno == ENOENT || errno == ENOTDIR))
+    const char *from = keys != NULL ? keys : name;
+    FILE *file = fopen(from, "r");
+    if (file == NULL && keys == NULL && (errno == ENOENT || errno == ENOTDIR))
         return true;
     if (file == NULL) {
-        (void)complain(name, strerror(errno));
+        (void)complain(from, strerror(errno));
         return false;
     }
-    bool is_right = keys_file_read(&s->keys, file, name, why, sizeof why);
+    bool is_right = keys_file_read(&s->keys, file, from, why, sizeof why);
     (void)fclose(file);
     if (!is_right)
         (void)complain(why, "");

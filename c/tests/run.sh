@@ -160,7 +160,7 @@ fi
 
 # What of the terminal is no drawing: each test with all of it.
 terminal=$top/terminal
-logic=("$terminal"/{action,address,ahead,bindings,hold,kept,keys_file,label,look,moves,paste,recording,sentence,status,stroke,telnet}.c)
+logic=("$terminal"/{action,address,ahead,bindings,hold,kept,keys_file,label,look,macro,moves,paste,recording,sentence,status,stroke,telnet}.c)
 probe=()
 [ -x "$folder/probe" ] && probe=("${sanitized[@]}")
 for test in "$terminal"/tests/*.c; do
