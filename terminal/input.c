@@ -122,8 +122,8 @@ static void read_coded(input_reader *r, int code, input *i)
         i->key |= STROKE_ESCAPED;
 }
 
-/* A character of a sequence that nobody knows. It is told, so that whoever typed its begin by hand hears of it; a letter
- * that was typed behind that is a letter. */
+/* A character of a sequence that nobody knows. It is told, so that whoever typed its begin by hand hears of it; a
+ * letter that was typed behind that is a letter. */
 static void read_sequence(input_reader *r, wchar_t character, input *i)
 {
     bool is_end = r->sequence == SEQUENCE_STRING ? character == '\\' || character == 0x9c : character >= 0x40;

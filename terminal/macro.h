@@ -19,7 +19,8 @@ typedef struct {
 void macro_record(macro *m);
 void macro_play(macro *m);
 
-/* Records a key; false where there is no room. ACTION_HIDDEN, which stands for what isn't recorded, only once in a row. */
+/* Records a key; false where there is no room. ACTION_HIDDEN, which stands for what isn't recorded, only once in a
+ * row. */
 bool macro_add(macro *m, action key);
 
 /* The key that is played next; false where none is left, and it rests. */
@@ -29,8 +30,8 @@ void macro_went_on(macro *m);
 /* Stops what plays, and tells how many keys are left. */
 size_t macro_stop(macro *m);
 
-/* Writes the keys, a line each: its action's name, `text WORDS` or `inserted WORDS` for characters in a row, `cursor ROW
- * COLUMN` for a click, `hidden` for ACTION_HIDDEN. False, by errno, where that can't be. */
+/* Writes the keys, a line each: its action's name, `text WORDS` or `inserted WORDS` for characters in a row, `cursor
+ * ROW COLUMN` for a click, `hidden` for ACTION_HIDDEN. False, by errno, where that can't be. */
 bool macro_write(const macro *m, FILE *file);
 
 /* Reads such a file, in which lines that begin with # say nothing. False, with a sentence that names the line, where it

@@ -1,5 +1,5 @@
-/* The macros of a session: what is recorded, played and kept by name. Nothing of a hidden field is recorded, and nothing
- * is played into one. */
+/* The macros of a session: what is recorded, played and kept by name. Nothing of a hidden field is recorded, and
+ * nothing is played into one. */
 #ifndef MACROS_H
 #define MACROS_H
 
@@ -11,7 +11,8 @@ bool macros_hides(session *s, action key);
 /* Records a key that was pressed, where a macro is recorded; what went into a hidden field is told, and left out. */
 void macros_record(session *s, action key, bool is_hidden);
 
-/* The next key of what is played; false where nothing is, or the cursor stands in a hidden field that it would enter. */
+/* The next key of what is played; false where nothing is, or the cursor stands in a hidden field that it would
+ * enter. */
 bool macros_next(session *s, action *key);
 
 /* Whether a macro may have a name: 1 to 32 letters of ASCII, digits, `-` and `_`. */

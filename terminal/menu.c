@@ -103,7 +103,7 @@ static void take_name(session *s, uint32_t character)
 {
     size_t length = strlen(s->macro_name);
     const char more[] = {character < 0x80 ? (char)character : ' ', 0};
-    if (character == STROKE_ESCAPE) {
+    if (character == STROKE_ESCAPE || (character & STROKE_ESCAPED) != 0) {
         close_menu(s);
     } else if (character == STROKE_BACKSPACE && length > 0) {
         s->macro_name[length - 1] = 0;
@@ -167,7 +167,8 @@ static void draw_name(size_t at, const char *name)
 static void draw_question(const session *s)
 {
     char text[100];
-    (void)snprintf(text, sizeof text, "%s macro: %s", s->asks == ASKS_TO_KEEP ? "Name of the" : "Play which", s->macro_name);
+    const char *question = s->asks == ASKS_TO_KEEP ? "Name of the" : "Play which";
+    (void)snprintf(text, sizeof text, "%s macro: %s", question, s->macro_name);
     put(1, 0, "Enter  does it     Esc  back     letters, digits, - and _ are a name");
     macros_list(draw_name, NAMES_SHOWN);
     put(3, 0, text);
@@ -178,9 +179,10 @@ static void draw_words(const session *s)
     static const char *const signs[] = {
         "F1 to F12     also Esc 1 to Esc =",
         "F13 to F24    with Shift, or behind Esc; also Esc ! to Esc +",
-        "Mouse         a click moves the cursor; with Shift the window selects text",
-        "Paste         a line's end goes to the next field, and sends nothing",
-        "MW  a message waits   INS  insert mode   REC  recording   MAC  macro   T  keys wait",
+        "Mouse         a click moves the cursor, the wheel is Roll; with Shift the window selects",
+        "Keypad        its + and - are Field Plus and Field Minus",
+        "Paste         a line goes into one field, its end to the next, and sends nothing",
+        "MW  a message waits   INS  insert mode   REC, MAC  recording   T  keys wait",
         "field 10  length of the cursor's field   06/053  row and column of the cursor",
     };
     put(1, 0, "q  leave           p  the screen into " SCREEN_NAME "       any other key  back");
@@ -194,7 +196,7 @@ static void draw_words(const session *s)
         put(4, 0, s->standing);
     draw_keys(s, 5);
     for (size_t at = 0; at < sizeof signs / sizeof signs[0]; at++)
-        put(6 + KEY_ROWS + (int)at, 0, signs[at]);
+        put(5 + KEY_ROWS + (int)at, 0, signs[at]);
 }
 
 void menu_draw(session *s, const status_parts *parts)
@@ -210,5 +212,5 @@ void menu_draw(session *s, const status_parts *parts)
     if (s->asks == ASKS_NOTHING)
         (void)move(0, 0);
     else
-        (void)move(3, 18 + (int)strlen(s->macro_name)); /* in a window that is too small it stays */
+        (void)move(3, (int)strlen("Name of the macro: ") - (s->asks == ASKS_TO_PLAY) + (int)strlen(s->macro_name));
 }

@@ -36,7 +36,7 @@ bool paste_takes(paste *p)
 {
     p->total++;
     if (p->is_full)
-        paste_stop(p, "The line is longer than its field.");
+        paste_stop(p, "The field is full.");
     if (p->is_over)
         paste_stop(p, "There is no field below.");
     return p->why[0] == 0;

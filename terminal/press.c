@@ -137,6 +137,7 @@ static void hold(session *s, const char *why)
     s->rings = true;
     s->note[0] = 0;
     s->is_held = s->asked->holds;
+    s->is_insert_refused = false;
     if (s->is_held)
         (void)snprintf(s->standing, sizeof s->standing, "%s", text);
     else
@@ -173,10 +174,12 @@ static void end_paste(session *s)
     if (!paste_told(&s->paste, text, sizeof text))
         return;
     s->rings = true;
-    if (now.is_over || now.is_held || now.has_error || (now.is_locked && s->paste.count == 0))
+    if (now.is_over || now.is_held || now.has_error || (now.is_locked && s->paste.count == 0)) {
         session_tell(s, "%s", text);
-    else
-        hold(s, text);
+        return;
+    }
+    hold(s, text);
+    s->is_insert_refused = s->is_inserting;
 }
 
 static void press_part(session *s, action key)

@@ -58,12 +58,15 @@ def parts(words):
     def random_work():
         long.random_work(5250, words.sanitized, 600 if words.long else 20)
 
+    def random_typing():
+        long.typing(3477, words.sanitized, 300 if words.long else 10)
+
     def garbage_hosts():
         long.garbage_hosts(1205, words.sanitized, 120 if words.long else 20)
 
     yield screens
     if words.sanitized:
-        yield from (random_work, garbage_hosts)
+        yield from (random_work, random_typing, garbage_hosts)
     else:
         print("left out: random work at the terminal, since no program with sanitizers is named")
 

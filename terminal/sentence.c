@@ -26,7 +26,7 @@ static const char *kind_of(unsigned shift)
     case RIBBON_SHIFT_ALPHABETIC_ONLY: return "letters , . - only";
     case RIBBON_SHIFT_NUMERIC_ONLY: return "0-9 + - , . only";
     case RIBBON_SHIFT_DIGITS_ONLY: return "digits only";
-    case RIBBON_SHIFT_SIGNED_NUMERIC: return "digits";
+    case RIBBON_SHIFT_SIGNED_NUMERIC: return "digits only";
     default: return NULL;
     }
 }
@@ -55,7 +55,7 @@ static void tell_wrong(ribbon_station *station, const bindings *keys, action key
     minus[strcspn(minus, ",")] = 0; /* the first of them */
     if (!has_value(key)) {
         (void)snprintf(text, room, shift == RIBBON_SHIFT_NUMERIC_ONLY
-                                       ? "Field Minus isn't for this field: type the - itself."
+                                       ? "Field Minus isn't for this field: type the minus."
                                        : "Field Minus is for signed numeric fields alone.");
         return;
     }
@@ -65,9 +65,9 @@ static void tell_wrong(ribbon_station *station, const bindings *keys, action key
     else if (kind_of(shift) == NULL)
         (void)snprintf(text, room, "No %s here: the field doesn't take it.", shown);
     else if (shift == RIBBON_SHIFT_SIGNED_NUMERIC && minus[0] != 0)
-        (void)snprintf(text, room, "No %s here: the field takes digits, and %s for minus.", shown, minus);
+        (void)snprintf(text, room, "No %s here: digits only, and %s for minus.", shown, minus);
     else
-        (void)snprintf(text, room, "No %s here: the field takes %s.", shown, kind_of(shift));
+        (void)snprintf(text, room, "No %s here: %s.", shown, kind_of(shift));
 }
 
 static void tell_missing(ribbon_station *station, char *text, size_t room)
@@ -94,8 +94,8 @@ void sentence_refused(ribbon_station *station, const bindings *keys, action key,
     else if (refusal == RIBBON_KEY_MANDATORY_ENTER)
         tell_missing(station, text, room);
     else if (refusal == RIBBON_KEY_FIELD_HAS_NO_ROOM)
-        (void)snprintf(text, room, "No room for %s: press Reset, then type over or Delete.", shown);
-    else if (refusal == RIBBON_KEY_IS_PROTECTED && has_value(key))
+        (void)snprintf(text, room, "No room for %s: Reset, then type over.", shown);
+    else if (refusal == RIBBON_KEY_IS_PROTECTED && has_value(key) && key.kind != ACTION_PASTED)
         (void)snprintf(text, room, "The cursor isn't in an input field: %s went nowhere.", shown);
     else
         (void)snprintf(text, room, "%c%s.", why[0] >= 'a' && why[0] <= 'z' ? why[0] - 'a' + 'A' : why[0], why + 1);

@@ -5,8 +5,8 @@
 #include "bindings.h"
 #include "ribbonscarp.h"
 
-/* Why the station has refused a key where its cursor stands: it names the character, the field's kind, and what to press
- * by the keys that are bound. */
+/* Why the station has refused a key where its cursor stands: it names the character, the field's kind, and what to
+ * press by the keys that are bound. */
 void sentence_refused(ribbon_station *station, const bindings *keys, action key, uint8_t refusal, char *text,
                       size_t room);
 

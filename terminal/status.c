@@ -11,8 +11,8 @@ static void put_signs(const status_parts *parts, char *text, size_t room)
                    parts->is_recording ? " REC" : "", parts->is_macro ? " MAC" : "", parts->waits ? " T" : "");
 }
 
-/* What stands at the right; the way on, the field's length and the cursor's place only where a long sentence leaves room
- * for them. */
+/* What stands at the right; the way on, the field's length and the cursor's place only where a long sentence leaves
+ * room for them. */
 static void put_right(const status_parts *parts, size_t left_needs, char *text, size_t room)
 {
     char signs[20], place[12], way[40], field[24] = "";

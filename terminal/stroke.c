@@ -47,7 +47,8 @@ static const char *behind(const char *name, const char *const *fronts)
 /* `F1` to `F24`, `Shift-F1` to `Shift-F12`, `Keypad0` to `Keypad9`. */
 static bool by_number(const char *name, stroke *found)
 {
-    static const char *const keypad[] = {"Keypad", NULL}, *const shifted[] = {"Shift-F", NULL}, *const plain[] = {"F", NULL};
+    static const char *const keypad[] = {"Keypad", NULL}, *const shifted[] = {"Shift-F", NULL};
+    static const char *const plain[] = {"F", NULL};
     const char *digit = behind(name, keypad), *upper = behind(name, shifted), *lower = behind(name, plain);
     unsigned number;
     if (digit != NULL && digit[0] >= '0' && digit[0] <= '9' && digit[1] == 0) {

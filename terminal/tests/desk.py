@@ -1,4 +1,4 @@
-"""What hurts at a desk: pastes that don't fit, an Enter too many, what a field lacks, keys as other programs have them."""
+"""What hurts at a desk: pastes that don't fit, an Enter too many, what a field lacks, keys as others have them."""
 import os
 import tempfile
 
@@ -27,7 +27,7 @@ def pastes_too_long():
     host, t = at_host(COMMAND, "20/008")
     line = "".join(chr(ord("a") + k % 26) for k in range(218))
     t.rings("a paste that is too long", lambda: t.paste(line))
-    t.tells("153 of 218 pasted. The line is longer than its field.")
+    t.tells("153 of 218 pasted. The field is full.")
     t.tells("Reset: ^R")
     t.rings("Enter at once", lambda: t.type("\r"))
     check(host.answer(0.3) is None, "and nothing is sent that wasn't meant")
@@ -58,7 +58,7 @@ def pastes_into_options():
     host.send(LIST)
     t.at("05/003")
     t.rings("a line too long for its option", lambda: t.paste("440000 Smith"))
-    t.tells("1 of 12 pasted. The line is longer than its field.")
+    t.tells("1 of 12 pasted. The field is full.")
     t.type("\x12\r")
     check(inputs(host.answer()) == (0xF1, {(5, 3): "4"}), "and no other option gets any of it")
     host.send(LIST)
@@ -82,11 +82,11 @@ def pastes_that_wait():
     t.paste("xyz")
     t.tells(" T ")
     t.rings("the paste, when it is pressed", lambda: host.send(LIST))
-    t.tells("1 of 9 pasted. The line is longer than its field. 3 dropped.")
+    t.tells("1 of 9 pasted. The field is full. 3 dropped.")
     t.rings("a paste while the keyboard is held", lambda: t.paste("abc"))
     t.tells("Nothing pasted. Press Reset first.")
     t.rings("a key then", lambda: t.type("b"))
-    t.tells("1 of 9 pasted. The line is longer than its field. 3 dropped.")
+    t.tells("1 of 9 pasted. The field is full. 3 dropped.")
     t.type("\x12\r")
     check(inputs(host.answer()) == (0xF1, {(5, 3): "1"}), "no more than that went in")
     t.rings("more than can wait", lambda: t.paste("z" * 5000))
@@ -148,7 +148,7 @@ def without_type_ahead():
     Terminal("--type-ahead", "no", "h").ended(2, "--type-ahead is on or off, and not no")
 
 
-# Fields that have to be entered: one with a label and dots, one with a label behind an attribute, one whose row has none.
+# Fields that have to be entered: with a label and dots, with a label behind an attribute, in a row without one.
 MANDATORY = write() + text(3, 2, "Note") + field(3, 20, 6) + text(5, 2, "Order number . . . . . :") \
     + field(5, 40, 6, 0x4008) + text(7, 10, "Quantity", 0x22) + field(7, 30, 4, 0x4008) + field(9, 30, 4, 0x4008) + READ
 
@@ -179,11 +179,11 @@ def numbers():
     """The keypad's + and - are Field Plus and Field Minus; the sentences say what to press."""
     host, t = at_host(NUMBERS, "03/020")
     t.rings("a minus among digits", lambda: t.type("1-"))
-    t.tells("No '-' here: the field takes digits, and ^N for minus.")
+    t.tells("No '-' here: digits only, and ^N for minus.")
     t.type("\x12\x012\x1bOm")
     t.at("04/020")
     t.rings("Field Minus in a numeric only field", lambda: t.type("7\x1bOm"))
-    t.tells("Field Minus isn't for this field: type the - itself.")
+    t.tells("Field Minus isn't for this field: type the minus.")
     t.type("\x12-\x1bOk")
     t.at("05/020")
     t.rings("Field Minus in another field", lambda: t.type("\x0e"))
@@ -201,7 +201,7 @@ def inserting():
     t.type("\x0f")
     t.tells("INS")
     t.rings("a letter", lambda: t.type("\t\tx"))
-    t.tells("No room for 'x': press Reset, then type over or Delete.")
+    t.tells("No room for 'x': Reset, then type over.")
     t.tells("INS")
     t.type("\x12")
     t.until(lambda: "INS" not in t.status() and "No room" not in t.status(), "Reset ends insert mode")

@@ -7,6 +7,7 @@ import tempfile
 import time
 
 import hosts
+import typist
 from hosts import Host, READ, field, plain, text, write
 from window import Terminal, check
 
@@ -16,7 +17,9 @@ KEYS = ["\r", "\t", "\x1b[Z", "\x7f", "\x08", "\x1bOA", "\x1bOB", "\x1bOC", "\x1
         "\x04", "\x0f", "\x0c", "\x07", "\x10", "\x14", "\x18", "\x03", "\x1bOM", "\x1bOk", "\x1bOu", "\x1b[1;5C",
         "\x1b]11;?\x07", "\x1b[<0;20;3M\x1b[<0;20;3m", "\x1b[<0;200;90M", "\x1b[200~12\r\nab\x1b[201~", "\x1b[200~",
         "\x1b[201~", "\x1dx", "\x1d\x1d", "\x1d\x1b", "\x1ds", "\x1dp", "\x1dr", "\x00", "caf\u00e9",
-        "\u20ac", "12.5", "x", " ", "A long text that fills more than one field of them all"]
+        "\x1b[<64;10;5M", "\x1b[<65;10;5M", "\x13", "\x1dt", "\x1dmn-1\r", "\x1dan-1\r", "\x1bOm",
+        "\x1b[", "\x1bO", "\x1b[200~" + "long " * 60 + "\x1b[201~", "\x1b[200~a\tb\rc\n\n" + "1\n" * 30 + "\x1b[201~",
+        "\x1b[200~" + "much" * 1100 + "\x1b[201~", "\u20ac", "12.5", "x", " ", "A long text that fills more than one field of them all"]
 SIZES = [(24, 80), (25, 80), (30, 100), (20, 60), (1, 1), (50, 200), (24, 79), (23, 80), (3, 500)]
 # What curses itself doesn't give back, it keeps for the next window.
 SUPPRESSED = pathlib.Path(__file__).resolve().parent / "curses.supp"
@@ -78,10 +81,11 @@ def same_screen(t, folder):
 def one_session(dice, sanitized, seconds, counts, folder):
     host = Host()
     words = dice.choice([[], ["--no-hold"], ["--mono"], ["--separators", "off"], ["--background", "own"],
-                         ["--no-mouse"]])
+                         ["--no-mouse"], ["--type-ahead", "off"], ["--keys", "tn5250"]])
     rows, columns = dice.choice(SIZES[:3])
     t = Terminal(*words, f"127.0.0.1:{host.port}", rows=rows, columns=columns, program=sanitized,
-                 term=dice.choice(["xterm", "screen", "vt100", "linux", "xterm-256color"]), folder=folder, **CAREFUL)
+                 term=dice.choice(["xterm", "screen", "vt100", "linux", "xterm-256color"]), folder=folder,
+                 XDG_CONFIG_HOME=folder, **CAREFUL)
     host.ready()
     end = time.monotonic() + seconds
     try:
@@ -126,6 +130,12 @@ def random_work(seed, sanitized, seconds):
         with tempfile.TemporaryDirectory() as folder:
             one_session(dice, sanitized, min(20, max(end - time.monotonic(), 1)), counts, folder)
     print("random work:", ", ".join(f"{count} {name}" for name, count in counts.items()), flush=True)
+
+
+def typing(seed, sanitized, seconds):
+    """Typing beside its model."""
+    t = typist.random_typing(seed, sanitized, seconds, time.monotonic, **CAREFUL)
+    say_nothing(t.ended(ended_with(t, 20)), "random typing")
 
 
 def garbage(dice):

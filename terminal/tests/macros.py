@@ -121,7 +121,7 @@ def stops():
             t.rings("a macro that is none", lambda: play(t, name))
             t.tells(told)
         t.rings("a refused key", lambda: play(t, "letters"))
-        t.tells("No 'x' here: the field takes 0-9 + - , . only. 2 dropped.")
+        t.tells("No 'x' here: 0-9 + - , . only. 2 dropped.")
         check(host.answer(0.3) is None, "and it isn't sent")
         t.type("\x12")
         play(t, "two")

@@ -3,6 +3,7 @@
 #include "sentence.h"
 
 #include <locale.h>
+#include <stdlib.h>
 
 /* Negotiation by a host (RFC 4777). */
 static const uint8_t opening[] = {0xff, 0xfd, 0x18, 0xff, 0xfa, 0x18, 0x01, 0xff, 0xf0, 0xff, 0xfd, 0x19,
@@ -28,17 +29,18 @@ static const struct {
     const char *sentence;
 } refused[] = {
     {0, "", RIBBON_KEY_CHAR, {ACTION_CHARACTER, 0x20ac}, "The host's characters lack '\xe2\x82\xac'."},
-    {1, "", RIBBON_KEY_CHAR, {ACTION_CHARACTER, '1'}, "No '1' here: the field takes letters , . - only."},
+    {1, "", RIBBON_KEY_CHAR, {ACTION_CHARACTER, '1'}, "No '1' here: letters , . - only."},
     {2, "", RIBBON_KEY_CHAR, {ACTION_PASTED, 0x4e00}, "The host's characters lack U+4E00."},
-    {3, "12", RIBBON_KEY_CHAR, {ACTION_CHARACTER, 'x'}, "No 'x' here: the field takes 0-9 + - , . only."},
-    {4, "", RIBBON_KEY_INSERT, {ACTION_INSERTED, '-'}, "No '-' here: the field takes digits only."},
-    {5, "", RIBBON_KEY_CHAR, {ACTION_CHARACTER, '-'}, "No '-' here: the field takes digits, and ^N for minus."},
+    {3, "12", RIBBON_KEY_CHAR, {ACTION_CHARACTER, 'x'}, "No 'x' here: 0-9 + - , . only."},
+    {4, "", RIBBON_KEY_INSERT, {ACTION_INSERTED, '-'}, "No '-' here: digits only."},
+    {5, "", RIBBON_KEY_CHAR, {ACTION_CHARACTER, '-'}, "No '-' here: digits only, and ^N for minus."},
     {-1, "", RIBBON_KEY_CHAR, {ACTION_CHARACTER, 'y'}, "The cursor isn't in an input field: 'y' went nowhere."},
+    {-1, "", RIBBON_KEY_CHAR, {ACTION_PASTED, 'y'}, "The cursor isn't in an input field."},
     {-1, "", RIBBON_KEY_DELETE, {ACTION_DELETE, 0}, "The cursor isn't in an input field."},
     {0, "", RIBBON_KEY_FIELD_MINUS, {ACTION_FIELD_MINUS, 0},
      "Field Minus is for signed numeric fields alone."},
-    {3, "", RIBBON_KEY_FIELD_MINUS, {ACTION_FIELD_MINUS, 0}, "Field Minus isn't for this field: type the - itself."},
-    {0, "abc\t", RIBBON_KEY_INSERT, {ACTION_INSERTED, 'x'}, "No room for 'x': press Reset, then type over or Delete."},
+    {3, "", RIBBON_KEY_FIELD_MINUS, {ACTION_FIELD_MINUS, 0}, "Field Minus isn't for this field: type the minus."},
+    {0, "abc\t", RIBBON_KEY_INSERT, {ACTION_INSERTED, 'x'}, "No room for 'x': Reset, then type over."},
     {0, "", RIBBON_KEY_DUP, {ACTION_DUP, 0}, "The field doesn't take Dup."},
     {0, "", RIBBON_KEY_AID, {ACTION_AID, RIBBON_AID_ENTER}, "The host asks for nothing."},
 };
@@ -72,6 +74,7 @@ static void check_row(size_t at)
     if (strcmp(text, refused[at].sentence) != 0)
         printf("row %zu: %s\n", at, text);
     CHECK(strcmp(text, refused[at].sentence) == 0);
+    CHECK(mbstowcs(NULL, text, 0) <= 53); /* whole beside four signs and Reset in a status line */
     ribbon_station_free(&station);
 }
 

@@ -286,8 +286,8 @@ def function_keys(terms=("xterm", "screen")):
 
 def keypad():
     """The numeric keypad in its application mode, at a terminal whose description knows it, and at others."""
-    typed = {"p": "0", "q": "1", "r": "2", "s": "3", "t": "4", "u": "5", "v": "6", "w": "7", "x": "8", "y": "9", "n": ".",
-              "l": ",", "j": "*", "o": "/", "X": "="}
+    typed = {"p": "0", "q": "1", "r": "2", "s": "3", "t": "4", "u": "5", "v": "6", "w": "7", "x": "8", "y": "9",
+             "n": ".", "l": ",", "j": "*", "o": "/", "X": "="}
     for term in ("xterm", "screen", "vt100", "linux", "rxvt"):
         host, t = at_form(term=term)
         t.type("\t" + "".join(f"\x1bO{final}" for final in typed) + "\x1bOM")

@@ -111,8 +111,8 @@ static void pasted_text_sends_nothing(void)
     asks("a\n\rb", "annb");
 }
 
-/* A paste into fields of three cells and then of two, the last ones: what of it is pressed, `n` for the key that goes to
- * the next field, and what is told at its end. */
+/* A paste into fields of three cells and then of two, the last ones: what of it is pressed, `n` for the key that goes
+ * to the next field, and what is told at its end. */
 static void presses(const char *text, const char *wanted, const char *sentence)
 {
     static const size_t lengths[] = {3, 2};
@@ -149,8 +149,8 @@ static void a_line_goes_into_one_field(void)
     presses("ab/c", "abnc", "");
     presses("abc/de/", "abcde", "");
     presses("ab/c/", "abnc", "");
-    presses("abcdef", "abc", "3 of 6 pasted. The line is longer than its field.");
-    presses("a/bcd/e", "anbc", "3 of 5 pasted. The line is longer than its field.");
+    presses("abcdef", "abc", "3 of 6 pasted. The field is full.");
+    presses("a/bcd/e", "anbc", "3 of 5 pasted. The field is full.");
     presses("abc/de/f", "abcde", "5 of 6 pasted. There is no field below.");
     presses("abc/d/e/f", "abcd", "4 of 6 pasted. There is no field below.");
     presses("//a", "n", "Nothing pasted. There is no field below.");
