@@ -9,6 +9,8 @@
 #include <errno.h>
 #include <stdlib.h>
 #include <string.h>
+#include <sys/stat.h>
+#include <unistd.h>
 
 static bool enters(action_kind kind)
 {
@@ -78,6 +80,7 @@ static bool path_of(const char *name, char *path, size_t room)
 void macros_keep(session *s, const char *name)
 {
     char path[FILE_NAME_ROOM], made[FILE_NAME_ROOM];
+    struct stat about;
     FILE *file = NULL;
     if (path_of(name, path, sizeof path)) {
         config_make_folders(path);
@@ -89,6 +92,8 @@ void macros_keep(session *s, const char *name)
     if (!is_written) { /* what was recorded isn't lost */
         session_report(s, "The macro can't be written: %s.", strerror(errno));
         s->rings = true;
+        if (file != NULL && lstat(made, &about) == 0 && S_ISREG(about.st_mode))
+            (void)unlink(made); /* a part of it would be another macro */
         return;
     }
     s->macro.state = MACRO_RESTS;

@@ -179,7 +179,7 @@ static void draw_words(const session *s)
     static const char *const signs[] = {
         "F1 to F12     also Esc 1 to Esc =",
         "F13 to F24    with Shift, or behind Esc; also Esc ! to Esc +",
-        "Mouse         a click moves the cursor, the wheel is Roll; with Shift the window selects",
+        "Mouse         a click moves the cursor, the wheel is Roll; Shift selects text",
         "Keypad        its + and - are Field Plus and Field Minus",
         "Paste         a line goes into one field, its end to the next, and sends nothing",
         "MW  a message waits   INS  insert mode   REC, MAC  recording   T  keys wait",

@@ -59,6 +59,7 @@ void session_over(session *s, int status, const char *format, ...)
     s->rings = true;
     (void)ahead_drop(&s->ahead); /* nobody will take these keys any more */
     (void)macro_stop(&s->macro);
+    s->sent = (action){ACTION_NOTHING, 0};
     s->paste.is_dropped = s->paste.is_on;
     dial_end(&s->dial);
     line_end(&s->line);
