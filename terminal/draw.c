@@ -108,14 +108,14 @@ static bool covers_row(const session *s, const ribbon_state *state)
     return is_shown && state->error_row != SCREEN_ROWS;
 }
 
-static void draw_screen(session *s, window *w, const ribbon_state *state, const status_parts *parts)
+static void draw_screen(session *s, window *w, const ribbon_state *state, const status_parts *parts, bool covers)
 {
     if (s->draws_all)
         (void)erase();
     draw_rows(s, w);
     if (window_has_status())
         draw_status(parts, SCREEN_ROWS);
-    else if (covers_row(s, state))
+    else if (covers)
         draw_status(parts, SCREEN_ROWS - 1);
     (void)move(state->cursor_row - 1, state->cursor_column - 1);
 }
@@ -147,7 +147,7 @@ void draw(session *s, window *w)
     if (s->is_menu_open)
         menu_draw(s, &parts);
     else if (window_has_screen())
-        draw_screen(s, w, &state, &parts);
+        draw_screen(s, w, &state, &parts, covers);
     else
         draw_too_small();
     w->is_covered = covers;

@@ -2,49 +2,10 @@
 
 #include "macros.h"
 #include "moves.h"
+#include "pressed.h"
 #include "sentence.h"
 
 #include <string.h>
-
-/* What came of a key. */
-typedef struct {
-    ribbon_status status;
-    uint8_t refusal;
-    bool has_moved_on; /* the cursor stands elsewhere than one cell further in its field */
-    bool is_below;     /* and that is further below */
-} pressed;
-
-/* The keys that are one of the station's. */
-static const struct {
-    action_kind kind;
-    uint32_t key;
-} station_keys[] = {
-    {ACTION_CHARACTER, RIBBON_KEY_CHAR}, {ACTION_INSERTED, RIBBON_KEY_INSERT}, {ACTION_PASTED, RIBBON_KEY_CHAR},
-    {ACTION_AID, RIBBON_KEY_AID}, {ACTION_LEFT, RIBBON_KEY_LEFT},
-    {ACTION_RIGHT, RIBBON_KEY_RIGHT}, {ACTION_UP, RIBBON_KEY_UP}, {ACTION_DOWN, RIBBON_KEY_DOWN},
-    {ACTION_HOME, RIBBON_KEY_HOME}, {ACTION_TAB, RIBBON_KEY_TAB}, {ACTION_BACK_TAB, RIBBON_KEY_BACK_TAB},
-    {ACTION_FIELD_EXIT, RIBBON_KEY_FIELD_EXIT}, {ACTION_FIELD_PLUS, RIBBON_KEY_FIELD_EXIT},
-    {ACTION_FIELD_MINUS, RIBBON_KEY_FIELD_MINUS}, {ACTION_DUP, RIBBON_KEY_DUP}, {ACTION_DELETE, RIBBON_KEY_DELETE},
-    {ACTION_ERASE_INPUT, RIBBON_KEY_ERASE_INPUT}, {ACTION_ATTENTION, RIBBON_KEY_ATTENTION},
-    {ACTION_SYSTEM_REQUEST, RIBBON_KEY_SYSTEM_REQUEST},
-};
-
-static uint32_t station_key_of(action_kind kind, bool is_inserting)
-{
-    if (kind == ACTION_PASTED && is_inserting)
-        return RIBBON_KEY_INSERT;
-    for (size_t at = 0; at < sizeof station_keys / sizeof station_keys[0]; at++)
-        if (station_keys[at].kind == kind)
-            return station_keys[at].key;
-    return 0;
-}
-
-/* Whether a key's answer has room, and comes behind all that the station has written; where there is no line yet, the
- * station tells by itself that nothing can be sent. */
-static bool can_send(const session *s)
-{
-    return s->phase != PHASE_OPEN || (!s->has_part && line_left(&s->line) >= RIBBON_ANSWER_ROOM);
-}
 
 turn press_turn(session *s)
 {
@@ -53,67 +14,8 @@ turn press_turn(session *s)
     bool is_known = ribbon_station_state(&s->station, &state) == RIBBON_DONE;
     now.waits = s->ahead.count > 0 || s->macro.state == MACRO_PLAYS;
     now.has_error = is_known && state.error_row != 0;
-    now.is_locked = !is_known || state.is_locked || !can_send(s);
+    now.is_locked = !is_known || state.is_locked || !pressed_can_send(s);
     return now;
-}
-
-static unsigned cursor_of(const ribbon_state *state)
-{
-    return (state->cursor_row - 1U) * RIBBON_COLUMNS + state->cursor_column - 1U;
-}
-
-/* A key of the station's by itself; what it sends goes out. */
-static pressed press_one(session *s, action key)
-{
-    uint8_t answer[RIBBON_ANSWER_ROOM];
-    ribbon_told told;
-    ribbon_state before, after;
-    pressed p = {.status = ribbon_station_state(&s->station, &before)};
-    if (p.status != RIBBON_DONE)
-        return p;
-    p.status = ribbon_station_key(&s->station, station_key_of(key.kind, s->is_inserting), key.value, answer,
-                                  sizeof answer, &told);
-    p.refusal = told.reason;
-    if (p.status == RIBBON_DONE && told.length > 0 && !session_send(s, answer, told.length))
-        session_over(s, 1, "The host doesn't take what is sent."); /* there was room for it: press_does saw to that */
-    if (ribbon_station_state(&s->station, &after) == RIBBON_DONE) {
-        p.has_moved_on = after.cursor_field != before.cursor_field || cursor_of(&after) != cursor_of(&before) + 1;
-        p.is_below = cursor_of(&after) > cursor_of(&before);
-    }
-    return p;
-}
-
-static pressed press_several(session *s, action key)
-{
-    pressed p = {0};
-    bool at_begin = false;
-    switch (key.kind) {
-    case ACTION_MOVE_TO:
-        p.status = moves_to(&s->station, (uint8_t)(key.value / RIBBON_COLUMNS + 1),
-                            (uint8_t)(key.value % RIBBON_COLUMNS + 1), &p.refusal);
-        break;
-    case ACTION_NEW_LINE: p.status = moves_new_line(&s->station, &p.refusal); break;
-    case ACTION_FIELD_BEGIN: p.status = moves_field_begin(&s->station, &p.refusal); break;
-    case ACTION_FIELD_END: p.status = moves_field_end(&s->station, &p.refusal); break;
-    case ACTION_ERASE_EOF: p.status = moves_erase_eof(&s->station, &p.refusal); break;
-    case ACTION_BACKSPACE: p.status = moves_backspace(&s->station, &p.refusal, &at_begin); break;
-    default: p.status = RIBBON_BAD_ARGUMENT; break; /* no other key comes here */
-    }
-    if (at_begin) {
-        session_tell(s, "The field begins here.");
-        s->rings = true;
-    }
-    return p;
-}
-
-/* A key that isn't held off; a macro records it where it isn't refused. */
-static pressed press(session *s, action key)
-{
-    bool is_hidden = macros_hides(s, key);
-    pressed p = station_key_of(key.kind, s->is_inserting) != 0 ? press_one(s, key) : press_several(s, key);
-    if (p.status == RIBBON_DONE)
-        macros_record(s, key, is_hidden);
-    return p;
 }
 
 /* Drops what is typed ahead, and the rest of a macro. */
@@ -190,13 +92,13 @@ static void press_part(session *s, action key)
     case ACTION_PASTED:
         if (!paste_takes(&s->paste))
             break;
-        p = press(s, key);
+        p = pressed_key(s, key);
         if (p.status == RIBBON_DONE)
             paste_went_in(&s->paste, p.has_moved_on, p.is_below);
         break;
     case ACTION_PASTED_END:
         if (paste_line_ends(&s->paste, moves_has_next(&s->station)))
-            p = press(s, (action){ACTION_TAB, 0});
+            p = pressed_key(s, (action){ACTION_TAB, 0});
         break;
     default: end_paste(s); break;
     }
@@ -208,7 +110,7 @@ static void press_part(session *s, action key)
 static bool press_does(session *s, action key)
 {
     pressed p = {0};
-    if (!can_send(s)) { /* These are keys that don't wait; the others do. */
+    if (!pressed_can_send(s)) { /* These are keys that don't wait; the others do. */
         session_tell(s, "The host doesn't take what is sent: the key wasn't pressed.");
         s->rings = true;
         return false;
@@ -216,7 +118,7 @@ static bool press_does(session *s, action key)
     if (paste_is_part(key.kind))
         press_part(s, key);
     else
-        p = press(s, key);
+        p = pressed_key(s, key);
     if (p.status != RIBBON_DONE) {
         refuse(s, key, &p);
         return false;
@@ -232,20 +134,24 @@ static bool is_impatient(const session *s, action key)
     return key.kind == ACTION_AID && action_is(key, s->ahead.count > 0 ? ahead_last(&s->ahead) : s->sent);
 }
 
+/* Where no more can wait; of a paste then nothing does. */
+static void tell_no_room(session *s, action key)
+{
+    bool is_part = paste_is_part(key.kind);
+    if (is_part)
+        ahead_drop_paste(&s->ahead);
+    s->paste.is_dropped = is_part;
+    session_tell(s, "%s%d keys wait, and no more can.", is_part ? "The paste is dropped: " : "", AHEAD_ROOM);
+}
+
 static void let_wait(session *s, action key)
 {
-    bool has_room = false;
-    if (is_impatient(s, key)) {
+    if (is_impatient(s, key))
         session_tell(s, "This key again is dropped: the host hasn't answered the first.");
-    } else if ((has_room = ahead_put(&s->ahead, key))) {
+    else if (!ahead_put(&s->ahead, key))
+        tell_no_room(s, key);
+    else
         return;
-    } else if (paste_is_part(key.kind)) {
-        ahead_drop_paste(&s->ahead);
-        s->paste.is_dropped = true;
-        session_tell(s, "The paste is dropped: %d keys wait, and no more can.", AHEAD_ROOM);
-    } else {
-        session_tell(s, "%d keys wait, and no more can.", AHEAD_ROOM);
-    }
     s->rings = true;
 }
 
@@ -257,23 +163,31 @@ static const char *refusal_of(const turn *now)
     return now->is_held || now->has_error ? "Press Reset first." : "The host has the keyboard.";
 }
 
+/* A part of a paste that is dropped: it is counted, and told at the paste's end. */
+static void leave_part(session *s, action key, const turn *now)
+{
+    if (key.kind == ACTION_PASTE_ENDS) {
+        end_paste(s);
+        return;
+    }
+    if (key.kind == ACTION_PASTE_BEGINS)
+        paste_start(&s->paste);
+    paste_stop(&s->paste, refusal_of(now));
+    if (key.kind == ACTION_PASTED)
+        (void)paste_takes(&s->paste);
+}
+
 /* A key that is dropped. */
 static void ring_off(session *s, action key, const turn *now)
 {
     s->rings = true;
-    if (key.kind == ACTION_PASTE_BEGINS)
-        paste_start(&s->paste);
-    if (key.kind == ACTION_PASTE_ENDS)
-        end_paste(s);
-    else if (paste_is_part(key.kind))
-        paste_stop(&s->paste, refusal_of(now));
+    if (paste_is_part(key.kind))
+        leave_part(s, key, now);
     else if (now->has_error && !now->is_held && key.kind == ACTION_AID)
         session_tell(s, "%s isn't sent while an error of the host's stands.",
                      key.value == RIBBON_AID_HELP ? "Help" : "This key");
     else if (!now->is_over && !now->is_held && !now->has_error)
         session_tell(s, "The host has the keyboard: the key is dropped.");
-    if (key.kind == ACTION_PASTED)
-        (void)paste_takes(&s->paste);
 }
 
 /* The station's Reset, which takes the host's error away and sends nothing. */
@@ -300,9 +214,7 @@ static void tell_dropped(session *s)
 static void reset(session *s, verdict what)
 {
     switch (what) {
-    case VERDICT_DROP_AHEAD:
-        tell_dropped(s);
-        break;
+    case VERDICT_DROP_AHEAD: tell_dropped(s); break;
     case VERDICT_END_HOLD:
         s->is_held = false;
         s->standing[0] = 0;
@@ -347,7 +259,12 @@ void press_key(session *s, action key)
     verdict what = hold_judges(&now, key.kind);
     switch (what) {
     case VERDICT_PRESS: (void)press_does(s, key); break; /* a refusal has been told */
-    case VERDICT_WAIT: (s->asked->types_ahead ? let_wait(s, key) : ring_off(s, key, &now)); break;
+    case VERDICT_WAIT:
+        if (s->asked->types_ahead)
+            let_wait(s, key);
+        else
+            ring_off(s, key, &now);
+        break;
     case VERDICT_RING: ring_off(s, key, &now); break;
     default: reset(s, what); break;
     }
