@@ -1,9 +1,10 @@
 #!/usr/bin/env python3
 """Types into the terminal: `run_terminal.py TERM5250 HOST5250 T5250 [--sanitized TERM5250] [--long] [--only WORD]`.
 
-Its parts stand in tests/: what a clerk does, what is shown, faults, what live hosts send, sizes in tmux, random work. A
-terminal that was built with sanitizers takes the random work, which is left out without it. With --long it is ten minutes of random keys
-and records, 120 hosts that send garbage, and 5,000 screens; without, a little of each, and all takes about two minutes.
+Its parts stand in tests/: what a clerk does, what is shown, faults, what live hosts send, what hurts at a desk, macros,
+sizes in tmux, random work. A terminal that was built with sanitizers takes the random work, which is left out without
+it. With --long it is ten minutes of random keys, pastes, sizes and records, five of typing beside a model of it, 120
+hosts that send garbage, and 5,000 screens; without, a little of each, and all takes about two minutes.
 With --only the parts whose name has a word. Ends with 'N passed, N failed'."""
 import argparse
 import pathlib
