@@ -2,6 +2,7 @@
 import os
 import signal
 import tempfile
+import time
 
 from hosts import Host, READ, field, inputs, text, write
 from window import Terminal, check
@@ -163,16 +164,15 @@ def blinking_without_shapes():
 
 
 def at_24_rows():
-    host = Host()
+    host, begun = Host(), time.monotonic()
     t = Terminal(f"127.0.0.1:{host.port}", rows=24)
     host.ready()
     form = FORM.replace(b"\x04\x52", text(24, 2, "the last row") + b"\x04\x52")
     host.send(form)
     t.shows(23, "^] menu", "24 rows: at first the status line lies over the last one")
     t.shows(23, f"127.0.0.1:{host.port}")
-    t.settle(2)
-    check("^] menu" in t.window.text(23), "for three seconds", t.window.text(23))
-    t.shows(23, "the last row", "24 rows: the screen whole")
+    t.shows(23, "the last row", "24 rows: then the screen whole")
+    check(3 <= time.monotonic() - begun < 9, "behind three seconds", time.monotonic() - begun)
     t.idles("then")
     t.type("\x13")
     t.shows(23, "^] menu  field 6  03/020", "^S lays it there")
