@@ -20,7 +20,8 @@ KEYS = ["\r", "\t", "\x1b[Z", "\x7f", "\x08", "\x1bOA", "\x1bOB", "\x1bOC", "\x1
         "\x1b[201~", "\x1dx", "\x1d\x1d", "\x1d\x1b", "\x1ds", "\x1dp", "\x1dr", "\x00", "caf\u00e9",
         "\x1b[<64;10;5M", "\x1b[<65;10;5M", "\x13", "\x1dt", "\x1dmn-1\r", "\x1dan-1\r", "\x1bOm",
         "\x1b[", "\x1bO", "\x1b[200~" + "long " * 60 + "\x1b[201~", "\x1b[200~a\tb\rc\n\n" + "1\n" * 30 + "\x1b[201~",
-        "\x1b[200~" + "much" * 1100 + "\x1b[201~", "\u20ac", "12.5", "x", " ", "A long text that fills more than one field of them all"]
+        "\x1b[200~" + "much" * 1100 + "\x1b[201~", "\u20ac", "12.5", "x", " ",
+        "A long text that fills more than one field of them all"]
 SIZES = [(24, 80), (25, 80), (30, 100), (20, 60), (1, 1), (50, 200), (24, 79), (23, 80), (3, 500)]
 # What curses itself doesn't give back, it keeps for the next window.
 SUPPRESSED = pathlib.Path(__file__).resolve().parent / "curses.supp"
@@ -64,10 +65,17 @@ def say_nothing(said, what):
     check(not any(word in said for word in SAID), f"no sanitizer speaks: {what}", said[-1500:])
 
 
+def at_rest(t):
+    """Ends a paste, a name that the menu asks for, and the menu, whichever there is; an earlier note goes."""
+    t.type("\x1b[201~\x1d\x1b")
+    t.settle()
+    t.type("\x1dx")
+    t.settle()
+
+
 def same_screen(t, folder):
     """The window shows what the station's screen is, as the menu prints it into a file."""
-    t.type("\x1b[201~\x1dx")  # Whether a paste is on or not, and the menu; an earlier note goes.
-    t.settle()
+    at_rest(t)
     t.type("\x1dp")
     t.until(lambda: "The screen is in" in t.status(), "the screen is printed", 20)
     t.settle()
@@ -83,7 +91,7 @@ def connect_again(dice, host, t, counts):
     """The line is lost, or is already; the next connection comes by the box, by the menu, or by itself."""
     host.again()
     host.hang_up()
-    t.type("\x1b[201~")  # A paste would take the keys.
+    at_rest(t)  # A paste or a name would take the keys.
     end = time.monotonic() + 5
     while not host.is_ready.is_set() and time.monotonic() < end and t.child.poll() is None:
         t.type(dice.choice(["c", "\x1dc", "x", "s"]))
@@ -147,7 +155,8 @@ def one_session(dice, sanitized, seconds, counts, folder):
     if t.child.poll() is None and "--reconnect" not in words:
         same_screen(t, folder)
         counts["windows"] += 1
-    t.type("\x1b[201~\x1dx\x1dq")
+    at_rest(t)
+    t.type("\x1dq")
     status = ended_with(t, 30)
     said = t.ended(status)
     check(end_is_right(status, said), "its status", status, said[-200:])
