@@ -132,7 +132,11 @@ def trip(port):
     return 0
 
 
-TASKS = {"in_threads": lambda port: farm(in_threads, port), "in_asyncio": lambda port: farm(in_asyncio, port), "trip": trip}
+TASKS = {
+    "in_threads": lambda port: farm(in_threads, port),
+    "in_asyncio": lambda port: farm(in_asyncio, port),
+    "trip": trip,
+}
 
 
 def main():

@@ -18,6 +18,7 @@ from collections.abc import Iterator
 HERE = pathlib.Path(__file__).resolve().parent
 PACKAGE = HERE / "ribbonscarp"
 Settings = dict[str, object] | None
+Folder = str | None
 
 
 def table(name: str) -> dict[str, object]:
@@ -69,7 +70,8 @@ def write_wheel(folder: str, files: list[tuple[str, bytes]]) -> str:
     """Writes a wheel of files, and gives its name."""
     info = f"ribbonscarp-{version()}.dist-info"
     plugins = "\n".join(f"{name} = {module}" for name, module in table("project.entry-points.pytest11").items())
-    about = f"Wheel-Version: 1.0\nGenerator: ribbonscarp\nRoot-Is-Purelib: {str(not libraries()).lower()}\nTag: {tag()}\n"
+    about = "Wheel-Version: 1.0\nGenerator: ribbonscarp\n"
+    about += f"Root-Is-Purelib: {str(not libraries()).lower()}\nTag: {tag()}\n"
     files += [(f"{info}/METADATA", metadata().encode()), (f"{info}/WHEEL", about.encode())]
     files += [(f"{info}/entry_points.txt", f"[pytest11]\n{plugins}\n".encode())]
     rows = [f"{path},sha256={digest(data)},{len(data)}\n" for path, data in files]
@@ -87,11 +89,11 @@ def digest(data: bytes) -> str:
     return base64.urlsafe_b64encode(hashlib.sha256(data).digest()).rstrip(b"=").decode()
 
 
-def build_wheel(wheel_directory: str, config_settings: Settings = None, metadata_directory: str | None = None) -> str:
+def build_wheel(wheel_directory: str, config_settings: Settings = None, metadata_directory: Folder = None) -> str:
     return write_wheel(wheel_directory, list(package()))
 
 
-def build_editable(wheel_directory: str, config_settings: Settings = None, metadata_directory: str | None = None) -> str:
+def build_editable(wheel_directory: str, config_settings: Settings = None, metadata_directory: Folder = None) -> str:
     return write_wheel(wheel_directory, [("ribbonscarp.pth", f"{HERE}\n".encode())])
 
 

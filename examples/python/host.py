@@ -23,7 +23,6 @@ def inquiry(item: str = "") -> Body:
 
 
 def play(host: HostSession) -> None:
-    """A session with a station, up to F3."""
     with host, contextlib.suppress(ConnectionEnded):
         host.wait_ready()
         host.send(SIGN_ON)
@@ -35,10 +34,10 @@ def play(host: HostSession) -> None:
 
 
 def serve(listener: Listener) -> None:
-    """Plays to each station, on a thread of its own, until the listener is closed."""
-    with contextlib.suppress(StatusError):
+    with contextlib.suppress(StatusError):  # the listener is closed
         while True:
-            threading.Thread(target=play, args=(listener.accept(wait=86400),), daemon=True).start()
+            with contextlib.suppress(OSError):  # a station without TLS
+                threading.Thread(target=play, args=(listener.accept(),), daemon=True).start()
 
 
 def main() -> None:
@@ -46,7 +45,7 @@ def main() -> None:
     if sys.argv[2:]:
         tls = ssl.SSLContext(ssl.PROTOCOL_TLS_SERVER)
         tls.load_cert_chain(*sys.argv[2:4])
-    with listen(port=int(sys.argv[1]), tls=tls, any=True, wait=600) as listener:
+    with listen(port=int(sys.argv[1]), tls=tls, any=True, wait=86400) as listener:
         print("listening", listener.port, flush=True)
         serve(listener)
 

@@ -18,8 +18,7 @@ def session() -> Iterator[Session]:
 
 
 def test_sign_on(session: Session) -> None:
-    screen = session.wait_text("Sign On", at=(1, 37))
-    assert screen.field("Password").is_hidden
+    assert session.wait_text("Sign On").field("Password").is_hidden
     scrape.sign_on(session, "QUSER", "SECRET")
     assert "F3=Exit" in session.screen
 

@@ -94,7 +94,9 @@ class Body:
         spelled = text.encode("utf-8", "surrogatepass")
         return self._spell("text", spelled, len(spelled))
 
-    def field(self, row: int, column: int, length: int, *, ffw: int = INPUT, attribute: int = 0x24, text: str = "") -> Body:
+    def field(
+        self, row: int, column: int, length: int, *, ffw: int = INPUT, attribute: int = 0x24, text: str = ""
+    ) -> Body:
         """An input field of so many cells from a cell on: its format word (FFW), the attribute that the cell before it
         gets, and what it holds."""
         if len(text) > length:

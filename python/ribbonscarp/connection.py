@@ -107,9 +107,9 @@ class Connection:
             raise ConnectionEnded(self._fault)
 
     def wake(self) -> None:
-        """Ends a read that waits on another thread."""
+        """Ends a read or a write that waits on another thread."""
         with contextlib.suppress(OSError):
-            socket.socket.shutdown(self._sock, socket.SHUT_RD)
+            socket.socket.shutdown(self._sock, socket.SHUT_RDWR)
 
     def close(self) -> None:
         """Closes it, once the other side has what was written. A second call does nothing."""

@@ -70,7 +70,7 @@ class _Maker:
         if threading.current_thread() is threading.main_thread():
             return call()
         with self._lock:
-            if self._thread is None:
+            if self._thread is None or not self._thread.is_alive():
                 self._thread = threading.Thread(target=self._work, name="ribbonscarp", daemon=True)
                 self._thread.start()
             self._asked.put(call)

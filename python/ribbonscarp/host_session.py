@@ -66,7 +66,7 @@ class Listener:
             raise
         if self._tls is not None:
             with line:
-                line.settimeout(seconds)
+                line.settimeout(self.wait)
                 line = self._tls.wrap_socket(line, server_side=True)
         return HostSession(line, wait=self.wait, any=self._any)
 

@@ -4,11 +4,12 @@ from __future__ import annotations
 import contextlib
 import socket
 import threading
+import time
 from collections.abc import Iterator
 from typing import TypeVar
 
 from .connection import Connection
-from .end import End, Goal, Wait
+from .end import LATE, End, Goal, Wait
 from .errors import ConnectionEnded
 from .handle import closed
 from .recording import StrPath
@@ -35,8 +36,10 @@ class Live:
 
     @property
     def has_ended(self) -> bool:
-        """Whether nothing more comes: the other side has closed, or a byte of it was refused."""
-        with self._in_use():
+        """Whether nothing more comes: the other side has closed, a byte of it was refused, or this is closed."""
+        with self._lock:
+            if self._is_closed:
+                return True
             while not self._end.has_ended and self._end.waiting < PENDING and self._hear(0.0):
                 pass
             return self._end.has_ended
@@ -107,8 +110,8 @@ class Live:
 
     def _take_all(self) -> None:
         """Takes what has come."""
-        end = self._end
-        for _ in range(PENDING):
+        end, over = self._end, time.monotonic() + LATE
+        while time.monotonic() < over:
             try:
                 if not end.take() and (end.has_ended or not self._hear(0.0)):
                     return

@@ -68,7 +68,9 @@ class StationEnd(End):
         return Goal(what, find)
 
     def any_of(self, sought: tuple[Sought, ...]) -> Goal[Sought]:
-        """The first of several."""
+        """The first of several. `ValueError` where there are none."""
+        if not sought:
+            raise ValueError("there is nothing to wait for")
 
         def find() -> Sought | None:
             screen = self.screen

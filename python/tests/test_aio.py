@@ -180,6 +180,21 @@ class AioTest(unittest.IsolatedAsyncioTestCase):
         await host.send_bytes(record(bytes(Body().write().text(1, 1, "Hi")), Opcode.OUTPUT_ONLY))
         return came.body
 
+    async def test_listener_closes_first(self) -> None:
+        """A session that was accepted goes on; one that nobody has accepted is closed."""
+        listener = await aio.listen(wait=10)
+        session = await aio.connect("127.0.0.1", listener.port, wait=10)
+        left = await aio.connect("127.0.0.1", listener.port, wait=10)
+        async with session, left, await listener.accept() as host:
+            await asyncio.sleep(0.1)
+            await asyncio.wait_for(listener.close(), 5)
+            with self.assertRaises(ConnectionEnded):
+                await left.wait_text("never")
+            waiting = asyncio.ensure_future(session.wait_unlocked())
+            await host.wait_ready()
+            await host.send(FORM)
+            await waiting
+
     async def test_listener(self) -> None:
         listener = await aio.listen(wait=10)
         with self.assertRaisesRegex(WaitedTooLong, "a station hasn't come within 0.1 seconds"):

@@ -111,7 +111,8 @@ class AnyHostTest(unittest.TestCase):
     def test_query_and_save(self) -> None:
         """A station of the program answers a Query, gives its screen, and takes it back."""
         with listen(wait=10, any=True) as listener:
-            script = "await text Name\nawait record\nawait record\nawait text Other\nawait text Name\nawait record\ntype BOB\nkey F5\n"
+            script = "await text Name\nawait record\nawait record\nawait text Other\nawait text Name\nawait record\n"
+            script += "type BOB\nkey F5\n"
             station = run_connect(listener.port, script, "--extended", "--terminal", "IBM-5251-11")
             with listener.accept() as host:
                 self.assertEqual(host.wait_ready(), "IBM-5251-11")
@@ -142,7 +143,9 @@ class AnyHostTest(unittest.TestCase):
             self.assertEqual(station.recv(100), bytes.fromhex(asked))
             attention, odd = record(b"", 0)[:7] + b"\x40\x00" + record(b"", 0)[9:], record(b"\xff\x00\xff", 0x77)
             answer = record(bytes.fromhex("0638F1 110635 C2D6C2 110735 F1"), 3)
-            station.sendall(b"".join(bytes([byte]) for byte in attention + odd) + answer + b"AB\xff\xef" + record(b"", 10))
+            for byte in attention + odd:
+                station.sendall(bytes([byte]))
+            station.sendall(answer + b"AB\xff\xef" + record(b"", 10))
             events = [host.wait_event() for _ in range(5)]
             kinds = [EventKind.ATTENTION, EventKind.RECORD, EventKind.ANSWER, EventKind.RECORD, EventKind.CANCELLED]
             self.assertEqual([event.kind for event in events], kinds)

@@ -200,5 +200,6 @@ def test_screen():
             done = subprocess.run(command, env=environment, capture_output=True, text=True, timeout=60, check=False)
         told = [line for line in done.stdout.splitlines() if line.startswith("E ")]
         self.assertRegex(told[0], "assert 'Sign Off' in the screen")
-        self.assertRegex("\n".join(told), r"<Screen: cursor 3 26, unlocked, 1 fields\n.* 1 {30}Main Menu\n.* 3  Password>")
+        screen = r"<Screen: cursor 3 26, unlocked, 1 fields\n.* 1 {30}Main Menu\n.* 3  Password>"
+        self.assertRegex("\n".join(told), screen)
         self.assertNotIn("SECRET", "\n".join(told))

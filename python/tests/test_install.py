@@ -22,7 +22,8 @@ QUIET = ["-q", "--disable-pip-version-check", "--no-index"]
 
 
 def has_pip() -> bool:
-    return subprocess.run([sys.executable, "-m", "ensurepip", "--version"], capture_output=True, check=False).returncode == 0
+    command = [sys.executable, "-m", "ensurepip", "--version"]
+    return subprocess.run(command, capture_output=True, check=False).returncode == 0
 
 
 @unittest.skipUnless(has_pip(), "ensurepip isn't here")
@@ -54,8 +55,10 @@ class InstallTest(unittest.TestCase):
         self.assertEqual(list((self.folder / "fresh").rglob("ribbonscarp*")), [])
 
     def run_python(self, *words: str) -> str:
-        done = subprocess.run([self.python, *words], env=self.environment, cwd=self.folder, capture_output=True, text=True,
-                              check=False)
+        command = [str(self.python), *words]
+        done = subprocess.run(
+            command, env=self.environment, cwd=self.folder, capture_output=True, text=True, check=False
+        )
         self.assertEqual((done.returncode, done.stderr), (0, ""))
         return done.stdout
 
@@ -86,7 +89,8 @@ class InstallTest(unittest.TestCase):
         with zipfile.ZipFile(self.folder / f"any/ribbonscarp-{version}-py3-none-any.whl") as wheel:
             about = email.message_from_bytes(wheel.read(f"ribbonscarp-{version}.dist-info/METADATA"))
             packed = {name for name in wheel.namelist() if name.startswith("ribbonscarp/")}
-        self.assertEqual(packed, {f"ribbonscarp/{file.name}" for file in (TOP / "python/ribbonscarp").iterdir() if file.is_file()})
+        files = {f"ribbonscarp/{file.name}" for file in (TOP / "python/ribbonscarp").iterdir() if file.is_file()}
+        self.assertEqual(packed, files)
         self.assertEqual((about["Version"], about["Requires-Python"]), (version, ">=3.10"))
         self.assertIn("Typing :: Typed", about.get_all("Classifier", []))
         self.assertRegex(about["Project-URL"], "^Homepage, https://")

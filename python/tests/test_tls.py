@@ -24,7 +24,7 @@ class Authority:
     def __init__(self, folder: pathlib.Path, name: str) -> None:
         self.folder, self.name = folder, name
         self.run("req", "-x509", "-nodes", "-newkey", "rsa:2048", "-keyout", f"{name}.key", "-out", f"{name}.pem",
-                 "-subj", f"/CN={name}", "-addext", "basicConstraints=critical,CA:TRUE")
+                 "-subj", f"/CN={name}", "-addext", "keyUsage=critical,keyCertSign,cRLSign")
 
     def run(self, *words: str) -> None:
         subprocess.run(["openssl", *words], cwd=self.folder, check=True, capture_output=True)
@@ -34,7 +34,8 @@ class Authority:
         name = f"{self.name}-{of.replace(':', '-')}{days}"
         self.run("req", "-new", "-nodes", "-newkey", "rsa:2048", "-keyout", f"{name}.key", "-out", f"{name}.csr",
                  "-subj", "/CN=host")
-        (self.folder / f"{name}.ext").write_text(f"subjectAltName={of}\n", encoding="ascii")
+        extensions = f"subjectAltName={of}\nsubjectKeyIdentifier=hash\nauthorityKeyIdentifier=keyid\n"
+        (self.folder / f"{name}.ext").write_text(extensions, encoding="ascii")
         self.run("x509", "-req", "-in", f"{name}.csr", "-CA", f"{self.name}.pem", "-CAkey", f"{self.name}.key",
                  "-CAcreateserial", "-days", str(days), "-extfile", f"{name}.ext", "-out", f"{name}.pem")
         context = ssl.SSLContext(ssl.PROTOCOL_TLS_SERVER)

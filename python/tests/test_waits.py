@@ -1,11 +1,13 @@
 """Waits of a live session: they look after each record, end at once where nothing can come, and say what is wrong."""
 from __future__ import annotations
 
+import gc
 import math
 import re
 import socket
 import time
 import unittest
+import warnings
 from collections.abc import Callable
 
 from ribbonscarp import ConnectionEnded, Key, KeyRefusal, KeyRefused, Reason, Refused, Session, StatusError, WaitedTooLong
@@ -83,6 +85,8 @@ class GoalsTest(PairTest):
         self.assertEqual(self.session.wait_any(failed, "MAIN MENU", lambda screen: True), "MAIN MENU")
         with self.assertRaisesRegex(WaitedTooLong, "a match of 'x.y' or the text 'Z' hasn't come within 0 seconds"):
             self.session.wait_any(re.compile("x.y"), "Z", wait=0)
+        with self.assertRaisesRegex(ValueError, "there is nothing to wait for"):
+            self.session.wait_any()
 
     def test_regular_expression(self) -> None:
         self.send(OPENING, text("Job 004711"))
@@ -176,6 +180,7 @@ class SaidTest(PairTest):
         self.session.close()
         calls: list[Callable[[], object]] = [self.session.wait_unlocked, lambda: self.session.screen]
         calls.append(lambda: self.session.press(Key.ENTER))
+        self.assertTrue(self.session.has_ended)
         for call in calls:
             with self.assertRaisesRegex(StatusError, "this Session is closed"):
                 call()
@@ -211,6 +216,35 @@ class SaidTest(PairTest):
 
         for beside in [Beside(work) for _ in range(4)]:
             beside.finish()
+
+    def test_closed_while_it_writes(self) -> None:
+        """A write that the host doesn't take ends then too."""
+        self.send(OPENING, record(FORM))
+        self.session.wait_unlocked()
+
+        def work() -> None:
+            with self.assertRaises((ConnectionEnded, StatusError)):
+                while True:
+                    self.session.press(Key.ATTENTION)
+
+        self.session._connection.wait = 60
+        beside, begun = Beside(work), time.monotonic()
+        time.sleep(0.5)
+        self.session.close()
+        beside.finish()
+        self.assertLess(time.monotonic() - begun, 10)
+
+    def test_forgotten(self) -> None:
+        """A session that is forgotten is freed."""
+        line, host = socket.socketpair()
+        with warnings.catch_warnings():
+            warnings.simplefilter("ignore")
+            handle = Session(sock=line).station._handle
+            del line
+            gc.collect()
+        self.assertFalse(handle.handle.is_open)
+        self.assertEqual(host.recv(1), b"")
+        host.close()
 
     def test_time(self) -> None:
         for wait in (math.inf, math.nan, 1e30):
