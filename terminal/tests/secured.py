@@ -168,9 +168,10 @@ def refused_later():
         host.close()
 
 
-def asks_password(t):
+def asks(t):
+    """The key's password is asked for, and what is typed then isn't shown."""
     t.until(lambda: b"Enter PEM pass phrase:" in t.said, "the password is asked for")
-    t.until(lambda: not termios.tcgetattr(t.slave)[3] & termios.ECHO, "and what is typed isn't shown")
+    t.until(lambda: not termios.tcgetattr(t.slave)[3] & termios.ECHO, "without an echo")
 
 
 def own_certificate():
@@ -188,14 +189,14 @@ def own_certificate():
             works(t, host, " TLS ")
             t.leave()
         t = Terminal(*known, "--cert", own.file("mine.crt"), "--key", own.file("locked.key"), f"localhost:{front.port}")
-        asks_password(t)
+        asks(t)
         host.again()
         t.type("some words\r")
         works(t, host, " TLS ")
         t.leave()
         check("some words" not in t.said.decode("utf-8", "replace"), "and not shown")
         t = Terminal(*known, "--cert", own.file("mine.crt"), "--key", own.file("locked.key"), f"localhost:{front.port}")
-        asks_password(t)
+        asks(t)
         t.type("other words\r")
         t.ended(2, f"term5250: {own.file('locked.key')}: bad decrypt")
         t = Terminal(*known, f"localhost:{front.port}")
