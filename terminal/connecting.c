@@ -5,6 +5,8 @@
 #include <errno.h>
 #include <string.h>
 
+enum { SHOWN_AT_FIRST = 3000 /* milliseconds, for which a window of 24 rows shows the status line */ };
+
 /* No session came about. At first the program ends with that, unless another try is due by itself. */
 static void fail_to_begin(session *s)
 {
@@ -16,6 +18,7 @@ static void begin_session(session *s)
     s->phase = PHASE_OPEN;
     s->was_open = true;
     s->silent = session_clock();
+    s->shown_until = s->silent + SHOWN_AT_FIRST;
 }
 
 /* A host whose certificate is refused isn't tried again by itself. */

@@ -15,7 +15,8 @@ static const char usage[] =
     "                      IBM-3179-2, which is the default\n"
     "  --record FILE       records what both ends send; FILE-1, FILE-2 .. where FILE\n"
     "                      is there already\n"
-    "  --keys FILE         a keys file in place of ~/.config/term5250/keys\n"
+    "  --keys FILE         a keys file in place of ~/.config/term5250/keys; tn5250\n"
+    "                      for that program's keys\n"
     "  --tls               TLS, with the certificate of the host checked\n"
     "  --ca FILE           of those who sign certificates, in place of the system's\n"
     "  --cert FILE         this end's own certificate\n"
@@ -25,12 +26,14 @@ static const char usage[] =
     "                      pause that grows to a minute\n"
     "  --no-hold           a refused key rings, and doesn't hold the keyboard until\n"
     "                      Reset\n"
+    "  --type-ahead WHICH  on, which is the default, or off: keys ring while the\n"
+    "                      host has the keyboard\n"
     "  --strict            a station of the profile: it refuses what live hosts send\n"
     "                      beside that, as a 5250 Query\n"
     "  --mono              no colours, as with NO_COLOR in the environment\n"
     "  --background WHICH  black, or own: the window's; without it black, unless the\n"
     "                      window says that it is dark\n"
-    "  --separators HOW    dim, which is the default, or off\n"
+    "  --separators HOW    underline, which is the default, or off\n"
     "  --no-mouse          leaves the mouse to the window\n"
     "  --list              the names in ~/.config/term5250/hosts, where a line is a\n"
     "                      name, a colon, and words of a command line\n"
@@ -54,6 +57,7 @@ typedef enum {
     WORD_INSECURE,
     WORD_RECONNECT,
     WORD_NO_HOLD,
+    WORD_TYPE_AHEAD,
     WORD_STRICT,
     WORD_MONO,
     WORD_BACKGROUND,
@@ -77,6 +81,7 @@ static const struct option known[] = {
     {"insecure", no_argument, NULL, WORD_INSECURE},
     {"reconnect", no_argument, NULL, WORD_RECONNECT},
     {"no-hold", no_argument, NULL, WORD_NO_HOLD},
+    {"type-ahead", required_argument, NULL, WORD_TYPE_AHEAD},
     {"strict", no_argument, NULL, WORD_STRICT},
     {"mono", no_argument, NULL, WORD_MONO},
     {"background", required_argument, NULL, WORD_BACKGROUND},
@@ -144,12 +149,21 @@ static options_result choose_background(reading *r, const char *value)
     return OPTIONS_RUN;
 }
 
+/* A value that is what `on` says, or off. */
+static options_result choose_off(reading *r, const char *value, const char *on, const char *wrong, bool *is_on)
+{
+    *is_on = strcmp(value, on) == 0;
+    return *is_on || strcmp(value, "off") == 0 ? OPTIONS_RUN : refuse(r, wrong, value);
+}
+
 static options_result choose_separators(reading *r, const char *value)
 {
-    r->asked->separators = strcmp(value, "dim") == 0;
-    if (!r->asked->separators && strcmp(value, "off") != 0)
-        return refuse(r, "--separators is dim or off, and not %s", value);
-    return OPTIONS_RUN;
+    return choose_off(r, value, "underline", "--separators is underline or off, and not %s", &r->asked->separators);
+}
+
+static options_result choose_type_ahead(reading *r, const char *value)
+{
+    return choose_off(r, value, "on", "--type-ahead is on or off, and not %s", &r->asked->types_ahead);
 }
 
 static options_result take(reading *r, int which, const char *value)
@@ -169,6 +183,7 @@ static options_result take(reading *r, int which, const char *value)
     case WORD_INSECURE: o->tls.is_unchecked = true; return OPTIONS_RUN;
     case WORD_RECONNECT: o->reconnects = true; return OPTIONS_RUN;
     case WORD_NO_HOLD: o->holds = false; return OPTIONS_RUN;
+    case WORD_TYPE_AHEAD: return choose_type_ahead(r, value);
     case WORD_STRICT: o->is_strict = true; return OPTIONS_RUN;
     case WORD_MONO: o->is_mono = true; return OPTIONS_RUN;
     case WORD_BACKGROUND: return choose_background(r, value);
@@ -256,7 +271,7 @@ options_result options_read(options *o, int count, char **words, int *status)
 {
     static char name[] = "term5250";
     reading r = {.asked = o, .by = name};
-    *o = (options){.terminal = "IBM-3179-2", .holds = true, .has_mouse = true, .separators = true};
+    *o = (options){.terminal = "IBM-3179-2", .holds = true, .types_ahead = true, .has_mouse = true, .separators = true};
     if (count > 0)
         words[0] = name;
     options_result result = read_all(&r, count, words);

@@ -16,6 +16,7 @@ typedef struct {
     address to;
     tls_asked tls;
     bool holds;       /* a refused key holds the keyboard until Reset */
+    bool types_ahead; /* keys wait while the host has the keyboard */
     bool has_mouse;
     bool is_strict;   /* the station keeps to the profile */
     bool is_mono;     /* no colours */

@@ -2,10 +2,11 @@
 """Types into the terminal: `run_terminal.py TERM5250 HOST5250 T5250 [OPTION]..`.
 
 Its parts stand in tests/: what a clerk does, what is shown, faults, connecting, TLS, the hosts file, what live hosts
-send, sizes in tmux, random work. With `--sanitized TERM5250` a terminal that was built with sanitizers takes the random
-work, which is left out without it, and with `--without-tls TERM5250` one that was built without TLS says so. With
---long it is ten minutes of random keys and records, 120 hosts that send garbage, and 5,000 screens; without, a little
-of each, and all takes about two minutes. With --only the parts whose name has a word. Ends with 'N passed, N failed'.
+send, what hurts at a desk, macros, sizes in tmux, random work. With `--sanitized TERM5250` a terminal that was built
+with sanitizers takes the random work, which is left out without it, and with `--without-tls TERM5250` one that was
+built without TLS says so. With --long it is ten minutes of random keys, pastes, sizes, losses and records, five of
+typing beside a model of it, 120 hosts that send garbage, and 5,000 screens; without, a little of each, and all takes
+about two minutes. With --only the parts whose name has a word. Ends with 'N passed, N failed'.
 """
 import argparse
 import pathlib
@@ -16,12 +17,14 @@ import traceback
 sys.dont_write_bytecode = True
 sys.path.insert(0, str(pathlib.Path(__file__).resolve().parent / "tests"))
 import connecting
+import desk
 import faults
 import hosts
 import hosts_file
 import in_tmux
 import live
 import long
+import macros
 import secured
 import shown
 import window
@@ -55,6 +58,11 @@ def parts(words):
                 secured.broken, secured.no_tls_there, secured.tls_words)
     yield from (hosts_file.named, hosts_file.wrong_hosts, hosts_file.listed)
     yield from (live.asked, live.an_error, live.alarm, live.alarm_refused, live.many_saves, live.strict)
+    yield from (desk.pastes_too_long, desk.pastes_into_options, desk.pastes_that_wait, desk.enters_too_many,
+                desk.without_type_ahead, desk.missing_fields, desk.numbers, desk.inserting, desk.keys_of_others,
+                desk.wheel, desk.typed_escapes, desk.error_of_the_host)
+    yield from (macros.over_two_screens, macros.never_into_a_hidden_field, macros.stops, macros.over_a_lost_line,
+                macros.keeping)
     yield in_tmux.sizes
 
     def screens():
@@ -62,6 +70,9 @@ def parts(words):
 
     def random_work():
         long.random_work(5250, words.sanitized, 600 if words.long else 20)
+
+    def random_typing():
+        long.typing(3477, words.sanitized, 300 if words.long else 10)
 
     def garbage_hosts():
         long.garbage_hosts(1205, words.sanitized, 120 if words.long else 20)
@@ -73,7 +84,7 @@ def parts(words):
         yield built_without_tls
     yield screens
     if words.sanitized:
-        yield from (random_work, garbage_hosts)
+        yield from (random_work, random_typing, garbage_hosts)
     else:
         print("left out: random work at the terminal, since no program with sanitizers is named")
 

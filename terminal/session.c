@@ -28,6 +28,7 @@ void session_tell(session *s, const char *format, ...)
     va_start(rest, format);
     (void)vsnprintf(s->note, sizeof s->note, format, rest);
     va_end(rest);
+    s->is_aside = false;
     s->is_of_screen = true;
     s->note_records = ribbon_station_state(&s->station, &state) == RIBBON_DONE ? state.records : 0;
 }
@@ -38,7 +39,13 @@ void session_report(session *s, const char *format, ...)
     va_start(rest, format);
     (void)vsnprintf(s->note, sizeof s->note, format, rest);
     va_end(rest);
-    s->is_of_screen = false;
+    s->is_aside = s->is_of_screen = false;
+}
+
+void session_mention(session *s, const char *sentence)
+{
+    session_report(s, "%s", sentence);
+    s->is_aside = true;
 }
 
 void session_over(session *s, int status, const char *format, ...)
@@ -56,6 +63,9 @@ void session_over(session *s, int status, const char *format, ...)
     if (s->asked->reconnects)
         again_plan(&s->again, s->ended, s->phase == PHASE_OPEN ? s->ended - s->begun : 0);
     (void)ahead_drop(&s->ahead); /* nobody will take these keys any more */
+    (void)macro_stop(&s->macro);
+    s->sent = (action){ACTION_NOTHING, 0};
+    s->paste.is_dropped = s->paste.is_on;
     dial_end(&s->dial);
     line_end(&s->line);
     s->phase = PHASE_OVER;
@@ -148,8 +158,12 @@ static void tell_closed(session *s)
 {
     ribbon_state state;
     bool is_ready = ribbon_station_state(&s->station, &state) == RIBBON_DONE && state.is_ready;
-    session_over(s, is_ready ? 0 : 1, "The host has closed the line%s.",
-                 is_ready ? "" : " before a session began");
+    bool is_whole = telnet_is_between(&s->kept.host);
+    if (!is_whole)
+        session_over(s, 1, "The line is lost: the host closed it in mid-record.");
+    else
+        session_over(s, is_ready ? 0 : 1, "The host has closed the line%s.",
+                     is_ready ? "" : " before a session began");
 }
 
 /* Takes what has come: no more than the line has room for the answers to, and so little that keys are looked at soon. */

@@ -8,6 +8,7 @@
 #include "dial.h"
 #include "kept.h"
 #include "line.h"
+#include "macro.h"
 #include "options.h"
 #include "paste.h"
 #include "recording.h"
@@ -16,6 +17,7 @@
 enum {
     SAID_ROOM = 64,
     NOTE_ROOM = 400,
+    MACRO_NAME_ROOM = 33,
     SILENCE = 10000 /* milliseconds: a host that has sent nothing for so long is told */
 };
 
@@ -49,11 +51,18 @@ typedef struct {
     recording recording;
     ahead ahead;
     paste paste;
+    action sent;       /* the key that was sent last; ACTION_NOTHING where another was pressed behind it */
+    macro macro;
+    char macro_name[MACRO_NAME_ROOM]; /* as it is typed, while the menu asks for one: */
+    enum { ASKS_NOTHING, ASKS_TO_KEEP, ASKS_TO_PLAY } asks;
     bool is_held;      /* by a refused key */
+    bool is_insert_refused; /* by one that was to be inserted: then Reset ends insert mode */
     bool is_inserting;
     bool was_lit;      /* the message light, when it was looked at last */
     uint64_t alarms;   /* of the host's, when they were looked at last */
     bool rings;        /* the bell is still to be rung */
+    bool shows_status; /* also in a window that has no row for it */
+    uint64_t shown_until; /* milliseconds of session_clock: up to then too, so that whoever begins finds the menu */
     bool is_menu_open;
     bool is_box_open;  /* with the reason for the session's end */
     bool draws_all;    /* all is to be drawn, whatever has changed */
@@ -61,6 +70,7 @@ typedef struct {
     bool is_leaving;   /* the program ends */
     int status;        /* of the program */
     char note[NOTE_ROOM];     /* a sentence up to the next key, and: */
+    bool is_aside;            /* covers nothing of the screen by itself */
     bool is_of_screen;        /* no further than the next record of the host */
     uint64_t note_records;    /* that had come when it was told */
     char standing[NOTE_ROOM]; /* a sentence up to Reset, or to the end */
@@ -90,6 +100,10 @@ void session_tell(session *s, const char *format, ...) __attribute__((format(pri
 
 /* Tells a sentence about what was done, up to the next key. */
 void session_report(session *s, const char *format, ...) __attribute__((format(printf, 2, 3)));
+
+/* The same with one that covers nothing of the screen: in a window without a row for it, it stands in the status line
+ * where that is shown. */
+void session_mention(session *s, const char *sentence);
 
 /* Ends the session, not the program: the screen stays, with a sentence. */
 void session_over(session *s, int status, const char *format, ...) __attribute__((format(printf, 3, 4)));

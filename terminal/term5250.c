@@ -20,7 +20,8 @@
 enum {
     KEYS_AT_ONCE = 1024,
     DRAWN_EVERY = 40,    /* milliseconds, while more comes */
-    PASTE_SILENCE = 5000 /* milliseconds, behind which a paste without its end is over */
+    PASTE_SILENCE = 5000,  /* milliseconds, behind which a paste without its end is over */
+    SEQUENCE_SILENCE = 150 /* and behind which a letter isn't one of a key's sequence */
 };
 
 /* ---- Keys ---- */
@@ -30,7 +31,7 @@ static void take_stroke(session *s, stroke key)
     char name[40];
     action does;
     uint32_t typed = stroke_keypad_character(key);
-    if (bindings_find(&s->keys, key, &does)) {
+    if (bindings_find(&s->keys, key, &does) && does.kind != ACTION_ITSELF) {
         press_key(s, does);
     } else if (typed != 0) {
         press_key(s, (action){s->is_inserting ? ACTION_INSERTED : ACTION_CHARACTER, typed});
@@ -74,13 +75,14 @@ static void take_input(session *s, const input *i)
 }
 
 /* A window that loses a paste's end mustn't take the keyboard away. */
-static void end_silent_paste(session *s, input_reader *reader)
+static void hear_silence(session *s, input_reader *reader)
 {
-    uint64_t now = session_clock();
-    if (reader->is_pasting && now - reader->heard > PASTE_SILENCE) {
+    uint64_t now = session_clock(), silence = now - reader->heard;
+    if (reader->is_pasting && silence > PASTE_SILENCE) {
         reader->is_pasting = false;
         press_paste_ends(s);
     }
+    reader->is_late = silence > SEQUENCE_SILENCE;
     reader->heard = now;
 }
 
@@ -89,7 +91,7 @@ static bool take_keys(session *s, input_reader *reader)
 {
     input i;
     unsigned count = 0;
-    end_silent_paste(s, reader);
+    hear_silence(s, reader);
     while (count < KEYS_AT_ONCE && !s->is_leaving && input_next(reader, &i)) {
         take_input(s, &i);
         count++;
@@ -105,6 +107,12 @@ static bool take_keys(session *s, input_reader *reader)
 
 /* ---- The loop ---- */
 
+static void press_waiting(session *s)
+{
+    if (window_has_screen()) /* no key goes out unseen */
+        press_ahead(s);
+}
+
 static void take_events(session *s, window *w, input_reader *reader, const struct pollfd waits[2], bool *more)
 {
     if (signals_resized()) {
@@ -112,13 +120,21 @@ static void take_events(session *s, window *w, input_reader *reader, const struc
         s->draws_all = true;
     }
     session_step(s, waits[0].revents);
-    if (window_has_screen()) /* no key goes out unseen */
-        press_ahead(s);
+    press_waiting(s);
     *more = (waits[1].revents != 0 || *more) && take_keys(s, reader);
+    press_waiting(s); /* a macro may have begun */
     if (!*more && (waits[1].revents & (POLLHUP | POLLERR | POLLNVAL)) != 0) {
         session_over(s, 1, "The terminal is gone.");
         s->is_leaving = true;
     }
+}
+
+/* How long nothing but input changes what is shown, in milliseconds; negative where it never does. */
+static int quiet_for(const session *s)
+{
+    uint64_t now = session_clock();
+    int due = session_due(s), shown = s->shown_until > now ? (int)(s->shown_until - now) : -1;
+    return due < 0 || (shown >= 0 && shown < due) ? shown : due;
 }
 
 /* What is there is taken first; the screen is drawn when nothing is, or too long ago. */
@@ -137,7 +153,7 @@ static void run(session *s, window *w)
             drawn = now;
         }
         if (ready == 0 && !more)
-            ready = signals_wait(waits, 2, session_due(s));
+            ready = signals_wait(waits, 2, quiet_for(s));
         if (ready <= 0)
             waits[0].revents = waits[1].revents = 0;
         take_events(s, w, &reader, waits, &more);
@@ -158,10 +174,15 @@ static int complain(const char *what, const char *why)
 static bool read_keys(session *s, const options *asked)
 {
     char path[FILE_NAME_ROOM], why[FILE_NAME_ROOM + 400];
+    const char *keys = asked->keys;
     bindings_begin(&s->keys);
-    FILE *file = asked->keys != NULL ? fopen(asked->keys, "r") : settings_open("keys", path, sizeof path);
-    const char *name = asked->keys != NULL ? asked->keys : path;
-    if (file == NULL && asked->keys == NULL && (errno == ENOENT || errno == ENOTDIR))
+    if (keys != NULL && strcmp(keys, "tn5250") == 0) {
+        bindings_tn5250(&s->keys);
+        return true;
+    }
+    FILE *file = keys != NULL ? fopen(keys, "r") : settings_open("keys", path, sizeof path);
+    const char *name = keys != NULL ? keys : path;
+    if (file == NULL && keys == NULL && (errno == ENOENT || errno == ENOTDIR))
         return true;
     if (file == NULL) {
         (void)complain(name, strerror(errno));
@@ -219,7 +240,10 @@ static int run_asked(const options *asked, const char *locale)
         return complain("memory is wanting", "");
     int status = prepare(s, asked);
     if (status == 0) {
-        session_report(s, "%s", locale);
+        if (s->keys.is_tn5250)
+            session_mention(s, "The keys are those of tn5250: ^] has them all.");
+        if (locale[0] != 0)
+            session_mention(s, locale);
         status = work(s, asked);
     }
     session_free(s);

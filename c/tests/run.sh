@@ -160,7 +160,8 @@ fi
 
 # What of the terminal is no drawing: each test with all of it.
 terminal=$top/terminal
-logic=("$terminal"/{action,address,again,ahead,bindings,hold,kept,keys_file,look,moves,paste,recording,sentence,status,stroke,telnet}.c)
+logic=("$terminal"/{action,address,again,ahead,bindings,hold,kept,keys_file,label,look,macro,moves,paste,recording}.c
+    "$terminal"/{sentence,status,stroke,telnet}.c)
 probe=()
 [ -x "$folder/probe" ] && probe=("${sanitized[@]}")
 for test in "$terminal"/tests/*.c; do

@@ -52,7 +52,7 @@ def the_box():
         t.until(lambda: not box(t), "any other key takes the box away")
         t.rings("then keys ring", lambda: t.type("c"))
         t.type("\x1d")
-        t.shows(15, "c  connect again", "the menu connects again too")
+        t.shows(3, "c  connect again", "the menu connects again too")
         t.type("c")
         check(host.ready(), "it connects again")
         t.until(lambda: "Order" not in t.window.text(0) and "42" not in t.window.text(2), "an empty screen")

@@ -127,10 +127,10 @@ def cut_behind_iac():
         host, t = at_form("--record", "cut", folder=folder)
         host.send_raw(hosts.record(FORM)[:60] + b"\xff")
         host.close()
-        t.tells("The host has closed the line.")
+        t.tells("The line is lost: the host closed it in mid-record.")
         check("Order" in t.window.text(0), "the screen stays")
         t.type("\x1ds")
-        t.leave(0, "The host has closed the line.")
+        t.leave(1, "The line is lost: the host closed it in mid-record.")
         for name in "cut", "term5250.rec":
             shown = shown_of(os.path.join(folder, name))
             check("truncated at" in shown.splitlines()[-1], "t5250 show tells where it ends", shown[-200:])
@@ -344,7 +344,7 @@ def command_lines():
         (["--terminal"], ("term5250 --help has all options.", "option '--terminal' requires an argument"), {}),
         (["--"], ("term5250 --help has all options.", "it needs a host"), {}),
         (["--", "--mono"], ("No connection to --mono: ",), {}),
-        (["--separators=bars", "a"], ("term5250 --help has all options.", "dim or off, and not bars"), {}),
+        (["--separators=bars", "a"], ("term5250 --help has all options.", "underline or off, and not bars"), {}),
         (["--background", "red", "a"], ("term5250 --help has all options.", "black or own, and not red"), {}),
         (["localhost:107333"], ("port 107333 is out of range: it is 1 to 65535",), {}),
         (["localhost:0"], ("port 0 is out of range",), {}),

@@ -129,9 +129,12 @@ def inputs(answer):
     """The key of an answer, and the text of its fields by their place."""
     if answer is None:
         return None, {}
-    body, fields = answer[2], {}
-    for part in body[3:].split(b"\x11")[1:]:
-        fields[part[0], part[1]] = part[2:].decode("cp037")
+    body, fields, at = answer[2], {}, 3
+    while at + 2 < len(body):
+        end = body.find(b"\x11", at + 3)  # Row and column may be 11, cells may not.
+        end = len(body) if end < 0 else end
+        fields[body[at + 1], body[at + 2]] = body[at + 3 : end].decode("cp037")
+        at = end
     return body[2], fields
 
 

@@ -8,6 +8,7 @@ import time
 
 import hosts
 from certificates import Authority, Front, context_of, has_tls
+import typist
 from hosts import Host, READ, field, plain, text, write
 from window import Terminal, check
 
@@ -17,7 +18,10 @@ KEYS = ["\r", "\t", "\x1b[Z", "\x7f", "\x08", "\x1bOA", "\x1bOB", "\x1bOC", "\x1
         "\x04", "\x0f", "\x0c", "\x07", "\x10", "\x14", "\x18", "\x03", "\x1bOM", "\x1bOk", "\x1bOu", "\x1b[1;5C",
         "\x1b]11;?\x07", "\x1b[<0;20;3M\x1b[<0;20;3m", "\x1b[<0;200;90M", "\x1b[200~12\r\nab\x1b[201~", "\x1b[200~",
         "\x1b[201~", "\x1dx", "\x1d\x1d", "\x1d\x1b", "\x1ds", "\x1dp", "\x1dr", "\x00", "caf\u00e9",
-        "\u20ac", "12.5", "x", " ", "A long text that fills more than one field of them all"]
+        "\x1b[<64;10;5M", "\x1b[<65;10;5M", "\x13", "\x1dt", "\x1dmn-1\r", "\x1dan-1\r", "\x1bOm",
+        "\x1b[", "\x1bO", "\x1b[200~" + "long " * 60 + "\x1b[201~", "\x1b[200~a\tb\rc\n\n" + "1\n" * 30 + "\x1b[201~",
+        "\x1b[200~" + "much" * 1100 + "\x1b[201~", "\u20ac", "12.5", "x", " ",
+        "A long text that fills more than one field of them all"]
 SIZES = [(24, 80), (25, 80), (30, 100), (20, 60), (1, 1), (50, 200), (24, 79), (23, 80), (3, 500)]
 # What curses itself doesn't give back, it keeps for the next window.
 SUPPRESSED = pathlib.Path(__file__).resolve().parent / "curses.supp"
@@ -61,15 +65,17 @@ def say_nothing(said, what):
     check(not any(word in said for word in SAID), f"no sanitizer speaks: {what}", said[-1500:])
 
 
-def is_shown(printed, shown):
-    """A window's row shows a row of the screen; a column separator stands in a blank."""
-    return all(a == b or (a == " " and b == "_") for a, b in zip(printed.ljust(80), shown.ljust(80)))
+def at_rest(t):
+    """Ends a paste, a name that the menu asks for, and the menu, whichever there is; an earlier note goes."""
+    t.type("\x1b[201~\x1d\x1b")
+    t.settle()
+    t.type("\x1dx")
+    t.settle()
 
 
 def same_screen(t, folder):
     """The window shows what the station's screen is, as the menu prints it into a file."""
-    t.type("\x1b[201~\x1dx")  # Whether a paste is on or not, and the menu; an earlier note goes.
-    t.settle()
+    at_rest(t)
     t.type("\x1dp")
     t.until(lambda: "The screen is in" in t.status(), "the screen is printed", 20)
     t.settle()
@@ -77,7 +83,7 @@ def same_screen(t, folder):
     with open(os.path.join(folder, name), encoding="utf-8") as file:
         printed = file.read().split("\n")[:24]
     rows = [t.window.text(row) for row in range(24)]
-    differ = [(a, b) for a, b in zip(printed, rows) if not is_shown(a, b)]
+    differ = [(a, b) for a, b in zip(printed, rows) if a.ljust(80) != b.ljust(80)]
     check(not differ, "the window shows the station's screen", name, differ[:4])
 
 
@@ -85,7 +91,7 @@ def connect_again(dice, host, t, counts):
     """The line is lost, or is already; the next connection comes by the box, by the menu, or by itself."""
     host.again()
     host.hang_up()
-    t.type("\x1b[201~")  # A paste would take the keys.
+    at_rest(t)  # A paste or a name would take the keys.
     end = time.monotonic() + 5
     while not host.is_ready.is_set() and time.monotonic() < end and t.child.poll() is None:
         t.type(dice.choice(["c", "\x1dc", "x", "s"]))
@@ -115,10 +121,11 @@ def secured(dice, host, folder):
 def one_session(dice, sanitized, seconds, counts, folder):
     host = Host()
     words = dice.choice([[], ["--no-hold"], ["--mono"], ["--separators", "off"], ["--background", "own"],
-                         ["--no-mouse"], ["--reconnect"]])
+                         ["--no-mouse"], ["--reconnect"], ["--type-ahead", "off"], ["--keys", "tn5250"]])
     rows, columns = dice.choice(SIZES[:3])
     t = Terminal(*words, *secured(dice, host, folder), rows=rows, columns=columns, program=sanitized,
-                 term=dice.choice(["xterm", "screen", "vt100", "linux", "xterm-256color"]), folder=folder, **CAREFUL)
+                 term=dice.choice(["xterm", "screen", "vt100", "linux", "xterm-256color"]), folder=folder,
+                 XDG_CONFIG_HOME=folder, **CAREFUL)
     host.ready()
     end = time.monotonic() + seconds
     while time.monotonic() < end and t.child.poll() is None:
@@ -148,7 +155,8 @@ def one_session(dice, sanitized, seconds, counts, folder):
     if t.child.poll() is None and "--reconnect" not in words:
         same_screen(t, folder)
         counts["windows"] += 1
-    t.type("\x1b[201~\x1dx\x1dq")
+    at_rest(t)
+    t.type("\x1dq")
     status = ended_with(t, 30)
     said = t.ended(status)
     check(end_is_right(status, said), "its status", status, said[-200:])
@@ -165,6 +173,12 @@ def random_work(seed, sanitized, seconds):
         with tempfile.TemporaryDirectory() as folder:
             one_session(dice, sanitized, min(20, max(end - time.monotonic(), 1)), counts, folder)
     print("random work:", ", ".join(f"{count} {name}" for name, count in counts.items()), flush=True)
+
+
+def typing(seed, sanitized, seconds):
+    """Typing beside its model."""
+    t = typist.random_typing(seed, sanitized, seconds, time.monotonic, **CAREFUL)
+    say_nothing(t.ended(ended_with(t, 20)), "random typing")
 
 
 def garbage(dice):

@@ -5,6 +5,7 @@ import ssl
 import struct
 import subprocess
 import tempfile
+import termios
 import time
 
 import hosts
@@ -167,6 +168,12 @@ def refused_later():
         host.close()
 
 
+def asks(t):
+    """The key's password is asked for, and what is typed then isn't shown."""
+    t.until(lambda: b"Enter PEM pass phrase:" in t.said, "the password is asked for")
+    t.until(lambda: not termios.tcgetattr(t.slave)[3] & termios.ECHO, "without an echo")
+
+
 def own_certificate():
     """A host that asks for a certificate gets this end's, whose key may have a password."""
     if not has_tls():
@@ -182,14 +189,14 @@ def own_certificate():
             works(t, host, " TLS ")
             t.leave()
         t = Terminal(*known, "--cert", own.file("mine.crt"), "--key", own.file("locked.key"), f"localhost:{front.port}")
-        t.until(lambda: b"Enter PEM pass phrase:" in t.said, "the password is asked for")
+        asks(t)
         host.again()
         t.type("some words\r")
         works(t, host, " TLS ")
         t.leave()
         check("some words" not in t.said.decode("utf-8", "replace"), "and not shown")
         t = Terminal(*known, "--cert", own.file("mine.crt"), "--key", own.file("locked.key"), f"localhost:{front.port}")
-        t.until(lambda: b"Enter PEM pass phrase:" in t.said, "the password is asked for")
+        asks(t)
         t.type("other words\r")
         t.ended(2, f"term5250: {own.file('locked.key')}: bad decrypt")
         t = Terminal(*known, f"localhost:{front.port}")

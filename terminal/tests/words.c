@@ -72,16 +72,23 @@ static void the_line_is_in_words(void)
     shows(&parts, " as400:23                               MW INS REC T  ^] menu  field 10  06/053 ");
     parts.security = " INSECURE";
     shows(&parts, " as400:23                      INSECURE MW INS REC T  ^] menu  field 10  06/053 ");
+    parts.is_macro = true;
+    shows(&parts, " as400:23                  INSECURE MW INS REC MAC T  ^] menu  field 10  06/053 ");
+    parts.is_macro = false;
     parts.security = "";
     parts.is_message_lit = parts.is_inserting = parts.is_recording = parts.waits = false;
     parts.note = "This field takes digits only, and not '\xc3\xa9'.";
     shows(&parts, " This field takes digits only, and not '\xc3\xa9'.           ^] menu  field 10  06/053 ");
     parts.note = "A sentence of seventy characters leaves room for the cursor's place al.";
     parts.waits = true;
-    shows(&parts, " A sentence of seventy characters leaves room for the cursor's plac.. T  06/053 ");
+    shows(&parts, " A sentence of seventy characters leaves room for the cursor's place al.       T");
     parts.way = "Reset: ^R";
     parts.is_way_out = true;
-    shows(&parts, " A sentence of seventy characters leaves room for the cu.. T  Reset: ^R  06/053 ");
+    shows(&parts, " A sentence of seventy characters leaves room for the cursor's pl.. T  Reset: ^R");
+    parts.note = "One of fifty-nine characters leaves none for it, and is whole.";
+    shows(&parts, " One of fifty-nine characters leaves none for it, and is whole.     T  Reset: ^R");
+    parts.note = "One of thirty characters or so";
+    shows(&parts, " One of thirty characters or so                  T  Reset: ^R  field 10  06/053 ");
 }
 
 static void the_title_has_it_too(void)
