@@ -19,7 +19,7 @@ from concurrent.futures import ThreadPoolExecutor
 from dataclasses import dataclass
 from pathlib import Path
 
-from wrong.checker import Check, Crate, Told
+from wrong.checker import Check, Crate
 from wrong.edits import Edit, Unfit, apply, read_edit, rounds, sources
 from wrong.source import module_of
 
@@ -47,7 +47,7 @@ def verdict(edit: Edit, check: Check) -> tuple[str, str]:
     """`refused`, `open` or what let the edit through, and the goal or the checker's words."""
     if check.unread:
         return "open", f"the text can't be read: {check.unread[0][:160]}"
-    own = {it: check.told.get(it, Told()) for it in edit.changed} if edit.changed else check.told
+    own = {name: told for it in edit.changed for name, told in check.of(it).items()} if edit.changed else check.told
     for kind, means in (("contract", "refused"), ("safety", "only a goal of safety"), ("stale", "only by a name in a hand proof")):
         found = [f"{path}: {goal}" for path, it in own.items() for goal in getattr(it, kind)]
         if found:

@@ -8,7 +8,7 @@ import time
 from dataclasses import dataclass, field
 from pathlib import Path
 
-from .source import functions
+from .source import functions, homes_of
 
 # A name that a hand proof cites and the text no longer gives: this tells nothing of a contract.
 STALE = re.compile(r"has no field|is not in scope|has no `|was not admitted|is no name")
@@ -47,6 +47,18 @@ class Check:
     slow: list[tuple[float, str]]
     text: str
     proved: bool
+
+    def of(self, path: str) -> dict[str, Told]:
+        """What was told of a function: of that name, or of those in its module that are called alike."""
+        if path in self.told:
+            return {path: self.told[path]}
+        module, block, name = (["", "", *path.split("::")])[-3:]
+        begin, alike = block.split("+")[0].removesuffix("Error"), {}
+        for other, told in self.told.items():
+            parts = (["", "", *other.split("::")])[-3:]
+            if parts[0] == module and parts[2] == name and parts[1].startswith(begin):
+                alike[other] = told
+        return alike or {path: Told()}
 
 
 class Crate:
@@ -91,16 +103,21 @@ class Crate:
                 to.parent.mkdir(parents=True, exist_ok=True)
                 to.write_text(text, encoding="utf-8")
             found = run([f"{self.kit}/bin/rattle", "check", *self.words(), *flags], room, self.name)
+            unknown = re.search(r"has no function `([^`]+)`", found.text)
+            if unknown and unknown[1] in only:
+                # (some blocks have names that only the checker makes: then what their module has is checked)
+                return self.check(texts, changed, only - {unknown[1]} | {unknown[1].rsplit("::", 2)[0]})
             add_notes(found, {**texts, **changed})
             return found
 
 
 def add_notes(check: Check, texts: dict[str, str]) -> None:
     """Adds the goals that a check tells of by their places in these texts."""
+    homes = homes_of(texts)
     for found in (NOTE.match(line) for line in check.text.split("\n")):
         if found:
             place = sum(len(line) + 1 for line in texts[found[1]].split("\n")[: int(found[2]) - 1]) + int(found[3]) - 1
-            for it in functions(found[1], texts[found[1]]).values():
+            for it in functions(found[1], texts[found[1]], homes).values():
                 if it.start <= place < it.end:
                     check.told.setdefault(it.path, Told()).add(found[4], "")
 

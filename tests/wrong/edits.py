@@ -4,7 +4,7 @@ import re
 from dataclasses import dataclass, field
 from pathlib import Path
 
-from .source import blanked, functions, outside
+from .source import blanked, functions, homes_of, outside
 
 BRANCH = re.compile(r"\b(?:if|match|matches!|for|while)\b")
 
@@ -74,15 +74,17 @@ def read_edit(file: Path, texts: dict[str, str]) -> Edit:
     after = apply(edit.pairs, texts)
     if after == texts:
         raise Unfit("it changes nothing")
+    homes = homes_of(texts)
     for path in edit.files:
         if path.endswith(".rt"):
-            compare(edit, path, texts[path], after[path])
+            compare(edit, path, (texts[path], after[path]), homes)
     return edit
 
 
-def compare(edit: Edit, path: str, before: str, after: str) -> None:
-    """Notes what an edit changes in one file."""
-    old, new = functions(path, before), functions(path, after)
+def compare(edit: Edit, path: str, texts: tuple[str, str], homes: dict[str, str]) -> None:
+    """Notes what an edit changes in one file, by its texts before and after."""
+    before, after = texts
+    old, new = functions(path, before, homes), functions(path, after, homes)
     edit.added |= new.keys() - old.keys()
     edit.wants_twin |= bool(edit.added)
     for name in old.keys() & new.keys():
@@ -90,7 +92,7 @@ def compare(edit: Edit, path: str, before: str, after: str) -> None:
         if was != now:
             edit.changed.add(name)
             edit.wants_twin |= len(BRANCH.findall(blanked(now))) > len(BRANCH.findall(blanked(was)))
-    was, now = outside(path, before), outside(path, after)
+    was, now = outside(path, before, homes), outside(path, after, homes)
     if was != now:
         edit.beside.add(path)
         edit.wants_twin |= len(was) < len(now)
