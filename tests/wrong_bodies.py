@@ -21,6 +21,7 @@ from pathlib import Path
 
 from wrong.checker import Check, Crate, Told
 from wrong.edits import Edit, Unfit, apply, read_edit, rounds, sources
+from wrong.source import module_of
 
 # From how many seconds on a function's search is told as slow.
 SLOW = 20
@@ -53,6 +54,11 @@ def verdict(edit: Edit, check: Check) -> tuple[str, str]:
             return means, found[0]
     unproved = [f"{path} {it.line}" for path, it in own.items() if not it.proved]
     return ("open", unproved[0][:200]) if unproved or not own else ("it is proved", "")
+
+
+def reach(edit: Edit) -> set[str]:
+    """What an edit is first looked for in: the functions that it changes, or else the modules of which it changes more."""
+    return edit.changed | edit.added if edit.changed else {module_of(path) for path in edit.beside}
 
 
 class Trial:
@@ -90,8 +96,8 @@ class Trial:
     def check(self, edits: list[Edit], whole: bool = False) -> Check:
         """A check of the functions that these edits change, or of the crate."""
         after = apply([pair for edit in edits for pair in edit.pairs], self.texts)
-        only = set() if whole or any(not it.changed for it in edits) else {path for it in edits for path in it.changed | it.added}
-        found = self.crate.check(self.texts, after, only)
+        only = set() if whole else set().union(*map(reach, edits))
+        found = self.crate.check(self.texts, after, set() if "" in only else only)
         for seconds, path in found.slow:
             if seconds > SLOW:
                 self.report.say(f"slow: {path} took {seconds:.0f} s ({', '.join(it.name for it in edits if path in it.changed)})")
@@ -108,7 +114,7 @@ class Trial:
     def alone(self, edit: Edit) -> None:
         """Tries one edit alone, and over the whole crate where its functions don't tell."""
         means, why = verdict(edit, self.check([edit]))
-        if means == "open" and "can't be read" not in why or means == "it is proved" and edit.beside:
+        if "can't be read" not in why and (means == "open" or edit.beside and means != "refused"):
             means, why = verdict(edit, self.check([edit], whole=True))
         self.settle(edit, means, why)
 
@@ -120,7 +126,7 @@ class Trial:
             self.report.say(f"round of {len(members)}: {found.seconds:.0f} s of processor time")
             for edit in members:
                 means, why = verdict(edit, found)
-                if means == "open" or means == "it is proved" and edit.beside:
+                if means == "open" or edit.beside and means != "refused":
                     self.alone(edit)
                 else:
                     self.settle(edit, means, why)
