@@ -38,16 +38,13 @@ module _ {D P U H PlaceV V K R : Type 0} (rules : Rules P U) (d : DisplayOf D U 
   by_allowed options side r same allows = ap (λ (b : Bool). if b then d.applies side r else Refuses
       RecordBeforeNegotiation) (ap station_allows_records (sym same) ∙ allows)
 
-  pub closes : (old : PartsOn D P) (screen : D) (side : SideOn H) (head : Head) (units : List U)
-      (place : ℕ) (reply : R) → old.options ≡ side.options → station_allows_records old.options ≡ true
+  pub closes : (old : PartsOn D P) (screen : D) (kept : List ℕ) (records : ℕ) (side : SideOn H) (head : Head)
+      (units : List U) (place : ℕ) (reply : R) → kept ≡ [] → records ≡ min (old.records + 1) (2 ^ 64 - 1)
+      → old.options ≡ side.options → station_allows_records old.options ≡ true
       → IsApplied d screen side (record_of head units) (Ok reply)
-      → IsClosedOn (on_display rules d) old (record old {
-        body_bytes = [];
-        screen = screen;
-        records = min (old.records + 1)
-            (2 ^ 64 - 1);
-      }) side (record_of head units) place (Ok (record { reply = reply; event = Some applied }))
-  closes old screen side head units place reply same allows a = (
+      → IsClosedOn (on_display rules d) old (record old { body_bytes = kept; screen = screen; records = records }) side
+      (record_of head units) place (Ok (record { reply = reply; event = Some applied }))
+  closes old screen kept records side head units place reply none counted same allows a = rw (none, counted) (
     a.0,
     a.1,
     by_allowed old.options side (record_of head units) same allows ∙ a.2,

@@ -1,4 +1,4 @@
-use Rattle.ws_session.proofs.Common.{◌≡◌, ◌+◌, List, [], refl, ◌∙◌, ℕ, ap, sym, ◌^◌, min, ◌-◌, Some, At, Head}
+use Rattle.ws_session.proofs.Common.{refl, ◌∙◌, ap, sym, ◌-◌, Some, At}
 use Rattle.ws_session.proofs.Common.{record_of}
 use Rattle.ws_session.specs.contracts.station.StationOn.{the_view}
 use Rattle.ws_session.proofs.station.StationOn.close.Goals as goal
@@ -6,24 +6,12 @@ use Rattle.ws_session.proofs.station.StationSteps.{by_allowed, closes}
 
 pub returns-in-Ok-clause-closed : goal.returns-in-Ok-clause-closed
 returns-in-Ok-clause-closed g c =
-    let s = c.self.inside in
+    let d = g.D.StationDisplay.does in
     let old = the_view g.row.D g.row.D-Commands g.row.D-Key g.row.D-Reply g.row.D-Commands-Unit
     g.row.D-Commands-Place g.D.StationDisplay g.D.Commands.Code c.self.inside in
-    let d = g.D.StationDisplay.does in
-    let rules = g.D.Commands.Code.rules in
-    let at : List ℕ → ℕ → _ = λ kept records. record old {
-      body_bytes = kept;
-      screen = c.apply.new.self;
-      records = records;
-    } in
-    let count : ℕ = c.saturating_add-self-inside.result in
-    let new = at [] (min (s.records + 1) (2 ^ 64 - 1)) in
-    let last = at c.clear.new.self count in
-    let is : last ≡ new = ap (λ z. at z count) c.clear.ensures ∙ ap (at []) c.saturating_add-self-inside.ensures in
-    let head : Head = c.args.head in
-    rw (← c.self.view_is) (λ side units chain kept same given. rw is
-    (closes rules d old _ side head units (old.live.taken - 1) _ same (sym c.if-not-records_allowed.ensures)
-    (c.in-Ok.ensures.applied side units chain (c.as_slice.ensures ∙ kept) given)))
+    rw (← c.self.view_is) (λ side units chain kept same given. closes g.D.Commands.Code.rules d old _ _ _ side
+    c.args.head units (old.live.taken - 1) _ (cc) (cc) same (sym c.if-not-records_allowed.ensures)
+    (c.in-Ok.ensures.applied side units chain (c.as_slice.ensures ∙ kept) given))
 
 pub returns-in-Err-clause-closed : goal.returns-in-Err-clause-closed
 returns-in-Err-clause-closed g c =
