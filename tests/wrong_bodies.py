@@ -99,8 +99,9 @@ class Trial:
         only = set() if whole else set().union(*map(reach, edits))
         found = self.crate.check(self.texts, after, set() if "" in only else only)
         for seconds, path in found.slow:
-            if seconds > SLOW:
-                self.report.say(f"slow: {path} took {seconds:.0f} s ({', '.join(it.name for it in edits if path in it.changed)})")
+            names = [it.name for it in edits if path in it.changed]
+            if seconds > SLOW and names:
+                self.report.say(f"slow: {path} took {seconds:.0f} s ({', '.join(names)})")
         return found
 
     def settle(self, edit: Edit, means: str, why: str) -> None:
