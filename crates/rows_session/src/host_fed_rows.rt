@@ -4,7 +4,7 @@ use crate::same_at;
 use std::alloc::Global;
 use std::process::Abort;
 use ws_nego::Reply;
-use ws_session::{HostEnd, HostEvent};
+use ws_session::{EndFed, HostEnd, HostEvent};
 
 // What a host end wrote and told, and behind how many bytes it did.
 type Heard = Vec<(usize, Reply, Option<HostEvent>)>;
@@ -30,12 +30,13 @@ fn feed(rt: &impl Abort, host: &mut HostEnd, bytes: &[u8], size: usize, heard: &
     for piece in bytes.chunks(size) {
         let mut rest = piece;
         for _ in 0..20u8 {
-            if let Ok(fed) = host.feed(rest) {
-                rest = &rest[fed.used..];
-                taken = taken.saturating_add(fed.used);
-                if fed.event.is_some() || !fed.reply.as_slice().is_empty() {
+            let EndFed { used, step } = host.feed(rest);
+            if let Ok(step) = step {
+                rest = &rest[used..];
+                taken = taken.saturating_add(used);
+                if step.event.is_some() || !step.reply.as_slice().is_empty() {
                     heard
-                        .push((taken, fed.reply, fed.event))
+                        .push((taken, step.reply, step.event))
                         .expect(rt, "memory");
                 }
             }

@@ -6,6 +6,7 @@ use Rattle.ws_code.specs.Reason.{number_of as reason_number}
 use Rattle.ws_session.specs.station.StationActs.{HasTakenAllOn, HasRefusedOn}
 use Rattle.ws_session.specs.station.StationLeads.{StationParts}
 use Rattle.ws_session.specs.declared.end_step.Applied.{Applied}
+use Rattle.ws_session.specs.driver.Driven.{AtDriver, Come, Driven, Driving, LeadsTo, TakesNoMore}
 use Rattle.ws_session.specs.declared.refusal.Refusal.{Refusal}
 use Rattle.ws_session.specs.declared.refusal.Refusal.TheVariants.{At, Failed as HasFailed, Memory}
 use Rattle.ws_c.specs.declared.status.Status.{Status}
@@ -44,6 +45,17 @@ first_bytes bytes count = record { bytes = bytes; count = count }
 -- the bytes behind a front
 abbrev pub left_behind : Front → List ℕ
 left_behind front = drop front.count front.bytes
+
+module _ {R K Place U Deed Event Reply : Type 0} (d : Driving R K Place U Deed Event Reply) where
+  -- A front of bytes is taken to come from the one end to the other: none of their items is refused, this is written,
+  -- what is told is such, and the end counts them. One that takes no more takes none.
+  pub record FrontTaken (IsTold : List Event → Type 0) (old : Driven R K Place) (front : Front) (written : List ℕ)
+      (new : Driven R K Place) : Type 0 where
+    pub taken : AtDriver d old (λ bytes items side. (told : List Event) × IsTold told
+        × Come d (LeadsTo d new) bytes items side (take front.count front.bytes) written told)
+    pub counted : new.live.taken ≡ old.live.taken + front.count
+    pub works : 0 < front.count → TakesNoMore old → ⊥
+    pub none : front.count ≡ 0 → (new ≡ old) × (written ≡ [])
 
 -- a push tells that so many bytes were taken, how many were written, and no refusal
 abbrev pub TellsCounts : ℕ → PushedTold → Type 0

@@ -1,19 +1,17 @@
 use Rattle.ws_session.proofs.Common as C
 use C.{◌≡◌, ◌+◌, ◌≤◌, List, [], ◌∷◌, ◌++◌, refl, subst, ◌∙◌, ℕ, suc, ◌<◌, Option, Some, None, IsSome, take, ap, sym}
 use C.{arith, min, ◌^◌, inl, inr, length, append_assoc, ◌-◌, Err, length-take-le}
-use C.{take-append-le, Rules, Item, answer_rules, element_rules, AnswerPart, all_came, HasGone, Manner, Goes}
-use C.{host_manner, HostRefuses, Refusal, Failed, EndsAt, HostLeads, HostParts, IsHostPushed, HostSide}
+use C.{take-append-le, Rules, Item, all_came, HasGone, Manner, Goes}
+use C.{Refusal, Failed}
 use Rattle.std.proofs.Math.Seq.{take-append-add}
 use Rattle.ws_session.specs.Ends.{IsShut}
-use Rattle.ws_session.specs.Manners.{IsHostShut}
-use Rattle.ws_session.specs.host_end.HostFeeds.{HostStopsWithin, IsHostSilent, HostStaysSilent}
 use Rattle.ws_session.specs.station.Displays.{DisplayOf, SideOn}
 use Rattle.ws_session.specs.station.PartsOn.{PartsOn}
 use Rattle.ws_session.specs.station.StationActs.{IsShutOn, RefusesOn, IsSilentOn, StaysSilentOn}
 use Rattle.ws_session.specs.station.StationManners.{manner_on}
 use Rattle.ws_session.specs.station.StationNews.{StopsWithinOn}
 use Rattle.ws_session.specs.station.Stations.{LeadsOn}
-use Rattle.ws_session.proofs.Feedings.{come_weaker, value_at}
+use Rattle.ws_session.proofs.Feedings.{value_at}
 use Rattle.ws_session.proofs.station.StationSteps.{is_led}
 use Rattle.ws_session.specs.Acts.{ways}
 use Rattle.ws_session.specs.station.Displays.{on_display}
@@ -179,54 +177,3 @@ module _ {D P U H PlaceV V K R : Type 0} (rules : Rules P U) (d : DisplayOf D U 
         (λ bytes items side l room. quiet bytes items side l room n lt);
     shut = λ shut. absurd (works shut);
   }
-
-pub host_count : (host : HostParts) (bytes : List ℕ) (items : List (Item AnswerPart)) (side : HostSide)
-    → HostLeads host bytes items side → host.receiver.live.taken ≡ length bytes
-host_count host bytes items side l = l.taken.leads.1.count
-
--- so does a host end
-pub host_shut : (old new : HostParts) (piece : List ℕ) → 0 < length piece → IsHostShut old
-    → new.screen ≡ old.screen → (why : Refusal) → why ≡ Failed
-    → (byte : ℕ) × (rest : List ℕ) × (piece ≡ take 0 piece ++ byte ∷ rest)
-    × HostRefuses old (take 0 piece) byte why new
-host_shut old new piece some shut same why is =
-    let f = first_of piece some in (
-      f.0,
-      f.1,
-      f.2,
-      record {
-        led = λ bytes items side l few. absurd (none_leads old.ended old.receiver.live.taken (length bytes) l.works
-            (host_count old bytes items side l) (omega (arith, few)) shut);
-        shut = λ over. (refl, is, same);
-      },
-    )
-
-pub host_stops : (old new : HostParts) (piece part more : List ℕ) → piece ≡ part ++ more → (used : ℕ)
-    → used ≤ length part → old.receiver.live.taken + length part < 2 ^ 64 → (IsHostShut old → ⊥) → (why : Refusal)
-    → HostStopsWithin old new part used why → (byte : ℕ) × (rest : List ℕ)
-    × (piece ≡ take used piece ++ byte ∷ rest) × HostRefuses old (take used piece) byte why new
-host_stops old new piece part more whole used within fits works why s = (
-  s.byte,
-  s.rest ++ more,
-  front_split piece part more whole used s.byte s.rest within s.split,
-  record {
-    led = stops_by answer_rules element_rules host_manner HostLeads IsHostShut
-        (λ (z : HostParts). z.receiver.live.taken) host_count old piece part more whole used within fits _
-        (λ bytes items side l room. come_weaker answer_rules element_rules host_manner
-        (EndsAt old new s.byte why) (λ b its s'. IsHostPushed old new b its s' s.byte (Err why)) bytes items side
-        (take used part) [] [] (λ b its s' e. e.0) (s.refused bytes items side l room));
-    shut = λ shut. absurd (works shut);
-  },
-)
-
-pub host_silent : (old : HostParts) (piece part more : List ℕ) → piece ≡ part ++ more → (used : ℕ)
-    → used ≤ length part → old.receiver.live.taken + length part < 2 ^ 64 → (IsHostShut old → ⊥)
-    → ((bytes : List ℕ) (items : List (Item AnswerPart)) (side : HostSide) → HostLeads old bytes items side
-    → length bytes + length part < 2 ^ 64 → (n : ℕ) → n < used → IsHostSilent bytes items side (take n part))
-    → (n : ℕ) → n < used → HostStaysSilent old (take n piece)
-host_silent old piece part more whole used within fits works quiet n lt = record {
-  led = silent_by answer_rules element_rules host_manner HostLeads IsHostShut
-      (λ (z : HostParts). z.receiver.live.taken) host_count old piece part more whole used within fits _ n lt
-      (λ bytes items side l room. quiet bytes items side l room n lt);
-  shut = λ shut. absurd (works shut);
-}

@@ -1,11 +1,8 @@
 use Rattle.ws_session.proofs.Common as C
 use C.{IfOk, IfErr, ◌≡◌, ◌+◌, ◌≤◌, List, [], ◌∷◌, ◌++◌, refl, subst, ◌∙◌, ℕ, ◌<◌, Option, Some, None}
 use C.{take, ap, arith, ◌^◌, inl, inr, length}
-use C.{Err, Ok, Result, Rules, plain_spelling, Item, AnswerPart, element_rules, as_list}
-use C.{HostEvent}
-use C.{HostStep, Refusal, EndStep, Applied, HasHostFed, EndsAt, AtHost, HostLeads, HostParts, IsHostPushed, HostSide}
-use C.{host_at_item, host_takes}
-use Rattle.ws_session.specs.host_end.HostFeeds.{HasHostTakenAll, HostStopsWithin}
+use C.{Err, Ok, Result, Rules, plain_spelling, Item, as_list}
+use C.{Refusal, EndStep, Applied}
 use Rattle.ws_session.specs.station.Displays.{DisplayOf, SideOn}
 use Rattle.ws_session.specs.station.PartsOn.{PartsOn}
 use Rattle.ws_session.specs.station.StationActs.{HasFedOn, HasTakenAllOn}
@@ -53,49 +50,3 @@ module _ {D P U H PlaceV V K R : Type 0} (rules : Rules P U) (d : DisplayOf D U 
       (λ bytes' items' side'. IsPushedOn (on_display rules d) old
       new bytes' items' side' s.byte (Err why)) bytes items side front [] []) at.0
       (s.refused bytes items side l few)))
-
-module _ (old new : HostParts) where
-  pub host_one_fed : (byte : ℕ) (step : HostStep) → (step.event ≡ None → new.screen ≡ old.screen)
-      → (bytes : List ℕ) (items : List (Item AnswerPart)) (side : HostSide)
-      → HasHostFed new bytes items side (byte ∷ []) step.reply step.event
-      → IsHostPushed old new bytes items side byte (Ok step)
-  host_one_fed byte step quiet bytes items side fed = elim (gone_one fed) [
-    | inl q ↦ (let none = unheard step.event q.1 in
-        inl (record { silent = q.0; untold = none; same = quiet none; leads = q.2 }))
-    | inr q ↦ (let r = gone_to (host_takes side q.0) q.1 in
-        inr (record {
-          item = q.0;
-          next = r.0;
-          told = r.1;
-          goes_on = r.2;
-          spelled = q.2 ∙ ap (λ z. plain_spelling element_rules (host_at_item side z).written) r.2;
-          event = same_told step.event r.1.event (q.3 ∙ ap (λ z. (host_at_item side z).told) r.2);
-          leads = subst (λ z. HostLeads new (bytes ++ byte ∷ []) (items ++ q.0 ∷ []) (host_at_item side z).side) r.2
-              q.4;
-        }))
-  ] where
-    same_told : (a b : Option HostEvent) → as_list a ≡ as_list b → a ≡ b
-    same_told None None e = refl
-    same_told (Some x) (Some y) e = cc
-    same_told None (Some y) e = cc
-    same_told (Some x) None e = cc
-
-  pub host_one_stopped : (byte used : ℕ) (why : Refusal) → HostStopsWithin old new (byte ∷ []) used why
-      → AtHost old (λ bytes items side. length bytes + 1 < 2 ^ 64
-      → IsHostPushed old new bytes items side byte (Err why))
-  host_one_stopped byte used why s = λ bytes items side l few.
-      let at = alone (take used (byte ∷ [])) s.rest byte s.byte s.split in
-      subst (λ (b : ℕ). IsHostPushed old new bytes items side b (Err why)) at.1
-      (gone_none (subst (λ (front : List ℕ). HasHostTakenAll (EndsAt old new s.byte why) bytes items side front []
-      []) at.0 (s.refused bytes items side l few))).0
-
-  pub host_one : (byte used : ℕ) (result : Result HostStep Refusal) → used ≤ 1 → IfOk result (λ step. 0 < 1 → 0 < used)
-      → IfOk result (λ step. step.event ≡ None → new.screen ≡ old.screen)
-      → IfOk result (λ step. AtHost old (λ bytes items side. length bytes + 1 < 2 ^ 64
-      → HasHostFed new bytes items side (take used (byte ∷ [])) step.reply step.event))
-      → IfErr result (HostStopsWithin old new (byte ∷ []) used)
-      → AtHost old (λ bytes items side. length bytes + 1 < 2 ^ 64 → IsHostPushed old new bytes items side byte result)
-  host_one byte used (Ok step) within some quiet fed stops = λ bytes items side l few.
-      let one : used ≡ 1 = omega (arith, within, some (omega arith)) in
-      host_one_fed byte step quiet bytes items side (rw one at (fed bytes items side l few))
-  host_one byte used (Err why) within some quiet fed stops = host_one_stopped byte used why stops

@@ -6,9 +6,8 @@ use Rattle.ws_session.specs.declared.end_step.Applied.{Applied}
 use Rattle.ws_session.specs.declared.end_step.Order.{Order}
 use Rattle.ws_session.specs.declared.host_end.host_event.HostEvent.{HostEvent}
 use Rattle.ws_session.specs.Conduct.{Conduct}
-use Rattle.ws_session.specs.host_end.HostFeeds.{HostStaysSilent}
-use Rattle.ws_session.specs.host_end.HostLeads.{HostParts}
-use Rattle.ws_session.specs.Manners.{HostGoes, HostRefuses}
+use Rattle.ws_session.specs.driver.Conducting.{driver_conduct}
+use Rattle.ws_session.specs.host_end.HostReacting.{HostParts, host_driving}
 use Rattle.ws_session.specs.station.StationActs.{GoesOnDisplay, RefusesOn, StaysSilentOn}
 use Rattle.ws_session.specs.station.StationLeads.{StationParts}
 use Rattle.ws_session.specs.station.Displays.{OnDisplay}
@@ -30,9 +29,4 @@ profile_conduct = station_conduct on_profile
 
 -- a host end
 abbrev pub host_conduct : Conduct HostParts Order HostEvent
-host_conduct = record {
-  goes = HostGoes;
-  refuses = HostRefuses;
-  silent = HostStaysSilent;
-  over = λ host. IsSome host.ended;
-}
+host_conduct = driver_conduct host_driving

@@ -1,20 +1,16 @@
 use Rattle.ws_session.proofs.Common as C
 use C.{◌≡◌, ◌+◌, ◌≤◌, List, [], ◌∷◌, ◌++◌, refl, subst, ◌∙◌, ℕ, ◌<◌, Option, None, take, ap, sym, arith, ◌^◌, inl, inr}
 use C.{length, append_assoc, length-append, Bool, true, false, Err, Ok, ◌==◌, nat_tests, Rules, left_of}
-use C.{CompletesUnit, Item, answer_rules, AnswerPart, bytes_came, as_list, host_at_item, goes_on, told_by, GoesOn}
-use C.{Order, HostEvent, HostStep, Refusal, At, Failed, Memory, EndStep, Applied, HasHostFed, EndsAt, IsHostFronted}
-use C.{AtHost}
-use C.{HostLeads, HostParts, HostSide}
+use C.{Item, bytes_came, as_list, goes_on, told_by, GoesOn}
+use C.{Refusal, At, Failed, Memory, EndStep, Applied}
 use Rattle.ws_session.proofs.Common.{suc, ◌-◌, is_some, Some}
-use Rattle.ws_record.specs.Taking.{EndIn}
-use Rattle.ws_session.specs.host_end.HostFeeds.{HasHostTakenAll}
 use Rattle.ws_session.specs.station.Displays.{DisplayOf, SideOn}
 use Rattle.ws_session.specs.station.PartsOn.{PartsOn}
 use Rattle.ws_session.specs.station.StationActs.{HasFedOn, HasTakenAllOn}
 use Rattle.ws_session.specs.station.StationManners.{at_item_on}
 use Rattle.ws_session.specs.station.StationNews.{IsFrontedOn}
 use Rattle.ws_session.specs.station.Stations.{AtStationOn, LeadsOn, IsPushedOn}
-use Rattle.ws_session.proofs.EndSteps.{host_holds, none_went, one_went, told_of, on_holds}
+use Rattle.ws_session.proofs.EndSteps.{none_went, one_went, told_of, on_holds}
 use Rattle.ws_session.proofs.Feedings.{front_silent, front_brings, front_on, fails_on, AreHeld}
 use Rattle.ws_session.specs.station.Displays.{on_display}
 
@@ -106,77 +102,3 @@ pub no_reply : (reply text : List ℕ) → text ≡ reply → (b : Bool) → b �
 no_reply reply text same b is so =
     let none : length text ≡ 0 = grind (arith, nat_tests) in
     sym same ∙ no_bytes text none
-
--- What a front of a piece gives a host end.
-
--- two lists that end with one value each
-pub same_end : (xs ys : List ℕ) (x y : ℕ) → xs ++ x ∷ [] ≡ ys ++ y ∷ [] → (xs ≡ ys) × (x ≡ y)
-same_end [] [] x y e = (refl, (let h : x ≡ y = cc in h))
-same_end [] (b ∷ ys) x y e = absurd (omega (arith, ap length e, length-append ys (y ∷ [])))
-same_end (a ∷ xs) [] x y e = absurd (omega (arith, ap length e, length-append xs (x ∷ [])))
-same_end (a ∷ xs) (b ∷ ys) x y e =
-    let h : a ≡ b = cc in
-    let t : xs ++ x ∷ [] ≡ ys ++ y ∷ [] = cc in
-    let p = same_end xs ys x y t in
-    (ap (λ z. z ∷ xs) h ∙ ap (λ z. b ∷ z) p.0, p.1)
-
-module _ (old mid new : HostParts) (bytes : List ℕ) (items : List (Item AnswerPart)) (side : HostSide) (byte : ℕ) where
-  -- what the last byte of a front gives is what that byte gives
-  last_wanting : EndIn (bytes ++ byte ∷ []) (λ before last. CompletesUnit answer_rules before items last)
-      → CompletesUnit answer_rules bytes items byte
-  last_wanting e =
-      let s = same_end bytes e.0 byte e.1 e.2 in
-      rw (s.1, s.0) e.3
-
-  pub host_at_last : (refusal : Refusal) → mid.screen ≡ old.screen → IsHostFronted mid new
-      (bytes ++ byte ∷ []) items side (Err refusal) → EndsAt old new byte refusal bytes items side
-  host_at_last (At place reason) same f =
-      let taken : new.receiver.live.taken ≡ length bytes + 1 = omega (arith, f.2, length-append bytes (byte ∷ [])) in
-      ((omega (arith, f.0, length-append bytes (byte ∷ [])), f.1 ∙ same, f.3, f.4, taken), taken)
-  host_at_last Memory same f =
-      let taken : new.receiver.live.taken ≡ length bytes + 1 = omega (arith, f.1, length-append bytes (byte ∷ [])) in
-      ((f.0 ∙ same, elim f.2 [ inl e ↦ inl (last_wanting e) | inr w ↦ inr w ], f.3, taken), taken)
-  host_at_last Failed same f = absurd f
-
-module _ (old new : HostParts) (bytes : List ℕ) (items : List (Item AnswerPart)) (side : HostSide) (left : List ℕ)
-    (used : ℕ) (within : used ≤ length left) (some : 0 < used)
-    (held : AreHeld answer_rules Order bytes items left used) where
-  -- what the last byte of a front gives
-  pub host_front_fed : (step : HostStep) → IsHostFronted old new (bytes ++ take used left) items side (Ok step)
-      → HasHostFed new bytes items side (take used left) step.reply step.event
-  host_front_fed step (inl q) = none_went (bytes_came Order (take used left))
-      (front_silent answer_rules Order bytes items left used within held (host_holds q.leads)) q.silent
-      (ap (λ (o : Option HostEvent). as_list o) q.untold) q.leads
-  host_front_fed step (inr t) = one_went (bytes_came Order (take used left)) t.item
-      (host_at_item side (GoesOn t.next t.told)) (ap (host_at_item side) t.goes_on)
-      (front_brings answer_rules Order bytes items t.item left used within some held (host_holds t.leads))
-      (ap goes_on t.goes_on) t.spelled (ap (λ (z : Option HostEvent). as_list z) t.event) t.leads
-
-module _ (bytes : List ℕ) (items : List (Item AnswerPart)) (side : HostSide)
-    (piece : List ℕ) (i : ℕ) (now : HostParts) (before : HasHostFed now bytes items side (take i piece) [] None) where
-  -- a front more is fed
-  pub host_fed_on : (new : HostParts) (k : ℕ) (step : HostStep)
-      → k ≤ length (left_of piece i) → 0 < k → AtHost now (λ b its s. length b + length (left_of piece i) < 2 ^ 64
-      → IsHostFronted now new (b ++ take k (left_of piece i)) its s (Ok step)) → AtHost now
-      (λ b its s. AreHeld answer_rules Order b its (left_of piece i) k) → length bytes + length piece < 2 ^ 64
-      → i ≤ length piece → HasHostFed new bytes items side (take (i + k) piece) step.reply step.event
-  host_fed_on new k step within some fronted held fits inside = front_on _ _ _ bytes items side piece i
-      (HostLeads now) before _ k _ _ (λ b its s l room. host_front_fed now new b its s _ k within some
-      (held b its s l) step (fronted b its s l room)) fits inside
-
-  -- it fails at its last byte
-  pub host_refused_on : (old new : HostParts) (k byte : ℕ) (refusal : Refusal) → now.screen ≡ old.screen
-      → k ≤ length (left_of piece i)
-      → take (suc (k - 1)) (left_of piece i) ≡ take (k - 1) (left_of piece i) ++ byte ∷ []
-      → ((refusal ≡ Failed → ⊥) → 0 < k) → AtHost now (λ b its s. length b + length
-      (left_of piece i) < 2 ^ 64 → IsHostFronted now new (b ++ take k (left_of piece i)) its s (Err refusal))
-      → AtHost now (λ b its s. AreHeld answer_rules Order b its (left_of piece i) k) → length
-      bytes + length piece < 2 ^ 64 → i ≤ length piece
-      → HasHostTakenAll (EndsAt old new byte refusal) bytes items side (take (i + (k - 1)) piece) [] []
-  host_refused_on old new k byte refusal same within upto when fronted held fits inside =
-      let left = left_of piece i in
-      fails_on _ _ _ bytes items side piece i _ before (λ b its s. EndsAt old new byte refusal b its s)
-      k byte within upto (λ b its s l room. when (λ e. subst (λ (r : Refusal). IsHostFronted now new
-      (b ++ take k left) its s (Err r)) e (fronted b its s l room))) (λ b its s front l room upto.
-      host_at_last old now new _ its s byte _ same (subst (λ (x : List ℕ). IsHostFronted now new x its s (Err refusal))
-      (ap (λ z. b ++ z) upto ∙ sym (append_assoc b front (byte ∷ []))) (fronted b its s l room))) held fits inside

@@ -10,6 +10,7 @@ use Rattle.ws_record.specs.declared.record.Item.TheVariants.{Record as RecordIte
 use Rattle.ws_session.specs.declared.station.key_fault.KeyFault.TheVariants.{NotReady}
 use Rattle.ws_session.specs.declared.end_step.Applied.{Applied}
 use Rattle.ws_session.specs.Reaction.{Reaction, Refuses, GoesOn, empty_record}
+pub use Rattle.ws_session.specs.Reaction.{goes_on}
 use Rattle.ws_session.specs.Acts.{Happening, Arrives, Does, Doing, Manner, idle}
 use Rattle.ws_session.specs.station.Displays.{DisplayOf, SideOn, KeyReactionOn, RefusesKey, Silent, Answers, Signals}
 
@@ -25,11 +26,6 @@ told_by ends_record = if ends_record then Some applied else None
 abbrev pub applied_by : {U : Type 0} → Item U → List Applied
 applied_by (RecordItem r) = applied ∷ []
 applied_by (TelnetItem token) = []
-
--- the end doesn't refuse the item
-abbrev pub goes_on : {Side W : Type 0} → Reaction Side W → Bool
-goes_on (Refuses reason) = false
-goes_on (GoesOn next told) = true
 
 module _ {D U H PlaceV V K R : Type 0} (d : DisplayOf D U H PlaceV V K R) where
   -- the side of a station to which nothing has happened

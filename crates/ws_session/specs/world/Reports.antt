@@ -22,9 +22,9 @@ pub record IsReport (r : Report) (w : World) : Type 0 where
   pub screen : r.station.screen.screen ≡ screen_at w.station
   pub alarms : r.station.screen.alarms ≡ alarm_count (alarms_of w.station.happened)
   pub station_options : r.station.options ≡ w.station.options
-  pub host_options : r.host.options ≡ w.host.options
-  pub fields : r.host.screen.fields ≡ fields w.host.kept
-  pub asked : r.host.screen.pending ≡ asked_read w.host
+  pub host_options : r.host.reacts.options ≡ w.host.options
+  pub fields : r.host.reacts.screen.fields ≡ fields w.host.kept
+  pub asked : r.host.reacts.screen.pending ≡ asked_read w.host
   pub to_station : r.to_station ≡ to_station w
   pub to_host : r.to_host ≡ to_host w
   -- each end goes on from there: it has taken the bytes that have arrived, and their items left it on its side
@@ -37,4 +37,4 @@ pub record IsOpened (r : Report) : Type 0 where
   pub to_station : r.to_station ≡ []
   pub to_host : r.to_host ≡ []
   pub at_station : station_allows_records r.station.options ≡ true
-  pub at_host : host_allows_records r.host.options ≡ true
+  pub at_host : host_allows_records r.host.reacts.options ≡ true
