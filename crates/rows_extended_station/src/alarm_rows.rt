@@ -63,7 +63,7 @@ fn saved_screens_sound_no_alarm(rt: HostRuntime) {
     same(&rt, *opcode, 4);
     *opcode = 5;
     let fed = station.feed(saved.as_slice());
-    same(&rt, fed.is_ok(), true);
+    same(&rt, fed.step.is_ok(), true);
     same(&rt, (station.records(), station.alarms()), (3, 1));
     takes(&rt, alloc, &mut station, b"\x04\x12\x04\x11\x00\x04");
     same(&rt, station.alarms(), 2);

@@ -7,7 +7,7 @@ use ws_extended_station::{ExtendedKey, ExtendedStation};
 use ws_keys::{Answer, Key};
 use ws_nego::TerminalType;
 use ws_record::{Opcode, write_record};
-use ws_session::{End, KeyFault, Refusal};
+use ws_session::{End, EndFed, KeyFault, Refusal};
 
 // A host end's opening: DO 18, SEND, and the four requests. What a station answers.
 pub const OPENING: &[u8] =
@@ -35,12 +35,13 @@ pub fn written(
     let mut written = Vec::new(alloc);
     let mut rest = bytes;
     while !rest.is_empty() {
-        let fed = station.feed(rest)?;
-        assert!(rt; 1 <= fed.used && fed.used <= rest.len());
+        let EndFed { used, step } = station.feed(rest);
+        assert!(rt; 1 <= used && used <= rest.len());
+        let step = step?;
         written
-            .extend_from_slice(station.bytes(&fed.reply))
+            .extend_from_slice(station.bytes(&step.reply))
             .expect(rt, "memory");
-        rest = &rest[fed.used..];
+        rest = &rest[used..];
     }
     Ok(written)
 }

@@ -70,7 +70,7 @@ fn refused_records_sound_no_alarm(rt: HostRuntime) {
     let refused =
         b"\x00\x13\x12\xa0\x00\x00\x04\x00\x00\x03\x04\x11\x00\x04\x11\x18\x50\xc1\xc2\xff\xef";
     same(&rt, refused.len(), PAST_END.len());
-    same(&rt, station.feed(refused).is_err(), true);
+    same(&rt, station.feed(refused).step.is_err(), true);
     same(&rt, station.alarms(), 1);
     same(&rt, station.push(0).is_err(), true);
     same(&rt, station.alarms(), 1);

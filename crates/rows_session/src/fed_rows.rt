@@ -4,7 +4,7 @@ use crate::same_at;
 use std::alloc::Global;
 use std::process::Abort;
 use ws_nego::Reply;
-use ws_session::Station;
+use ws_session::{EndFed, EndStep, Station};
 
 // What a station wrote, behind how many bytes it did or a record ended, and whether one did.
 type Heard = Vec<(usize, Reply, bool)>;
@@ -32,12 +32,13 @@ fn feed(rt: &impl Abort, station: &mut Station, bytes: &[u8], size: usize, heard
     for piece in bytes.chunks(size) {
         let mut rest = piece;
         for _ in 0..20u8 {
-            if let Ok(fed) = station.feed(rest) {
-                rest = &rest[fed.used..];
-                taken = taken.saturating_add(fed.used);
-                if fed.ends_record || !fed.reply.as_slice().is_empty() {
+            let EndFed { used, step } = station.feed(rest);
+            if let Ok(EndStep { reply, event }) = step {
+                rest = &rest[used..];
+                taken = taken.saturating_add(used);
+                if event.is_some() || !reply.as_slice().is_empty() {
                     heard
-                        .push((taken, fed.reply, fed.ends_record))
+                        .push((taken, reply, event.is_some()))
                         .expect(rt, "memory");
                 }
             }

@@ -1,6 +1,6 @@
 -- A host's end, as C sees it (RFC 1205, sections 3 and 4)
 
-use Rattle.std.specs.Prelude.{◌≡◌, ℕ, ◌+◌, ◌-◌, ◌<◌, ◌≤◌, List, [], ◌∷◌, ◌++◌, length, Option, Some, None, Ok, Err, ◌⊎◌}
+use Rattle.std.specs.Prelude.{◌≡◌, ℕ, ◌+◌, ◌-◌, ◌<◌, ◌≤◌, List, [], ◌∷◌, ◌++◌, length, Option, Some, None, Ok, ◌⊎◌}
 use Rattle.ws_nego.specs.Host.{opening}
 use Rattle.ws_nego.specs.declared.terminal.TerminalType.{TerminalType}
 use Rattle.ws_nego.specs.declared.terminal.TerminalType.TheVariants.{Ibm5251Model11, Ibm5291Model1, Ibm5292Model2}
@@ -27,7 +27,7 @@ use Rattle.ws_c.specs.declared.told.Told.{Told}
 use Rattle.ws_c.specs.declared.told.PushedTold.{PushedTold}
 use Rattle.ws_c.specs.declared.told.TheConstants.{REPLY_ROOM}
 use Rattle.ws_c.specs.Calls.{Crossed, GivesBytes, TellsOnly, holds_front, told_length}
-use Rattle.ws_c.specs.Pushes.{Front, FrontTaken, IsPushRefused, TellsCounts, first_bytes, left_behind}
+use Rattle.ws_c.specs.Pushes.{Front, FrontTaken, IsPushRefused, TellsCounts, first_bytes, left_behind, refused_step}
 
 -- the bytes by which a host asks the station for its terminal type
 abbrev pub opening_bytes : List ℕ
@@ -90,10 +90,6 @@ host_told pushed event = record { pushed = pushed; event = event }
 -- so many bytes are taken, at the last of which this is written and told
 abbrev pub told_step : ℕ → List ℕ → HostEvent → EndFed HostEvent (List ℕ)
 told_step used last tells = record { used = used; step = Ok (record { reply = last; event = Some tells }) }
-
--- so many bytes are taken, the last of which is refused
-abbrev pub refused_step : ℕ → Refusal → EndFed HostEvent (List ℕ)
-refused_step used refusal = record { used = used; step = Err refusal }
 
 -- what a push of bytes crosses as at the last of which the host end tells something, behind a front that tells nothing
 pub record IsHostTold (quiet : Front) (last : List ℕ) (call : Crossed HostTold) (old new : HeldHost) : Type 0 where

@@ -130,7 +130,7 @@ pub use Rattle.ws_session.specs.declared.world.Event.TheVariants.{HostRefused}
 pub use Rattle.ws_session.specs.declared.world.Move.{Move}
 pub use Rattle.ws_session.specs.declared.world.Move.TheVariants.{ToStation, ToHost, Cancel, Key as Press}
 pub use Rattle.ws_session.specs.declared.world.Move.TheVariants.{Send as SendMove}
-pub use Rattle.ws_session.specs.driver.Driven.{TakesNoMore, IsWhy}
+pub use Rattle.ws_session.specs.driver.Driven.{IsFronted, IsWhy, TakesNoMore}
 pub use Rattle.ws_session.specs.driver.Reacting.{IsReaction, at_reaction}
 pub use Rattle.ws_session.specs.host_end.HostLeads.{AtHost, HostLeads, IsSent, IsSendFault, unopened_host_side}
 pub use Rattle.ws_session.specs.host_end.HostReacting.{HostKept, HostParts, HostStands, HostStep, host_driving}

@@ -1,7 +1,7 @@
 //! What drives an end of a session by the bytes that come, whatever reacts to their items.
 ghost use Rattle.std.specs.Prelude.{IsTrue, ◌↔◌, ◌≡◌, ◌≢◌, ◌<◌, ◌≤◌, ◌+◌, ◌^◌, [], None, Err, IfOk, length, take, true, false};
 ghost use Rattle.ws_session.specs.Ends.{refused_byte};
-ghost use Rattle.ws_session.specs.driver.Driven.{AtDriver, DriverFeeds, DriverPushes, DriverTakes, IsNewsTaken, IsSettled, IsSilent, LeadsTo, TakesNoMore, driving};
+ghost use Rattle.ws_session.specs.driver.Driven.{AtDriver, DriverFeeds, DriverFronts, DriverPushes, DriverTakes, IsNewsTaken, IsSettled, IsSilent, LeadsTo, TakesNoMore, driving};
 ghost use Rattle.ws_session.specs.driver.Reacting.{Settles};
 
 pub(crate) mod halt;
@@ -10,6 +10,7 @@ pub(crate) mod reacts;
 use crate::end_step::{EndFed, EndStep};
 use crate::{Halt, Reacts, Refusal};
 use std::marker::Model;
+use std::mem;
 use ws_code::Reason;
 use ws_record::{Advance, Live, News};
 
@@ -54,6 +55,14 @@ impl<R: Reacts> Driver<R> {
         ensures { result.now ≡ self.now.reacts }
     {
         &self.reacts
+    }
+
+    /// Puts this in the place of what reacts, and gives that.
+    pub fn replace(&mut self, reacts: R) -> R
+        ensures was { result ≡ self.old.reacts }
+        ensures now { self.new ≡ record self.old { reacts = reacts } }
+    {
+        mem::replace(&mut self.reacts, reacts)
     }
 
     /// How many bytes it has taken, one that it refused among them.
@@ -119,8 +128,8 @@ impl<R: Reacts> Driver<R> {
         self.feed(&[byte]).step
     }
 
-    // Whether it takes no more bytes.
-    pub(crate) fn is_shut(&self) -> bool
+    /// Whether it takes no more bytes: it has refused one, or has taken 18,446,744,073,709,551,615.
+    pub fn is_shut(&self) -> bool
         ensures { IsTrue result ↔ TakesNoMore self.now }
     {
         self.ended.is_some() || self.live.taken() == u64::MAX
@@ -159,14 +168,10 @@ impl<R: Reacts> Driver<R> {
 
     // Takes a front of the piece, as `Live::advance` does, and does what its last byte asks for.
     #[inline(always)]
-    fn take_front(&mut self, piece: &[u8]) -> EndFed<R::Event, R::Reply>
-        requires some { 0 < length piece.now }
-        requires works { self.old.ended ≡ None }
-        requires fits { self.old.live.taken + length piece.now < 2 ^ 64 }
-        ensures within { result.used ≤ length piece.now }
-        ensures some { result.step ≢ Err Refusal.Failed → 0 < result.used }
-        ensures taken { DriverTakes (driving R.Body.rules R.Keep.keeper R.does)
-            self.old (take result.used piece.now) self.new result.step }
+    pub(crate) fn take_front(&mut self, piece: &[u8]) -> EndFed<R::Event, R::Reply>
+        requires { 0 < length piece.now }
+        ensures { DriverFronts (driving R.Body.rules R.Keep.keeper R.does)
+            self.old piece.now self.new result }
     {
         let Advance { used, news } = self.live.advance(piece, &mut self.keep);
         let done = self.react(news);

@@ -7,7 +7,7 @@ use Rattle.ws_session.specs.Conduct.{TakesSome}
 use Rattle.ws_session.specs.declared.refusal.Refusal.{Refusal}
 use Rattle.ws_session.specs.declared.end_step.EndFed.{EndFed}
 use Rattle.ws_session.specs.declared.end_step.EndStep.{EndStep}
-use Rattle.ws_session.proofs.EndFeeds.{none_leads}
+use Rattle.ws_session.proofs.Shuts.{none_leads}
 use Rattle.ws_session.proofs.Feedings.{value_at}
 use Rattle.ws_session.specs.driver.Conducting.{driver_conduct, DriverRefuses}
 use Rattle.ws_session.specs.driver.Driven.{Driven, Driving, LeadsTo, DriverFeeds, TakesNoMore}

@@ -10,7 +10,7 @@ use Rattle.ws_session.specs.Acts.{bytes_of}
 use Rattle.ws_session.specs.Conduct.{Conduct}
 use Rattle.ws_session.specs.declared.world.Move.TheVariants.{Send}
 use Rattle.ws_session.specs.driver.Conducting.{DriverSilent}
-use Rattle.ws_session.specs.station.StationActs.{IsShutOn, StaysSilentOn}
+use Rattle.ws_session.specs.station.Stations.{station_driving}
 use Rattle.ws_session.specs.world.Wires.{Telling, host_telling, station_telling}
 use Rattle.ws_session.specs.Acts.{ways}
 use Rattle.ws_session.specs.station.StationSide.{on_profile}
@@ -79,13 +79,13 @@ station_moved a b Cancel ds us front p few l = stays StationIsLed a.station b.st
 station_moved a b (ToHost n) ds us front p few l = stays StationIsLed a.station b.station ds front p.0 p.1.1 l
 station_moved a b (ToStation n) ds us front p few l = bytes_led element_rules answer_rules station_manner StationLeads
     StationRefuses
-    (StaysSilentOn on_profile) (λ (s : StationParts). IsSome s.ended) station_telling IsShutOn a.station b.station
+    (DriverSilent (station_driving on_profile)) (λ (s : StationParts). IsSome s.ended) station_telling TakesNoMore a.station b.station
     (all_read ds) p.1.0.written p.1.0.told front
     p.1.0.come few l
 station_moved a b (Press key) ds us front p few l = stays StationIsLed b.station b.station ds front p.0 refl
     (act_led element_rules answer_rules station_manner StationLeads StationRefuses
-    (StaysSilentOn on_profile) (λ (s : StationParts). IsSome s.ended) station_telling
-    IsShutOn a.station b.station key p.2.0 [] front p.2.2.led (λ o. (p.2.2.stays (inl o)).0) (omega (arith, few)) l)
+    (DriverSilent (station_driving on_profile)) (λ (s : StationParts). IsSome s.ended) station_telling
+    TakesNoMore a.station b.station key p.2.0 [] front p.2.2.led (λ o. (p.2.2.stays (inl o)).0) (omega (arith, few)) l)
 
 host_moved : (a b : TwoEnds) (move : Move) (ds us : List Crossing) (front : List ℕ) → HasMoved a move ds us b → length
     front + length (all_read us) + 1 < 2 ^ 64 → HostIsLed a.host front → HostIsLed b.host (front ++ all_read us)

@@ -4,10 +4,11 @@ use Rattle.std.specs.Prelude.{◌≡◌, ◌≢◌, ℕ, ◌+◌, ◌-◌, ◌^�
 use Rattle.std.specs.Prelude.{OnOk, Result, Ok, Err, IfOk, IfErr, MatchResult, length, take, drop}
 use Rattle.ws_code.specs.Code.{Rules, IsChain, spelling_of}
 use Rattle.ws_code.specs.Keep.{Keeper}
+use Rattle.ws_code.specs.declared.keep.Kept.TheVariants.{NoMemory}
 use Rattle.ws_telnet.specs.Words.{telnet_of}
 use Rattle.ws_telnet.specs.declared.token.Sub.{Sub as ASub}
 use Rattle.ws_record.specs.DataStep.{record_of}
-use Rattle.ws_record.specs.Grammar.{Holds}
+use Rattle.ws_record.specs.Encode.{plain_spelling}
 use Rattle.ws_record.specs.Live.{Watching, Leads, CompletesUnit}
 use Rattle.ws_record.specs.OpenRecord.{RecordSoFar}
 use Rattle.ws_record.specs.Refusal.{IsRefused}
@@ -18,14 +19,14 @@ use Rattle.ws_record.specs.declared.record.Item.{Item}
 use Rattle.ws_record.specs.declared.record.Item.TheVariants.{Record as RecordItem, Telnet as TelnetItem}
 use Rattle.ws_session.specs.Acts.{HasGone, Manner, HoldsItems, all_came, as_list, ways}
 use Rattle.ws_session.specs.Ends.{IsShut}
-use Rattle.ws_session.specs.Reaction.{Output, Refuses, GoesOn, goes_on}
+use Rattle.ws_session.specs.Reaction.{Refuses, GoesOn}
 use Rattle.ws_session.specs.declared.end_step.EndFed.{EndFed}
 use Rattle.ws_session.specs.declared.end_step.EndStep.{EndStep}
 use Rattle.ws_session.specs.declared.refusal.Refusal.{Refusal}
 use Rattle.ws_session.specs.declared.refusal.Refusal.TheVariants.{At, Failed, Memory}
 use Rattle.ws_session.specs.declared.driver.halt.Halt.{Halt}
 use Rattle.ws_session.specs.declared.driver.halt.Halt.TheVariants as halt
-use Rattle.ws_session.specs.driver.Reacting.{ReactingOf, Reacts, reacts_at}
+use Rattle.ws_session.specs.driver.Reacting.{ReactingOf, Reacts, reacting_manner}
 
 -- what a driver keeps
 pub record Driven (R K Place : Type 0) : Type 0 where
@@ -63,7 +64,7 @@ TakesNoMore driver = IsShut driver.ended driver.live.taken
 module _ {R K Place U Deed Event Reply : Type 0} (d : Driving R K Place U Deed Event Reply) where
   -- its manner
   abbrev pub manner_of : Manner d.does.Side U d.does.V Deed Event
-  manner_of = record { at = reacts_at d.does; takes = λ s item. goes_on (d.does.takes s item) }
+  manner_of = reacting_manner d.does
 
   -- The bytes lead to the driver: they hold these items, none of them is refused, and what was done at them left it on
   -- this side.
@@ -97,15 +98,43 @@ module _ {R K Place U Deed Event Reply : Type 0} (d : Driving R K Place U Deed E
     pub so : Q item
 
   -- Why the last of these bytes is refused, where the others led to this side: no stream begins so, or the item that it
-  -- completes is refused; or memory is wanting for a unit, or an item that isn't refused.
+  -- completes is refused; or memory is wanting for a unit that is kept, or an item that isn't refused.
   abbrev pub IsWhy : Refusal → List ℕ → List (Item U) → d.does.Side → Type 0
   IsWhy (At place reason) bytes items side = (length bytes ≡ place + 1)
       × (IsRefused d.rules bytes place reason
       ⊎ Completes bytes items (λ item. d.does.takes side item ≡ Refuses reason))
-  IsWhy Memory bytes items side = EndIn bytes (λ before last. CompletesUnit d.rules before items last)
-      ⊎ Completes bytes items (λ item. (next : d.does.Side) × (told : Output d.does.V Event)
-      × (d.does.takes side item ≡ GoesOn next told) × d.does.wants told)
+  IsWhy Memory bytes items side =
+      (d.keeper.may_answer NoMemory × EndIn bytes (λ before last. CompletesUnit d.rules before items last))
+      ⊎ Completes bytes items (λ item. (next : d.does.Side) × (made : d.does.Made)
+      × (d.does.takes side item ≡ GoesOn next made) × d.does.wants made)
   IsWhy Failed bytes items side = ⊥
+
+  -- The last of these bytes completes no item, and nothing is written or told; or one, at which it goes on so.
+  abbrev pub GoesOnAt : Driven R K Place → List ℕ → List (Item U) → d.does.Side → EndStep Event Reply → Type 0
+  GoesOnAt new bytes items side step = (LeadsTo new bytes items side × (d.does.written new.reacts step.reply ≡ [])
+      × (step.event ≡ None)) ⊎ ((item : Item U) × (next : d.does.Side) × (made : d.does.Made)
+      × (d.does.takes side item ≡ GoesOn next made)
+      × (d.does.written new.reacts step.reply ≡ plain_spelling d.does.out (d.does.puts item made).items)
+      × (step.event ≡ (d.does.puts item made).event) × LeadsTo new bytes (items ++ item ∷ []) next)
+
+  -- what the last of these bytes gives, where no item is complete before it
+  abbrev pub IsFronted : Driven R K Place → List ℕ → List (Item U) → d.does.Side
+      → Result (EndStep Event Reply) Refusal → Type 0
+  IsFronted new bytes items side (Ok step) = GoesOnAt new bytes items side step
+  IsFronted new bytes items side (Err why) = IsWhy why bytes items side × d.does.stands new.reacts items side
+
+  -- What a front of a piece gives, of which no item is complete before its last byte.
+  pub record DriverFronts (old : Driven R K Place) (piece : List ℕ) (new : Driven R K Place)
+      (front : EndFed Event Reply) : Type 0 where
+    pub within : front.used ≤ length piece
+    pub used : front.step ≢ Err Failed → 0 < front.used
+    pub fronted : AtDriver old (λ bytes items side. length bytes + length piece < 2 ^ 64
+        → IsFronted new (bytes ++ take front.used piece) items side front.step)
+    pub first : AtDriver old (λ bytes items side. (n : ℕ) → n < front.used
+        → HoldsItems d.rules (bytes ++ take n piece) items)
+    pub counted : old.live.taken + front.used < 2 ^ 64 → new.live.taken ≡ old.live.taken + front.used
+    pub ended : old.ended ≡ None → MatchResult front.step (λ step. new.ended ≡ None) (λ why. new.ended ≡ Some why)
+    pub seen : TellsNothing front.step → d.does.shown new.reacts ≡ d.does.shown old.reacts
 
   -- what the bytes bring: they lead on, and this is written and told; or the last of them is refused, after others at
   -- which nothing is

@@ -50,11 +50,13 @@ host_at_send s (Sends next item) = record { side = next; written = item ∷ []; 
 abbrev pub host_reacting : ReactingOf HostKept AnswerPart Order HostEvent (List ℕ)
 host_reacting = record {
   Side = HostSide;
+  Made = HostOutput;
   PlaceV = Place;
   V = Element;
   Shown = ScreenParts;
   out = element_rules;
   takes = host_takes;
+  puts = λ item output. output;
   acts = λ side order. host_at_send side (host_orders side order);
   stands = λ host items side. HostStands host side;
   written = λ host reply. reply;
@@ -73,4 +75,4 @@ HostParts = Driven HostKept (Vec AnswerPart Global) AnswerPlace
 -- it reacts so, by the side on which it stands
 abbrev pub HostReacts : HostKept → HostKept → (HostSide → Reaction HostSide HostOutput) → Result HostStep Halt → Type 0
 HostReacts old new by result = (side : HostSide) → HostStands old side
-    → IsReaction host_reacting new [] (by side) result
+    → IsReaction host_reacting new [] (λ output. output) (by side) result

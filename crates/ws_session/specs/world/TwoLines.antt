@@ -29,7 +29,6 @@ use Rattle.ws_session.specs.Conducts.{host_conduct, profile_conduct}
 use Rattle.ws_session.specs.world.Crossings.{Crossing, AreFaithful}
 use Rattle.ws_session.specs.host_end.HostLeads.{AtHost, HostParts, HostLeads, sent_bytes}
 use Rattle.ws_session.specs.host_end.HostSide.{HostSide, new_host_side, host_orders, SendReaction, RefusesSend}
-use Rattle.ws_session.specs.station.StationActs.{IsShutOn}
 use Rattle.ws_session.specs.Manners.{StationGoes, HostGoes}
 use Rattle.ws_session.specs.driver.Driven.{TakesNoMore}
 use Rattle.ws_session.specs.world.Runs.{WorldParts}
@@ -140,7 +139,7 @@ pub record HasPressed (old : StationParts) (key : Key) (new : StationParts) (wri
     (told : List Event) : Type 0 where
   pub led : StationGoes old (Did key ∷ []) written [] new
   pub tells : AtStation old (λ bytes items side. length bytes + 1 < 2 ^ 64 → told ≡ key_told (station_key side key))
-  pub stays : IsShutOn old → (new ≡ old) × (written ≡ []) × (told ≡ KeyRefused KeyFailed ∷ [])
+  pub stays : TakesNoMore old → (new ≡ old) × (written ≡ []) × (told ≡ KeyRefused KeyFailed ∷ [])
 
 -- A send or a cancel at the host end: what it writes and what is told. A host end that is shut stays as it is.
 pub record HasOrdered (old : HostParts) (order : Order) (new : HostParts) (written : List ℕ)

@@ -9,9 +9,9 @@ use Rattle.ws_session.specs.declared.refusal.Refusal.{Refusal}
 use Rattle.ws_session.specs.driver.Driven.{DriverFeeds}
 use Rattle.ws_session.specs.Acts.{as_list}
 use Rattle.ws_session.specs.host_end.HostLeads.{host_driving}
-use Rattle.ws_c.specs.Hosts.{answer_after, event_told, told_step, refused_step}
+use Rattle.ws_c.specs.Hosts.{answer_after, event_told, told_step}
 use Rattle.ws_c.specs.declared.told.PushedTold.{PushedTold}
-use Rattle.ws_c.proofs.FeedLaws.{HeldTakes, takes_none, takes_on, some_fed}
+use Rattle.ws_c.proofs.FeedLaws.{HeldTakes, refused_fed, takes_none, takes_on}
 use Rattle.ws_c.proofs.PushLaws.{feeding_more, put_no_more, rest_is, told_again}
 use Rattle.ws_c.proofs.host.push_all.Goals as goal
 
@@ -50,12 +50,6 @@ told_fed fed step last tells is written told =
       used = fed.used;
       step = z;
     } in f) (is ∙ ap (λ (z : EndStep HostEvent (List ℕ)). Ok z) (let same : step ≡ record { reply = last; event = Some tells } = cc in same))
-
-refused_fed : (fed : EndFed HostEvent (List ℕ)) (why : Refusal) → fed.step ≡ Err why → fed ≡ refused_step fed.used why
-refused_fed fed why is = ap (λ (z : Result (EndStep HostEvent (List ℕ)) Refusal). let f : EndFed HostEvent (List ℕ) = record {
-  used = fed.used;
-  step = z;
-} in f) is
 
 untold_on : (event : Option HostEvent) → event ≡ None → (told : List HostEvent) → told ≡ [] → told ++ as_list event ≡ []
 untold_on event none told e = rw (none, e) refl

@@ -10,13 +10,13 @@ use Rattle.ws_any_host.proofs.any_host.AnyHost.send.Goals as goal
 pub returns-then-body-gt65525-clause-refused : goal.returns-then-body-gt65525-clause-refused
 returns-then-body-gt65525-clause-refused c =
     let old = the_view c.self.inside in
-    rw (← c.self.view_is) (λ works few. too_big old.options c.args.record_.now (sym c.records_allowed.ensures
+    rw (← c.self.view_is) (λ works. too_big old.reacts c.args.record_.now (sym c.records_allowed.ensures
     ∙ c.if-not-records_allowed.false) (rw c.as_slice-body.ensures at c.if-body-gt65525.true))
 
 pub returns-then-is_err-clause-refused : goal.returns-then-is_err-clause-refused
 returns-then-is_err-clause-refused c =
     let old = the_view c.self.inside in
-    rw (← c.self.view_is) (λ works few. fits old.options c.args.record_.now (sym c.records_allowed.ensures
+    rw (← c.self.view_is) (λ works. fits old.reacts c.args.record_.now (sym c.records_allowed.ensures
     ∙ c.if-not-records_allowed.false) (rw c.as_slice-body.ensures at c.if-body-gt65525.false))
 
 pub returns-clause-sent : goal.returns-clause-sent
@@ -30,7 +30,7 @@ returns-clause-sent c =
     ∙ held_went_out c.new-sink.result c.write_record.new.sink spelled went
     ∙ ap (λ (z : List ℕ). z ++ spelled) c.new-sink.ensures.bytes in
     rw (← c.self.view_is) (
-      fits old.options r (sym c.records_allowed.ensures ∙ c.if-not-records_allowed.false)
+      fits old.reacts r (sym c.records_allowed.ensures ∙ c.if-not-records_allowed.false)
           (rw c.as_slice-body.ensures at c.if-body-gt65525.false),
       out ∙ ap (λ (z : List ℕ). record_spelling (header (10 + length z) r.flags r.opcode ++ z))
           (c.as_slice-body.ensures ∙ sym (raw_spelled r.body)),

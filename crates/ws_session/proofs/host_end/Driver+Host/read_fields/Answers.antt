@@ -14,5 +14,5 @@ by_asked_read asked fields parts kind result is split k e =
 pub returns : goal.returns
 returns c = record {
   read = rw
-      (← c.self.view_is) (by_asked_read _ _ _ _ _ (sym c.pending.ensures ∙ c.in-Some.is) c.split_answer.ensures.split);
+      (← c.self.view_is, ← c.self-inside.view_is) (by_asked_read _ _ _ _ _ (sym c.pending.ensures ∙ c.in-Some.is) c.split_answer.ensures.split);
 }
