@@ -69,7 +69,7 @@ any_reacting = record {
   Made = AnyOutput;
   PlaceV = Unit {0};
   V = ℕ;
-  Shown = Negotiated;
+  Shown = Unit {0};
   out = raw_rules;
   takes = any_takes;
   puts = λ item output. output;
@@ -77,7 +77,7 @@ any_reacting = record {
   stands = λ host items side. host ≡ side;
   written = λ host reply. reply;
   wants = λ output. ⊥;
-  shown = λ host. host;
+  shown = λ host. tt;
 }
 
 -- such a host: what comes to it, how it keeps an open record, and how it reacts
