@@ -2,12 +2,16 @@
 
 use Rattle.std.specs.Prelude.{◌==◌, true, false, min}
 use Rattle.std.proofs.Common.{◌≡◌, ◌≢◌, ℕ, ◌+◌, ◌-◌, ◌^◌, ◌<◌, ◌≤◌, inl, inr, List, [], ◌++◌, length, take, drop, refl}
-use Rattle.std.proofs.Common.{sym, ap, ◌∙◌, subst, arith, length-append, append_assoc}
+use Rattle.std.proofs.Common.{Option, Some, sym, ap, ◌∙◌, subst, arith, length-append, append_assoc}
 use Rattle.std.proofs.lemmas.Bool.{cases_lt}
 use Rattle.std.proofs.lemmas.List.{append-nil, drop_all, length-drop, nil_from_length}
 use borrow.Author.Tests.{eqb-true, eqb-false}
 use Rattle.ws_session.specs.driver.Driven.{AreSilent}
 use Rattle.ws_c.specs.Calls.{crossed, holds_front}
+use Rattle.ws_c.specs.Held.{OnHost}
+use Rattle.ws_c.specs.declared.host.HeldHost.{HeldHost}
+use Rattle.ws_c.specs.declared.machine.Machine.{Machine}
+use Rattle.ws_c.specs.declared.machine.Machine.TheVariants.{Host}
 use Rattle.ws_c.specs.HeldStations.{HandsOut, IsHeldPush, filling, waiting}
 use Rattle.ws_c.specs.Pushes.{BringsAtMostOn, IsEndOn, StationTakesOn, first_bytes, nothing_pushed, pushed_told}
 use Rattle.ws_c.specs.declared.held_station.HeldStation.{HeldStation}
@@ -17,6 +21,12 @@ use Rattle.ws_c.specs.declared.told.PushedTold.{PushedTold}
 use Rattle.ws_c.proofs.FeedLaws.{brings_at_most, takes_none}
 use Rattle.ws_extended_station.specs.ExtendedDisplays.{on_extended}
 use Rattle.ws_session.specs.station.Stations.{AtStationOn, StationOf, station_driving}
+
+-- a call has done this with the host's end that a handle holds
+pub on_host : (held now : Option Machine) (old new : HeldHost) (does : HeldHost → HeldHost → Type 0)
+    (otherwise : Type 0) → held ≡ Some (Host old) → now ≡ Some (Host new) → does old new
+    → OnHost held now does otherwise
+on_host held now old new does otherwise is put done = rw is (new, put, done)
 
 -- whether something waits, by the length of what does
 pub nothing_waits : (rest l : List ℕ) → rest ≡ l → (length rest == 0) ≡ true → l ≡ []

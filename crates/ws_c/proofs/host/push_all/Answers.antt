@@ -43,13 +43,18 @@ loop-told-init c =
     }
 
 -- a feed that goes on, with this told, as it was
+abbrev stepping : List ℕ → Option HostEvent → EndStep HostEvent (List ℕ)
+stepping reply event = record { reply = reply; event = event }
+
 told_fed : (fed : EndFed HostEvent (List ℕ)) (step : EndStep HostEvent (List ℕ)) (last : List ℕ) (tells : HostEvent)
     → fed.step ≡ Ok step → step.reply ≡ last → step.event ≡ Some tells → fed ≡ told_step fed.used last tells
 told_fed fed step last tells is written told =
+    let same : step ≡ stepping last (Some tells) = ap (λ (r : List ℕ). stepping r step.event) written
+    ∙ ap (λ (e : Option HostEvent). stepping last e) told in
     ap (λ (z : Result (EndStep HostEvent (List ℕ)) Refusal). let f : EndFed HostEvent (List ℕ) = record {
       used = fed.used;
       step = z;
-    } in f) (is ∙ ap (λ (z : EndStep HostEvent (List ℕ)). Ok z) (let same : step ≡ record { reply = last; event = Some tells } = cc in same))
+    } in f) (is ∙ ap (λ (z : EndStep HostEvent (List ℕ)). Ok z) same)
 
 untold_on : (event : Option HostEvent) → event ≡ None → (told : List HostEvent) → told ≡ [] → told ++ as_list event ≡ []
 untold_on event none told e = rw (none, e) refl
@@ -152,8 +157,14 @@ returns-in-Err c =
     let feeds = subst (λ (x : List ℕ). DriverFeeds host_driving now.host.end x new fed) (rest_is bytes n)
     c.feed-used.ensures in
     record {
-      counted = omega (arith, c.tell_push_refusal.ensures.taken, c.saturating_sub.ensures, feeds.within,
-          length-drop n bytes, f.inside);
+      counted = omega (
+        arith,
+        c.tell_push_refusal.ensures.taken,
+        c.saturating_sub.ensures,
+        feeds.within,
+        length-drop n bytes,
+        f.inside,
+      );
       quiet = n;
       written = f.written;
       before = now.host;
