@@ -48,12 +48,13 @@ ribbon_status ribbon_text_to_037(const char *text, size_t size, uint8_t *bytes, 
         return RIBBON_NO_ROOM;
     for (size_t at = 0; at < size;) {
         uint32_t character;
+        uint8_t byte;
         size_t taken = take_utf8(text + at, size - at, &character);
-        if (taken == 0 || ws_c_to_037(character, &bytes[told->length]) != RIBBON_DONE) {
+        if (taken == 0 || ws_c_to_037(character, &byte) != RIBBON_DONE) {
             told->place = at;
             return RIBBON_BAD_ARGUMENT;
         }
-        told->length += 1;
+        bytes[told->length++] = byte;
         at += taken;
     }
     return RIBBON_DONE;

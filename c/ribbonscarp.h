@@ -89,7 +89,8 @@
  *  - A pointer that is not null leads to a whole object of its type, or to as many bytes as the length that follows it,
  *    and a name to a string that ends with 0. The objects and buffers of one call do not overlap, and nothing else uses
  *    them during the call. No call keeps a pointer after it returns.
- *  - A handle is given to one call at a time, and stays on the thread that made it.
+ *  - A handle is given to one call at a time. Any thread may call, where a lock or the like lets a call begin only after
+ *    the one before has returned.
  *  - malloc, realloc and free come from one allocator, and align as C asks. No call is made in a signal handler, or in
  *    a forked child of a process with threads.
  *

@@ -71,7 +71,7 @@ def differences():
 
 def copy_libraries(folder, has_work):
     """A copy of the repository's libraries, with what has been proved of them where it is asked for: their rows."""
-    left = shutil.ignore_patterns(*(["incremental"] if has_work else ["out", "proofs"]), "must-fail")
+    left = shutil.ignore_patterns(*(["incremental"] if has_work else ["out", "proofs"]), "must-fail", "wrong-bodies")
     shutil.copy(ROOT / "HANDLES", folder)
     (folder / ".git").mkdir()
     rows = ""

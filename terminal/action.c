@@ -3,6 +3,7 @@
 #include "ribbonscarp.h"
 #include "stroke.h"
 
+#include <stdio.h>
 #include <string.h>
 
 const named_action action_names[] = {
@@ -36,8 +37,10 @@ const named_action action_names[] = {
     {"print", "Print", {ACTION_AID, RIBBON_AID_PRINT}},
     {"record-backspace", "Record Bksp", {ACTION_AID, RIBBON_AID_RECORD_BACKSPACE}},
     {"redraw", "Draw again", {ACTION_REDRAW, 0}},
+    {"status", "Status line", {ACTION_STATUS, 0}},
     {"menu", "Menu", {ACTION_MENU, 0}},
-    {"nothing", "Nothing", {ACTION_NOTHING, 0}},
+    {"character", "", {ACTION_ITSELF, 0}},
+    {"nothing", "", {ACTION_NOTHING, 0}},
 };
 
 const size_t action_name_count = sizeof action_names / sizeof action_names[0];
@@ -50,6 +53,18 @@ action action_of_function(unsigned number)
 bool action_is(action one, action other)
 {
     return one.kind == other.kind && one.value == other.value;
+}
+
+const char *action_name(action does, char *text, size_t room)
+{
+    text[0] = 0;
+    for (size_t at = 0; at < action_name_count; at++)
+        if (action_is(action_names[at].does, does))
+            (void)snprintf(text, room, "%s", action_names[at].name);
+    for (unsigned number = 1; number <= 24; number++)
+        if (action_is(action_of_function(number), does))
+            (void)snprintf(text, room, "f%u", number);
+    return text;
 }
 
 bool action_by_name(const char *name, action *found)

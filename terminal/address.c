@@ -23,7 +23,7 @@ static const char *split(const char *text, const char **host, size_t *length)
     return colon;
 }
 
-bool address_read(address *a, const char *text, char *why, size_t room)
+bool address_read(address *a, const char *text, const char *usual_port, char *why, size_t room)
 {
     const char *host;
     size_t length;
@@ -38,7 +38,7 @@ bool address_read(address *a, const char *text, char *why, size_t room)
         (void)snprintf(why, room, "%s names no port behind its host", text);
         return false;
     }
-    (void)snprintf(a->port, sizeof a->port, "%s", port != NULL ? port + 1 : "23");
+    (void)snprintf(a->port, sizeof a->port, "%s", port != NULL ? port + 1 : usual_port);
     if (a->port[strspn(a->port, "+-0123456789")] != 0)
         return true;
     char *end = NULL;

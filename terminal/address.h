@@ -7,10 +7,10 @@
 
 typedef struct {
     char host[256];
-    char port[32]; /* a number or a service's name; 23 where none is written */
+    char port[32]; /* a number or a service's name */
 } address;
 
-/* Reads an address; false, with a sentence in `why`, where it isn't one. */
-bool address_read(address *a, const char *text, char *why, size_t room);
+/* Reads an address, with the port where none is written; false, with a sentence in `why`, where it isn't one. */
+bool address_read(address *a, const char *text, const char *usual_port, char *why, size_t room);
 
 #endif

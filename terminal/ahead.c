@@ -1,5 +1,7 @@
 #include "ahead.h"
 
+#include "paste.h"
+
 bool ahead_put(ahead *a, action key)
 {
     if (a->count == AHEAD_ROOM)
@@ -21,7 +23,22 @@ bool ahead_take(ahead *a, action *key)
 
 size_t ahead_drop(ahead *a)
 {
-    size_t dropped = a->count;
-    a->first = a->count = 0;
+    size_t dropped = 0;
+    for (action key; ahead_take(a, &key);)
+        dropped += key.kind != ACTION_PASTE_BEGINS && key.kind != ACTION_PASTE_ENDS;
     return dropped;
+}
+
+action ahead_last(const ahead *a)
+{
+    return a->count > 0 ? a->keys[(a->first + a->count - 1) % AHEAD_ROOM] : (action){ACTION_NOTHING, 0};
+}
+
+void ahead_drop_paste(ahead *a)
+{
+    action last = ahead_last(a);
+    while (paste_is_part(last.kind)) {
+        a->count--;
+        last = last.kind == ACTION_PASTE_BEGINS ? (action){ACTION_NOTHING, 0} : ahead_last(a);
+    }
 }

@@ -17,7 +17,13 @@ bool ahead_put(ahead *a, action key);
 /* Takes the key that has waited longest; false where none waits. */
 bool ahead_take(ahead *a, action *key);
 
-/* Drops all keys, and tells how many. */
+/* Drops all keys, and tells how many; the marks of pastes are none. */
 size_t ahead_drop(ahead *a);
+
+/* Drops those of the paste that was put last. */
+void ahead_drop_paste(ahead *a);
+
+/* The key that was put last; ACTION_NOTHING where none waits. */
+action ahead_last(const ahead *a);
 
 #endif

@@ -7,11 +7,13 @@
 #define CONTROL(letter) ((letter) & 0x1f)
 #define ESCAPED(key) ((key) | STROKE_ESCAPED)
 
-/* In the order in which the menu names the keys of an action. */
-static const struct {
+typedef struct {
     stroke key;
     action does;
-} first[] = {
+} binding;
+
+/* In the order in which the menu names the keys of an action. */
+static const binding first[] = {
     {STROKE_ENTER, {ACTION_AID, RIBBON_AID_ENTER}},
     {STROKE_KEYPAD_ENTER, {ACTION_AID, RIBBON_AID_ENTER}},
     {CONTROL('R'), {ACTION_RESET, 0}},
@@ -22,7 +24,9 @@ static const struct {
     {STROKE_END, {ACTION_FIELD_EXIT, 0}},
     {CONTROL('X'), {ACTION_FIELD_EXIT, 0}},
     {CONTROL('F'), {ACTION_FIELD_PLUS, 0}},
+    {STROKE_KEYPAD_PLUS, {ACTION_FIELD_PLUS, 0}},
     {CONTROL('N'), {ACTION_FIELD_MINUS, 0}},
+    {STROKE_KEYPAD_MINUS, {ACTION_FIELD_MINUS, 0}},
     {CONTROL('D'), {ACTION_DUP, 0}},
     {CONTROL('K'), {ACTION_ERASE_EOF, 0}},
     {ESCAPED('e'), {ACTION_ERASE_INPUT, 0}},
@@ -38,7 +42,9 @@ static const struct {
     {STROKE_INSERT, {ACTION_INSERT_MODE, 0}},
     {CONTROL('O'), {ACTION_INSERT_MODE, 0}},
     {STROKE_PAGE_UP, {ACTION_AID, RIBBON_AID_ROLL_DOWN}},
+    {STROKE_WHEEL_UP, {ACTION_AID, RIBBON_AID_ROLL_DOWN}},
     {STROKE_PAGE_DOWN, {ACTION_AID, RIBBON_AID_ROLL_UP}},
+    {STROKE_WHEEL_DOWN, {ACTION_AID, RIBBON_AID_ROLL_UP}},
     {ESCAPED('a'), {ACTION_ATTENTION, 0}},
     {CONTROL('T'), {ACTION_SYSTEM_REQUEST, 0}},
     {ESCAPED('s'), {ACTION_SYSTEM_REQUEST, 0}},
@@ -48,7 +54,31 @@ static const struct {
     {CONTROL('P'), {ACTION_AID, RIBBON_AID_PRINT}},
     {ESCAPED('b'), {ACTION_AID, RIBBON_AID_RECORD_BACKSPACE}},
     {CONTROL('L'), {ACTION_REDRAW, 0}},
+    {CONTROL('S'), {ACTION_STATUS, 0}},
     {STROKE_MENU, {ACTION_MENU, 0}},
+};
+
+static const binding tn5250[] = {
+    {CONTROL('A'), {ACTION_ATTENTION, 0}},
+    {CONTROL('B'), {ACTION_AID, RIBBON_AID_ROLL_DOWN}},
+    {CONTROL('C'), {ACTION_SYSTEM_REQUEST, 0}},
+    {CONTROL('D'), {ACTION_AID, RIBBON_AID_ROLL_UP}},
+    {CONTROL('E'), {ACTION_ERASE_INPUT, 0}},
+    {CONTROL('F'), {ACTION_AID, RIBBON_AID_ROLL_UP}},
+    {CONTROL('G'), {ACTION_ITSELF, 0}}, /* there it stands before a function key's number */
+    {CONTROL('K'), {ACTION_FIELD_EXIT, 0}},
+    {CONTROL('O'), {ACTION_HOME, 0}},
+    {CONTROL('Q'), {ACTION_MENU, 0}},
+    {CONTROL('T'), {ACTION_ITSELF, 0}}, /* Test Request, which isn't here */
+    {CONTROL('U'), {ACTION_AID, RIBBON_AID_ROLL_DOWN}},
+    {ESCAPED('d'), {ACTION_DUP, 0}},
+    {ESCAPED('i'), {ACTION_INSERT_MODE, 0}},
+    {ESCAPED('l'), {ACTION_REDRAW, 0}},
+    {ESCAPED('m'), {ACTION_FIELD_MINUS, 0}},
+    {ESCAPED('p'), {ACTION_AID, RIBBON_AID_PRINT}},
+    {ESCAPED('r'), {ACTION_RESET, 0}},
+    {ESCAPED('x'), {ACTION_FIELD_EXIT, 0}},
+    {ESCAPED(STROKE_ENTER), {ACTION_NEW_LINE, 0}},
 };
 
 bool bindings_set(bindings *b, stroke key, action does)
@@ -69,6 +99,7 @@ void bindings_begin(bindings *b)
 {
     static const char digits[] = "1234567890-=", above[] = "!@#$%^&*()_+";
     b->count = 0;
+    b->is_tn5250 = false;
     for (size_t at = 0; at < sizeof first / sizeof first[0]; at++)
         (void)bindings_set(b, first[at].key, first[at].does); /* there is room for all */
     for (unsigned number = 1; number <= 24; number++)
@@ -78,6 +109,13 @@ void bindings_begin(bindings *b)
         (void)bindings_set(b, ESCAPED((stroke)above[number - 1]), action_of_function(number + 12));
         (void)bindings_set(b, ESCAPED(STROKE_F1 + number - 1), action_of_function(number + 12));
     }
+}
+
+void bindings_tn5250(bindings *b)
+{
+    b->is_tn5250 = true;
+    for (size_t at = 0; at < sizeof tn5250 / sizeof tn5250[0]; at++)
+        (void)bindings_set(b, tn5250[at].key, tn5250[at].does); /* there is room for all */
 }
 
 bool bindings_find(const bindings *b, stroke key, action *does)

@@ -15,9 +15,13 @@ typedef struct {
         action does;
     } rows[BINDINGS];
     size_t count;
+    bool is_tn5250; /* they begin with the keys of that program */
 } bindings;
 
 void bindings_begin(bindings *b);
+
+/* Sets the keys that users of the program tn5250 know, and takes away what they do else. */
+void bindings_tn5250(bindings *b);
 
 /* Sets what a key does; false where there is no room. */
 bool bindings_set(bindings *b, stroke key, action does);

@@ -38,8 +38,9 @@ static dial_state failed(dial *d, const char *why)
 }
 
 /* Tries the addresses from the next one on, up to one that is connecting. */
-static dial_state try_next(dial *d)
+static dial_state try_next(dial *d, uint64_t now)
 {
+    d->until = now + DIAL_TIME;
     while (d->next < d->found.count) {
         const dial_address *to = &d->found.addresses[d->next++];
         d->line = socket(to->family, to->type | SOCK_NONBLOCK | SOCK_CLOEXEC, to->protocol);
@@ -58,14 +59,14 @@ static dial_state try_next(dial *d)
     return DIAL_FAILED;
 }
 
-static dial_state take_found(dial *d)
+static dial_state take_found(dial *d, uint64_t now)
 {
     if (d->found.result == EAI_SYSTEM)
         return failed(d, strerror(d->found.cause));
     if (d->found.result != 0)
         return failed(d, gai_strerror(d->found.result));
     (void)failed(d, "it has no address");
-    return try_next(d);
+    return try_next(d, now);
 }
 
 static void run_child(int out, const address *to)
@@ -76,13 +77,13 @@ static void run_child(int out, const address *to)
     _exit(wrote == (ssize_t)sizeof found ? 0 : 1);
 }
 
-dial_state dial_begin(dial *d, const address *to)
+dial_state dial_begin(dial *d, const address *to, uint64_t now)
 {
     int ends[2];
     *d = (dial){.pipe = -1, .line = -1};
     look_up(to, AI_NUMERICHOST, &d->found);
     if (d->found.result != EAI_NONAME)
-        return take_found(d);
+        return take_found(d, now);
     if (pipe2(ends, O_CLOEXEC) != 0)
         return failed(d, strerror(errno));
     d->child = fork();
@@ -103,6 +104,13 @@ struct pollfd dial_wait(const dial *d)
                         : (struct pollfd){.fd = d->line, .events = POLLOUT};
 }
 
+int dial_due(const dial *d, uint64_t now)
+{
+    if (d->pipe >= 0)
+        return -1; /* looking up has its own times */
+    return d->until > now ? (int)(d->until - now) : 0;
+}
+
 static void end_child(dial *d)
 {
     if (d->child > 0) {
@@ -116,29 +124,36 @@ static void end_child(dial *d)
     d->pipe = -1;
 }
 
-static dial_state hear_child(dial *d)
+static dial_state hear_child(dial *d, uint64_t now)
 {
     ssize_t came = read(d->pipe, &d->found, sizeof d->found);
     if (came < 0 && (errno == EINTR || errno == EAGAIN))
         return DIAL_GOES_ON;
     end_child(d);
-    return came == (ssize_t)sizeof d->found ? take_found(d) : failed(d, "its name couldn't be looked up");
+    return came == (ssize_t)sizeof d->found ? take_found(d, now) : failed(d, "its name couldn't be looked up");
 }
 
-dial_state dial_step(dial *d)
+/* What has come of the address that is connecting: 0 where it is connected. */
+static int outcome(const dial *d)
 {
     int cause = 0;
     socklen_t size = sizeof cause;
+    return getsockopt(d->line, SOL_SOCKET, SO_ERROR, &cause, &size) == 0 ? cause : errno;
+}
+
+dial_state dial_step(dial *d, bool is_ready, uint64_t now)
+{
+    if (!is_ready && dial_due(d, now) != 0)
+        return DIAL_GOES_ON;
     if (d->pipe >= 0)
-        return hear_child(d);
-    if (getsockopt(d->line, SOL_SOCKET, SO_ERROR, &cause, &size) != 0)
-        cause = errno;
+        return hear_child(d, now);
+    int cause = is_ready ? outcome(d) : ETIMEDOUT;
     if (cause == 0)
         return DIAL_DONE;
     (void)failed(d, strerror(cause));
     (void)close(d->line);
     d->line = -1;
-    return try_next(d);
+    return try_next(d, now);
 }
 
 void dial_end(dial *d)

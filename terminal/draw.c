@@ -1,13 +1,9 @@
 #include "draw.h"
 
+#include "box.h"
 #include "menu.h"
 
 #include <string.h>
-
-static bool is_note(const session *s)
-{
-    return s->note[0] != 0 || s->standing[0] != 0;
-}
 
 static void draw_cell(const window *w, int row, int column, const ribbon_cell *cell)
 {
@@ -19,10 +15,8 @@ static void draw_cell(const window *w, int row, int column, const ribbon_cell *c
         l = look_of(0x20, w->has_colors);
     short pair;
     attr_t attributes = window_look(w, &l, &pair);
-    if (w->separators && l.has_separators && cell->character == ' ') {
-        text[0] = L'_';
-        attributes |= A_DIM;
-    }
+    if (w->separators && l.has_separators) /* no other character stands for a blank: it would be copied */
+        attributes |= A_UNDERLINE;
     if (setcchar(&shown, text, attributes, pair, NULL) == OK)
         (void)mvadd_wch(row, column, &shown); /* at the window's last cell it answers ERR, though it is drawn */
 }
@@ -47,6 +41,8 @@ static const char *turn_words(const session *s, const ribbon_state *state)
 {
     if (s->phase == PHASE_DIALLING)
         return "connecting";
+    if (s->phase == PHASE_SECURING)
+        return "connected, TLS begins";
     if (s->phase == PHASE_OVER)
         return "the session is over";
     if (!state->is_ready)
@@ -77,9 +73,11 @@ status_parts draw_parts(session *s, const ribbon_state *state)
     parts.note = s->note[0] != 0 ? s->note : s->standing;
     parts.way = way_words(s, state->error_row != 0);
     parts.is_way_out = s->is_held || s->phase == PHASE_OVER || state->error_row != 0;
+    parts.security = !s->asked->tls.is_on ? "" : s->asked->tls.is_unchecked ? " INSECURE" : " TLS";
     parts.is_message_lit = state->is_message_lit;
     parts.is_inserting = s->is_inserting;
     parts.is_recording = s->recording.file != NULL;
+    parts.is_macro = s->macro.state != MACRO_RESTS;
     parts.waits = s->ahead.count > 0;
     if (ribbon_station_field(&s->station, state->cursor_field, &field) == RIBBON_DONE)
         parts.field_length = field.length;
@@ -105,22 +103,27 @@ static void draw_too_small(void)
     (void)mvprintw(2, 0, "No key goes out. ^] opens the menu.");
 }
 
-/* Whether a sentence lies over the last row of a window without a status line; the host's error is never covered. */
+/* Whether the status line lies over the last row of a window that has no row for it: where it is asked for, when a
+ * session begins, and with a sentence. The host's error is never covered. */
 static bool covers_row(const session *s, const ribbon_state *state)
 {
-    return is_note(s) && state->error_row != SCREEN_ROWS;
+    bool is_told = s->note[0] != 0 ? !s->is_aside : s->standing[0] != 0;
+    bool is_shown = is_told || s->shows_status || session_clock() < s->shown_until;
+    return is_shown && state->error_row != SCREEN_ROWS;
 }
 
-static void draw_screen(session *s, window *w, const ribbon_state *state, const status_parts *parts)
+static void draw_screen(session *s, window *w, const ribbon_state *state, const status_parts *parts, bool covers)
 {
     if (s->draws_all)
         (void)erase();
     draw_rows(s, w);
     if (window_has_status())
         draw_status(parts, SCREEN_ROWS);
-    else if (covers_row(s, state))
+    else if (covers)
         draw_status(parts, SCREEN_ROWS - 1);
     (void)move(state->cursor_row - 1, state->cursor_column - 1);
+    if (s->is_box_open)
+        box_draw(s);
 }
 
 static void ring(session *s, const ribbon_state *state)
@@ -150,7 +153,7 @@ void draw(session *s, window *w)
     if (s->is_menu_open)
         menu_draw(s, &parts);
     else if (window_has_screen())
-        draw_screen(s, w, &state, &parts);
+        draw_screen(s, w, &state, &parts, covers);
     else
         draw_too_small();
     w->is_covered = covers;

@@ -4,6 +4,7 @@
 #include <curses.h>
 #include <stdlib.h>
 #include <string.h>
+#include <wctype.h>
 
 /* Codes of our own, behind those of curses and those that it gives to keys of extended descriptions. */
 enum { OWN = 0x2000, OWN_PASTE_BEGINS = OWN, OWN_PASTE_ENDS, OWN_STROKES };
@@ -74,12 +75,18 @@ void input_begin(void)
             (void)define_key(more_keys[at].sequence, (int)(OWN_STROKES + more_keys[at].key - STROKE_FIRST_NAMED));
 }
 
-static void read_click(input *i)
+/* A click, or a step of the wheel, which curses has as buttons of its own. */
+static void read_mouse(input *i)
 {
     MEVENT event;
     i->kind = INPUT_UNKNOWN;
     if (getmouse(&event) != OK || event.y < 0 || event.x < 0)
         return;
+    if ((event.bstate & (BUTTON4_PRESSED | BUTTON5_PRESSED)) != 0) {
+        i->kind = INPUT_STROKE;
+        i->key = (event.bstate & BUTTON4_PRESSED) != 0 ? STROKE_WHEEL_UP : STROKE_WHEEL_DOWN;
+        return;
+    }
     i->kind = INPUT_CLICK;
     i->row = (unsigned)event.y;
     i->column = (unsigned)event.x;
@@ -101,7 +108,7 @@ static void read_coded(input_reader *r, int code, input *i)
         return;
     }
     if (code == KEY_MOUSE) {
-        read_click(i);
+        read_mouse(i);
         return;
     }
     if (code >= OWN_STROKES && code <= OWN_STROKES + STROKE_LAST_NAMED - STROKE_FIRST_NAMED)
@@ -115,11 +122,16 @@ static void read_coded(input_reader *r, int code, input *i)
         i->key |= STROKE_ESCAPED;
 }
 
-/* A character of a sequence that nobody knows. It is told, so that whoever typed its begin by hand hears of it. */
+/* A character of a sequence that nobody knows. It is told, so that whoever typed its begin by hand hears of it; a
+ * letter that was typed behind that is a letter. */
 static void read_sequence(input_reader *r, wchar_t character, input *i)
 {
     bool is_end = r->sequence == SEQUENCE_STRING ? character == '\\' || character == 0x9c : character >= 0x40;
-    i->kind = INPUT_UNKNOWN;
+    bool is_typed = r->sequence == SEQUENCE_BEGUN && r->is_late && iswalpha((wint_t)character);
+    if (!is_typed)
+        i->kind = INPUT_UNKNOWN;
+    if (r->sequence == SEQUENCE_BEGUN)
+        r->sequence = SEQUENCE_CONTROL;
     if (is_end || character < 0x20)
         r->sequence = SEQUENCE_NONE;
 }
@@ -129,7 +141,8 @@ static bool read_escaped(input_reader *r, wchar_t character, input *i)
 {
     r->is_escaped = false;
     if (character == '[' || character == ']' || character == 'O') {
-        r->sequence = character == ']' ? SEQUENCE_STRING : SEQUENCE_CONTROL;
+        r->sequence = character == ']' ? SEQUENCE_STRING : SEQUENCE_BEGUN;
+        r->is_late = false; /* what has come with it */
         return false;
     }
     *i = (input){.kind = INPUT_STROKE, .key = (stroke)character | STROKE_ESCAPED};

@@ -26,7 +26,9 @@ typedef struct {
     bool is_escaped; /* Esc came, and what it stands before is still to come */
     bool is_pasting;
     uint64_t heard; /* when something came last, in milliseconds; the caller's */
-    enum { SEQUENCE_NONE, SEQUENCE_CONTROL, SEQUENCE_STRING } sequence; /* that nobody knows, and is left */
+    bool is_late;   /* that was longer ago than a window takes for a sequence; the caller's too */
+    /* One that nobody knows, and that is left. */
+    enum { SEQUENCE_NONE, SEQUENCE_BEGUN, SEQUENCE_CONTROL, SEQUENCE_STRING } sequence;
 } input_reader;
 
 /* Tells curses of keys that its description of the terminal may lack. */

@@ -1,6 +1,6 @@
 #include "moves.h"
 
-enum { BYPASS = 0x2000 };
+#include "label.h"
 
 static ribbon_status press(ribbon_station *station, uint32_t kind, uint8_t *refusal)
 {
@@ -95,6 +95,27 @@ ribbon_status moves_field_end(ribbon_station *station, uint8_t *refusal)
     return moves_to(station, (uint8_t)(place / RIBBON_COLUMNS + 1), (uint8_t)(place % RIBBON_COLUMNS + 1), refusal);
 }
 
+void moves_to_missing(ribbon_station *station)
+{
+    ribbon_field field;
+    uint8_t refusal;
+    if (label_missing(station, &field))
+        (void)moves_to(station, field.row, field.column, &refusal); /* where it is refused the cursor stays */
+}
+
+bool moves_has_next(ribbon_station *station)
+{
+    ribbon_state state;
+    ribbon_field field;
+    if (ribbon_station_state(station, &state) != RIBBON_DONE)
+        return false;
+    unsigned cursor = place_of(state.cursor_row, state.cursor_column);
+    for (size_t at = 0; ribbon_station_field(station, at, &field) == RIBBON_DONE; at++)
+        if ((field.format & RIBBON_FORMAT_BYPASS) == 0 && place_of(field.row, field.column) > cursor)
+            return true;
+    return false;
+}
+
 ribbon_status moves_backspace(ribbon_station *station, uint8_t *refusal, bool *at_begin)
 {
     ribbon_state state;
@@ -102,7 +123,7 @@ ribbon_status moves_backspace(ribbon_station *station, uint8_t *refusal, bool *a
     unsigned offset = 1;
     *refusal = 0;
     *at_begin = false;
-    if (!has_field(station, &state, &field, &offset) || (field.format & BYPASS) != 0)
+    if (!has_field(station, &state, &field, &offset) || (field.format & RIBBON_FORMAT_BYPASS) != 0)
         return press(station, RIBBON_KEY_DELETE, refusal); /* It is refused, by the reason of Backspace. */
     *at_begin = offset == 0;
     if (*at_begin)

@@ -21,6 +21,12 @@ ribbon_status moves_field_begin(ribbon_station *station, uint8_t *refusal);
 /* The cursor goes behind the last character of its field, at most to the last cell; it stays where it is in none. */
 ribbon_status moves_field_end(ribbon_station *station, uint8_t *refusal);
 
+/* The cursor goes to the first field that has to be entered and wasn't; it stays where there is none. */
+void moves_to_missing(ribbon_station *station);
+
+/* Whether a field that keys enter begins behind the cursor: Tab goes there, and else to the first one. */
+bool moves_has_next(ribbon_station *station);
+
 /* Backspace: the character before the cursor goes. At a field's first cell nothing is done, and `at_begin` is set. */
 ribbon_status moves_backspace(ribbon_station *station, uint8_t *refusal, bool *at_begin);
 

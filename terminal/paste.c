@@ -1,40 +1,73 @@
 #include "paste.h"
 
+#include <stdio.h>
+
 void paste_begin(paste *p)
 {
-    *p = (paste){.is_on = true};
+    p->is_on = true;
+    p->is_dropped = p->was_return = false;
 }
 
 action paste_character(paste *p, uint32_t character)
 {
     bool was_return = p->was_return;
     p->was_return = character == '\r';
-    if (p->is_stopped || (character == '\n' && was_return))
+    if (character == '\n' && was_return)
         return (action){ACTION_NOTHING, 0};
     if (character == '\r' || character == '\n' || character == '\t')
         return (action){ACTION_PASTED_END, 0};
     return (action){ACTION_PASTED, character};
 }
 
-void paste_went_in(paste *p, bool has_moved_on)
+bool paste_is_part(action_kind kind)
 {
-    p->count++;
-    p->has_moved_on = has_moved_on;
+    return kind == ACTION_PASTE_BEGINS || kind == ACTION_PASTED || kind == ACTION_PASTED_END
+           || kind == ACTION_PASTE_ENDS;
 }
 
-bool paste_line_ends(paste *p)
+void paste_start(paste *p)
 {
-    bool moves = !p->has_moved_on;
-    p->has_moved_on = false;
+    p->is_full = p->is_last = p->is_over = false;
+    p->count = p->total = 0;
+    p->why[0] = 0;
+}
+
+bool paste_takes(paste *p)
+{
+    p->total++;
+    if (p->is_full)
+        paste_stop(p, "The field is full.");
+    if (p->is_over)
+        paste_stop(p, "There is no field below.");
+    return p->why[0] == 0;
+}
+
+void paste_went_in(paste *p, bool has_moved_on, bool is_below)
+{
+    p->count++;
+    p->is_full = has_moved_on;
+    p->is_last = has_moved_on && !is_below;
+}
+
+bool paste_line_ends(paste *p, bool has_below)
+{
+    bool moves = !p->is_full && !p->is_over && has_below && p->why[0] == 0;
+    p->is_over = p->is_over || (p->is_full ? p->is_last : !has_below);
+    p->is_full = false;
     return moves;
 }
 
-void paste_stop(paste *p)
+void paste_stop(paste *p, const char *why)
 {
-    p->is_stopped = true;
+    if (p->why[0] == 0)
+        (void)snprintf(p->why, sizeof p->why, "%s", why);
 }
 
-void paste_end(paste *p)
+bool paste_told(const paste *p, char *text, size_t room)
 {
-    p->is_on = false;
+    if (p->count > 0)
+        (void)snprintf(text, room, "%zu of %zu pasted. %s", p->count, p->total, p->why);
+    else
+        (void)snprintf(text, room, "Nothing pasted. %s", p->why);
+    return p->why[0] != 0;
 }

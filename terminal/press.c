@@ -1,156 +1,193 @@
 #include "press.h"
 
+#include "macros.h"
 #include "moves.h"
+#include "pressed.h"
 #include "sentence.h"
 
 #include <string.h>
 
-/* What came of a key. */
-typedef struct {
-    ribbon_status status;
-    uint8_t refusal;
-    bool has_moved_on; /* a character filled its field, and the cursor went to another */
-} pressed;
-
-/* The keys that are one of the station's. */
-static const struct {
-    action_kind kind;
-    uint32_t key;
-} station_keys[] = {
-    {ACTION_CHARACTER, RIBBON_KEY_CHAR}, {ACTION_INSERTED, RIBBON_KEY_INSERT}, {ACTION_PASTED, RIBBON_KEY_CHAR},
-    {ACTION_PASTED_END, RIBBON_KEY_TAB}, {ACTION_AID, RIBBON_KEY_AID}, {ACTION_LEFT, RIBBON_KEY_LEFT},
-    {ACTION_RIGHT, RIBBON_KEY_RIGHT}, {ACTION_UP, RIBBON_KEY_UP}, {ACTION_DOWN, RIBBON_KEY_DOWN},
-    {ACTION_HOME, RIBBON_KEY_HOME}, {ACTION_TAB, RIBBON_KEY_TAB}, {ACTION_BACK_TAB, RIBBON_KEY_BACK_TAB},
-    {ACTION_FIELD_EXIT, RIBBON_KEY_FIELD_EXIT}, {ACTION_FIELD_PLUS, RIBBON_KEY_FIELD_EXIT},
-    {ACTION_FIELD_MINUS, RIBBON_KEY_FIELD_MINUS}, {ACTION_DUP, RIBBON_KEY_DUP}, {ACTION_DELETE, RIBBON_KEY_DELETE},
-    {ACTION_ERASE_INPUT, RIBBON_KEY_ERASE_INPUT}, {ACTION_ATTENTION, RIBBON_KEY_ATTENTION},
-    {ACTION_SYSTEM_REQUEST, RIBBON_KEY_SYSTEM_REQUEST},
-};
-
-static uint32_t station_key_of(action_kind kind, bool is_inserting)
-{
-    if (kind == ACTION_PASTED && is_inserting)
-        return RIBBON_KEY_INSERT;
-    for (size_t at = 0; at < sizeof station_keys / sizeof station_keys[0]; at++)
-        if (station_keys[at].kind == kind)
-            return station_keys[at].key;
-    return 0;
-}
-
-/* Whether a key's answer has room, and comes behind all that the station has written; where there is no line yet, the
- * station tells by itself that nothing can be sent. */
-static bool can_send(const session *s)
-{
-    return s->phase != PHASE_OPEN || (!s->has_part && line_left(&s->line) >= RIBBON_ANSWER_ROOM);
-}
-
 turn press_turn(session *s)
 {
     ribbon_state state;
-    turn now = {.is_over = s->phase == PHASE_OVER, .is_held = s->is_held, .waits = s->ahead.count > 0};
+    turn now = {.is_over = s->phase == PHASE_OVER, .is_held = s->is_held};
     bool is_known = ribbon_station_state(&s->station, &state) == RIBBON_DONE;
+    now.waits = s->ahead.count > 0 || s->macro.state == MACRO_PLAYS;
     now.has_error = is_known && state.error_row != 0;
-    now.is_locked = !is_known || state.is_locked || !can_send(s);
+    now.is_locked = !is_known || state.is_locked || !pressed_can_send(s);
     return now;
 }
 
-/* A key of the station's by itself; what it sends goes out. */
-static pressed press_one(session *s, action key)
+/* Drops what is typed ahead, and the rest of a macro. */
+static size_t drop_ahead(session *s)
 {
-    uint8_t answer[RIBBON_ANSWER_ROOM];
-    ribbon_told told;
-    ribbon_state before, after;
-    pressed p = {.status = ribbon_station_state(&s->station, &before)};
-    if (p.status != RIBBON_DONE)
-        return p;
-    p.status = ribbon_station_key(&s->station, station_key_of(key.kind, s->is_inserting), key.value, answer,
-                                  sizeof answer, &told);
-    p.refusal = told.reason;
-    if (p.status == RIBBON_DONE && told.length > 0 && !session_send(s, answer, told.length))
-        session_over(s, 1, "The host doesn't take what is sent."); /* there was room for it: press_does saw to that */
-    if (ribbon_station_state(&s->station, &after) == RIBBON_DONE)
-        p.has_moved_on = after.cursor_field != before.cursor_field;
-    return p;
+    size_t dropped = ahead_drop(&s->ahead);
+    if (dropped > 0)
+        s->paste.is_dropped = s->paste.is_on; /* its begin is gone */
+    return dropped + macro_stop(&s->macro);
 }
 
-static pressed press_several(session *s, action key)
+/* Rings, with a sentence that stands until Reset, as the keyboard is then held, unless nobody wants that; what waits is
+ * dropped. */
+static void hold(session *s, const char *why)
 {
-    pressed p = {0};
-    bool at_begin = false;
-    switch (key.kind) {
-    case ACTION_MOVE_TO:
-        p.status = moves_to(&s->station, (uint8_t)(key.value / RIBBON_COLUMNS + 1),
-                            (uint8_t)(key.value % RIBBON_COLUMNS + 1), &p.refusal);
-        break;
-    case ACTION_NEW_LINE: p.status = moves_new_line(&s->station, &p.refusal); break;
-    case ACTION_FIELD_BEGIN: p.status = moves_field_begin(&s->station, &p.refusal); break;
-    case ACTION_FIELD_END: p.status = moves_field_end(&s->station, &p.refusal); break;
-    case ACTION_ERASE_EOF: p.status = moves_erase_eof(&s->station, &p.refusal); break;
-    case ACTION_BACKSPACE: p.status = moves_backspace(&s->station, &p.refusal, &at_begin); break;
-    default: p.status = RIBBON_BAD_ARGUMENT; break; /* no other key comes here */
-    }
-    if (at_begin) {
-        session_tell(s, "The field begins here.");
-        s->rings = true;
-    }
-    return p;
-}
-
-/* What a refused key leaves: a bell, a sentence and, unless nobody wants it, a hold; the keys behind it are dropped. */
-static void refuse(session *s, action key, const pressed *p)
-{
-    char why[NOTE_ROOM - 64], text[NOTE_ROOM];
-    bool is_refused = p->status == RIBBON_KEY_REFUSED; /* and not a request before a session has begun */
-    size_t dropped = is_refused ? ahead_drop(&s->ahead) : 0;
-    if (is_refused)
-        sentence_refused(&s->station, key, p->refusal, why, sizeof why);
-    else
-        (void)snprintf(why, sizeof why, "Nothing can be sent: %s.", ribbon_status_text(p->status));
-    if (key.kind == ACTION_PASTED || key.kind == ACTION_PASTED_END) {
-        paste_stop(&s->paste);
-        (void)snprintf(text, sizeof text, "%zu pasted. %s", s->paste.count, why);
-    } else if (dropped > 0) {
+    char text[NOTE_ROOM];
+    size_t dropped = drop_ahead(s);
+    (void)snprintf(text, sizeof text, "%s", why);
+    if (dropped > 0)
         (void)snprintf(text, sizeof text, "%s %zu dropped.", why, dropped);
-    } else {
-        (void)snprintf(text, sizeof text, "%s", why);
-    }
     s->rings = true;
     s->note[0] = 0;
-    s->is_held = s->asked->holds && is_refused;
+    s->is_held = s->asked->holds;
+    s->is_insert_refused = false;
     if (s->is_held)
         (void)snprintf(s->standing, sizeof s->standing, "%s", text);
     else
         session_tell(s, "%s", text);
 }
 
-/* A key that isn't held off. */
+/* What a refused key leaves. */
+static void refuse(session *s, action key, const pressed *p)
+{
+    char why[PASTE_WHY_ROOM];
+    bool is_refused = p->status == RIBBON_KEY_REFUSED; /* and not a request before a session has begun */
+    if (is_refused)
+        sentence_refused(&s->station, &s->keys, key, p->refusal, why, sizeof why);
+    else
+        (void)snprintf(why, sizeof why, "Nothing can be sent: %s.", ribbon_status_text(p->status));
+    if (paste_is_part(key.kind)) {
+        paste_stop(&s->paste, why);
+    } else if (is_refused) {
+        hold(s, why);
+        s->is_insert_refused = key.kind == ACTION_INSERTED;
+        if (p->refusal == RIBBON_KEY_MANDATORY_ENTER)
+            moves_to_missing(&s->station);
+    } else {
+        session_tell(s, "%s", why);
+        s->rings = true;
+    }
+}
+
+/* What didn't go in is told at a paste's end, so that all of it is counted. */
+static void end_paste(session *s)
+{
+    char text[NOTE_ROOM];
+    turn now = press_turn(s);
+    if (!paste_told(&s->paste, text, sizeof text))
+        return;
+    s->rings = true;
+    if (now.is_over || now.is_held || now.has_error || (now.is_locked && s->paste.count == 0)) {
+        session_tell(s, "%s", text);
+        return;
+    }
+    hold(s, text);
+    s->is_insert_refused = s->is_inserting;
+}
+
+static void press_part(session *s, action key)
+{
+    pressed p = {0};
+    switch (key.kind) {
+    case ACTION_PASTE_BEGINS: paste_start(&s->paste); break;
+    case ACTION_PASTED:
+        if (!paste_takes(&s->paste))
+            break;
+        p = pressed_key(s, key);
+        if (p.status == RIBBON_DONE)
+            paste_went_in(&s->paste, p.has_moved_on, p.is_below);
+        break;
+    case ACTION_PASTED_END:
+        if (paste_line_ends(&s->paste, moves_has_next(&s->station)))
+            p = pressed_key(s, (action){ACTION_TAB, 0});
+        break;
+    default: end_paste(s); break;
+    }
+    if (p.status != RIBBON_DONE)
+        refuse(s, key, &p);
+}
+
+/* A key that isn't held off, or a part of a paste; false where a key was refused. */
 static bool press_does(session *s, action key)
 {
     pressed p = {0};
-    if (!can_send(s)) { /* These are keys that don't wait; the others do. */
+    if (!pressed_can_send(s)) { /* These are keys that don't wait; the others do. */
         session_tell(s, "The host doesn't take what is sent: the key wasn't pressed.");
         s->rings = true;
         return false;
     }
-    if (key.kind == ACTION_PASTED_END && !paste_line_ends(&s->paste))
-        return true;
-    p = station_key_of(key.kind, s->is_inserting) != 0 ? press_one(s, key) : press_several(s, key);
+    if (paste_is_part(key.kind))
+        press_part(s, key);
+    else
+        p = pressed_key(s, key);
     if (p.status != RIBBON_DONE) {
         refuse(s, key, &p);
         return false;
     }
-    if (key.kind == ACTION_PASTED)
-        paste_went_in(&s->paste, p.has_moved_on);
+    if (key.kind != ACTION_ATTENTION && key.kind != ACTION_SYSTEM_REQUEST)
+        s->sent = key.kind == ACTION_AID ? key : (action){ACTION_NOTHING, 0};
     return true;
+}
+
+/* The same key again behind one that sends would answer a screen that nobody has seen. */
+static bool is_impatient(const session *s, action key)
+{
+    return key.kind == ACTION_AID && action_is(key, s->ahead.count > 0 ? ahead_last(&s->ahead) : s->sent);
+}
+
+/* Where no more can wait; of a paste then nothing does. */
+static void tell_no_room(session *s, action key)
+{
+    bool is_part = paste_is_part(key.kind);
+    if (is_part)
+        ahead_drop_paste(&s->ahead);
+    s->paste.is_dropped = is_part;
+    session_tell(s, "%s%d keys wait, and no more can.", is_part ? "The paste is dropped: " : "", AHEAD_ROOM);
 }
 
 static void let_wait(session *s, action key)
 {
-    if (ahead_put(&s->ahead, key))
+    if (is_impatient(s, key))
+        session_tell(s, "This key again is dropped: the host hasn't answered the first.");
+    else if (!ahead_put(&s->ahead, key))
+        tell_no_room(s, key);
+    else
         return;
     s->rings = true;
-    session_tell(s, "%d keys wait, and no more can.", AHEAD_ROOM);
-    paste_stop(&s->paste);
+}
+
+/* Why nothing is taken. */
+static const char *refusal_of(const turn *now)
+{
+    if (now->is_over)
+        return "The session is over.";
+    return now->is_held || now->has_error ? "Press Reset first." : "The host has the keyboard.";
+}
+
+/* A part of a paste that is dropped: it is counted, and told at the paste's end. */
+static void leave_part(session *s, action key, const turn *now)
+{
+    if (key.kind == ACTION_PASTE_ENDS) {
+        end_paste(s);
+        return;
+    }
+    if (key.kind == ACTION_PASTE_BEGINS)
+        paste_start(&s->paste);
+    paste_stop(&s->paste, refusal_of(now));
+    if (key.kind == ACTION_PASTED)
+        (void)paste_takes(&s->paste);
+}
+
+/* A key that is dropped. */
+static void ring_off(session *s, action key, const turn *now)
+{
+    s->rings = true;
+    if (paste_is_part(key.kind))
+        leave_part(s, key, now);
+    else if (now->has_error && !now->is_held && key.kind == ACTION_AID)
+        session_tell(s, "%s isn't sent while an error of the host's stands.",
+                     key.value == RIBBON_AID_HELP ? "Help" : "This key");
+    else if (!now->is_over && !now->is_held && !now->has_error)
+        session_tell(s, "The host has the keyboard: the key is dropped.");
 }
 
 /* The station's Reset, which takes the host's error away and sends nothing. */
@@ -165,22 +202,33 @@ static void end_error(session *s)
     session_tell(s, "The host's error stays: %s.", ribbon_status_text(status));
 }
 
+static void tell_dropped(session *s)
+{
+    bool plays = s->macro.state == MACRO_PLAYS;
+    size_t dropped = drop_ahead(s);
+    session_report(s, plays ? "The macro stops: %zu keys dropped." : "%zu keys typed ahead dropped.", dropped);
+    s->rings = true;
+}
+
 /* What Reset ends of what stands. */
 static void reset(session *s, verdict what)
 {
     switch (what) {
-    case VERDICT_DROP_AHEAD:
-        s->rings = true;
-        session_report(s, "%zu keys typed ahead dropped.", ahead_drop(&s->ahead));
-        break;
+    case VERDICT_DROP_AHEAD: tell_dropped(s); break;
     case VERDICT_END_HOLD:
         s->is_held = false;
         s->standing[0] = 0;
+        s->is_inserting = s->is_inserting && !s->is_insert_refused;
         break;
     case VERDICT_END_ERROR: end_error(s); break;
     default: s->is_inserting = false; break;
     }
-    paste_stop(&s->paste);
+}
+
+void press_status(session *s)
+{
+    s->shows_status = !s->shows_status && session_clock() >= s->shown_until;
+    s->shown_until = 0;
 }
 
 /* What the terminal does by itself, whoever has the keyboard; false where it is another key. */
@@ -189,7 +237,11 @@ static bool press_own(session *s, action key)
     switch (key.kind) {
     case ACTION_NOTHING: return true;
     case ACTION_REDRAW: s->draws_all = s->repaints = true; return true;
-    case ACTION_MENU: s->is_menu_open = s->draws_all = true; return true;
+    case ACTION_STATUS: press_status(s); return true;
+    case ACTION_MENU:
+        s->is_box_open = false;
+        s->is_menu_open = s->draws_all = true;
+        return true;
     case ACTION_INSERT_MODE:
         if (s->is_held || s->phase == PHASE_OVER)
             s->rings = true;
@@ -205,12 +257,18 @@ void press_key(session *s, action key)
     s->note[0] = 0;
     if (press_own(s, key))
         return;
+    s->shown_until = 0;
     turn now = press_turn(s);
     verdict what = hold_judges(&now, key.kind);
     switch (what) {
     case VERDICT_PRESS: (void)press_does(s, key); break; /* a refusal has been told */
-    case VERDICT_WAIT: let_wait(s, key); break;
-    case VERDICT_RING: s->rings = true; paste_stop(&s->paste); break;
+    case VERDICT_WAIT:
+        if (s->asked->types_ahead)
+            let_wait(s, key);
+        else
+            ring_off(s, key, &now);
+        break;
+    case VERDICT_RING: ring_off(s, key, &now); break;
     default: reset(s, what); break;
     }
 }
@@ -218,25 +276,33 @@ void press_key(session *s, action key)
 void press_pasted(session *s, uint32_t character)
 {
     action key = paste_character(&s->paste, character);
-    if (key.kind != ACTION_NOTHING)
+    if (key.kind != ACTION_NOTHING && !s->paste.is_dropped)
         press_key(s, key);
 }
 
 void press_paste_begins(session *s)
 {
+    press_paste_ends(s); /* of one whose end is lost */
     paste_begin(&s->paste);
+    press_key(s, (action){ACTION_PASTE_BEGINS, 0});
 }
 
 void press_paste_ends(session *s)
 {
-    paste_end(&s->paste);
+    bool ends = s->paste.is_on && !s->paste.is_dropped;
+    s->paste.is_on = false;
+    if (ends)
+        press_key(s, (action){ACTION_PASTE_ENDS, 0});
 }
 
 void press_ahead(session *s)
 {
     turn now = press_turn(s);
     action key;
-    while (!now.is_over && !now.is_held && !now.has_error && !now.is_locked && ahead_take(&s->ahead, &key)) {
+    if (now.has_error && now.waits) /* what was typed for a screen isn't for the error in its place */
+        tell_dropped(s);
+    while (!now.is_over && !now.is_held && !now.has_error && !now.is_locked
+           && (macros_next(s, &key) || ahead_take(&s->ahead, &key))) {
         if (!press_does(s, key))
             return;
         now = press_turn(s);

@@ -18,6 +18,9 @@ void press_paste_ends(session *s);
 /* Presses the keys that wait, while the keyboard is free. */
 void press_ahead(session *s);
 
+/* Lays the status line over the last row of a window that has no row for it, or takes it off. */
+void press_status(session *s);
+
 /* Whose turn it is. */
 turn press_turn(session *s);
 

@@ -88,6 +88,7 @@ bool recording_begin(recording *r, const char *name, const kept *k)
 {
     char made[FILE_NAME_ROOM];
     r->has_begun = false;
+    r->base = name;
     r->file = file_made(name, made, sizeof made);
     (void)snprintf(r->name, sizeof r->name, "%s", r->file != NULL ? made : name);
     return r->file != NULL && kept_walk(k, recording_piece, r);

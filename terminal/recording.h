@@ -11,6 +11,7 @@ enum { FILE_NAME_ROOM = 4096 };
 typedef struct {
     FILE *file;                /* null where nothing is recorded */
     bool has_begun;            /* with a piece that begins a record of the host's: what comes before isn't written */
+    const char *base;          /* the name that was asked for */
     char name[FILE_NAME_ROOM]; /* of that file, or of the last one */
 } recording;
 
@@ -18,8 +19,8 @@ typedef struct {
  * no plain file but a pipe or a device, it is written to. `made` gets its name. Null, by errno, where that can't be. */
 FILE *file_made(const char *name, char *made, size_t room);
 
-/* Begins a recording with what has been kept so far. False, by errno, where the file can't be made or written; nothing
- * is recorded then. */
+/* Begins a recording with what has been kept so far; `name` lasts as long as the recording. False, by errno, where the
+ * file can't be made or written; nothing is recorded then. */
 bool recording_begin(recording *r, const char *name, const kept *k);
 
 /* Records a piece; false, by errno, where the file can't be written: nothing is recorded from then on. A kept_visit. */

@@ -1,10 +1,13 @@
 #!/usr/bin/env python3
-"""Types into the terminal: `run_terminal.py TERM5250 HOST5250 T5250 [--sanitized TERM5250] [--long] [--only WORD]`.
+"""Types into the terminal: `run_terminal.py TERM5250 HOST5250 T5250 [OPTION]..`.
 
-Its parts stand in tests/: what a clerk does, what is shown, faults, what live hosts send, sizes in tmux, random work. A
-terminal that was built with sanitizers takes the random work, which is left out without it. With --long it is ten minutes of random keys
-and records, 120 hosts that send garbage, and 5,000 screens; without, a little of each, and all takes about two minutes.
-With --only the parts whose name has a word. Ends with 'N passed, N failed'."""
+Its parts stand in tests/: what a clerk does, what is shown, faults, connecting, TLS, the hosts file, what live hosts
+send, what hurts at a desk, macros, sizes in tmux, random work. With `--sanitized TERM5250` a terminal that was built
+with sanitizers takes the random work, which is left out without it, and with `--without-tls TERM5250` one that was
+built without TLS says so. With --long it is ten minutes of random keys, pastes, sizes, losses and records, five of
+typing beside a model of it, 120 hosts that send garbage, and 5,000 screens; without, a little of each, and all takes
+about two minutes. With --only the parts whose name has a word. Ends with 'N passed, N failed'.
+"""
 import argparse
 import pathlib
 import sys
@@ -13,11 +16,16 @@ import traceback
 
 sys.dont_write_bytecode = True
 sys.path.insert(0, str(pathlib.Path(__file__).resolve().parent / "tests"))
+import connecting
+import desk
 import faults
 import hosts
+import hosts_file
 import in_tmux
 import live
 import long
+import macros
+import secured
 import shown
 import window
 import work
@@ -27,6 +35,7 @@ def arguments():
     reader = argparse.ArgumentParser(description=__doc__.split("\n", maxsplit=1)[0])
     reader.add_argument("programs", nargs=3)
     reader.add_argument("--sanitized")
+    reader.add_argument("--without-tls")
     reader.add_argument("--long", action="store_true")
     reader.add_argument("--only", default="")
     reader.add_argument("--times", action="store_true")
@@ -43,7 +52,17 @@ def parts(words):
                 faults.kept_is_the_last, faults.bad_peers, faults.synch, faults.ipv6, faults.floods,
                 faults.while_connecting, faults.in_the_menu, faults.command_lines, faults.without_a_terminal,
                 faults.unwritable_files)
+    yield from (connecting.the_box, connecting.again_where_nobody_is, connecting.wrapped, connecting.by_itself,
+                connecting.at_first, connecting.silences)
+    yield from (secured.right, secured.refused_certificates, secured.refused_later, secured.own_certificate,
+                secured.broken, secured.no_tls_there, secured.tls_words)
+    yield from (hosts_file.named, hosts_file.wrong_hosts, hosts_file.listed)
     yield from (live.asked, live.an_error, live.alarm, live.alarm_refused, live.many_saves, live.strict)
+    yield from (desk.pastes_too_long, desk.pastes_into_options, desk.pastes_that_wait, desk.enters_too_many,
+                desk.without_type_ahead, desk.missing_fields, desk.numbers, desk.inserting, desk.keys_of_others,
+                desk.wheel, desk.typed_escapes, desk.error_of_the_host)
+    yield from (macros.over_two_screens, macros.never_into_a_hidden_field, macros.stops, macros.over_a_lost_line,
+                macros.keeping)
     yield in_tmux.sizes
 
     def screens():
@@ -52,12 +71,20 @@ def parts(words):
     def random_work():
         long.random_work(5250, words.sanitized, 600 if words.long else 20)
 
+    def random_typing():
+        long.typing(3477, words.sanitized, 300 if words.long else 10)
+
     def garbage_hosts():
         long.garbage_hosts(1205, words.sanitized, 120 if words.long else 20)
 
+    def built_without_tls():
+        secured.without_tls(words.without_tls)
+
+    if words.without_tls:
+        yield built_without_tls
     yield screens
     if words.sanitized:
-        yield from (random_work, garbage_hosts)
+        yield from (random_work, random_typing, garbage_hosts)
     else:
         print("left out: random work at the terminal, since no program with sanitizers is named")
 

@@ -2,11 +2,13 @@
 #ifndef SENTENCE_H
 #define SENTENCE_H
 
-#include "action.h"
+#include "bindings.h"
 #include "ribbonscarp.h"
 
-/* Why the station has refused a key where its cursor stands: it names the character, and the field's kind. */
-void sentence_refused(ribbon_station *station, action key, uint8_t refusal, char *text, size_t room);
+/* Why the station has refused a key where its cursor stands: it names the character, the field's kind, and what to
+ * press by the keys that are bound. */
+void sentence_refused(ribbon_station *station, const bindings *keys, action key, uint8_t refusal, char *text,
+                      size_t room);
 
 /* A character between quotes, or its number where it can't be shown in one column. */
 const char *sentence_character(uint32_t character, char *text, size_t room);

@@ -1,6 +1,7 @@
 #define _GNU_SOURCE
 #include "session.h"
 
+#include "connecting.h"
 #include "sentence.h"
 
 #include <errno.h>
@@ -27,6 +28,7 @@ void session_tell(session *s, const char *format, ...)
     va_start(rest, format);
     (void)vsnprintf(s->note, sizeof s->note, format, rest);
     va_end(rest);
+    s->is_aside = false;
     s->is_of_screen = true;
     s->note_records = ribbon_station_state(&s->station, &state) == RIBBON_DONE ? state.records : 0;
 }
@@ -37,7 +39,13 @@ void session_report(session *s, const char *format, ...)
     va_start(rest, format);
     (void)vsnprintf(s->note, sizeof s->note, format, rest);
     va_end(rest);
-    s->is_of_screen = false;
+    s->is_aside = s->is_of_screen = false;
+}
+
+void session_mention(session *s, const char *sentence)
+{
+    session_report(s, "%s", sentence);
+    s->is_aside = true;
 }
 
 void session_over(session *s, int status, const char *format, ...)
@@ -49,8 +57,15 @@ void session_over(session *s, int status, const char *format, ...)
     s->note[0] = 0;
     s->status = status;
     s->is_held = false;
-    s->rings = true;
+    s->is_box_open = true;
+    s->rings = s->phase == PHASE_OPEN || !s->asked->reconnects; /* and not at each try */
+    s->ended = session_clock();
+    if (s->asked->reconnects)
+        again_plan(&s->again, s->ended, s->phase == PHASE_OPEN ? s->ended - s->begun : 0);
     (void)ahead_drop(&s->ahead); /* nobody will take these keys any more */
+    (void)macro_stop(&s->macro);
+    s->sent = (action){ACTION_NOTHING, 0};
+    s->paste.is_dropped = s->paste.is_on;
     dial_end(&s->dial);
     line_end(&s->line);
     s->phase = PHASE_OVER;
@@ -143,8 +158,12 @@ static void tell_closed(session *s)
 {
     ribbon_state state;
     bool is_ready = ribbon_station_state(&s->station, &state) == RIBBON_DONE && state.is_ready;
-    session_over(s, is_ready ? 0 : 1, "The host has closed the line%s.",
-                 is_ready ? "" : " before a session began");
+    bool is_whole = telnet_is_between(&s->kept.host);
+    if (!is_whole)
+        session_over(s, 1, "The line is lost: the host closed it in mid-record.");
+    else
+        session_over(s, is_ready ? 0 : 1, "The host has closed the line%s.",
+                     is_ready ? "" : " before a session began");
 }
 
 /* Takes what has come: no more than the line has room for the answers to, and so little that keys are looked at soon. */
@@ -158,13 +177,14 @@ static void hear(session *s)
         s->taken = 0;
         switch (line_hear(&s->line, s->heard, sizeof s->heard, &s->heard_count)) {
         case LINE_CAME:
+            s->silent = 0;
             keep(s, true, s->heard, s->heard_count);
             scan(s, s->heard, s->heard_count);
             s->has_rest = true;
             break;
         case LINE_NOTHING: return;
         case LINE_CLOSED: tell_closed(s); return;
-        case LINE_LOST: session_over(s, 1, "The line is lost: %s.", strerror(errno)); return;
+        case LINE_LOST: session_over(s, 1, "The line is lost: %s.", line_why(&s->line)); return;
         }
     }
     if (s->phase == PHASE_OPEN && s->has_rest)
@@ -172,27 +192,6 @@ static void hear(session *s)
 }
 
 /* ---- The session ---- */
-
-static void fail_to_connect(session *s)
-{
-    session_over(s, 2, "no connection to %s: %s", s->asked->where, s->dial.why);
-    s->is_leaving = true;
-}
-
-static void go_on(session *s, dial_state state)
-{
-    if (state == DIAL_FAILED)
-        fail_to_connect(s);
-    if (state != DIAL_DONE)
-        return;
-    int socket = s->dial.line;
-    s->dial.line = -1;
-    dial_end(&s->dial);
-    s->phase = PHASE_OPEN;
-    s->begun = session_clock();
-    if (!line_begin(&s->line, socket))
-        session_over(s, 1, "The line can't be used: %s.", strerror(errno));
-}
 
 session *session_new(void)
 {
@@ -203,11 +202,15 @@ session *session_new(void)
     return s;
 }
 
-bool session_begin(session *s, const options *asked)
+static void tell_silence(session *s)
 {
-    s->asked = asked;
-    go_on(s, dial_begin(&s->dial, &asked->to));
-    return !s->is_leaving;
+    if (s->phase == PHASE_SECURING)
+        session_tell(s, "%d seconds of silence: it may be no port for TLS.", SILENCE / 1000);
+    else if (s->tls != NULL)
+        session_tell(s, "%d seconds of silence: it may be no 5250 host's port.", SILENCE / 1000);
+    else
+        session_tell(s, "%d seconds of silence: it may want TLS, or be no 5250 host's port.", SILENCE / 1000);
+    s->silent = 0;
 }
 
 struct pollfd session_wait(const session *s)
@@ -218,6 +221,10 @@ struct pollfd session_wait(const session *s)
     if (s->phase == PHASE_OVER)
         return wait;
     wait.fd = s->line.socket;
+    if (s->phase == PHASE_SECURING) {
+        wait.events = tls_waits(s->tls);
+        return wait;
+    }
     if (s->line.count > 0 || s->has_rest)
         wait.events |= POLLOUT;
     if (has_room(s))
@@ -225,24 +232,60 @@ struct pollfd session_wait(const session *s)
     return wait;
 }
 
-void session_step(session *s, short ready)
+int session_due(const session *s)
 {
-    if (ready == 0)
-        return;
-    if (s->phase == PHASE_DIALLING) {
-        go_on(s, dial_step(&s->dial));
-        return;
-    }
-    if (s->phase == PHASE_OPEN && ((ready & ~POLLOUT) != 0 || s->has_rest))
+    uint64_t now = session_clock(), told = s->silent + SILENCE;
+    if (s->phase == PHASE_DIALLING)
+        return dial_due(&s->dial, now);
+    if (s->phase == PHASE_OVER)
+        return again_due(&s->again, now);
+    if (s->phase == PHASE_OPEN && has_room(s) && line_has_more(&s->line))
+        return 0;
+    if (s->silent == 0)
+        return -1;
+    return told > now ? (int)(told - now) : 0;
+}
+
+/* A line of TLS may have more than its socket tells of. */
+static void step_open(session *s, short ready)
+{
+    if ((ready & ~POLLOUT) != 0 || s->has_rest || s->tls != NULL)
         hear(s);
     if (s->phase == PHASE_OPEN && !line_flush(&s->line))
-        session_over(s, 1, "The line is lost: %s.", strerror(errno));
+        session_over(s, 1, "The line is lost: %s.", line_why(&s->line));
+}
+
+static void step(session *s, short ready)
+{
+    switch (s->phase) {
+    case PHASE_DIALLING: connecting_dials(s, ready != 0); break;
+    case PHASE_SECURING:
+        if (ready != 0)
+            connecting_secures(s);
+        break;
+    case PHASE_OPEN: step_open(s, ready); break;
+    case PHASE_OVER:
+        if (s->again.is_due && again_left(&s->again, session_clock()) == 0)
+            connecting_again(s);
+        break;
+    }
+}
+
+void session_step(session *s, short ready)
+{
+    if (ready == 0 && session_due(s) != 0)
+        return;
+    step(s, ready);
+    bool is_connected = s->phase == PHASE_SECURING || s->phase == PHASE_OPEN;
+    if (is_connected && s->silent != 0 && session_clock() >= s->silent + SILENCE)
+        tell_silence(s);
 }
 
 void session_free(session *s)
 {
     dial_end(&s->dial);
     line_end(&s->line);
+    tls_free(s->tls);
     ribbon_station_free(&s->station);
     free(s);
 }

@@ -7,23 +7,26 @@
 /* The signs that are on, with a blank before each. */
 static void put_signs(const status_parts *parts, char *text, size_t room)
 {
-    (void)snprintf(text, room, "%s%s%s%s", parts->is_message_lit ? " MW" : "", parts->is_inserting ? " INS" : "",
-                   parts->is_recording ? " REC" : "", parts->waits ? " T" : "");
+    (void)snprintf(text, room, "%s%s%s%s%s%s", parts->security, parts->is_message_lit ? " MW" : "",
+                   parts->is_inserting ? " INS" : "", parts->is_recording ? " REC" : "", parts->is_macro ? " MAC" : "",
+                   parts->waits ? " T" : "");
 }
 
-/* What stands at the right; the way on and the field's length only where a long sentence leaves room for them. */
+/* What stands at the right; the way on, the field's length and the cursor's place only where a long sentence leaves
+ * room for them. */
 static void put_right(const status_parts *parts, size_t left_needs, char *text, size_t room)
 {
-    char signs[20], place[12], way[40], field[24] = "";
+    char signs[30], place[12], way[40], field[24] = "";
     put_signs(parts, signs, sizeof signs);
     (void)snprintf(place, sizeof place, "  %02u/%03u ", parts->row % 100, parts->column % 1000);
     (void)snprintf(way, sizeof way, "  %s", parts->way);
     if (parts->field_length > 0)
         (void)snprintf(field, sizeof field, "  field %u", parts->field_length);
-    size_t needs = left_needs + strlen(signs) + strlen(place);
-    bool has_way = parts->is_way_out || needs + strlen(way) <= STATUS_COLUMNS;
-    bool has_field = needs + strlen(way) + strlen(field) <= STATUS_COLUMNS;
-    (void)snprintf(text, room, "%s%s%s%s", signs, has_way ? way : "", has_field ? field : "", place);
+    size_t needs = left_needs + strlen(signs), with_way = needs + strlen(way), with_place = needs + strlen(place);
+    bool has_way = parts->is_way_out || with_way + strlen(place) <= STATUS_COLUMNS;
+    bool has_place = (parts->is_way_out ? with_way + strlen(place) : with_place) <= STATUS_COLUMNS;
+    bool has_field = with_way + strlen(place) + strlen(field) <= STATUS_COLUMNS;
+    (void)snprintf(text, room, "%s%s%s%s", signs, has_way ? way : "", has_field ? field : "", has_place ? place : "");
 }
 
 /* Fills the line's front with a text; where it is cut, two full stops say so. */
@@ -48,7 +51,7 @@ void status_line(const status_parts *parts, wchar_t line[STATUS_COLUMNS + 1])
     if (length == (size_t)-1)
         length = 0;
     put_right(parts, length + 1, right, sizeof right);
-    size_t room = STATUS_COLUMNS - strlen(right); /* it has 66 characters at most */
+    size_t room = STATUS_COLUMNS - strlen(right); /* it has 79 characters at most */
     put_left(wide, length, line, room);
     for (size_t at = room; at < STATUS_COLUMNS; at++)
         line[at] = (wchar_t)right[at - room];
@@ -57,7 +60,7 @@ void status_line(const status_parts *parts, wchar_t line[STATUS_COLUMNS + 1])
 
 void status_title(const status_parts *parts, char *text, size_t room)
 {
-    char signs[20];
+    char signs[30];
     put_signs(parts, signs, sizeof signs);
     (void)snprintf(text, room, "%s%s%s%s%s - term5250", parts->where, parts->turn[0] != 0 ? ": " : "", parts->turn,
                    signs[0] != 0 ? ":" : "", signs);

@@ -13,8 +13,9 @@ typedef struct {
     const char *where; /* HOST:PORT */
     const char *note;  /* a sentence, or nothing; it stands in place of the two above, and is cut where it is long */
     const char *way;   /* the key that goes on from here, in words */
+    const char *security; /* the sign of the line, with a blank before it, or nothing */
     bool is_way_out;   /* no other key does: it is never left out */
-    bool is_message_lit, is_inserting, is_recording, waits;
+    bool is_message_lit, is_inserting, is_recording, is_macro, waits;
     unsigned field_length, row, column; /* the length is 0 where the cursor stands in no field */
 } status_parts;
 

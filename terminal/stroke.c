@@ -16,7 +16,9 @@ static const struct {
     {"Backspace", STROKE_BACKSPACE}, {"KeypadEnter", STROKE_KEYPAD_ENTER}, {"KeypadPlus", STROKE_KEYPAD_PLUS},
     {"KeypadMinus", STROKE_KEYPAD_MINUS}, {"KeypadStar", STROKE_KEYPAD_STAR}, {"KeypadSlash", STROKE_KEYPAD_SLASH},
     {"KeypadPoint", STROKE_KEYPAD_POINT}, {"KeypadComma", STROKE_KEYPAD_COMMA}, {"KeypadEqual", STROKE_KEYPAD_EQUAL},
-    {"Esc", STROKE_ESCAPE},
+    {"WheelUp", STROKE_WHEEL_UP}, {"WheelDown", STROKE_WHEEL_DOWN}, {"Esc", STROKE_ESCAPE},
+    /* The names of other programs, which no key is told by: */
+    {"Return", STROKE_ENTER}, {"PgUp", STROKE_PAGE_UP}, {"PgDn", STROKE_PAGE_DOWN}, {"Shift-Tab", STROKE_BACK_TAB},
 };
 
 enum { NAMES = sizeof names / sizeof names[0] };
@@ -33,30 +35,42 @@ bool function_key_number(const char *digits, unsigned *number)
     return true;
 }
 
-/* `F1` to `F24`, `Keypad0` to `Keypad9`. */
+/* What stands behind one of the fronts; null where none of them begins the name. */
+static const char *behind(const char *name, const char *const *fronts)
+{
+    for (; *fronts != NULL; fronts++)
+        if (strncasecmp(name, *fronts, strlen(*fronts)) == 0)
+            return name + strlen(*fronts);
+    return NULL;
+}
+
+/* `F1` to `F24`, `Shift-F1` to `Shift-F12`, `Keypad0` to `Keypad9`. */
 static bool by_number(const char *name, stroke *found)
 {
-    if (strncasecmp(name, "Keypad", 6) == 0 && name[6] >= '0' && name[6] <= '9' && name[7] == 0) {
-        *found = STROKE_KEYPAD_0 + (stroke)(name[6] - '0');
+    static const char *const keypad[] = {"Keypad", NULL}, *const shifted[] = {"Shift-F", NULL};
+    static const char *const plain[] = {"F", NULL};
+    const char *digit = behind(name, keypad), *upper = behind(name, shifted), *lower = behind(name, plain);
+    unsigned number;
+    if (digit != NULL && digit[0] >= '0' && digit[0] <= '9' && digit[1] == 0) {
+        *found = STROKE_KEYPAD_0 + (stroke)(digit[0] - '0');
         return true;
     }
-    unsigned number;
-    if ((name[0] != 'F' && name[0] != 'f') || !function_key_number(name + 1, &number))
+    if (upper != NULL && function_key_number(upper, &number) && number <= 12)
+        number += 12;
+    else if (lower == NULL || !function_key_number(lower, &number))
         return false;
     *found = STROKE_F1 + (stroke)number - 1;
     return true;
 }
 
-static bool plain_by_name(const char *name, stroke *found)
+/* `^A` or `Ctrl-A` and its like. */
+static bool by_control(const char *name, stroke *found)
 {
-    for (size_t at = 0; at < NAMES; at++)
-        if (strcasecmp(names[at].name, name) == 0) {
-            *found = names[at].code;
-            return true;
-        }
-    if (name[0] != '^' || name[1] == 0 || name[2] != 0)
-        return by_number(name, found);
-    stroke letter = (stroke)(unsigned char)name[1];
+    static const char *const fronts[] = {"^", "Ctrl-", NULL};
+    const char *letters = behind(name, fronts);
+    if (letters == NULL || letters[0] == 0 || letters[1] != 0)
+        return false;
+    stroke letter = (stroke)(unsigned char)letters[0];
     if (letter >= 'a' && letter <= 'z')
         letter -= 'a' - 'A';
     if (letter == '?' || letter == 'H')
@@ -68,17 +82,29 @@ static bool plain_by_name(const char *name, stroke *found)
     return true;
 }
 
+static bool plain_by_name(const char *name, stroke *found)
+{
+    for (size_t at = 0; at < NAMES; at++)
+        if (strcasecmp(names[at].name, name) == 0) {
+            *found = names[at].code;
+            return true;
+        }
+    return by_control(name, found) || by_number(name, found);
+}
+
 bool stroke_by_name(const char *name, stroke *found)
 {
-    if (strncasecmp(name, "Esc ", 4) != 0)
+    static const char *const fronts[] = {"Esc ", "Esc-", "Alt-", NULL};
+    const char *rest = behind(name, fronts);
+    if (rest == NULL)
         return plain_by_name(name, found) && *found != STROKE_ESCAPE;
-    name += strspn(name + 3, " ") + 3;
+    rest += strspn(rest, " ");
     wchar_t character = 0;
     mbstate_t state = {0};
-    size_t length = mbrtowc(&character, name, strlen(name) + 1, &state);
-    if (length > 0 && length < (size_t)-2 && name[length] == 0)
+    size_t length = mbrtowc(&character, rest, strlen(rest) + 1, &state);
+    if (length > 0 && length < (size_t)-2 && rest[length] == 0)
         *found = (stroke)character;
-    else if (!plain_by_name(name, found))
+    else if (!plain_by_name(rest, found))
         return false;
     *found |= STROKE_ESCAPED;
     return true;

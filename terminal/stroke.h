@@ -37,15 +37,18 @@ enum {
     STROKE_KEYPAD_POINT,
     STROKE_KEYPAD_COMMA,
     STROKE_KEYPAD_EQUAL,
+    STROKE_WHEEL_UP, /* of the mouse */
+    STROKE_WHEEL_DOWN,
     STROKE_F1,
     STROKE_F24 = STROKE_F1 + 23,
     STROKE_LAST_NAMED = STROKE_F24,
     STROKE_ESCAPED = 0x400000 /* is added where Esc was pressed before it */
 };
 
-/* The stroke of a name: `^A` to `^Z`, `^]` and its like, `Tab`, `Enter`, `Left`, `F1` to `F24`, `Keypad0` and others
- * of the table in stroke.c; with `Esc ` before it that behind Esc, where a character may stand by itself too. Letters
- * of names in either case. False where there is none of the name. */
+/* The stroke of a name: `^A` to `^Z`, `^]` and its like, also as `Ctrl-A`; `Tab`, `Enter`, `Left`, `F1` to `F24`,
+ * `Shift-F1` to `Shift-F12` for F13 on, `Keypad0` and others of the table in stroke.c; with `Esc `, `Esc-` or `Alt-`
+ * before it that behind Esc, where a character may stand by itself too. Letters of names in either case. False where
+ * there is none of the name. */
 bool stroke_by_name(const char *name, stroke *found);
 
 /* The name, as stroke_by_name takes it; gives `text`. */

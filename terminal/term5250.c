@@ -4,21 +4,24 @@
  *
  * One loop waits for the line, the keyboard and signals; everything else is done between two waits. */
 #define _GNU_SOURCE
+#include "box.h"
+#include "connecting.h"
 #include "draw.h"
 #include "input.h"
 #include "menu.h"
 #include "press.h"
+#include "settings.h"
 #include "signals.h"
 
 #include <errno.h>
-#include <stdlib.h>
 #include <string.h>
 #include <unistd.h>
 
 enum {
     KEYS_AT_ONCE = 1024,
     DRAWN_EVERY = 40,    /* milliseconds, while more comes */
-    PASTE_SILENCE = 5000 /* milliseconds, behind which a paste without its end is over */
+    PASTE_SILENCE = 5000,  /* milliseconds, behind which a paste without its end is over */
+    SEQUENCE_SILENCE = 150 /* and behind which a letter isn't one of a key's sequence */
 };
 
 /* ---- Keys ---- */
@@ -28,7 +31,7 @@ static void take_stroke(session *s, stroke key)
     char name[40];
     action does;
     uint32_t typed = stroke_keypad_character(key);
-    if (bindings_find(&s->keys, key, &does)) {
+    if (bindings_find(&s->keys, key, &does) && does.kind != ACTION_ITSELF) {
         press_key(s, does);
     } else if (typed != 0) {
         press_key(s, (action){s->is_inserting ? ACTION_INSERTED : ACTION_CHARACTER, typed});
@@ -61,6 +64,8 @@ static void take_input(session *s, const input *i)
         s->rings = true;
     else if (is_paste)
         press_pasted(s, i->key);
+    else if (s->is_box_open && !is_menu)
+        box_key(s, i->kind == INPUT_CLICK ? STROKE_ESCAPE : i->key);
     else if (i->kind == INPUT_STROKE)
         take_stroke(s, i->key);
     else if (i->kind == INPUT_CHARACTER)
@@ -70,13 +75,14 @@ static void take_input(session *s, const input *i)
 }
 
 /* A window that loses a paste's end mustn't take the keyboard away. */
-static void end_silent_paste(session *s, input_reader *reader)
+static void hear_silence(session *s, input_reader *reader)
 {
-    uint64_t now = session_clock();
-    if (reader->is_pasting && now - reader->heard > PASTE_SILENCE) {
+    uint64_t now = session_clock(), silence = now - reader->heard;
+    if (reader->is_pasting && silence > PASTE_SILENCE) {
         reader->is_pasting = false;
         press_paste_ends(s);
     }
+    reader->is_late = silence > SEQUENCE_SILENCE;
     reader->heard = now;
 }
 
@@ -85,7 +91,7 @@ static bool take_keys(session *s, input_reader *reader)
 {
     input i;
     unsigned count = 0;
-    end_silent_paste(s, reader);
+    hear_silence(s, reader);
     while (count < KEYS_AT_ONCE && !s->is_leaving && input_next(reader, &i)) {
         take_input(s, &i);
         count++;
@@ -101,6 +107,12 @@ static bool take_keys(session *s, input_reader *reader)
 
 /* ---- The loop ---- */
 
+static void press_waiting(session *s)
+{
+    if (window_has_screen()) /* no key goes out unseen */
+        press_ahead(s);
+}
+
 static void take_events(session *s, window *w, input_reader *reader, const struct pollfd waits[2], bool *more)
 {
     if (signals_resized()) {
@@ -108,13 +120,21 @@ static void take_events(session *s, window *w, input_reader *reader, const struc
         s->draws_all = true;
     }
     session_step(s, waits[0].revents);
-    if (window_has_screen()) /* no key goes out unseen */
-        press_ahead(s);
+    press_waiting(s);
     *more = (waits[1].revents != 0 || *more) && take_keys(s, reader);
+    press_waiting(s); /* a macro may have begun */
     if (!*more && (waits[1].revents & (POLLHUP | POLLERR | POLLNVAL)) != 0) {
         session_over(s, 1, "The terminal is gone.");
         s->is_leaving = true;
     }
+}
+
+/* How long nothing but input changes what is shown, in milliseconds; negative where it never does. */
+static int quiet_for(const session *s)
+{
+    uint64_t now = session_clock();
+    int due = session_due(s), shown = s->shown_until > now ? (int)(s->shown_until - now) : -1;
+    return due < 0 || (shown >= 0 && shown < due) ? shown : due;
 }
 
 /* What is there is taken first; the screen is drawn when nothing is, or too long ago. */
@@ -133,7 +153,7 @@ static void run(session *s, window *w)
             drawn = now;
         }
         if (ready == 0 && !more)
-            ready = signals_wait(waits, 2, -1);
+            ready = signals_wait(waits, 2, quiet_for(s));
         if (ready <= 0)
             waits[0].revents = waits[1].revents = 0;
         take_events(s, w, &reader, waits, &more);
@@ -153,18 +173,16 @@ static int complain(const char *what, const char *why)
 /* The keys file that is asked for, or the usual one where it is there; false where it is wrong. */
 static bool read_keys(session *s, const options *asked)
 {
-    char name[FILE_NAME_ROOM], why[FILE_NAME_ROOM + 400];
-    const char *folder = getenv("XDG_CONFIG_HOME"), *home = getenv("HOME");
-    bool is_set = folder != NULL && folder[0] != 0;
+    char path[FILE_NAME_ROOM], why[FILE_NAME_ROOM + 400];
+    const char *keys = asked->keys;
     bindings_begin(&s->keys);
-    if (asked->keys == NULL && !is_set && (home == NULL || home[0] == 0))
+    if (keys != NULL && strcmp(keys, "tn5250") == 0) {
+        bindings_tn5250(&s->keys);
         return true;
-    int length = asked->keys != NULL ? snprintf(name, sizeof name, "%s", asked->keys)
-                 : is_set            ? snprintf(name, sizeof name, "%s/term5250/keys", folder)
-                                     : snprintf(name, sizeof name, "%s/.config/term5250/keys", home);
-    errno = ENAMETOOLONG;
-    FILE *file = length > 0 && (size_t)length < sizeof name ? fopen(name, "r") : NULL;
-    if (file == NULL && asked->keys == NULL && (errno == ENOENT || errno == ENOTDIR))
+    }
+    FILE *file = keys != NULL ? fopen(keys, "r") : settings_open("keys", path, sizeof path);
+    const char *name = keys != NULL ? keys : path;
+    if (file == NULL && keys == NULL && (errno == ENOENT || errno == ENOTDIR))
         return true;
     if (file == NULL) {
         (void)complain(name, strerror(errno));
@@ -180,9 +198,8 @@ static bool read_keys(session *s, const options *asked)
 /* All that can go wrong before the line is there is told before; 0 where nothing has. */
 static int prepare(session *s, const options *asked)
 {
-    char why[400];
-    ribbon_status status = asked->is_strict ? ribbon_station_new(&s->station, asked->terminal)
-                                            : ribbon_station_new_extended(&s->station, asked->terminal);
+    char why[TLS_WHY_ROOM];
+    ribbon_status status = connecting_station(s, asked);
     if (status != RIBBON_DONE)
         return complain(asked->terminal, status == RIBBON_BAD_ARGUMENT ? "no such terminal type"
                                                                        : ribbon_status_text(status));
@@ -192,6 +209,8 @@ static int prepare(session *s, const options *asked)
         return complain(why, "");
     if (!read_keys(s, asked))
         return 2;
+    if (asked->tls.is_on && (s->tls = tls_new(&asked->tls, why)) == NULL)
+        return complain(why, "");
     if (asked->record != NULL && !recording_begin(&s->recording, asked->record, &s->kept))
         return complain(s->recording.name, strerror(errno));
     return signals_begin() ? 0 : complain("signals", strerror(errno));
@@ -204,7 +223,7 @@ static int work(session *s, const options *asked)
         window_end(&w);
         return complain("the window can't be used", "");
     }
-    if (session_begin(s, asked))
+    if (connecting_begin(s))
         run(s, &w);
     window_end(&w);
     bool is_whole = recording_end(&s->recording);
@@ -214,21 +233,30 @@ static int work(session *s, const options *asked)
     return is_whole || s->status != 0 ? s->status : 1;
 }
 
+static int run_asked(const options *asked, const char *locale)
+{
+    session *s = session_new();
+    if (s == NULL)
+        return complain("memory is wanting", "");
+    int status = prepare(s, asked);
+    if (status == 0) {
+        if (s->keys.is_tn5250)
+            session_mention(s, "The keys are those of tn5250: ^] has them all.");
+        if (locale[0] != 0)
+            session_mention(s, locale);
+        status = work(s, asked);
+    }
+    session_free(s);
+    return status;
+}
+
 int main(int count, char **words)
 {
     options asked;
     int status = 0;
     const char *locale = window_locale();
-    if (options_read(&asked, count, words, &status) == OPTIONS_END)
-        return status;
-    session *s = session_new();
-    if (s == NULL)
-        return complain("memory is wanting", "");
-    status = prepare(s, &asked);
-    if (status == 0) {
-        session_report(s, "%s", locale);
-        status = work(s, &asked);
-    }
-    session_free(s);
+    if (options_read(&asked, count, words, &status) == OPTIONS_RUN)
+        status = run_asked(&asked, locale);
+    options_free(&asked);
     return status;
 }

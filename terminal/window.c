@@ -26,7 +26,7 @@ const char *window_locale(void)
         return strcmp(set, "UTF-8") == 0 ? "" : "The locale has no UTF-8: some characters can't be shown.";
     if (setlocale(LC_CTYPE, "C.UTF-8") != NULL)
         return "The locale has no UTF-8: C.UTF-8 is taken in its place.";
-    return "The locale has no UTF-8, and C.UTF-8 isn't here: letters beyond ASCII can't be shown.";
+    return "No UTF-8 in the locale, and no C.UTF-8: letters beyond ASCII can't be shown.";
 }
 
 bool window_knows(char *why, size_t room)
@@ -193,7 +193,7 @@ bool window_begin(window *w, const options *asked)
     begin_colors(w, asked);
     if (asked->has_mouse) {
         (void)mouseinterval(0);
-        (void)mousemask(BUTTON1_PRESSED, NULL);
+        (void)mousemask(BUTTON1_PRESSED | BUTTON4_PRESSED | BUTTON5_PRESSED, NULL);
     }
     begin_title(w);
     send(BRACKETED_PASTE);

@@ -8,10 +8,22 @@ trap 'rm -rf "$folder"' EXIT
 passed=0
 failed=0
 
-# part NAME MINUTES COMMAND..
+# The processor seconds of all that this shell has waited for.
+processor_seconds() {
+    times >"$folder/times"
+    awk -F '[ms ]+' 'NR == 2 { printf "%d", $1 * 60 + $2 + $3 * 60 + $4 }' "$folder/times"
+}
+
+# took NAME PROCESSOR WALL: a row of the table at the end, in seconds.
+took() {
+    printf '%s\t%s\t%s\n' "$1" "$2" "$3" >>"$folder/table"
+}
+
+# part NAME MINUTES COMMAND.. Where `kind` is set, its times count for that row of the table.
 part() {
-    local name=$1 minutes=$2 status begun=$SECONDS
+    local name=$1 minutes=$2 status begun=$SECONDS spent
     shift 2
+    spent=$(processor_seconds)
     echo "== $name"
     timeout "${minutes}m" "$@" </dev/null 2>&1 | tee "$folder/text"
     status=$?
@@ -30,6 +42,7 @@ part() {
         failed=$((failed + 1))
     fi
     echo "== $name took $((SECONDS - begun)) seconds"
+    [ -z "${kind:-}" ] || took "$kind" $(($(processor_seconds) - spent)) $((SECONDS - begun))
 }
 
 # left_out TEXT: what the script itself leaves out.
@@ -37,12 +50,14 @@ left_out() {
     echo "left out: $1" | tee -a "$folder/left_out"
 }
 
-# The last line, and the status. Before it, how long all took, and the processor time of all that was started.
+# The last line, and the status. Before it a table of what each kind of part took, and all.
 sum_up() {
-    local processor
-    times >"$folder/times"
-    processor=$(awk -F '[ms ]+' 'NR == 2 { printf "%d", $1 * 60 + $2 + $3 * 60 + $4 }' "$folder/times")
-    echo "== all took $SECONDS seconds, and $processor seconds of processor time"
+    if [ -e "$folder/table" ]; then
+        echo "== what each took, in minutes: processor, wall"
+        awk -F '\t' '{ if (!($1 in cpu)) order[++n] = $1; cpu[$1] += $2; wall[$1] += $3 }
+            END { for (i = 1; i <= n; i++) printf "%-28s %7.1f %7.1f\n", order[i], cpu[order[i]] / 60, wall[order[i]] / 60 }' "$folder/table"
+    fi
+    echo "== all took $SECONDS seconds, and $(processor_seconds) seconds of processor time"
     cat "$folder/left_out"
     echo "$passed passed, $failed failed"
     [ $failed -eq 0 ]

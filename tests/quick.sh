@@ -32,7 +32,7 @@ if [ -x "$unproved/t5250" ]; then
 fi
 if [ -e "$unproved/libribbonscarp.so" ]; then
     part run_version.py 1 python3 tests/run_version.py "$unproved/libribbonscarp.so"
-    part run_python.py 2 python3 tests/run_python.py "$unproved/libribbonscarp.so" "$unproved/t5250"
+    part run_python.py 4 python3 tests/run_python.py "$unproved/libribbonscarp.so" "$unproved/t5250"
 fi
 part "the crates of tests" 10 python3 tests/try_rows.py $((${QUICK_SECONDS:-240} - SECONDS))
 left_out "every proof and every wrong body, what else tests/run_all.sh runs, and the C interface's own tests: .ci/run"

@@ -15,7 +15,15 @@ source tests/parts.sh
 cores=$(nproc)
 jobs=$((cores > 3 ? cores - 1 : 2))
 export MIMALLOC_PURGE_DELAY=-1
-[ "${1:-}" != --prove ] || part "rt ci" 168 env RT_JOBS=$jobs rt ci
+if [ "${1:-}" = --prove ]; then
+    checks() {
+        part "$1" "$2" python3 tests/measure.py "$folder/kinds" "${@:3}"
+        cat "$folder/kinds" >>"$folder/table"
+    }
+    checks "rt ci" 150 env RT_JOBS=$jobs rt ci
+    checks "wrong bodies" 60 python3 tests/wrong_bodies.py --jobs $jobs
+fi
+kind=scripts
 # The C library comes first: a live session of the program is compared with one of C programs over it.
 if command -v cc >/dev/null && command -v make >/dev/null; then
     part "C library" 60 tests/build_c_library.sh

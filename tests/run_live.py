@@ -14,8 +14,8 @@ import sys
 from live.program import Run
 from live.runner import run_tests
 
-SUBJECTS = ["both", "station", "host", "send", "words", "bad_lines", "script", "wait", "taking", "wire", "sessions", "stuck",
-            "stream", "c"]
+SUBJECTS = ["both", "station", "screen", "host", "any", "extended", "send", "words", "bad_lines", "no_lines", "script",
+            "wait", "taking", "wire", "sessions", "stuck", "stream", "c"]
 
 
 def main():

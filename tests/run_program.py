@@ -13,7 +13,7 @@ import tempfile
 
 from program.runs import Program, Runs
 
-SUBJECTS = ["word", "form", "stream", "limit"]
+SUBJECTS = ["word", "form", "show", "make", "extended", "stream", "limit"]
 
 
 def main():

@@ -19,7 +19,6 @@ MAJOR, MINOR, PATCH = VERSION.split(".")
 WRITTEN = [
     ("VERSION", r"\A(\d+\.\d+\.\d+)\n\Z", VERSION),
     ("python/ribbonscarp/version.py", r'^__version__ = "(.*)"$', VERSION),
-    ("python/pyproject.toml", r"^version = (.*)$", '{attr = "ribbonscarp.version.__version__"}'),
     ("c/ribbonscarp.h", r'^#define RIBBON_VERSION "(.*)"$', VERSION),
     ("c/ribbonscarp.h", r"^#define RIBBON_VERSION_MAJOR (.*)$", MAJOR),
     ("c/ribbonscarp.h", r"^#define RIBBON_VERSION_MINOR (.*)$", MINOR),

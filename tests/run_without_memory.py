@@ -23,10 +23,12 @@ TEST_PROGRAM = os.path.abspath(os.path.join(CRATES, "rows_program", "out", "rows
 WITHIN_MEMORY = [
     "memory_rows::streams_within_memory",
     "memory_rows::host_end_within_memory",
-    "split_rows::split_within_memory",
     "memory_rows::world_within_memory",
     "memory_rows::program_within_memory",
-    "make_rows::made_within_memory",
+    "growth_rows::split_within_memory",
+    "growth_rows::made_within_memory",
+    "growth_rows::so_far_within_memory",
+    "growth_rows::any_host_within_memory",
     "tcp_rows::tcp_without_memory",
 ]
 # Tests of calls that take none: each holds with every allocation refused from any one on.

@@ -20,10 +20,7 @@ CRATES = [
     "rows_wire",
     "rows_display",
     "rows_session",
-    "rows_any_host",
     "rows_program",
-    "rows_extended_station",
-    "rows_extended",
 ]
 # Seconds for each test of a crate of which some take minutes as `rt try` compiles them. Those that haven't ended then
 # are left out; in other crates, whose tests have a minute, such a test has failed.

@@ -75,8 +75,14 @@ static void test_to(void)
         uint8_t put[8];
         FILL(put);
         CHECK(ribbon_text_to_037(given, size, put, sizeof put, &told) == RIBBON_BAD_ARGUMENT && is_told(&told, 2, 3));
-        CHECK(put[0] == 0xc1 && put[1] == 0x51);
+        CHECK(put[0] == 0xc1 && put[1] == 0x51 && all_are(put + 2, sizeof put - 2, 0xa5));
     }
+
+    /* A control character of Latin 1, which has no byte: the bytes behind what is told stay as they were. */
+    uint8_t room[20];
+    FILL(room);
+    CHECK(ribbon_text_to_037("A\xc2\x80", 3, room, sizeof room, &told) == RIBBON_BAD_ARGUMENT && is_told(&told, 1, 1));
+    CHECK(room[0] == 0xc1 && all_are(room + 1, sizeof room - 1, 0xa5));
 
     /* No byte behind the text is looked at. */
     CHECK(ribbon_text_to_037("\xc3\xa9", 1, bytes, sizeof bytes, &told) == RIBBON_BAD_ARGUMENT && is_told(&told, 0, 0));

@@ -211,6 +211,34 @@ static void test_alarms(new_station *make)
     ribbon_station_free(&station);
 }
 
+/* An error, its text, Reset and a screen that comes back sound nothing; a Write beside them does. */
+static void test_alarms_beside(void)
+{
+    static const struct {
+        const char *body;
+        size_t size;
+        uint64_t alarms; /* so far */
+    } rows[] = {{BODY("\x04\x11\x00\xfb"), 0},
+                {BODY("\x04\x11\x00\x7f"), 1},
+                {BODY("\x04\x11\x00\x04\xc1\x04\x21\x22\xc5\x04\x11\x00\x04\x04\x11\x00\x0c"), 4},
+                {BODY("\x04\x21\x22\xc5"), 4},
+                {BODY("\x04\x12\x04\x40\x04\x11\x00\x22"), 4},
+                {BODY("\x04\x12\x04\x11\x00\x04"), 5}};
+    ribbon_station station = shows_form(ribbon_station_new_extended);
+    uint8_t answer[RIBBON_ANSWER_ROOM];
+    ribbon_status status;
+    ribbon_state state;
+    ribbon_told told;
+    for (size_t i = 0; i < sizeof rows / sizeof rows[0]; i++) {
+        push_body(&station, rows[i].body, rows[i].size, 64, &status);
+        CHECK(status == RIBBON_DONE && ribbon_station_state(&station, &state) == RIBBON_DONE
+              && state.alarms == rows[i].alarms);
+        (void)ribbon_station_key(&station, RIBBON_KEY_RESET, 0, answer, sizeof answer, &told);
+        CHECK(ribbon_station_state(&station, &state) == RIBBON_DONE && state.alarms == rows[i].alarms);
+    }
+    ribbon_station_free(&station);
+}
+
 /* A station of the profile refuses what it always did, and knows no Reset. */
 static void test_profile(void)
 {
@@ -309,6 +337,7 @@ int main(void)
     test_errors();
     test_alarms(ribbon_station_new);
     test_alarms(ribbon_station_new_extended);
+    test_alarms_beside();
     test_profile();
     test_decoders();
     return check_end();

@@ -160,7 +160,8 @@ fi
 
 # What of the terminal is no drawing: each test with all of it.
 terminal=$top/terminal
-logic=("$terminal"/{action,address,ahead,bindings,hold,kept,keys_file,look,moves,paste,recording,sentence,status,stroke,telnet}.c)
+logic=("$terminal"/{action,address,again,ahead,bindings,hold,kept,keys_file,label,look,macro,moves,paste,recording}.c
+    "$terminal"/{sentence,status,stroke,telnet}.c)
 probe=()
 [ -x "$folder/probe" ] && probe=("${sanitized[@]}")
 for test in "$terminal"/tests/*.c; do
@@ -182,11 +183,16 @@ if has python3 "the terminal"; then
                 TERMINAL="$folder/sanitized_terminal" CFLAGS="${sanitized[*]}"
             careful_terminal=(--sanitized "$folder/sanitized_terminal")
         fi
+        without_tls() {
+            "$MAKE" -C "$here" terminal "${made_by[@]}" TERMINAL="$folder/plain_terminal" TLS= >"$folder/made" \
+                && grep -q '^term5250 has no TLS' "$folder/made"
+        }
+        try "the terminal is built without TLS, and that is told" without_tls
         try "the terminal is installed" "$MAKE" -C "$here" install PREFIX=/usr DESTDIR="$stage" "${made_by[@]}"
         try "its page of the manual" grep -q '^.TH TERM5250 1' "$stage/usr/share/man/man1/term5250.1"
         try "the installed terminal" "$stage/usr/bin/term5250" --version
         try_counted "the terminal" python3 "$terminal/run_terminal.py" "$BUILD/term5250" "$folder/host5250" "$T5250" \
-            "${careful_terminal[@]}" ${TERMINAL_TESTS:-}
+            --without-tls "$folder/plain_terminal" "${careful_terminal[@]}" ${TERMINAL_TESTS:-}
     else
         echo "left out: the terminal, since the headers of ncurses aren't here (libncurses-dev)"
     fi

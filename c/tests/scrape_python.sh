@@ -9,11 +9,11 @@ top=$(dirname "$examples")
 
 # pip builds in the folder that it is given.
 cp -r "$top/python" "$folder/python"
-if python3 -c 'import setuptools, wheel' 2>/dev/null && python3 -m pip --version >/dev/null 2>&1; then
-    python3 -m pip install -q --disable-pip-version-check --root-user-action=ignore --no-index --no-build-isolation \
-        --no-deps --target "$folder/installed" "$folder/python" || exit 1
+if python3 -m pip --version >/dev/null 2>&1; then
+    python3 -m pip install -q --disable-pip-version-check --root-user-action=ignore --no-index \
+        --target "$folder/installed" "$folder/python" || exit 1
 else
-    echo "left out: installing the Python package, since pip, setuptools or wheel isn't here"
+    echo "left out: installing the Python package, since pip isn't here"
     mv "$folder/python" "$folder/installed"
 fi
 

@@ -1,6 +1,10 @@
 #!/usr/bin/env python3
-"""Prints the prices of items that a host knows: `scrape.py HOST PORT USER ITEM..`, with the password in PASSWORD."""
+"""Prints the prices of items that a host knows: `scrape.py HOST PORT USER ITEM..`, with the password in PASSWORD.
+
+Port 992 is spoken to by TLS; any port, where CAFILE names the certificates that are trusted.
+"""
 import os
+import ssl
 import sys
 
 from ribbonscarp import Key, RibbonscarpError, Session, connect
@@ -25,8 +29,10 @@ def price(session: Session, item: str) -> str:
 
 def main() -> int:
     host, port, user, *items = sys.argv[1:]
+    trusted = os.environ.get("CAFILE")
+    tls: bool | ssl.SSLContext = ssl.create_default_context(cafile=trusted) if trusted else port == "992"
     try:
-        with connect(host, int(port), wait=10) as session:
+        with connect(host, int(port), tls=tls, wait=10) as session:
             sign_on(session, user, os.environ.get("PASSWORD", ""))
             for item in items:
                 print(item, price(session, item))

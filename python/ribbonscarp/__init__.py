@@ -3,6 +3,9 @@
 `connect` gives a live session at a host, `listen` takes stations that connect. Beneath them `Station`, `Host` and
 `Decoder` take bytes and give bytes, without any socket. docs/DRIVING.md has whole programs.
 """
+from .any_host import AnyHost
+from .body import Body
+from .cells import Cell, Color, Style
 from .codes import TERMINALS, Key, KeyRefusal, Opcode, Read, Reason, Status
 from .decoder import Command, Decoder, Element, Header, RecordEnd, Step
 from .errors import (
@@ -17,18 +20,24 @@ from .errors import (
     Truncated,
     WaitedTooLong,
 )
+from .fields import Field, Shift, Which
 from .filling import keys_to_fill
 from .host import Answer, AnswerField, Event, EventKind, Heard, Host
 from .host_session import HostSession, Listener, listen
-from .screen import Cell, Color, Field, Screen, Shift, State, Style, Which
+from .records import Record
+from .recording import Piece, Recording
+from .screen import Screen, State
 from .session import Session, connect
 from .station import Station
+from .station_end import Sought
 from .version import __version__
 
 __all__ = [
     "TERMINALS",
     "Answer",
     "AnswerField",
+    "AnyHost",
+    "Body",
     "Cell",
     "Color",
     "Command",
@@ -49,15 +58,19 @@ __all__ = [
     "LibraryNotFound",
     "Listener",
     "Opcode",
+    "Piece",
     "Read",
     "Reason",
+    "Record",
     "RecordEnd",
+    "Recording",
     "Refused",
     "RibbonscarpError",
     "Screen",
     "SendRefused",
     "Session",
     "Shift",
+    "Sought",
     "State",
     "Station",
     "Status",

@@ -119,7 +119,10 @@ CHARACTER, INSERTED_CHARACTER, AID = 1, 2, 15
 
 
 class Key(Enum):
-    """A key that is no character: its kind and its value in the library (SC30-3533, keyboard functions, AID codes)."""
+    """A key that is no character: its kind and its value in the library (SC30-3533, keyboard functions, AID codes).
+
+    `PAGE_DOWN` is `ROLL_UP` and `PAGE_UP` is `ROLL_DOWN`: the keys of a PC for them.
+    """
 
     LEFT = (3, 0)
     RIGHT = (4, 0)
@@ -167,3 +170,24 @@ class Key(Enum):
     ROLL_UP = (AID, 0xF5)
     PRINT = (AID, 0xF6)
     RECORD_BACKSPACE = (AID, 0xF8)
+    PAGE_UP = (AID, 0xF4)
+    PAGE_DOWN = (AID, 0xF5)
+
+    @staticmethod
+    def named(name: str) -> Key:
+        """The key of a name, in any case and with or without blanks, hyphens and underscores: `Enter`, `page down`.
+
+        `ValueError` where no key has it.
+        """
+        key = _BY_NAME.get(_bare(name))
+        if key is None:
+            names = ", ".join(Key.__members__)
+            raise ValueError(f"no key is {name!r}; a character is typed by type(); the keys are {names}")
+        return key
+
+
+def _bare(name: str) -> str:
+    return "".join(filter(str.isalnum, name)).upper()
+
+
+_BY_NAME = {_bare(name): key for name, key in Key.__members__.items()}

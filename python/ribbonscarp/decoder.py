@@ -8,7 +8,7 @@ from typing import Any, TypeAlias
 from .codes import Opcode, Status
 from .errors import Truncated
 from .handle import Held, bytes_of, check, front, refused
-from .library import UNIT_ROOM, Handle, StepTold, library
+from .library import UNIT_ROOM, Handle, StepTold
 
 _MORE, _HEADER, _ELEMENT, _RECORD, _TELNET = range(5)
 
@@ -54,10 +54,8 @@ class Decoder(Held):
     """A decoder of a host's stream, in any pieces. It takes what live hosts send; `strict` keeps to the profile."""
 
     def __init__(self, *, strict: bool = False) -> None:
-        self._library = library()
-        super().__init__(Handle(), self._library.ribbon_decoder_free)
-        make = self._library.ribbon_decoder_new if strict else self._library.ribbon_decoder_new_extended
-        check(make(self._held()))
+        super().__init__("decoder", Handle())
+        check(self._call("new" if strict else "new_extended"))
         self._unit = ctypes.create_string_buffer(UNIT_ROOM)
         self._taken = 0
 
@@ -70,9 +68,8 @@ class Decoder(Held):
         steps: list[Step] = []
         given, at, told = bytes_of(data), 0, StepTold()
         while at < len(data):
-            status = self._library.ribbon_decoder_push(
-                self._held(), ctypes.byref(given, at), len(data) - at, self._unit, UNIT_ROOM, ctypes.byref(told)
-            )
+            rest = ctypes.byref(given, at), len(data) - at
+            status = self._call("push", *rest, self._unit, UNIT_ROOM, ctypes.byref(told))
             if status == Status.REFUSED:
                 error = refused(told.reason, told.place)
                 error.steps = tuple(steps)
@@ -87,7 +84,7 @@ class Decoder(Held):
     def finish(self) -> None:
         """Says that the stream ends here. `Truncated` where it ends inside a command or a record."""
         place = ctypes.c_uint64()
-        status = self._library.ribbon_decoder_finish(self._held(), ctypes.byref(place))
+        status = self._call("finish", ctypes.byref(place))
         if status == Status.TRUNCATED:
             raise Truncated(place.value)
         check(status)

@@ -20,7 +20,9 @@ class LibraryNotFound(RibbonscarpError):
     """The shared library isn't there, or is of another version. `faults` tells it of each place."""
 
     def __init__(self, faults: Sequence[str]) -> None:
-        super().__init__("no libribbonscarp: " + "; ".join(faults))
+        super().__init__(
+            "no libribbonscarp: " + "; ".join(faults) + "; RIBBONSCARP_LIBRARY is to name the file of the library"
+        )
         self.faults = list(faults)
 
 
@@ -36,16 +38,28 @@ class Refused(RibbonscarpError):
     """A byte of the other end is refused; every further call on this end fails.
 
     `place` counts bytes from the first that came, 0. What was written in answer before that byte is in `reply`; what a
-    host's end was told before it in `events`, what a decoder found before it in `steps`.
+    host's end was told before it in `events`, what a decoder found before it in `steps`. Of a live session `before` has
+    the bytes before that byte, from the begin of its record, 32 at most, `after` the byte and those behind it; `screen`
+    is a station's then.
     """
 
     def __init__(self, reason: Reason, place: int, text: str) -> None:
         super().__init__(f"byte {place} is refused: {text}")
         self.reason = reason
         self.place = place
+        self.text = text
         self.reply = b""
         self.events: tuple[Event, ...] = ()
         self.steps: tuple[Step, ...] = ()
+        self.before = self.after = b""
+        self.screen: Screen | None = None
+
+    def __str__(self) -> str:
+        text = super().__str__()
+        if self.after:
+            around = self.before.hex(" "), self.after[:1].hex(), self.after[1:].hex(" ")
+            text += "; it stands in " + "{} [{}] {}".format(*around).upper().strip()
+        return text + _shown(self.screen)
 
 
 class Truncated(RibbonscarpError):
@@ -82,8 +96,8 @@ class FieldNotFound(RibbonscarpError, LookupError):
 class WaitedTooLong(RibbonscarpError, TimeoutError):
     """The time of a wait is over. The session goes on, and nothing is lost; `screen` is a station's then."""
 
-    def __init__(self, what: str, seconds: float, screen: Screen | None = None) -> None:
-        super().__init__(f"{what} hasn't come within {seconds:g} seconds{_shown(screen)}")
+    def __init__(self, what: str, seconds: float, screen: Screen | None = None, hint: str = "") -> None:
+        super().__init__(f"{what} hasn't come within {seconds:g} seconds{hint or _shown(screen)}")
         self.screen = screen
 
 
@@ -96,4 +110,7 @@ class ConnectionEnded(RibbonscarpError, ConnectionError):
 
 
 def _shown(screen: Screen | None) -> str:
-    return "" if screen is None else f"; the screen shows\n{screen}"
+    """What a screen shows, behind an error's text."""
+    if screen is None:
+        return ""
+    return f"; the screen shows\n{screen}" if str(screen) else "; the screen is empty"

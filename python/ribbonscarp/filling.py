@@ -1,10 +1,53 @@
-"""The keys that fill a field."""
+"""The keys that fill a field, and what a field takes."""
 from __future__ import annotations
 
 from collections.abc import Iterator
 
-from .codes import Key
-from .screen import Field, Shift
+from .codes import Key, KeyRefusal
+from .fields import Field, Shift
+
+_DIGITS = "0123456789"
+_TAKEN = {
+    Shift.ALPHABETIC_ONLY: frozenset("ABCDEFGHIJKLMNOPQRSTUVWXYZabcdefghijklmnopqrstuvwxyz,.- "),
+    Shift.NUMERIC_ONLY: frozenset(_DIGITS + ",.+- "),
+    Shift.DIGITS_ONLY: frozenset(_DIGITS),
+    Shift.SIGNED_NUMERIC: frozenset(_DIGITS),
+}
+"""The characters of the fields that don't take all (SC30-3533, Start of Field order)."""
+
+
+def takes(shift: Shift, character: str) -> bool:
+    """Whether a field takes a character: one of code page 037 that its shift allows."""
+    has_byte = 0x20 <= ord(character) <= 0x7E or 0xA0 <= ord(character) <= 0xFF
+    return has_byte and (shift not in _TAKEN or character in _TAKEN[shift])
+
+
+def is_negative(field: Field, text: str) -> bool:
+    """Whether a text has a minus, before or behind its digits, that Field Minus enters."""
+    return field.shift is Shift.SIGNED_NUMERIC and "-" in (text[:1], text[-1:])
+
+
+def typed_of(field: Field, text: str) -> str:
+    """What of a text is typed into a field: all but the minus of a signed one. `ValueError` where it is too long."""
+    typed = text
+    if is_negative(field, text):
+        typed = text.removeprefix("-") if text[:1] == "-" else text.removesuffix("-")
+    if len(typed) > room_of(field):
+        raise ValueError(f"field {field.number} takes {room_of(field)} characters, and not the {len(typed)} of {text!r}")
+    return typed
+
+
+def room_of(field: Field) -> int:
+    """How many characters can be typed into a field; the last cell of a signed one holds the sign."""
+    return field.length - 1 if field.shift is Shift.SIGNED_NUMERIC else field.length
+
+
+def refusal_of(field: Field, typed: str) -> tuple[KeyRefusal, int] | None:
+    """Why a field doesn't take characters, and at which of them; `None` where it takes all."""
+    if field.is_bypass:
+        return KeyRefusal.PROTECTED, 0
+    wrong = (at for at, character in enumerate(typed) if not takes(field.shift, character))
+    return next(((KeyRefusal.WRONG_CHARACTER, at) for at in wrong), None)
 
 
 def moves(start: tuple[int, int], end: tuple[int, int]) -> Iterator[Key]:
@@ -21,24 +64,18 @@ def keys_to_fill(field: Field, cursor: tuple[int, int], text: str) -> list[Key |
     Where the field moves its characters to its end, or is signed, Field Exit follows; Field Minus in a signed field
     where a minus stands before or behind the digits. `ValueError` where the text is too long.
     """
-    is_signed = field.shift is Shift.SIGNED_NUMERIC
-    is_negative = is_signed and ("-" in (text[:1], text[-1:]))
-    digits = text.removeprefix("-") if text[:1] == "-" else text.removesuffix("-")
-    typed = digits if is_negative else text
-    room = field.length - 1 if is_signed else field.length
-    if len(typed) > room:
-        raise ValueError(f"field {field.number} takes {room} characters, and not the {len(typed)} of {text!r}")
-
+    typed = typed_of(field, text)
     first = (field.row, field.column)
     keys: list[Key | str] = [*moves(cursor, first)]
+    is_signed = field.shift is Shift.SIGNED_NUMERIC
     if is_signed and field.content[-1:] not in (b"", b"\0"):
         # Delete moves the digits alone; the sign goes by a Delete in its own cell.
         last = field.last
         keys += [*moves(first, last), Key.DELETE, *moves(last, first)]
-    keys += [Key.DELETE] * len(field.content[:room].rstrip(b"\0"))
+    keys += [Key.DELETE] * len(field.content[: room_of(field)].rstrip(b"\0"))
     keys += typed
     if typed and is_signed:
-        keys.append(Key.FIELD_MINUS if is_negative else Key.FIELD_EXIT)
+        keys.append(Key.FIELD_MINUS if is_negative(field, text) else Key.FIELD_EXIT)
     elif typed and field.is_right_adjusted and len(typed) < field.length:
         keys.append(Key.FIELD_EXIT)
     return keys

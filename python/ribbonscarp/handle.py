@@ -1,41 +1,47 @@
 """What an object of the library is held by."""
 from __future__ import annotations
 
+import contextlib
 import ctypes
+import queue
 import threading
 import warnings
-from collections.abc import Callable
+from collections.abc import Callable, Iterator
 from typing import Any, TypeVar
 
 from .codes import Reason, Status
 from .errors import Refused, StatusError
-from .library import reason_text, status_text
+from .library import library, reason_text, status_text
 
 Self = TypeVar("Self", bound="Held")
 
 
 class Held:
-    """An object of the library, which is freed by `close`, or where a `with` ends.
+    """An object of the library, which is freed by `close`, where a `with` ends, or once it is forgotten.
 
-    It stays on the thread that made it.
+    Any thread may use it: a call waits until that of another thread is over.
     """
 
-    def __init__(self, handle: ctypes.Structure, free: Callable[[Any], None]) -> None:
+    def __init__(self, kind: str, handle: ctypes.Structure) -> None:
+        self._library = library()
+        self._kind = kind
         self._handle = handle
-        self._free: Callable[[Any], None] | None = free
-        self._thread = threading.get_ident()
+        self._is_held = True
+        self._lock = threading.RLock()
 
-    def _held(self) -> Any:
-        """The handle, for a call of the library."""
-        if threading.get_ident() != self._thread:
-            raise RuntimeError(f"{type(self).__name__} is used by another thread than made it")
-        return ctypes.byref(self._handle)
+    def _call(self, name: str, *arguments: Any) -> int:
+        """A call of the library for such a handle. `StatusError` with `NOTHING_HELD` once it is closed."""
+        with self._lock:
+            if not self._is_held:
+                raise closed(self)
+            return int(getattr(self._library, f"ribbon_{self._kind}_{name}")(ctypes.byref(self._handle), *arguments))
 
     def close(self) -> None:
         """Frees it. A second call does nothing."""
-        if self._free is not None:
-            self._free(self._held())
-            self._free = None
+        with self._lock:
+            if self._is_held:
+                self._is_held = False
+                getattr(self._library, f"ribbon_{self._kind}_free")(ctypes.byref(self._handle))
 
     def __enter__(self: Self) -> Self:
         return self
@@ -44,10 +50,61 @@ class Held:
         self.close()
 
     def __del__(self) -> None:
-        if getattr(self, "_free", None) is not None:
+        if getattr(self, "_is_held", False):
             warnings.warn(f"unclosed {type(self).__name__}", ResourceWarning, source=self)
-            if threading.get_ident() == self._thread:
-                self.close()
+            self.close()
+
+
+class _Maker:
+    """A thread on which objects of the library are made, which takes far more stack than any other call. A thread keeps
+    what its stack has grown to, so that hundreds of them would keep as much each."""
+
+    def __init__(self) -> None:
+        self._lock = threading.Lock()
+        self._asked: queue.SimpleQueue[Callable[[], int]] = queue.SimpleQueue()
+        self._told: queue.SimpleQueue[int] = queue.SimpleQueue()
+        self._thread: threading.Thread | None = None
+
+    def made(self, call: Callable[[], int]) -> int:
+        """What a call comes to there; on the main thread what it comes to here."""
+        if threading.current_thread() is threading.main_thread():
+            return call()
+        with self._lock:
+            if self._thread is None or not self._thread.is_alive():
+                self._thread = threading.Thread(target=self._work, name="ribbonscarp", daemon=True)
+                self._thread.start()
+            self._asked.put(call)
+            return self._told.get()
+
+    def _work(self) -> None:
+        while True:
+            self._told.put(self._asked.get()())
+
+
+made_aside = _Maker().made
+
+
+@contextlib.contextmanager
+def lent(room: int) -> Iterator[Any]:
+    """A buffer of so many bytes for the time of a call. It is kept for the next one, by whatever object."""
+    kept = _buffers.setdefault(room, [])
+    try:
+        buffer = kept.pop()
+    except IndexError:
+        buffer = ctypes.create_string_buffer(room)
+    try:
+        yield buffer
+    finally:
+        kept.append(buffer)
+
+
+_buffers: dict[int, list[Any]] = {}
+
+
+def closed(thing: object) -> StatusError:
+    """The error of a call on something that is closed."""
+    text = f"this {type(thing).__name__} is closed: by close(), or since its `with` has ended"
+    return StatusError(Status.NOTHING_HELD, text)
 
 
 def check(status: int) -> None:

@@ -2,12 +2,15 @@
 from __future__ import annotations
 
 import ctypes
+import itertools
 from dataclasses import dataclass
 from enum import Enum
 from typing import Any
 
+from .body import Body
 from .codes import AID, TERMINALS, Key, Opcode, Reason, Status
-from .errors import SendRefused
+from .decoder import Decoder
+from .errors import Refused, SendRefused
 from .handle import Held, bytes_of, check, front, refused
 from .library import (
     CANCEL_ROOM,
@@ -19,9 +22,9 @@ from .library import (
     Pushed,
     ReadFieldTold,
     Told,
-    library,
     reason_text,
 )
+from .records import END_OF_RECORD, HEADER, Record, escaped, spell_header
 
 
 class EventKind(Enum):
@@ -32,6 +35,8 @@ class EventKind(Enum):
     ATTENTION = 3
     SYSTEM_REQUEST = 4
     CANCELLED = 5
+    RECORD = 6
+    """Of a host that takes any record: one that is none of these."""
 
 
 @dataclass(frozen=True)
@@ -63,11 +68,13 @@ class Answer:
 
 @dataclass(frozen=True)
 class Event:
-    """What a host's end was told: of `READY` the terminal's name, of `ANSWER` the answer."""
+    """What a host's end was told: of `READY` the terminal's name, of `ANSWER` the answer; of a host that takes any
+    record, the record."""
 
     kind: EventKind
     terminal: str | None = None
     answer: Answer | None = None
+    record: Record | None = None
 
 
 @dataclass(frozen=True)
@@ -82,10 +89,9 @@ class Host(Held):
     """A host's end. `opening` are the bytes that begin the session; they are to be sent first."""
 
     def __init__(self) -> None:
-        self._library = library()
-        super().__init__(Handle(), self._library.ribbon_host_free)
+        super().__init__("host", Handle())
         opening, told = ctypes.create_string_buffer(REPLY_ROOM), Told()
-        check(self._library.ribbon_host_new(self._held(), opening, REPLY_ROOM, ctypes.byref(told)))
+        check(self._call("new", opening, REPLY_ROOM, ctypes.byref(told)))
         self.opening = front(opening, told.length)
 
     def push(self, data: bytes) -> Heard:
@@ -99,15 +105,8 @@ class Host(Held):
         room = int(self._library.ribbon_reply_room(len(data)))
         buffer, pushed, told = ctypes.create_string_buffer(max(room, 1)), Pushed(), EventTold()
         while at < len(data):
-            status = self._library.ribbon_host_push(
-                self._held(),
-                ctypes.byref(given, at),
-                len(data) - at,
-                buffer,
-                room,
-                ctypes.byref(pushed),
-                ctypes.byref(told),
-            )
+            rest = ctypes.byref(given, at), len(data) - at
+            status = self._call("push", *rest, buffer, room, ctypes.byref(pushed), ctypes.byref(told))
             reply += front(buffer, pushed.replied)
             if status == Status.REFUSED:
                 error = refused(pushed.reason, pushed.place)
@@ -119,23 +118,25 @@ class Host(Held):
                 events.append(self._event(told))
         return Heard(bytes(reply), tuple(events))
 
-    def send(self, body: bytes, opcode: Opcode = Opcode.PUT_GET) -> bytes:
+    def send(self, body: Body | bytes, opcode: int = Opcode.PUT_GET) -> bytes:
         """Gives the record of a body, the bytes of its commands and orders, which is to be sent.
 
         `SendRefused` where the screen can't take an element. `StatusError` with `NOT_READY` while records aren't
         allowed, `READ_OUTSTANDING` where a read is asked or a cancel is unanswered and the body isn't empty, `TOO_BIG`,
-        or `FAILED` after a refused byte. `ValueError` where the bytes are no body, or the opcode is `CANCEL_INVITE`.
+        or `FAILED` after a refused byte. `ValueError` where the bytes are no body, which tells the first wrong one, or
+        where no record that is sent so has the opcode.
         Nothing is then sent, and the host is as it was.
         """
-        told = Told()
-        status = self._library.ribbon_host_send(self._held(), opcode, body, len(body), ctypes.byref(told))
-        if status == Status.REFUSED:
-            raise SendRefused(Reason(told.reason), reason_text(told.reason))
-        if status == Status.BAD_ARGUMENT:
-            raise ValueError(f"no record of opcode {opcode:02X} has the body {body.hex().upper()}")
-        check(status)
-        record = ctypes.create_string_buffer(told.length)
-        check(self._library.ribbon_host_sent(self._held(), record, told.length, ctypes.byref(told)))
+        spelled, told = bytes(body), Told()
+        with self._lock:
+            status = self._call("send", opcode, spelled, len(spelled), ctypes.byref(told))
+            if status == Status.REFUSED:
+                raise SendRefused(Reason(told.reason), reason_text(told.reason))
+            if status == Status.BAD_ARGUMENT:
+                raise ValueError(f"no record of opcode {opcode:02X} has this body: {_fault_of(spelled)}")
+            check(status)
+            record = ctypes.create_string_buffer(told.length)
+            check(self._call("sent", record, told.length, ctypes.byref(told)))
         return record.raw
 
     def cancel(self) -> bytes:
@@ -145,7 +146,7 @@ class Host(Held):
         `StatusError` with `NO_READ_TO_CANCEL`, `NOT_READY` or `FAILED`.
         """
         record, told = ctypes.create_string_buffer(CANCEL_ROOM), Told()
-        check(self._library.ribbon_host_cancel(self._held(), record, CANCEL_ROOM, ctypes.byref(told)))
+        check(self._call("cancel", record, CANCEL_ROOM, ctypes.byref(told)))
         return front(record, told.length)
 
     def _event(self, told: Any) -> Event:
@@ -158,12 +159,27 @@ class Host(Held):
 
     def _answer(self) -> Answer:
         told = AnswerTold()
-        check(self._library.ribbon_host_answer(self._held(), ctypes.byref(told)))
+        check(self._call("answer", ctypes.byref(told)))
         fields = tuple(self._answer_field(index) for index in range(told.field_count))
         return Answer((told.cursor_row, told.cursor_column), Key((AID, told.aid)), fields)
 
     def _answer_field(self, index: int) -> AnswerField:
         content, told = ctypes.create_string_buffer(CELLS), ReadFieldTold()
-        check(self._library.ribbon_host_answer_field(self._held(), index, content, CELLS, ctypes.byref(told)))
+        check(self._call("answer_field", index, content, CELLS, ctypes.byref(told)))
         return AnswerField(told.row, told.column, front(content, told.length))
 
+
+def _fault_of(body: bytes) -> str:
+    """Where a body goes wrong, and why."""
+    record = spell_header(len(body), Opcode.PUT_GET) + body
+    with Decoder(strict=True) as decoder:
+        try:
+            decoder.push(escaped(record) + END_OF_RECORD)
+        except Refused as error:
+            # Places count an FF twice.
+            ends = itertools.accumulate(1 + (byte == 0xFF) for byte in record)
+            at = next((at for at, end in enumerate(ends) if end > error.place), len(record)) - HEADER
+            if at >= len(body):
+                return f"it ends inside an element, behind its {len(body)} bytes ({error.text})"
+            return f"its byte {at}, {body[at]:02X}, is wrong ({error.text})"
+    return "the body is right, but such a record isn't sent"

@@ -27,7 +27,7 @@ CELLS = ROWS * COLUMNS
 # How many bytes a buffer needs (`RIBBON_.._ROOM`).
 REPLY_ROOM, ANSWER_ROOM, UNIT_ROOM, CANCEL_ROOM = 17, 5404, 133, 12
 
-PUSH_ROOM = 16384
+PUSH_ROOM = 1024
 """How many bytes of what a station writes are taken at a time; any number from `REPLY_ROOM` on does."""
 
 NO_FIELD = 0xFFFF
@@ -123,6 +123,12 @@ class FieldTold(Structure):
     _fields_ = [("row", c_uint8), ("column", c_uint8), ("length", c_uint16), ("format", c_uint16)]
 
 
+class BodyTold(Structure):
+    """`ribbon_body`."""
+
+    _fields_ = [("bytes", c_void_p), ("room", c_size_t), ("size", c_size_t), ("status", c_uint32)]
+
+
 STRUCTURES: dict[str, type[Structure]] = {
     "station": StationHandle,
     "host": Handle,
@@ -136,11 +142,13 @@ STRUCTURES: dict[str, type[Structure]] = {
     "state": StateTold,
     "cell": CellTold,
     "field": FieldTold,
+    "body": BodyTold,
 }
 """Each structure by its name in C, without `ribbon_`."""
 
 _STATION = POINTER(StationHandle)
 _HANDLE = POINTER(Handle)
+_BODY = POINTER(BodyTold)
 
 # What each call that answers a status takes. Buffers are passed as they are, by their address.
 _ARGUMENTS: dict[str, list[Any]] = {
@@ -151,6 +159,9 @@ _ARGUMENTS: dict[str, list[Any]] = {
     "station_state": [_STATION, POINTER(StateTold)],
     "station_cells": [_STATION, c_uint8, c_uint8, c_void_p, c_size_t],
     "station_changed": [_STATION, POINTER(c_uint32)],
+    "station_move_cursor": [_STATION, c_uint8, c_uint8, POINTER(Told)],
+    "station_new_line": [_STATION, POINTER(Told)],
+    "station_erase_eof": [_STATION, POINTER(Told)],
     "station_field": [_STATION, c_size_t, POINTER(FieldTold)],
     "host_new": [_HANDLE, c_void_p, c_size_t, POINTER(Told)],
     "host_push": [_HANDLE, c_void_p, c_size_t, c_void_p, c_size_t, POINTER(Pushed), POINTER(EventTold)],
@@ -163,6 +174,21 @@ _ARGUMENTS: dict[str, list[Any]] = {
     "decoder_new_extended": [_HANDLE],
     "decoder_push": [_HANDLE, c_void_p, c_size_t, c_void_p, c_size_t, POINTER(StepTold)],
     "decoder_finish": [_HANDLE, POINTER(c_uint64)],
+    "body_clear_unit": [_BODY],
+    "body_clear_format": [_BODY],
+    "body_write": [_BODY, c_uint8, c_uint8],
+    "body_read": [_BODY, c_uint8, c_uint8, c_uint8],
+    "body_header": [_BODY, c_char_p, c_size_t],
+    "body_address": [_BODY, c_uint8, c_uint8],
+    "body_insert_cursor": [_BODY, c_uint8, c_uint8],
+    "body_move_cursor": [_BODY, c_uint8, c_uint8],
+    "body_repeat": [_BODY, c_uint8, c_uint8, c_uint8],
+    "body_erase": [_BODY, c_uint8, c_uint8],
+    "body_field": [_BODY, c_uint16, c_uint8, c_uint16],
+    "body_output_field": [_BODY, c_uint8, c_uint16],
+    "body_attribute": [_BODY, c_uint8],
+    "body_text": [_BODY, c_char_p, c_size_t],
+    "body_bytes": [_BODY, c_char_p, c_size_t],
 }
 
 
@@ -182,6 +208,7 @@ def _declare(library: ctypes.CDLL) -> None:
     for name in ("station", "host", "decoder"):
         call = getattr(library, f"ribbon_{name}_free")
         call.argtypes, call.restype = [_STATION if name == "station" else _HANDLE], None
+    library.ribbon_body_begin.argtypes, library.ribbon_body_begin.restype = [_BODY, c_void_p, c_size_t], None
     library.ribbon_status_text.argtypes = [c_uint32]
     library.ribbon_reason_text.argtypes = library.ribbon_refusal_text.argtypes = [c_uint8]
     for name in ("status", "reason", "refusal"):

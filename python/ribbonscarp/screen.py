@@ -4,153 +4,21 @@ Rows count from 1 to 24 and columns from 1 to 80, as on the display; fields coun
 """
 from __future__ import annotations
 
-import operator
+import re
 import struct
 import sys
-from collections.abc import Callable, Iterator
+from collections.abc import Iterator
 from dataclasses import dataclass
-from enum import Enum, IntEnum
 from functools import cached_property
-from typing import Any, TypeAlias
+from typing import Any
 
+from .cells import Cell, is_hiding
 from .codes import Read
-from .errors import FieldNotFound
+from .fields import Field, Which, find_field, label_of, without_leaders
 from .library import CELLS, COLUMNS, NO_FIELD, ROWS
-
-Which: TypeAlias = int | str | tuple[int, int]
-"""How a field is named: by its number, by the label before it, or by the row and column of one of its cells."""
-
+from .markup import html_of
 
 _UTF_32 = {"little": "utf-32-le", "big": "utf-32-be"}[sys.byteorder]
-
-
-class Color(Enum):
-    """The colours of a colour display (IBM 3179-2)."""
-
-    GREEN = "green"
-    WHITE = "white"
-    RED = "red"
-    TURQUOISE = "turquoise"
-    YELLOW = "yellow"
-    PINK = "pink"
-    BLUE = "blue"
-
-
-# By the bits 18 of an attribute: the colour without the bit 02, and with it.
-_COLORS = (
-    (Color.GREEN, Color.WHITE),
-    (Color.RED, Color.RED),
-    (Color.TURQUOISE, Color.YELLOW),
-    (Color.PINK, Color.BLUE),
-)
-
-
-@dataclass(frozen=True)
-class Style:
-    """What a colour display makes of an attribute."""
-
-    color: Color
-    is_reversed: bool = False
-    is_underscored: bool = False
-    is_blinking: bool = False
-    has_column_separators: bool = False
-    is_hidden: bool = False
-
-    @staticmethod
-    def of(attribute: int) -> Style:
-        """The style of an attribute, 20 to 3F. What is hidden is a blank in green."""
-        if attribute & 0x07 == 0x07:
-            return Style(Color.GREEN, is_hidden=True)
-        group, has_bit_two = attribute >> 3 & 0x03, bool(attribute & 0x02)
-        return Style(
-            _COLORS[group][has_bit_two],
-            is_reversed=bool(attribute & 0x01),
-            is_underscored=bool(attribute & 0x04),
-            is_blinking=group == 1 and has_bit_two,
-            has_column_separators=group == 2 and not attribute & 0x04,
-        )
-
-
-@dataclass(frozen=True)
-class Cell:
-    """A cell: what it shows and holds, the attribute in force there, and the number of its field."""
-
-    character: str
-    byte: int
-    attribute: int
-    field: int | None
-
-    @property
-    def style(self) -> Style:
-        """What a colour display makes of it."""
-        return Style.of(self.attribute)
-
-    @property
-    def color(self) -> Color:
-        """Its colour on a colour display."""
-        return self.style.color
-
-    @property
-    def is_attribute(self) -> bool:
-        """Whether it holds an attribute, and so shows a blank."""
-        return 0x20 <= self.byte <= 0x3F
-
-
-class Shift(IntEnum):
-    """What a field takes (SC30-3533, Start of Field order)."""
-
-    ALPHABETIC = 0
-    ALPHABETIC_ONLY = 1
-    NUMERIC = 2
-    NUMERIC_ONLY = 3
-    DIGITS_ONLY = 5
-    SIGNED_NUMERIC = 7
-
-
-@dataclass(frozen=True)
-class Field:
-    """An input field: its first cell, its format word, what it held in code page 037, and what is shown of that without
-    the blanks at its end."""
-
-    number: int
-    row: int
-    column: int
-    length: int
-    format: int
-    content: bytes
-    text: str
-    label: str
-
-    @property
-    def last(self) -> tuple[int, int]:
-        """Row and column of its last cell."""
-        row, column = divmod((self.row - 1) * COLUMNS + self.column - 1 + self.length - 1, COLUMNS)
-        return row + 1, column + 1
-
-    @property
-    def is_bypass(self) -> bool:
-        """Keys don't enter it."""
-        return bool(self.format & 0x2000)
-
-    @property
-    def is_modified(self) -> bool:
-        """It was changed, and is sent (its modified data tag, MDT)."""
-        return bool(self.format & 0x0800)
-
-    @property
-    def is_mandatory(self) -> bool:
-        """It has to be changed before an attention key answers."""
-        return bool(self.format & 0x0008)
-
-    @property
-    def shift(self) -> Shift:
-        """What it takes."""
-        return Shift(self.format >> 8 & 0x07)
-
-    @property
-    def is_right_adjusted(self) -> bool:
-        """Field Exit moves its characters to its end."""
-        return self.format & 0x07 in (0x05, 0x06)
 
 
 @dataclass(frozen=True)
@@ -234,34 +102,54 @@ class Screen:
                 return number, at + 1
         return None
 
+    def search(self, pattern: str | re.Pattern[str]) -> re.Match[str] | None:
+        """The first match of a regular expression in a row; `None` where no row has one."""
+        return next(filter(None, (re.search(pattern, row) for row in self.rows)), None)
+
     def __contains__(self, text: object) -> bool:
-        """Whether a row shows a text."""
+        """Whether a row shows a text, or has a match of a compiled regular expression."""
+        if isinstance(text, re.Pattern):
+            return self.search(text) is not None
         return isinstance(text, str) and self.find(text) is not None
+
+    def __eq__(self, other: object) -> bool:
+        """Whether the same is seen: cells, fields, cursor, lock, lights and a host's error."""
+        return isinstance(other, Screen) and self._seen() == other._seen()
+
+    def __hash__(self) -> int:
+        return hash(self._seen())
 
     def __str__(self) -> str:
         """Its rows that aren't blank, as `t5250` prints them."""
         shown = [f"{number:2} {row.rstrip(' ')}" for number, row in enumerate(self.rows, 1)]
         return "\n".join(line for line in shown if line[3:])
 
+    def __repr__(self) -> str:
+        """The screen, in angle brackets: where the cursor stands, the keyboard, and the rows that aren't blank."""
+        row, column = self.cursor
+        lock = "locked" if self.is_locked else "unlocked"
+        return f"<Screen: cursor {row} {column}, {lock}, {len(self._fields)} fields\n{self}>"
+
+    def to_dict(self) -> dict[str, Any]:
+        """What is seen, for JSON: the 24 rows, the cursor, the lock, the message light, a host's error, the fields."""
+        state = self.state
+        seen: dict[str, Any] = {"rows": list(self.rows), "cursor": list(state.cursor), "locked": state.is_locked}
+        seen |= {"message": state.is_message_lit, "error_row": state.error_row}
+        return seen | {"fields": [field.to_dict() for field in self.fields]}
+
+    def to_html(self) -> str:
+        """A `pre` element that shows the screen in its colours, with the cursor's cell in a box."""
+        return html_of(self.cells, self.cursor)
+
     def field(self, which: Which) -> Field:
         """A field by its number, by the label before it, or by the row and column of one of its cells.
 
-        A label is what stands before a field on its row, behind the field before it, without the blanks, dots, colons
-        and arrows around it; where that is nothing, what stands on the row above, if no field does. It is compared
-        without regard to case. Where no field has it, those are taken whose label ends with it, and else those in whose
-        label it stands. `FieldNotFound` where there is none, or more than one.
+        A label is what stands before a field on its row, behind the field before it; where that is nothing but blanks,
+        dots, colons, dashes and arrows, also what stands on the row above, if no field does. It is compared as it stands,
+        and then without those. Where no field has it, those are taken whose label ends with it, and else those in whose
+        label it stands. Case doesn't count. `FieldNotFound` where there is none, or more than one: it names them.
         """
-        if isinstance(which, str):
-            found = self._by_label(which)
-        elif isinstance(which, tuple):
-            found = [field for field in self.fields if _covers(field, *which)]
-        else:
-            found = list(self.fields[which - 1 : which]) if which > 0 else []
-        if len(found) != 1:
-            many = "no field is" if not found else f"{len(found)} fields are"
-            known = ", ".join(f"{field.number} {field.label!r}" for field in self.fields)
-            raise FieldNotFound(f"{many} {which!r}; there are: {known or 'none'}")
-        return found[0]
+        return find_field(self.fields, which)
 
     @cached_property
     def _shown(self) -> str:
@@ -278,26 +166,23 @@ class Screen:
             rows.update(range(row, row + (column - 1 + length - 1) // COLUMNS + 1))
         return frozenset(rows)
 
+    def _seen(self) -> tuple[Any, ...]:
+        state = self.state
+        lights = state.is_locked, state.is_message_lit, state.is_blinking, state.error_row
+        return self._cells, tuple(self._fields), state.cursor, lights
+
     def _told(self) -> Iterator[tuple[Any, ...]]:
         """Of each cell its character, field, byte and attribute, as `ribbon_cell` has them."""
         return struct.iter_unpack("=IHBB", self._cells)
-
-    def _by_label(self, label: str) -> list[Field]:
-        wanted = _label(label).casefold()
-        labels = [(field, field.label.casefold()) for field in self.fields]
-        tries: tuple[Callable[[str, str], bool], ...] = (operator.eq, str.endswith, operator.contains)
-        for fits in tries:
-            found = [field for field, given in labels if fits(given, wanted)]
-            if found:
-                return found
-        return []
 
     def _make_field(self, number: int, row: int, column: int, length: int, format: int) -> Field:
         place = (row - 1) * COLUMNS + column - 1
         text = self._shown[place : place + length].rstrip(" ")
         content = self._cells[6 + 8 * place : 8 * (place + length) : 8]
-        label = _label(self._before(number, row, column)) or _label(self._above(row))
-        return Field(number, row, column, length, format, content, text, label)
+        before = self._before(number, row, column).strip(" ")
+        captions = before, "" if without_leaders(before) else self._above(row).strip(" ")
+        is_hidden = is_hiding(self._cells[8 * place + 7])
+        return Field(number, row, column, length, format, content, text, label_of(captions), captions, is_hidden)
 
     def _before(self, number: int, row: int, column: int) -> str:
         """What the field's row shows before it, behind the field before it."""
@@ -311,16 +196,6 @@ class Screen:
     def _above(self, row: int) -> str:
         """What the row above shows, where no field stands in it."""
         return self.rows[row - 2] if row > 1 and row - 1 not in self._rows_with_fields else ""
-
-
-def _label(text: str) -> str:
-    """A label without what only leads the eye from it to its field."""
-    return text.strip(" .:=>-")
-
-
-def _covers(field: Field, row: int, column: int) -> bool:
-    place = (row - field.row) * COLUMNS + column - field.column
-    return 0 <= place < field.length
 
 
 def _within(number: int, most: int, what: str) -> None:

@@ -1,70 +1,106 @@
 """A live session: a station at a host."""
 from __future__ import annotations
 
+import re
 import socket
-import time
 from collections.abc import Callable
+from typing import TYPE_CHECKING
 
 from .codes import Key
-from .connection import Connection, open_line
-from .errors import ConnectionEnded, Refused, WaitedTooLong
-from .screen import Field, Screen, Which
+from .connection import check_port, open_line
+from .fields import Field, Which
+from .live import Live
+from .screen import Screen
 from .station import Station
+from .station_end import Sought, StationEnd
+
+if TYPE_CHECKING:
+    from .tls import Tls
 
 
 def connect(
-    host: str, port: int = 23, *, terminal: str = "IBM-3179-2", wait: float = 30.0, strict: bool = False
+    host: str,
+    port: int | None = None,
+    *,
+    tls: Tls = False,
+    terminal: str = "IBM-3179-2",
+    wait: float = 30.0,
+    strict: bool = False,
 ) -> Session:
     """A session at a host, of a station that takes what live hosts send; a `strict` one keeps to the profile.
 
-    `wait` is how many seconds connecting may take, over all addresses of a name together, and then each wait and each
-    write. Looking the name up has no limit.
+    The port is 23, and 992 with `tls`, which is `True` or a context of `ssl`. `wait` is how many seconds connecting may
+    take, over all addresses of a name together, and then each wait and each write. Looking the name up has no limit.
 
-    `OSError` where the host can't be reached in time; `ValueError` where there is no such terminal type.
+    `OSError` where the host can't be reached in time, and `ssl.SSLError`, which is one, where its certificate isn't
+    trusted, has expired or is another's; `ValueError` where there is no such terminal type or port.
     """
+    port = check_port(port, tls)
     station = Station(terminal, strict=strict)
     try:
-        line = open_line(host, port, wait)
+        return Session(open_line(host, port, wait, tls), station=station, wait=wait)
     except BaseException:
         station.close()
         raise
-    return Session(station, line, wait)
 
 
-class Session:
-    """A station at a host. It takes what the host sends while it waits, and where the screen is asked for.
+class Session(Live):
+    """A station at a host, over a connected socket, which it closes. It takes what the host sends while it waits, and
+    where the screen is asked for.
 
-    It is closed by `close`, or where a `with` ends, and stays on the thread that made it.
+    It is closed by `close`, from any thread, or where a `with` ends. Any thread may use it: a call waits until that of
+    another thread is over.
     """
 
-    def __init__(self, station: Station, line: socket.socket, wait: float) -> None:
-        self.station = station
-        self.wait = wait
-        self._connection = Connection(line, wait)
+    def __init__(self, sock: socket.socket, *, station: Station | None = None, wait: float = 30.0) -> None:
+        self.station = Station() if station is None else station
+        self._station_end = StationEnd(self.station)
+        super().__init__(self._station_end, sock, wait)
 
     def type(self, text: str) -> None:
         """Types characters. `KeyRefused` at the first that is refused; those before it stand."""
-        self.station.type(text)
+        with self._in_use():
+            self.station.type(text)
 
     def insert(self, text: str) -> None:
         """Types characters in insert mode."""
-        self.station.insert(text)
+        with self._in_use():
+            self.station.insert(text)
 
-    def press(self, key: Key) -> None:
-        """Presses a key, and sends what it sends. `KeyRefused`, or `StatusError`, as `Station.press`."""
-        self._connection.write(self.station.press(key))
+    def press(self, key: Key | str) -> None:
+        """Presses a key, also by its name as `Key.named` takes it, and sends what it sends. `KeyRefused`, or
+        `StatusError`, as `Station.press`."""
+        with self._in_use():
+            self._write(self.station.press(key))
 
     def fill(self, which: Which, text: str) -> None:
-        """Puts a text into a field in place of what it held; the field is named as `Screen.field` says."""
-        self.station.fill(which, text)
+        """Puts a text into a field in place of what it held; the field is named as `Screen.field` says. Where an error is
+        raised nothing was typed."""
+        with self._in_use():
+            self.station.fill(which, text)
+
+    def move_cursor(self, row: int, column: int) -> None:
+        """Moves the cursor to a cell, by the cursor keys."""
+        with self._in_use():
+            self.station.move_cursor(row, column)
+
+    def new_line(self) -> None:
+        """Moves the cursor to the first field that begins in a row below, as New Line does."""
+        with self._in_use():
+            self.station.new_line()
+
+    def erase_eof(self) -> None:
+        """Empties the cells from the cursor to the end of its field."""
+        with self._in_use():
+            self.station.erase_eof()
 
     @property
     def screen(self) -> Screen:
-        """The screen, with all that has come so far. `Refused` at a byte of the host that can't stand there."""
-        end = time.monotonic() + self.wait
-        while self._take(0.0) and time.monotonic() < end:
-            pass
-        return self.station.screen
+        """The screen, with all that has come so far. `Refused` at a byte of the host that can't stand there; after that,
+        and where the host has closed, what it showed last."""
+        with self._in_use():
+            self._take_all()
+            return self.station.screen
 
     @property
     def fields(self) -> tuple[Field, ...]:
@@ -75,75 +111,35 @@ class Session:
         """A field of the screen, by its number, the label before it, or a cell of it, as `Screen.field` says."""
         return self.screen.field(which)
 
-    @property
-    def has_ended(self) -> bool:
-        """Whether the host has closed the connection, as far as is known."""
-        return self._connection.has_ended
-
     def wait_unlocked(self, wait: float | None = None) -> Screen:
         """Takes what comes until the keyboard is unlocked, or an error of the host's stands, which waits for Reset;
         nothing where it is so."""
-
-        def is_turn() -> bool:
-            state = self.station.state
-            return not state.is_locked or state.error_row is not None
-
-        return self._wait("an unlocked keyboard", is_turn, wait)
+        return self._wait(self._station_end.unlocked(), wait)
 
     def wait_record(self, wait: float | None = None) -> Screen:
-        """Takes what comes until one record more was carried out."""
-        before = self.station.state.records
-        return self._wait("a record", lambda: self.station.state.records > before, wait)
+        """Takes what comes until one record more was carried out, and leaves what is behind that."""
+        return self._wait(self._station_end.record(), wait)
 
-    def wait_text(self, text: str, at: tuple[int, int] | None = None, wait: float | None = None) -> Screen:
-        """Takes what comes until a row shows a text, or it stands at a row and a column; nothing where it does."""
+    def wait_text(
+        self, text: str | re.Pattern[str], at: tuple[int, int] | None = None, wait: float | None = None
+    ) -> Screen:
+        """Takes what comes until a row shows a text, or a match of a compiled regular expression, or it stands at a row
+        and a column; nothing where it does. It looks after each record."""
+        return self._wait(self._station_end.text(text, at), wait)
 
-        def is_shown(screen: Screen) -> bool:
-            return text in screen if at is None else screen.text_at(*at, len(text)) == text
+    def wait_any(self, *sought: Sought, wait: float | None = None) -> Sought:
+        """Takes what comes until one of several is there, and gives the first that is: texts and compiled regular
+        expressions that a row shows, functions of the screen that are true."""
+        return self._wait(self._station_end.any_of(sought), wait)
 
-        where = "" if at is None else f" at row {at[0]}, column {at[1]}"
-        return self.wait_for(is_shown, f"the text {text!r}{where}", wait)
+    def wait_quiet(self, seconds: float, wait: float | None = None) -> Screen:
+        """Takes what comes until nothing has come for so many seconds."""
+        return self._wait(self._station_end.quiet(seconds), wait)
 
     def wait_for(self, fits: Callable[[Screen], bool], what: str = "the screen", wait: float | None = None) -> Screen:
         """Takes what comes until the screen is one that fits, and gives it; nothing where it does. The text of an error
         calls it `what`."""
-        return self._wait(what, lambda: fits(self.station.screen), wait)
+        return self._wait(self._station_end.screen_that(fits, what), wait)
 
-    def close(self) -> None:
-        """Closes the connection, and frees the station. A second call does nothing."""
-        self._connection.close()
+    def _free(self) -> None:
         self.station.close()
-
-    def __enter__(self) -> Session:
-        return self
-
-    def __exit__(self, *error: object) -> None:
-        self.close()
-
-    def _wait(self, what: str, is_met: Callable[[], bool], wait: float | None) -> Screen:
-        """Takes what comes until something is met. `WaitedTooLong` where the time is over, however the bytes come;
-        `ConnectionEnded` where the host has closed; `Refused` at a byte that can't stand there."""
-        seconds = self.wait if wait is None else wait
-        end = time.monotonic() + seconds
-        has_time = True
-        while not is_met():
-            if self.has_ended:
-                raise ConnectionEnded(f"{what} hasn't come", self.station.screen)
-            if not has_time:
-                raise WaitedTooLong(what, seconds, self.station.screen)
-            left = end - time.monotonic()
-            has_time = self._take(left) and left > 0
-        return self.station.screen
-
-    def _take(self, seconds: float) -> bool:
-        """Takes what has come, or comes within so many seconds, and answers it; whether something came."""
-        data = self._connection.read(seconds)
-        if not data:
-            return False
-        try:
-            reply = self.station.push(data)
-        except Refused as refused:
-            self._connection.answer(refused.reply)
-            raise
-        self._connection.answer(reply)
-        return True

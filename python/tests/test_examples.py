@@ -1,17 +1,26 @@
 """The programs of examples/python, as they stand, and as docs/DRIVING.md quotes them."""
 from __future__ import annotations
 
+import contextlib
 import os
+import pathlib
 import re
+import shutil
+import signal
 import socket
 import subprocess
 import sys
 import tempfile
 import unittest
+from collections.abc import Iterator
 
+from ribbonscarp import Key
 from support import EXAMPLES, PROGRAM, TOP, Beside, Serve
 
 PROGRAMS = EXAMPLES / "python"
+PAGE = (TOP / "docs/DRIVING.md").read_text(encoding="utf-8")
+ENVIRONMENT = dict(os.environ, PYTHONPATH=str(TOP / "python"), PYTHONDONTWRITEBYTECODE="1")
+ENVIRONMENT["PYTEST_ADDOPTS"] = "-p no:cacheprovider"
 INQUIRY = (EXAMPLES / "inquiry.serve").read_text(encoding="utf-8")
 # The answer to a second item, before the key that leaves.
 SECOND = """await
@@ -25,19 +34,19 @@ SCRIPT = "await text Name\ntype {name}\nkey Enter\nawait record\nawait record\n"
 
 
 def run(name: str, *words: str, **variables: str) -> subprocess.CompletedProcess[str]:
-    environment = dict(os.environ, PYTHONPATH=str(TOP / "python"), **variables)
+    environment = dict(ENVIRONMENT, **variables)
     command = [sys.executable, str(PROGRAMS / name), *words]
     return subprocess.run(command, env=environment, capture_output=True, text=True, timeout=60, check=False)
 
 
 class ExamplesTest(unittest.TestCase):
     def test_quoted(self) -> None:
-        """Each program stands whole in the page, and no other does."""
-        page = (TOP / "docs/DRIVING.md").read_text(encoding="utf-8")
-        quoted = re.findall(r"^```python\n(.*?)^```$", page, re.M | re.S)
-        programs = [PROGRAMS / name for name in ("scrape.py", "check_emulator.py", "test_inquiry.py")]
+        """Each program stands whole in the page but the one that it names, and no other does."""
+        quoted = re.findall(r"^```python\n(.*?)^```$", PAGE, re.M | re.S)
+        programs = [PROGRAMS / name for name in ("scrape.py", "host.py", "test_scrape.py", "farm.py")]
         self.assertEqual(quoted, [program.read_text(encoding="utf-8") for program in programs])
-        self.assertEqual(sorted(PROGRAMS.glob("*.py")), sorted(programs))
+        self.assertIn("`examples/python/check_emulator.py`", PAGE)
+        self.assertEqual(sorted(PROGRAMS.glob("*.py")), sorted([*programs, PROGRAMS / "check_emulator.py"]))
 
     def test_scrape(self) -> None:
         last = INQUIRY.rindex("await")
@@ -96,15 +105,101 @@ class ExamplesTest(unittest.TestCase):
             "not so: the field that was typed into is sent, without its empty cells",
         )
 
-    def test_inquiry(self) -> None:
-        with Serve(INQUIRY) as serve:
-            done = run("test_inquiry.py", INQUIRY=f"127.0.0.1:{serve.port}")
-        self.assertRegex(done.stderr, r"Ran 1 test in .*\n\nOK\n$")
-        self.assertEqual((done.returncode, serve.status), (0, 0))
 
-    def test_inquiry_fails(self) -> None:
-        """A host whose price is another."""
-        with Serve(INQUIRY.replace("12.50", "13.50")) as serve:
-            done = run("test_inquiry.py", INQUIRY=f"127.0.0.1:{serve.port}")
-        self.assertIn("13.50", done.stderr)
+@contextlib.contextmanager
+def begun(command: str, folder: pathlib.Path) -> Iterator[None]:
+    """A command of the page that goes on, once it listens."""
+    process = subprocess.Popen(
+        ["bash", "-c", f"set -e; {command}"], cwd=folder, stdout=subprocess.PIPE, stderr=subprocess.DEVNULL,
+        env=ENVIRONMENT, text=True, start_new_session=True,
+    )
+    try:
+        assert process.stdout is not None
+        while not process.stdout.readline().startswith("listening"):
+            assert process.poll() is None
+        yield
+    finally:
+        os.killpg(process.pid, signal.SIGTERM)
+        process.communicate(timeout=20)
+
+
+class PageTest(unittest.TestCase):
+    """What docs/DRIVING.md prints, run as it is printed, but for the port, in a folder that has what the top has."""
+
+    def setUp(self) -> None:
+        folder = tempfile.TemporaryDirectory()
+        self.addCleanup(folder.cleanup)
+        self.folder = pathlib.Path(folder.name)
+        for name in ("python", "examples"):
+            (self.folder / name).symlink_to(TOP / name)
+        with socket.create_server(("127.0.0.1", 0)) as server:
+            self.page = PAGE.replace("5250", str(server.getsockname()[1]))
+        programs = re.compile(r"^```python\n.*?^```\n", re.M | re.S)
+        self.blocks = re.findall(r"^```\n(.*?)^```$", programs.sub("", self.page), re.M | re.S)
+
+    def run_block(self, program: str) -> subprocess.CompletedProcess[str]:
+        """The block of the page whose last command runs a program."""
+        [block] = [block for block in self.blocks if program in block.splitlines()[-1]]
+        command = ["bash", "-ec", block]
+        return subprocess.run(command, cwd=self.folder, env=ENVIRONMENT, capture_output=True, text=True, timeout=60,
+                              check=False)
+
+    @unittest.skipUnless(shutil.which("openssl"), "openssl isn't here")
+    def test_scrape(self) -> None:
+        [host] = [block for block in self.blocks if "openssl" in block]
+        with begun(host, self.folder):
+            done = self.run_block("/scrape.py")
+        self.assertEqual((done.stdout, done.stderr), ("4711 12.50\n", ""))
+        self.assertIn("this prints `4711 12.50`", self.page)
+
+    @unittest.skipUnless(shutil.which("pytest"), "pytest isn't here")
+    def test_pytest(self) -> None:
+        done = self.run_block("pytest")
+        self.assertRegex(done.stdout, r"5 passed in")
+
+    def test_farm(self) -> None:
+        [host] = re.findall(r"^With `(python3 .*)` in another shell it prints `100 12.50`:$", self.page, re.M)
+        with begun(host, self.folder):
+            done = self.run_block("farm.py")
+        self.assertEqual((done.stdout, done.stderr), ("100 12.50\n", ""))
+
+    def test_farm_fails(self) -> None:
+        with socket.create_server(("127.0.0.1", 0)) as server:
+            port = server.getsockname()[1]
+        done = run("farm.py", "127.0.0.1", str(port), "2", "4711")
+        self.assertRegex(done.stdout, r"^2 .*Connect call failed")
         self.assertEqual(done.returncode, 1)
+
+    def test_keys(self) -> None:
+        """The page's table of keys has each, and no other."""
+        rows = re.findall(r"^\| (`.*`) \| (?:answer|move|edit|interrupt)", self.page, re.M)
+        named = set(re.findall(r"`(\w+)`", " ".join(rows)))
+        self.assertEqual(named, set(Key.__members__) - {f"F{number}" for number in range(2, 24)})
+
+
+@unittest.skipUnless(shutil.which("pytest"), "pytest isn't here")
+class PytestTest(unittest.TestCase):
+    def test_failing(self) -> None:
+        """What a failing assertion tells: the rows of the screen."""
+        body = "Body().clear().write().text(1, 30, 'Main Menu').text(3, 2, 'Password').field(3, 20, 8, attribute=0x27)"
+        test = f"""
+from ribbonscarp import Body, Station
+from support import OPENING, record
+
+def test_screen():
+    with Station() as station:
+        station.push(OPENING + record(bytes({body})))
+        station.fill(1, "SECRET")
+        assert "Sign Off" in station.screen
+"""
+        with tempfile.TemporaryDirectory() as folder:
+            file = pathlib.Path(folder) / "test_failing.py"
+            file.write_text(test, encoding="utf-8")
+            environment = dict(ENVIRONMENT, PYTHONPATH=f"{TOP / 'python'}:{TOP / 'python/tests'}")
+            command = ["pytest", "-q", "-p", "no:cacheprovider", "-p", "ribbonscarp.pytest_plugin", str(file)]
+            done = subprocess.run(command, env=environment, capture_output=True, text=True, timeout=60, check=False)
+        told = [line for line in done.stdout.splitlines() if line.startswith("E ")]
+        self.assertRegex(told[0], "assert 'Sign Off' in the screen")
+        screen = r"<Screen: cursor 3 26, unlocked, 1 fields\n.* 1 {30}Main Menu\n.* 3  Password>"
+        self.assertRegex("\n".join(told), screen)
+        self.assertNotIn("SECRET", "\n".join(told))

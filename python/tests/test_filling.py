@@ -3,7 +3,8 @@ from __future__ import annotations
 
 import unittest
 
-from ribbonscarp import Key, KeyRefusal, KeyRefused, keys_to_fill
+from ribbonscarp import Key, KeyRefusal, KeyRefused, Shift, keys_to_fill
+from ribbonscarp.filling import takes
 from support import ready_station
 
 
@@ -64,14 +65,45 @@ class FillingTest(unittest.TestCase):
                 self.assertEqual(station.screen.cursor, (8, 10))
 
     def test_refused(self) -> None:
-        with ready_station(form("6000", 6)) as station:
+        """Before any key is pressed: the field and the cursor stay as they were."""
+        rows = [
+            ("6000", "A", KeyRefusal.PROTECTED, "A", (6, 53)),
+            ("6000", "", KeyRefusal.PROTECTED, Key.DELETE, (6, 53)),
+            ("4300", "1A", KeyRefusal.WRONG_CHARACTER, "A", (6, 54)),
+            ("4700", "1.5", KeyRefusal.WRONG_CHARACTER, ".", (6, 54)),
+            ("4000", "AB\u20ac", KeyRefusal.WRONG_CHARACTER, "\u20ac", (6, 55)),
+            ("4000", "\ud800", KeyRefusal.WRONG_CHARACTER, "\ud800", (6, 53)),
+        ]
+        for format, text, refusal, key, place in rows:
+            with self.subTest(format=format, text=text), ready_station(form(format, 6, b"\xf1")) as station:
+                before = station.screen
+                with self.assertRaises(KeyRefused) as caught:
+                    station.fill(1, text)
+                error = caught.exception
+                self.assertEqual((error.refusal, error.key, error.place), (refusal, key, place))
+                self.assertEqual(station.screen, before)
+
+    def test_locked(self) -> None:
+        with ready_station(form("4000", 6, b"\xf1")) as station:
+            station.press(Key.ENTER)
+            before = station.screen
             with self.assertRaises(KeyRefused) as caught:
                 station.fill(1, "A")
-            self.assertEqual((caught.exception.refusal, caught.exception.key), (KeyRefusal.PROTECTED, "A"))
-        with ready_station(form("4300", 6)) as station:
-            with self.assertRaises(KeyRefused) as caught:
-                station.fill(1, "1A")
-            self.assertEqual((caught.exception.place, caught.exception.key), ((6, 54), "A"))
+            self.assertEqual((caught.exception.refusal, caught.exception.key), (KeyRefusal.LOCKED, "A"))
+            self.assertEqual(station.screen, before)
+
+    def test_takes(self) -> None:
+        """What `fill` looks for is what keys are refused for, of each shift and each character of Latin 1."""
+        for shift in Shift:
+            with ready_station(form(f"4{int(shift)}00", 6)) as station:
+                for code in [*range(0x180), 0x20AC, 0xFFFF, 0x10FFFF]:
+                    station.move_cursor(6, 53)
+                    try:
+                        station.type(chr(code))
+                        is_taken = True
+                    except KeyRefused:
+                        is_taken = False
+                    self.assertEqual(takes(shift, chr(code)), is_taken, (shift, code))
 
     def test_large(self) -> None:
         """A field of nearly the whole screen."""

@@ -71,7 +71,7 @@ class HostTest(unittest.TestCase):
             host.send(PAST_END)
         self.assertEqual(caught.exception.reason, Reason.PAST_END)
         self.assertEqual(str(caught.exception), "51: a write goes past the last cell of the screen")
-        with self.assertRaisesRegex(ValueError, "no record of opcode 03 has the body C1"):
+        with self.assertRaisesRegex(ValueError, "no record of opcode 03 has this body: its byte 0, C1, is wrong .20: "):
             host.send(b"\xc1")
         with self.assertRaises(ValueError):
             host.send(b"", Opcode.CANCEL_INVITE)

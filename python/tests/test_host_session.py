@@ -1,13 +1,15 @@
 """A live host for stations: `t5250 connect`, and sessions of this package."""
 from __future__ import annotations
 
+import contextlib
 import functools
 import socket
 import threading
 import time
 import unittest
 
-from ribbonscarp import ConnectionEnded, EventKind, Key, Reason, Refused, WaitedTooLong, connect, listen
+from ribbonscarp import Body, ConnectionEnded, EventKind, HostSession, Key, Reason, Refused, WaitedTooLong
+from ribbonscarp import connect, listen
 from support import FORM, Beside, run_connect
 
 
@@ -76,6 +78,33 @@ class EachOtherTest(unittest.TestCase):
             beside.finish()
         self.assertEqual(names, ["ONE", "TWO", "THREE"])
         self.assertEqual(told, [" Bye"])
+
+    def test_many_stations(self) -> None:
+        """Fifty at once, each on a thread of its own, as is each host's end."""
+        told: list[str] = []
+
+        def work(name: str, port: int) -> None:
+            with connect("127.0.0.1", port, wait=20) as session:
+                session.wait_unlocked()
+                session.fill(1, name)
+                session.press(Key.ENTER)
+                told.append(session.wait_text("Bye").row(24).split()[1])
+
+        def play(host: HostSession) -> None:
+            with host, contextlib.suppress(ConnectionEnded):
+                host.wait_ready()
+                host.send(FORM)
+                name = host.wait_answer().fields[0].text
+                host.send(Body().write(0, 0).text(24, 2, f"Bye {name}"))
+                host.wait_event()
+
+        names = [f"N{number}" for number in range(50)]
+        with listen(wait=20) as listener:
+            besides = [Beside(functools.partial(work, name, listener.port)) for name in names]
+            besides += [Beside(functools.partial(play, listener.accept())) for _ in names]
+            for beside in besides:
+                beside.finish()
+        self.assertEqual(sorted(told), sorted(names))
 
     def test_two_stations(self) -> None:
         """One after another at one listener, also at an address of IPv6."""

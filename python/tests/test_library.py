@@ -5,16 +5,18 @@ import ctypes
 import os
 import pathlib
 import re
+import resource
 import shutil
 import subprocess
 import sys
 import tempfile
+import time
 import unittest
 from enum import IntEnum
 
 import ribbonscarp
 from ribbonscarp import KeyRefusal, Opcode, Reason, Status, codes, library
-from support import TOP
+from support import FORM, PROGRAM, TOP, record
 
 HEADER = (TOP / "c/ribbonscarp.h").read_text(encoding="utf-8")
 LIBRARY = str(library.library()._name)
@@ -52,6 +54,21 @@ class HeaderTest(unittest.TestCase):
         self.assertEqual(len(of_kind), 15)
         self.assertEqual((kinds["CHAR"], kinds["INSERT"], kinds["AID"]), (1, 2, codes.AID))
 
+    def test_names_of_keys(self) -> None:
+        """Each name of the program, and those of a PC's keys; in any case, and with blanks, hyphens or underscores."""
+        page = (TOP / "docs/PROFILE.md").read_text(encoding="utf-8")
+        row = re.search(r"^`key NAME` \| that key: (.*)$", page, re.M)
+        assert row is not None
+        names = [name for name in re.findall(r"`(\w+)`", row[1]) if name not in ("F1", "F24")]
+        self.assertEqual(len(names), 21)
+        for name in names:
+            self.assertEqual(ribbonscarp.Key.named(name).name.replace("_", "").lower(), name.lower())
+        for name in ("Page Down", "page-down", "PAGE_DOWN", "pagedown", "Roll Up"):
+            self.assertIs(ribbonscarp.Key.named(name), ribbonscarp.Key.ROLL_UP)
+        self.assertIs(ribbonscarp.Key.named("f24"), ribbonscarp.Key.F24)
+        with self.assertRaisesRegex(ValueError, "no key is 'F25'; a character is typed by type"):
+            ribbonscarp.Key.named("F25")
+
     def test_terminals(self) -> None:
         named = constants("TERMINAL_")
         self.assertEqual(named.pop("NONE"), 0)
@@ -82,6 +99,25 @@ class HeaderTest(unittest.TestCase):
         self.assertEqual(library.status_text(Status.NOT_READY), "both ends haven't agreed on records yet")
 
 
+class FastTest(unittest.TestCase):
+    """The library and the program are compiled as fast code, proved or not: unoptimised code takes fifty times as long."""
+
+    def test_station(self) -> None:
+        times = []
+        for _ in range(20):
+            begun = time.process_time()
+            ribbonscarp.Station().close()
+            times.append(time.process_time() - begun)
+        self.assertLess(sorted(times)[10], 0.001)
+
+    def test_program(self) -> None:
+        """Three million bytes by `check --raw`."""
+        before = resource.getrusage(resource.RUSAGE_CHILDREN).ru_utime
+        done = subprocess.run([PROGRAM, "check", "--raw"], input=record(FORM) * 100000, capture_output=True, check=True)
+        self.assertIn(b"accepted: 100000 records", done.stdout)
+        self.assertLess(resource.getrusage(resource.RUSAGE_CHILDREN).ru_utime - before, 0.5)
+
+
 class FindingTest(unittest.TestCase):
     """In a process of its own, since a library is loaded once."""
 
@@ -100,6 +136,7 @@ class FindingTest(unittest.TestCase):
         run = self.load(TOP / "python", RIBBONSCARP_LIBRARY="/nowhere.so", LD_LIBRARY_PATH=os.path.dirname(LIBRARY))
         self.assertEqual(run.stdout, "")
         self.assertIn("LibraryNotFound: no libribbonscarp: /nowhere.so", run.stderr)
+        self.assertIn("RIBBONSCARP_LIBRARY is to name the file of the library", run.stderr)
 
     def test_installed(self) -> None:
         run = self.load(TOP / "python", LD_LIBRARY_PATH=os.path.dirname(os.path.realpath(LIBRARY)))

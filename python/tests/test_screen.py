@@ -1,11 +1,13 @@
 """What is seen of a screen: rows, cells, colours, fields and their labels."""
 from __future__ import annotations
 
+import html
+import json
 import re
 import unittest
 from collections.abc import Callable
 
-from ribbonscarp import Color, FieldNotFound, Screen, Shift, Style
+from ribbonscarp import Color, FieldNotFound, Key, Screen, Shift, Style
 from support import FORM, SIGN_ON, TOP, ready_station
 
 
@@ -102,6 +104,71 @@ class ScreenTest(unittest.TestCase):
             self.assertEqual(station.screen.fields[0].text, "BOB")
 
 
+class SeenTest(unittest.TestCase):
+    """A screen as it is printed, compared and handed on; a hidden field stays hidden."""
+
+    BODY = WRITE + at(1, 36, "Sign On") + at(6, 2, "User") + field(6, 20, 10) + at(7, 2, "Password")
+    BODY += field(7, 20, 10, attribute="27")
+
+    def setUp(self) -> None:
+        station = ready_station(self.BODY)
+        self.addCleanup(station.close)
+        station.fill("User", "BOB")
+        station.fill("Password", "SECRET")
+        self.station, self.screen = station, station.screen
+
+    def test_printed(self) -> None:
+        first, *rows = repr(self.screen).splitlines()
+        self.assertEqual(first, "<Screen: cursor 7 26, unlocked, 2 fields")
+        self.assertEqual(rows, [" 1 " + " " * 35 + "Sign On", " 6  User" + " " * 14 + "BOB", " 7  Password>"])
+        self.assertEqual(
+            [repr(found) for found in self.screen.fields],
+            [
+                "<Field 1 'User' at row 6, column 20, length 10, format 4800, modified: 'BOB'>",
+                "<Field 2 'Password' at row 7, column 20, length 10, format 4800, hidden, modified: ''>",
+            ],
+        )
+        self.assertEqual([found.is_hidden for found in self.screen.fields], [False, True])
+        self.assertEqual(self.screen.fields[1].content[:6], "SECRET".encode("cp037"))
+
+    def test_nothing_hidden_is_told(self) -> None:
+        secrets = ("SECRET", "SECRET".encode("cp037").hex(), repr("SECRET".encode("cp037"))[2:-1])
+        told = [repr(self.screen), str(self.screen), repr(self.screen.fields), self.screen.to_html()]
+        told.append(json.dumps(self.screen.to_dict()))
+        for text in told:
+            for secret in secrets:
+                self.assertNotIn(secret, text)
+
+    def test_compared(self) -> None:
+        self.assertEqual(self.screen, self.station.screen)
+        self.assertEqual(len({self.screen, self.station.screen}), 1)
+        self.station.press(Key.TAB)
+        self.assertNotEqual(self.screen, self.station.screen)
+        self.station.press(Key.BACK_TAB)
+        self.assertNotEqual(self.screen, "Sign On")
+        self.assertIn("Sign On", self.screen)
+        self.assertIn(re.compile("Sign O."), self.screen)
+        self.assertNotIn(re.compile("^Sign"), self.screen)
+
+    def test_json(self) -> None:
+        told = json.loads(json.dumps(self.screen.to_dict()))
+        self.assertEqual(sorted(told), ["cursor", "error_row", "fields", "locked", "message", "rows"])
+        self.assertEqual((told["rows"][0].strip(), told["cursor"], told["locked"]), ("Sign On", [7, 26], False))
+        user = {"number": 1, "row": 6, "column": 20, "length": 10, "label": "User", "text": "BOB", "hidden": False}
+        self.assertEqual(told["fields"][0], user | {"protected": False, "modified": True})
+        self.assertEqual((told["fields"][1]["text"], told["fields"][1]["hidden"]), ("", True))
+
+    def test_html(self) -> None:
+        """The text of the element is the rows."""
+        with ready_station(self.BODY + at(10, 1) + b"\x29" + at(10, 2, "<b>&")) as station:
+            screen = station.screen
+        text = screen.to_html()
+        lines = html.unescape(re.sub("<[^>]*>", "", text)).strip("\n").split("\n")
+        self.assertEqual(lines, list(screen.rows))
+        self.assertIn("background:#f44;color:#000", text)
+        self.assertEqual(text.count("outline"), 1)
+
+
 class FieldTest(unittest.TestCase):
     def test_fields(self) -> None:
         with ready_station(SIGN_ON) as station:
@@ -168,10 +235,31 @@ class FieldTest(unittest.TestCase):
         for which, number in rows:
             self.assertEqual(screen.field(which).number, number, which)
 
+    def test_punctuation(self) -> None:
+        """A label of dots, dashes or arrows alone is looked for as it stands, and is no label of a field without one."""
+        body = WRITE + field(2, 30, 4) + at(3, 2, "Name") + field(3, 20, 4)
+        arrow = body + at(20, 2, "Selection or command") + at(21, 2, "===>") + field(21, 8, 40)
+        screen = screen_of(arrow)
+        for label in ("===>", " ===> ", "==>", "Selection or command", "command"):
+            self.assertEqual(screen.field(label).number, 3, label)
+        for label in ("...", "", " ", ":", "-->"):
+            with self.assertRaisesRegex(FieldNotFound, "there are: 1 '' at 2 30, 2 'Name' at 3 20, 3 'Selection"):
+                screen.field(label)
+        alone = screen_of(body + at(10, 2, "===>") + field(10, 8, 4))
+        self.assertEqual((alone.field("===>").number, alone.fields[2].label), (3, "===>"))
+        two = screen_of(arrow + at(10, 2, "===>") + field(10, 8, 4))
+        with self.assertRaisesRegex(FieldNotFound, "2 fields are '===>'; there are: 3 '===>' at 10 8, 4 'Selection or c"):
+            two.field("===>")
+
+    def test_as_it_stands_first(self) -> None:
+        """A label that is another's without its dots is the field that has it so."""
+        screen = screen_of(WRITE + at(3, 2, "Name:") + field(3, 20, 4) + at(5, 2, "Name") + field(5, 20, 4))
+        self.assertEqual((screen.field("Name:").number, screen.field("name").number), (1, 2))
+
     def test_not_found(self) -> None:
         screen = screen_of(WRITE + at(3, 2, "Day") + field(3, 20, 4) + at(5, 2, "Day") + field(5, 20, 4))
         rows: list[tuple[int | str | tuple[int, int], str]] = [
-            ("Month", "no field is 'Month'; there are: 1 'Day', 2 'Day'"),
+            ("Month", "no field is 'Month'; there are: 1 'Day' at 3 20, 2 'Day' at 5 20"),
             ("Day", "2 fields are 'Day'"),
             (3, "no field is 3"),
             (0, "no field is 0"),

@@ -118,7 +118,7 @@ class SocketTest(unittest.TestCase):
             session.wait_unlocked(wait=0.1)
         goes_on.set()
         self.assertEqual(str(caught.exception).splitlines()[0],
-                         "an unlocked keyboard hasn't come within 0.1 seconds; the screen shows")
+                         "an unlocked keyboard hasn't come within 0.1 seconds; the screen is empty")
         assert caught.exception.screen is not None
         self.assertTrue(caught.exception.screen.is_locked)
         self.assertEqual(session.wait_unlocked().cursor, (6, 53))

@@ -2,13 +2,12 @@
 from __future__ import annotations
 
 import gc
-import threading
 import unittest
 import warnings
 from collections.abc import Callable
 
 from ribbonscarp import Key, KeyRefusal, KeyRefused, Read, Reason, Refused, Station, Status, StatusError
-from support import FORM, OPENING, PAST_END, ready_station, record
+from support import FORM, OPENING, PAST_END, Beside, ready_station, record
 
 
 class StationTest(unittest.TestCase):
@@ -168,20 +167,36 @@ class StationTest(unittest.TestCase):
                 call()
             self.assertEqual(caught.exception.status, Status.NOTHING_HELD)
 
-    def test_another_thread(self) -> None:
-        told: list[str] = []
+    def test_threads(self) -> None:
+        """A station is used by several threads, one call at a time, and closed by another than made it."""
+        station = ready_station(FORM)
 
-        def use(station: Station) -> None:
-            try:
-                station.push(b"A")
-            except RuntimeError as error:
-                told.append(str(error))
+        def work() -> None:
+            for _ in range(300):
+                station.fill(1, "BOB")
+                self.assertEqual(station.screen.fields[0].text, "BOB")
+                station.push(b"\xff\xf1" * 50)
 
-        with Station() as station:
-            thread = threading.Thread(target=use, args=(station,))
-            thread.start()
-            thread.join()
-        self.assertEqual(told, ["Station is used by another thread than made it"])
+        for beside in [Beside(work) for _ in range(4)]:
+            beside.finish()
+        self.assertEqual(station.screen.fields[0].text, "BOB")
+        Beside(station.close).finish()
+        with self.assertRaisesRegex(StatusError, "this Station is closed"):
+            station.type("A")
+
+    def test_forgotten_elsewhere(self) -> None:
+        """One that is forgotten on another thread than made it is freed there."""
+        kept = [Station()]
+        handle = kept[0]._handle
+
+        def forget() -> None:
+            kept.clear()
+            gc.collect()
+
+        with warnings.catch_warnings():
+            warnings.simplefilter("ignore")
+            Beside(forget).finish()
+        self.assertFalse(handle.handle.is_open)
 
     def test_unclosed(self) -> None:
         """One that is forgotten is freed, and warned of."""

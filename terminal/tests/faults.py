@@ -127,10 +127,10 @@ def cut_behind_iac():
         host, t = at_form("--record", "cut", folder=folder)
         host.send_raw(hosts.record(FORM)[:60] + b"\xff")
         host.close()
-        t.tells("The host has closed the line.")
+        t.tells("The line is lost: the host closed it in mid-record.")
         check("Order" in t.window.text(0), "the screen stays")
         t.type("\x1ds")
-        t.leave(0, "The host has closed the line.")
+        t.leave(1, "The line is lost: the host closed it in mid-record.")
         for name in "cut", "term5250.rec":
             shown = shown_of(os.path.join(folder, name))
             check("truncated at" in shown.splitlines()[-1], "t5250 show tells where it ends", shown[-200:])
@@ -181,8 +181,8 @@ def bad_peers():
 
     t = Terminal(f"127.0.0.1:{plain(resets)}")
     t.until(lambda: "Connection reset" in t.said.decode("utf-8", "replace"), "a reset")
-    if "no connection" in t.said.decode("utf-8", "replace"):
-        t.ended(2, "no connection")  # It came before the line was there.
+    if "No connection" in t.said.decode("utf-8", "replace"):
+        t.ended(2, "No connection")  # It came before the line was there.
     else:
         t.leave(1, "The line is lost: Connection reset")
     t = Terminal(f"127.0.0.1:{plain(lambda line: time.sleep(20))}")
@@ -334,25 +334,28 @@ def command_lines():
     port = free.getsockname()[1]
     free.close()
     for words, texts, more in (
-        ([f"127.0.0.1:{port}"], ("no connection", "refused"), {}),
-        (["host.invalid:23"], ("no connection to host.invalid:23: ",), {}),
-        ([], ("usage", "it needs a host"), {}),
-        (["--wrong"], ("usage", "there is no option --wrong"), {}),
-        (["-x"], ("usage", "there is no option -x"), {}),
-        (["a", "b"], ("usage", "b is one host too many"), {}),
-        (["--terminal"], ("usage", "--terminal lacks its value"), {}),
-        (["--separators", "bars", "a"], ("usage", "dim or off, and not bars"), {}),
-        (["--background", "red", "a"], ("usage", "black or own, and not red"), {}),
+        ([f"127.0.0.1:{port}"], ("No connection", "refused"), {}),
+        (["host.invalid:23"], ("No connection to host.invalid:23: ",), {}),
+        ([], ("term5250 --help has all options.", "it needs a host"), {}),
+        (["--wrong"], ("term5250 --help has all options.", "term5250: unrecognized option '--wrong'"), {}),
+        (["-x"], ("term5250 --help has all options.", "term5250: invalid option -- 'x'"), {}),
+        (["--mono=yes", "a"], ("term5250 --help has all options.", "option '--mono' doesn't allow an argument"), {}),
+        (["a", "b"], ("term5250 --help has all options.", "b is one host too many"), {}),
+        (["--terminal"], ("term5250 --help has all options.", "option '--terminal' requires an argument"), {}),
+        (["--"], ("term5250 --help has all options.", "it needs a host"), {}),
+        (["--", "--mono"], ("No connection to --mono: ",), {}),
+        (["--separators=bars", "a"], ("term5250 --help has all options.", "underline or off, and not bars"), {}),
+        (["--background", "red", "a"], ("term5250 --help has all options.", "black or own, and not red"), {}),
         (["localhost:107333"], ("port 107333 is out of range: it is 1 to 65535",), {}),
         (["localhost:0"], ("port 0 is out of range",), {}),
-        (["--terminal", "VT100", "localhost"], ("no such terminal type",), {}),
+        (["--terminal=VT100", "localhost"], ("no such terminal type",), {}),
         (["--record", "/nowhere/at/all", "localhost"], ("/nowhere/at/all: No such file",), {}),
         (["localhost:1"], ("TERM is nosuch, which isn't a terminal that is known here",), {"term": "nosuch"}),
         (["localhost:1"], ("TERM isn't set",), {"term": ""}),
         (["localhost:1"], ("TERM is dumb, which can't move its cursor",), {"term": "dumb"}),
     ):
         said = Terminal(*words, **more).ended(2, *texts)
-        check("\x1b" not in said or "no connection" in said, "it is told before the window is touched", words)
+        check("\x1b" not in said or "No connection" in said, "it is told before the window is touched", words)
 
 
 def run(*words):
@@ -367,6 +370,7 @@ def without_a_terminal():
         helped = run(*words)
         is_right = helped.returncode == 0 and helped.stdout.startswith("usage: ") and not helped.stderr
         check(is_right, "help", words, helped)
+        check(all(len(line) <= 80 for line in helped.stdout.splitlines()), "in 80 columns", helped.stdout)
     version = run("--version")
     check(version.returncode == 0 and version.stdout.startswith("term5250 ") and not version.stderr, "version", version)
     with open("/dev/full", "w") as full:

@@ -42,18 +42,24 @@ def record(body, opcode=3, flags=0):
 class Host:
     """A host for one station: `send` sends a record, `answer` gives the next record that comes."""
 
-    def __init__(self, family=socket.AF_INET, where="127.0.0.1", negotiates=True, reads=True):
-        self.listening = socket.create_server((where, 0), family=family)
+    def __init__(self, family=socket.AF_INET, where="127.0.0.1", port=0, negotiates=True, reads=True):
+        self.listening = socket.create_server((where, port), family=family)
         self.port = self.listening.getsockname()[1]
-        self.came = queue.Queue()
         self.is_ready = threading.Event()
         self.line = None
         self.window = None  # A terminal whose output is taken while an answer is waited for.
-        self.raw = b""
         self.negotiates, self.reads = negotiates, reads
+        self.again()
+
+    def again(self):
+        """Waits for a station, for the first or the next one."""
+        self.raw = b""
+        self.came = queue.Queue()
+        self.is_ready.clear()
         threading.Thread(target=self.serve, daemon=True).start()
 
     def serve(self):
+        came = self.came
         try:
             self.line = self.listening.accept()[0]
             self.line.setsockopt(socket.IPPROTO_TCP, socket.TCP_NODELAY, 1)
@@ -64,7 +70,7 @@ class Host:
                 self.take(data)
         except OSError:
             pass
-        self.came.put(None)
+        came.put(None)
 
     def negotiate(self):
         self.line.sendall(bytes([IAC, DO, TYPE]) + SEND_TYPE)
@@ -76,6 +82,7 @@ class Host:
                 raise OSError
             self.raw += data
         last = max(self.raw.rfind(token) + 3 for token in wanted)
+        self.began = self.raw[:last]  # The station's side of the negotiation.
         self.raw = self.raw[last:]
 
     def take(self, data):
@@ -107,6 +114,9 @@ class Host:
 
     def close(self):
         self.listening.close()
+        self.hang_up()
+
+    def hang_up(self):
         if self.line is not None:
             try:
                 self.line.shutdown(socket.SHUT_RDWR)  # A close alone waits for the thread that reads.
@@ -119,9 +129,12 @@ def inputs(answer):
     """The key of an answer, and the text of its fields by their place."""
     if answer is None:
         return None, {}
-    body, fields = answer[2], {}
-    for part in body[3:].split(b"\x11")[1:]:
-        fields[part[0], part[1]] = part[2:].decode("cp037")
+    body, fields, at = answer[2], {}, 3
+    while at + 2 < len(body):
+        end = body.find(b"\x11", at + 3)  # Row and column may be 11, cells may not.
+        end = len(body) if end < 0 else end
+        fields[body[at + 1], body[at + 2]] = body[at + 3 : end].decode("cp037")
+        at = end
     return body[2], fields
 
 

@@ -119,7 +119,7 @@ def too_small(columns, rows):
     t.run("resize-window", "-x", "80", "-y", "24")
     t.until(lambda shown: "Order" in shown[0] and shown[2][19:25].strip() == "", "a larger window is drawn")
     t.type("7")
-    t.until(lambda shown: shown[2][19] == "7", "and keys are taken")
+    t.until(lambda shown: shown[2][19:20] == "7", "and keys are taken")
     t.end()
     host.close()
 

@@ -18,10 +18,17 @@ static const struct {
     {"KeypadEnter", STROKE_KEYPAD_ENTER}, {"Esc a", 'a' | STROKE_ESCAPED}, {"Esc A", 'A' | STROKE_ESCAPED},
     {"esc F3", (STROKE_F1 + 2) | STROKE_ESCAPED}, {"Esc =", '=' | STROKE_ESCAPED},
     {"Esc Esc", STROKE_ESCAPE | STROKE_ESCAPED}, {"Esc \xc3\xa9", 0xe9 | STROKE_ESCAPED},
+    {"Ctrl-B", 2}, {"ctrl-b", 2}, {"Ctrl-]", 0x1d}, {"Ctrl-H", STROKE_BACKSPACE}, {"Shift-F1", STROKE_F1 + 12},
+    {"shift-f12", STROKE_F24}, {"Shift-Tab", STROKE_BACK_TAB}, {"Alt-a", 'a' | STROKE_ESCAPED},
+    {"Alt-F1", STROKE_F1 | STROKE_ESCAPED}, {"Esc-a", 'a' | STROKE_ESCAPED}, {"Esc--", '-' | STROKE_ESCAPED},
+    {"Esc -", '-' | STROKE_ESCAPED}, {"PgUp", STROKE_PAGE_UP}, {"PgDn", STROKE_PAGE_DOWN}, {"pgdn", STROKE_PAGE_DOWN},
+    {"Return", STROKE_ENTER}, {"Esc Return", STROKE_ENTER | STROKE_ESCAPED}, {"WheelUp", STROKE_WHEEL_UP},
+    {"WheelDown", STROKE_WHEEL_DOWN},
 };
 
 static const char *const no_keys[] = {"", "a", "F0", "F25", "F1x", "^", "^AB", "Keypad", "Keypad10", "Left2", "Esc",
-                                      "Esc ", "Esc ab", "Esc F25", "Hyper", "=", "^1"};
+                                      "Esc ", "Esc ab", "Esc F25", "Hyper", "=", "^1", "Ctrl-", "Ctrl-AB",
+                                      "Ctrl-1", "Shift-F13", "Shift-F0", "Shift-A", "Shift-", "Alt-", "Alt-ab", "Esc-"};
 
 static void keys_have_names(void)
 {
@@ -76,6 +83,9 @@ static void keys_do_from_the_first_on(void)
     CHECK(does("Esc a", ACTION_ATTENTION, 0) && does("Esc e", ACTION_ERASE_INPUT, 0));
     CHECK(does("^T", ACTION_SYSTEM_REQUEST, 0) && does("^F", ACTION_FIELD_PLUS, 0) && does("^]", ACTION_MENU, 0));
     CHECK(does("KeypadEnter", ACTION_AID, RIBBON_AID_ENTER) && does("PageUp", ACTION_AID, RIBBON_AID_ROLL_DOWN));
+    CHECK(does("WheelUp", ACTION_AID, RIBBON_AID_ROLL_DOWN) && does("WheelDown", ACTION_AID, RIBBON_AID_ROLL_UP));
+    CHECK(does("KeypadPlus", ACTION_FIELD_PLUS, 0) && does("KeypadMinus", ACTION_FIELD_MINUS, 0));
+    CHECK(does("^S", ACTION_STATUS, 0));
     CHECK(does("Esc A", ACTION_ATTENTION, 0) && !does("Esc Z", ACTION_NOTHING, 0));
     for (unsigned number = 1; number <= 24; number++) {
         (void)snprintf(name, sizeof name, "F%u", number);
@@ -94,6 +104,23 @@ static void keys_do_from_the_first_on(void)
     CHECK(strcmp(text, "^R, Esc Esc") == 0);
     bindings_keys(&bound, (action){ACTION_RESET, 0}, text, 10);
     CHECK(strcmp(text, "^R") == 0);
+}
+
+static void keys_of_tn5250(void)
+{
+    char text[20];
+    bindings_begin(&bound);
+    CHECK(!bound.is_tn5250);
+    bindings_tn5250(&bound);
+    CHECK(bound.is_tn5250 && does("^A", ACTION_ATTENTION, 0) && does("^C", ACTION_SYSTEM_REQUEST, 0));
+    CHECK(does("^B", ACTION_AID, RIBBON_AID_ROLL_DOWN) && does("^U", ACTION_AID, RIBBON_AID_ROLL_DOWN));
+    CHECK(does("^F", ACTION_AID, RIBBON_AID_ROLL_UP) && does("^D", ACTION_AID, RIBBON_AID_ROLL_UP));
+    CHECK(does("^K", ACTION_FIELD_EXIT, 0) && does("^X", ACTION_FIELD_EXIT, 0) && does("Esc M", ACTION_FIELD_MINUS, 0));
+    CHECK(does("^E", ACTION_ERASE_INPUT, 0) && does("^O", ACTION_HOME, 0) && does("^T", ACTION_ITSELF, 0));
+    CHECK(does("Esc R", ACTION_RESET, 0) && does("^R", ACTION_RESET, 0) && does("F3", ACTION_AID, RIBBON_AID_F3));
+    CHECK(does("^Q", ACTION_MENU, 0) && does("^]", ACTION_MENU, 0) && does("Esc D", ACTION_DUP, 0));
+    bindings_keys(&bound, (action){ACTION_ATTENTION, 0}, text, sizeof text);
+    CHECK(strcmp(text, "^A, Esc a") == 0);
 }
 
 static bool reads(const char *text, char *why, size_t room)
@@ -159,6 +186,7 @@ int main(void)
     keys_have_names();
     actions_have_names();
     keys_do_from_the_first_on();
+    keys_of_tn5250();
     keys_files_are_read();
     there_is_an_end_of_keys();
     return check_end();

@@ -1,5 +1,5 @@
-"""Random keys and records, and hosts that send garbage, at a terminal with sanitizers: no report, and each time the
-terminal as it was found."""
+"""Random keys, records and losses, and hosts that send garbage, at a terminal with sanitizers: no report, and each time
+the terminal as it was found."""
 import os
 import pathlib
 import random
@@ -7,6 +7,8 @@ import tempfile
 import time
 
 import hosts
+from certificates import Authority, Front, context_of, has_tls
+import typist
 from hosts import Host, READ, field, plain, text, write
 from window import Terminal, check
 
@@ -16,7 +18,10 @@ KEYS = ["\r", "\t", "\x1b[Z", "\x7f", "\x08", "\x1bOA", "\x1bOB", "\x1bOC", "\x1
         "\x04", "\x0f", "\x0c", "\x07", "\x10", "\x14", "\x18", "\x03", "\x1bOM", "\x1bOk", "\x1bOu", "\x1b[1;5C",
         "\x1b]11;?\x07", "\x1b[<0;20;3M\x1b[<0;20;3m", "\x1b[<0;200;90M", "\x1b[200~12\r\nab\x1b[201~", "\x1b[200~",
         "\x1b[201~", "\x1dx", "\x1d\x1d", "\x1d\x1b", "\x1ds", "\x1dp", "\x1dr", "\x00", "caf\u00e9",
-        "\u20ac", "12.5", "x", " ", "A long text that fills more than one field of them all"]
+        "\x1b[<64;10;5M", "\x1b[<65;10;5M", "\x13", "\x1dt", "\x1dmn-1\r", "\x1dan-1\r", "\x1bOm",
+        "\x1b[", "\x1bO", "\x1b[200~" + "long " * 60 + "\x1b[201~", "\x1b[200~a\tb\rc\n\n" + "1\n" * 30 + "\x1b[201~",
+        "\x1b[200~" + "much" * 1100 + "\x1b[201~", "\u20ac", "12.5", "x", " ",
+        "A long text that fills more than one field of them all"]
 SIZES = [(24, 80), (25, 80), (30, 100), (20, 60), (1, 1), (50, 200), (24, 79), (23, 80), (3, 500)]
 # What curses itself doesn't give back, it keeps for the next window.
 SUPPRESSED = pathlib.Path(__file__).resolve().parent / "curses.supp"
@@ -60,15 +65,17 @@ def say_nothing(said, what):
     check(not any(word in said for word in SAID), f"no sanitizer speaks: {what}", said[-1500:])
 
 
-def is_shown(printed, shown):
-    """A window's row shows a row of the screen; a column separator stands in a blank."""
-    return all(a == b or (a == " " and b == "_") for a, b in zip(printed.ljust(80), shown.ljust(80)))
+def at_rest(t):
+    """Ends a paste, a name that the menu asks for, and the menu, whichever there is; an earlier note goes."""
+    t.type("\x1b[201~\x1d\x1b")
+    t.settle()
+    t.type("\x1dx")
+    t.settle()
 
 
 def same_screen(t, folder):
     """The window shows what the station's screen is, as the menu prints it into a file."""
-    t.type("\x1b[201~\x1dx")  # Whether a paste is on or not, and the menu; an earlier note goes.
-    t.settle()
+    at_rest(t)
     t.type("\x1dp")
     t.until(lambda: "The screen is in" in t.status(), "the screen is printed", 20)
     t.settle()
@@ -76,48 +83,83 @@ def same_screen(t, folder):
     with open(os.path.join(folder, name), encoding="utf-8") as file:
         printed = file.read().split("\n")[:24]
     rows = [t.window.text(row) for row in range(24)]
-    differ = [(a, b) for a, b in zip(printed, rows) if not is_shown(a, b)]
+    differ = [(a, b) for a, b in zip(printed, rows) if a.ljust(80) != b.ljust(80)]
     check(not differ, "the window shows the station's screen", name, differ[:4])
+
+
+def connect_again(dice, host, t, counts):
+    """The line is lost, or is already; the next connection comes by the box, by the menu, or by itself."""
+    host.again()
+    host.hang_up()
+    at_rest(t)  # A paste or a name would take the keys.
+    end = time.monotonic() + 5
+    while not host.is_ready.is_set() and time.monotonic() < end and t.child.poll() is None:
+        t.type(dice.choice(["c", "\x1dc", "x", "s"]))
+        t.read(0.3)
+    counts["connections"] += 1
+
+
+def end_is_right(status, said):
+    """The status is that of the sentence with which it ends."""
+    last = said.rpartition("term5250: ")[2]
+    if last.startswith("Left."):
+        return status == 0
+    if last.startswith("No connection"):
+        return status == 2
+    return status == 1 or (status == 0 and "Refused at" not in last)
+
+
+def secured(dice, host, folder):
+    """Words for a way to the host, in the clear or by TLS."""
+    if dice.random() < 0.6 or not has_tls():
+        return [f"127.0.0.1:{host.port}"]
+    own = Authority(os.path.join(folder, "own"))
+    front = Front(context_of(own.sign("host", "DNS:localhost")), host.port)
+    return ["--tls", "--ca", own.file("ca.pem"), f"localhost:{front.port}"]
 
 
 def one_session(dice, sanitized, seconds, counts, folder):
     host = Host()
     words = dice.choice([[], ["--no-hold"], ["--mono"], ["--separators", "off"], ["--background", "own"],
-                         ["--no-mouse"]])
+                         ["--no-mouse"], ["--reconnect"], ["--type-ahead", "off"], ["--keys", "tn5250"]])
     rows, columns = dice.choice(SIZES[:3])
-    t = Terminal(*words, f"127.0.0.1:{host.port}", rows=rows, columns=columns, program=sanitized,
-                 term=dice.choice(["xterm", "screen", "vt100", "linux", "xterm-256color"]), folder=folder, **CAREFUL)
+    t = Terminal(*words, *secured(dice, host, folder), rows=rows, columns=columns, program=sanitized,
+                 term=dice.choice(["xterm", "screen", "vt100", "linux", "xterm-256color"]), folder=folder,
+                 XDG_CONFIG_HOME=folder, **CAREFUL)
     host.ready()
     end = time.monotonic() + seconds
-    try:
-        while time.monotonic() < end and t.child.poll() is None:
-            for _ in range(dice.randrange(8)):
-                t.type(dice.choice(KEYS))
-                counts["keys"] += 1
+    while time.monotonic() < end and t.child.poll() is None:
+        for _ in range(dice.randrange(8)):
+            t.type(dice.choice(KEYS))
+            counts["keys"] += 1
+        try:
             if dice.random() < 0.5:
                 host.send_raw(something(dice))
                 counts["records"] += 1
-            if dice.random() < 0.03:
-                t.resize(*dice.choice(SIZES))
-                counts["sizes"] += 1
-            if dice.random() < 0.015 and t.window.rows > 24 and t.window.columns >= 80:
-                same_screen(t, folder)
-                counts["windows"] += 1
-            while t.read(0.002):
-                pass
-    except OSError:
-        pass  # A refused record closes the line.
+        except OSError:
+            connect_again(dice, host, t, counts)  # A refused record closes the line.
+        if dice.random() < 0.004:
+            connect_again(dice, host, t, counts)
+        if dice.random() < 0.03:
+            t.resize(*dice.choice(SIZES))
+            counts["sizes"] += 1
+        if dice.random() < 0.015 and t.window.rows > 24 and t.window.columns >= 80 and "--reconnect" not in words:
+            same_screen(t, folder)
+            counts["windows"] += 1
+        while t.read(0.002):
+            pass
     while t.read(0.2):
         pass
     t.resize(25, 80)
     t.read(0.2)
-    if t.child.poll() is None:
+    if t.child.poll() is None and "--reconnect" not in words:
         same_screen(t, folder)
         counts["windows"] += 1
-    t.type("\x1dx\x1dq")
+    at_rest(t)
+    t.type("\x1dq")
     status = ended_with(t, 30)
     said = t.ended(status)
-    check(status == (1 if "Refused at" in said else 0), "its status", status, said[-200:])
+    check(end_is_right(status, said), "its status", status, said[-200:])
     say_nothing(said, "random keys and records")
     host.close()
     counts["sessions"] += 1
@@ -125,12 +167,18 @@ def one_session(dice, sanitized, seconds, counts, folder):
 
 def random_work(seed, sanitized, seconds):
     dice = random.Random(seed)
-    counts = dict.fromkeys(("sessions", "keys", "records", "sizes", "windows"), 0)
+    counts = dict.fromkeys(("sessions", "keys", "records", "sizes", "windows", "connections"), 0)
     end = time.monotonic() + seconds
     while time.monotonic() < end:
         with tempfile.TemporaryDirectory() as folder:
             one_session(dice, sanitized, min(20, max(end - time.monotonic(), 1)), counts, folder)
     print("random work:", ", ".join(f"{count} {name}" for name, count in counts.items()), flush=True)
+
+
+def typing(seed, sanitized, seconds):
+    """Typing beside its model."""
+    t = typist.random_typing(seed, sanitized, seconds, time.monotonic, **CAREFUL)
+    say_nothing(t.ended(ended_with(t, 20)), "random typing")
 
 
 def garbage(dice):
@@ -172,9 +220,9 @@ def garbage_hosts(seed, sanitized, count):
 
 
 def ended_with(t, seconds):
-    """The status with which it ends: 0 or 1 by what was refused, and no other."""
+    """The status with which it ends: 0 or 1 by what was refused, 2 by what wasn't there, and no other."""
     end = time.monotonic() + seconds
     while t.child.poll() is None and time.monotonic() < end:
         t.read(0.02)
-    check(t.child.returncode in (0, 1), "a status of 0 or 1", t.child.returncode)
+    check(t.child.returncode in (0, 1, 2), "a status of 0 to 2", t.child.returncode)
     return t.child.returncode

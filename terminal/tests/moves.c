@@ -100,6 +100,21 @@ static void erase_eof_empties(ribbon_station *station)
     CHECK(is_at(station, 5, 60) && holds(station, 20, 1, "ABCDEF"));
 }
 
+/* The last field that keys enter begins in cell 8, 10. */
+static void a_field_is_further_below(ribbon_station *station)
+{
+    static const struct {
+        uint8_t row, column;
+        bool is;
+    } places[] = {{1, 1, true}, {3, 20, true}, {5, 75, true}, {8, 9, true}, {8, 10, false}, {8, 12, false},
+                  {24, 80, false}};
+    uint8_t refusal;
+    for (size_t at = 0; at < sizeof places / sizeof places[0]; at++) {
+        CHECK(moves_to(station, places[at].row, places[at].column, &refusal) == RIBBON_DONE);
+        CHECK(moves_has_next(station) == places[at].is);
+    }
+}
+
 static void begin_and_end_of_text(ribbon_station *station)
 {
     uint8_t refusal;
@@ -153,6 +168,7 @@ int main(void)
     the_cursor_goes_to_each_cell(&station);
     new_line_goes_below(&station);
     erase_eof_empties(&station);
+    a_field_is_further_below(&station);
     begin_and_end_of_text(&station);
     backspace_at_each_place(&station);
     ribbon_station_free(&station);

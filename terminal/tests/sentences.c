@@ -3,6 +3,7 @@
 #include "sentence.h"
 
 #include <locale.h>
+#include <stdlib.h>
 
 /* Negotiation by a host (RFC 4777). */
 static const uint8_t opening[] = {0xff, 0xfd, 0x18, 0xff, 0xfa, 0x18, 0x01, 0xff, 0xf0, 0xff, 0xfd, 0x19,
@@ -17,6 +18,8 @@ static const uint8_t record[] = {
     0x11, 0x06, 0x09, 0x1d, 0x45, 0x00, 0x24, 0x00, 0x03, 0x11, 0x07, 0x09, 0x1d, 0x47, 0x00, 0x24, 0x00, 0x03,
     0xff, 0xef};
 
+static bindings bound;
+
 /* A key at a field, counted from 0, or before them all; `front` is typed before it. */
 static const struct {
     int field;
@@ -26,15 +29,18 @@ static const struct {
     const char *sentence;
 } refused[] = {
     {0, "", RIBBON_KEY_CHAR, {ACTION_CHARACTER, 0x20ac}, "The host's characters lack '\xe2\x82\xac'."},
-    {1, "", RIBBON_KEY_CHAR, {ACTION_CHARACTER, '1'}, "No '1' here: the field takes letters , . - only."},
+    {1, "", RIBBON_KEY_CHAR, {ACTION_CHARACTER, '1'}, "No '1' here: letters , . - only."},
     {2, "", RIBBON_KEY_CHAR, {ACTION_PASTED, 0x4e00}, "The host's characters lack U+4E00."},
-    {3, "12", RIBBON_KEY_CHAR, {ACTION_CHARACTER, 'x'}, "No 'x' here: the field takes 0-9 + - , . only."},
-    {4, "", RIBBON_KEY_INSERT, {ACTION_INSERTED, '-'}, "No '-' here: the field takes digits only."},
-    {5, "", RIBBON_KEY_CHAR, {ACTION_CHARACTER, '-'}, "No '-' here: the field takes digits, and Field Minus."},
+    {3, "12", RIBBON_KEY_CHAR, {ACTION_CHARACTER, 'x'}, "No 'x' here: 0-9 + - , . only."},
+    {4, "", RIBBON_KEY_INSERT, {ACTION_INSERTED, '-'}, "No '-' here: digits only."},
+    {5, "", RIBBON_KEY_CHAR, {ACTION_CHARACTER, '-'}, "No '-' here: digits only, and ^N for minus."},
     {-1, "", RIBBON_KEY_CHAR, {ACTION_CHARACTER, 'y'}, "The cursor isn't in an input field: 'y' went nowhere."},
+    {-1, "", RIBBON_KEY_CHAR, {ACTION_PASTED, 'y'}, "The cursor isn't in an input field."},
     {-1, "", RIBBON_KEY_DELETE, {ACTION_DELETE, 0}, "The cursor isn't in an input field."},
     {0, "", RIBBON_KEY_FIELD_MINUS, {ACTION_FIELD_MINUS, 0},
-     "This key is for numeric fields, and this field isn't one."},
+     "Field Minus is for signed numeric fields alone."},
+    {3, "", RIBBON_KEY_FIELD_MINUS, {ACTION_FIELD_MINUS, 0}, "Field Minus isn't for this field: type the minus."},
+    {0, "abc\t", RIBBON_KEY_INSERT, {ACTION_INSERTED, 'x'}, "No room for 'x': Reset, then type over."},
     {0, "", RIBBON_KEY_DUP, {ACTION_DUP, 0}, "The field doesn't take Dup."},
     {0, "", RIBBON_KEY_AID, {ACTION_AID, RIBBON_AID_ENTER}, "The host asks for nothing."},
 };
@@ -61,18 +67,21 @@ static void check_row(size_t at)
     for (int field = 0; field < refused[at].field; field++)
         press(&station, RIBBON_KEY_TAB, 0, RIBBON_DONE, &refusal);
     for (const char *front = refused[at].front; *front != 0; front++)
-        press(&station, RIBBON_KEY_CHAR, (uint32_t)*front, RIBBON_DONE, &refusal);
+        press(&station, *front == '\t' ? RIBBON_KEY_BACK_TAB : RIBBON_KEY_CHAR, *front == '\t' ? 0 : (uint32_t)*front,
+              RIBBON_DONE, &refusal);
     press(&station, refused[at].kind, refused[at].key.value, RIBBON_KEY_REFUSED, &refusal);
-    sentence_refused(&station, refused[at].key, refusal, text, sizeof text);
+    sentence_refused(&station, &bound, refused[at].key, refusal, text, sizeof text);
     if (strcmp(text, refused[at].sentence) != 0)
         printf("row %zu: %s\n", at, text);
     CHECK(strcmp(text, refused[at].sentence) == 0);
+    CHECK(mbstowcs(NULL, text, 0) <= 53); /* whole beside four signs and Reset in a status line */
     ribbon_station_free(&station);
 }
 
 int main(void)
 {
     CHECK(setlocale(LC_ALL, "C.UTF-8") != NULL);
+    bindings_begin(&bound);
     for (size_t at = 0; at < sizeof refused / sizeof refused[0]; at++)
         check_row(at);
     return check_end();

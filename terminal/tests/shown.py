@@ -2,6 +2,7 @@
 import os
 import signal
 import tempfile
+import time
 
 from hosts import Host, READ, field, inputs, text, write
 from window import Terminal, check
@@ -56,9 +57,10 @@ def attributes():
             shown = "".join(cell[0] for cell in t.window.cells[row][column : column + 5])
             wanted = expected(0x20 + k, is_color)
             attribute = 0x20 + k
-            separated = 0x30 <= attribute <= 0x33 if is_color else attribute & 0x10 and wanted is not None
-            blank = "_" if separated and "off" not in words else " "
-            words_shown = f"x{blank}y{k:02}" if wanted is not None else "     "
+            separated = 0x30 <= attribute <= 0x33 if is_color else attribute & 0x10
+            if wanted is not None and separated and "off" not in words:
+                wanted["underscore"] = True
+            words_shown = f"x y{k:02}" if wanted is not None else "     "
             check(shown == words_shown, f"{attribute:02X} shows", words, more, shown)
             if wanted is not None:
                 check(t.window.looks(row, column) == wanted, f"{attribute:02X} looks", words, more,
@@ -93,6 +95,14 @@ def locales():
         check(inputs(host.answer()) == (0xF1, {(4, 20): "na\u00efve"}), f"and typed with LC_ALL={name}")
         t.leave()
         host.close()
+    host = Host()
+    t = Terminal(f"127.0.0.1:{host.port}", rows=24, LC_ALL="C")
+    t.tells("The locale has no UTF-8: C.UTF-8 is taken in its place.")
+    host.ready()
+    host.send(form.replace(b"\x04\x52", text(24, 2, "the last row") + b"\x04\x52"))
+    t.shows(23, "the last row", "with 24 rows the note stands there no longer than the status line")
+    t.leave()
+    host.close()
 
 
 def characters():
@@ -154,12 +164,27 @@ def blinking_without_shapes():
 
 
 def at_24_rows():
-    host = Host()
+    host, begun = Host(), time.monotonic()
     t = Terminal(f"127.0.0.1:{host.port}", rows=24)
     host.ready()
     form = FORM.replace(b"\x04\x52", text(24, 2, "the last row") + b"\x04\x52")
     host.send(form)
-    t.shows(23, "the last row", "24 rows: the screen whole")
+    t.shows(23, "^] menu", "24 rows: at first the status line lies over the last one")
+    t.shows(23, f"127.0.0.1:{host.port}")
+    t.shows(23, "the last row", "24 rows: then the screen whole")
+    check(3 <= time.monotonic() - begun < 9, "behind three seconds", time.monotonic() - begun)
+    t.idles("then")
+    t.type("\x13")
+    t.shows(23, "^] menu  field 6  03/020", "^S lays it there")
+    t.type("1\x13")
+    t.shows(23, "the last row", "and takes it off")
+    t.type("\x1d")
+    t.shows(3, "t  the status line over row 24")
+    t.type("t")
+    t.shows(23, "^] menu  field 6  03/021", "the menu lays it there too")
+    t.type("\x1dt")
+    t.shows(23, "the last row", "and takes it off")
+    t.type("\x08")
     t.until(lambda: f"127.0.0.1:{host.port}" in t.window.title and "waiting" not in t.window.title, "the title")
     t.type("\x0f")
     t.until(lambda: t.window.shape == "6" and "INS" in t.window.title, "insert mode covers nothing")
@@ -254,7 +279,7 @@ def function_keys(terms=("xterm", "screen")):
             answer = inputs(host.answer(3))[0]
             check(answer == wanted, f"{key!r} at {term} sends {wanted:02X}", answer)
             host.send(FORM)
-            t.read(0)
+            t.until(lambda: "waiting" not in t.status(), "the screen comes again")
         t.leave()
         host.close()
 
@@ -262,7 +287,7 @@ def function_keys(terms=("xterm", "screen")):
 def keypad():
     """The numeric keypad in its application mode, at a terminal whose description knows it, and at others."""
     typed = {"p": "0", "q": "1", "r": "2", "s": "3", "t": "4", "u": "5", "v": "6", "w": "7", "x": "8", "y": "9",
-             "k": "+", "m": "-", "n": ".", "l": ",", "j": "*", "o": "/", "X": "="}
+             "n": ".", "l": ",", "j": "*", "o": "/", "X": "="}
     for term in ("xterm", "screen", "vt100", "linux", "rxvt"):
         host, t = at_form(term=term)
         t.type("\t" + "".join(f"\x1bO{final}" for final in typed) + "\x1bOM")

@@ -90,7 +90,7 @@ static void asks(const char *text, const char *wanted)
     char asked[40];
     size_t at = 0;
     paste_begin(&p);
-    CHECK(p.is_on && p.count == 0);
+    CHECK(p.is_on);
     for (; text[at] != 0 && at + 1 < sizeof asked; at++) {
         action does = paste_character(&p, (uint32_t)text[at]);
         asked[at] = does.kind == ACTION_PASTED ? (char)does.value : does.kind == ACTION_PASTED_END ? 'n' : '-';
@@ -99,8 +99,6 @@ static void asks(const char *text, const char *wanted)
     if (strcmp(asked, wanted) != 0)
         printf("`%s` asks for `%s`\n", text, asked);
     CHECK(strcmp(asked, wanted) == 0);
-    paste_end(&p);
-    CHECK(!p.is_on);
 }
 
 static void pasted_text_sends_nothing(void)
@@ -113,21 +111,76 @@ static void pasted_text_sends_nothing(void)
     asks("a\n\rb", "annb");
 }
 
-static void a_full_field_has_no_second_end(void)
+/* A paste into fields of three cells and then of two, the last ones: what of it is pressed, `n` for the key that goes
+ * to the next field, and what is told at its end. */
+static void presses(const char *text, const char *wanted, const char *sentence)
+{
+    static const size_t lengths[] = {3, 2};
+    paste p = {.is_full = true, .is_over = true, .count = 9, .total = 9, .why = "of another paste"};
+    char pressed[40], told[400];
+    size_t field = 0, place = 0, at = 0;
+    paste_start(&p);
+    for (; *text != 0; text++) {
+        if (*text == '/') {
+            if (paste_line_ends(&p, field < 1)) {
+                pressed[at++] = 'n';
+                field++;
+                place = 0;
+            }
+        } else if (paste_takes(&p)) {
+            pressed[at++] = *text;
+            place++;
+            bool is_full = place == lengths[field], is_below = field == 0;
+            paste_went_in(&p, is_full, is_below);
+            field = is_full ? (field + 1) % 2 : field;
+            place = is_full ? 0 : place;
+        }
+    }
+    pressed[at] = 0;
+    if (!paste_told(&p, told, sizeof told))
+        told[0] = 0;
+    if (strcmp(pressed, wanted) != 0 || strcmp(told, sentence) != 0)
+        printf("it presses `%s` and tells `%s`\n", pressed, told);
+    CHECK(strcmp(pressed, wanted) == 0 && strcmp(told, sentence) == 0);
+}
+
+static void a_line_goes_into_one_field(void)
+{
+    presses("ab/c", "abnc", "");
+    presses("abc/de/", "abcde", "");
+    presses("ab/c/", "abnc", "");
+    presses("abcdef", "abc", "3 of 6 pasted. The field is full.");
+    presses("a/bcd/e", "anbc", "3 of 5 pasted. The field is full.");
+    presses("abc/de/f", "abcde", "5 of 6 pasted. There is no field below.");
+    presses("abc/d/e/f", "abcd", "4 of 6 pasted. There is no field below.");
+    presses("//a", "n", "Nothing pasted. There is no field below.");
+}
+
+static void the_first_reason_stays(void)
 {
     paste p;
-    paste_begin(&p);
-    paste_went_in(&p, false);
-    CHECK(paste_line_ends(&p));
-    paste_went_in(&p, true);
-    CHECK(!paste_line_ends(&p));
-    CHECK(paste_line_ends(&p)); /* An empty line behind it. */
-    CHECK(p.count == 2);
-    paste_stop(&p);
-    CHECK(paste_character(&p, 'x').kind == ACTION_NOTHING && paste_character(&p, '\n').kind == ACTION_NOTHING);
-    CHECK(p.is_on && p.count == 2);
-    paste_begin(&p);
-    CHECK(!p.is_stopped && p.count == 0);
+    char told[400];
+    paste_start(&p);
+    CHECK(!paste_told(&p, told, sizeof told) && paste_takes(&p));
+    paste_went_in(&p, false, true);
+    paste_stop(&p, "One.");
+    paste_stop(&p, "Two.");
+    CHECK(!paste_takes(&p) && !paste_line_ends(&p, true));
+    CHECK(paste_told(&p, told, sizeof told) && strcmp(told, "1 of 2 pasted. One.") == 0);
+}
+
+static void a_paste_leaves_the_queue_whole(void)
+{
+    CHECK(ahead_put(&waiting, (action){ACTION_PASTE_BEGINS, 0}) && ahead_put(&waiting, (action){ACTION_TAB, 0}));
+    CHECK(ahead_put(&waiting, (action){ACTION_PASTE_BEGINS, 0}) && ahead_put(&waiting, (action){ACTION_PASTED, 'a'}));
+    CHECK(ahead_put(&waiting, (action){ACTION_PASTED_END, 0}) && ahead_last(&waiting).kind == ACTION_PASTED_END);
+    ahead_drop_paste(&waiting);
+    CHECK(ahead_last(&waiting).kind == ACTION_TAB && ahead_drop(&waiting) == 1);
+    CHECK(ahead_last(&waiting).kind == ACTION_NOTHING);
+    ahead_drop_paste(&waiting);
+    CHECK(ahead_put(&waiting, (action){ACTION_PASTED, 'a'}));
+    ahead_drop_paste(&waiting);
+    CHECK(ahead_last(&waiting).kind == ACTION_NOTHING && ahead_drop(&waiting) == 0);
 }
 
 int main(void)
@@ -135,6 +188,8 @@ int main(void)
     keys_wait_in_order();
     each_turn_has_its_verdict();
     pasted_text_sends_nothing();
-    a_full_field_has_no_second_end();
+    a_line_goes_into_one_field();
+    the_first_reason_stays();
+    a_paste_leaves_the_queue_whole();
     return check_end();
 }

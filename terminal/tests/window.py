@@ -220,6 +220,7 @@ class Terminal:
         self.said = b""
         self.decoder = codecs.getincrementaldecoder("utf-8")("replace")
         self.master, self.slave = pty.openpty()
+        os.set_blocking(self.master, False)
         self.set_size(rows, columns)
         self.before = termios.tcgetattr(self.slave)
         around = {name: value for name, value in os.environ.items()
@@ -304,7 +305,18 @@ class Terminal:
             pass
 
     def type(self, text):
-        os.write(self.master, text.encode("utf-8") if isinstance(text, str) else text)
+        """Writes it, and reads meanwhile, as a window does: a program may wait for that before it takes more."""
+        data = text.encode("utf-8") if isinstance(text, str) else text
+        end = time.monotonic() + 20
+        while data:
+            if time.monotonic() > end:
+                raise TimeoutError("what is typed isn't taken")
+            if self.master in select.select([self.master], [self.master], [], 1)[0]:
+                self.read(0)
+            try:
+                data = data[os.write(self.master, data[:1024]) :]
+            except BlockingIOError:
+                time.sleep(0.005)
 
     def paste(self, text):
         self.type(f"\x1b[200~{text}\x1b[201~")

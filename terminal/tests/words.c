@@ -31,18 +31,19 @@ static void addresses_are_read(void)
     address a;
     char why[400], longest[400];
     for (size_t at = 0; at < sizeof addresses / sizeof addresses[0]; at++) {
-        CHECK(address_read(&a, addresses[at].text, why, sizeof why));
+        CHECK(address_read(&a, addresses[at].text, "23", why, sizeof why));
         CHECK(strcmp(a.host, addresses[at].host) == 0 && strcmp(a.port, addresses[at].port) == 0);
     }
     for (size_t at = 0; at < sizeof wrong_addresses / sizeof wrong_addresses[0]; at++) {
-        CHECK(!address_read(&a, wrong_addresses[at].text, why, sizeof why));
+        CHECK(!address_read(&a, wrong_addresses[at].text, "23", why, sizeof why));
         if (strcmp(why, wrong_addresses[at].why) != 0)
             printf("%s\n", why);
         CHECK(strcmp(why, wrong_addresses[at].why) == 0);
     }
+    CHECK(address_read(&a, "h", "992", why, sizeof why) && strcmp(a.port, "992") == 0);
     memset(longest, 'h', sizeof longest - 1);
     longest[sizeof longest - 1] = 0;
-    CHECK(!address_read(&a, longest, why, sizeof why));
+    CHECK(!address_read(&a, longest, "23", why, sizeof why));
 }
 
 static void shows(const status_parts *parts, const char *wanted)
@@ -60,6 +61,7 @@ static void shows(const status_parts *parts, const char *wanted)
 static void the_line_is_in_words(void)
 {
     status_parts parts = {.turn = "waiting for the host", .where = "as400:23", .note = "", .way = "^] menu"};
+    parts.security = "";
     parts.row = parts.column = 1;
     shows(&parts, " waiting for the host  as400:23                                 ^] menu  01/001 ");
     parts.turn = "";
@@ -68,25 +70,35 @@ static void the_line_is_in_words(void)
     parts.column = 53;
     parts.is_message_lit = parts.is_inserting = parts.is_recording = parts.waits = true;
     shows(&parts, " as400:23                               MW INS REC T  ^] menu  field 10  06/053 ");
+    parts.security = " INSECURE";
+    shows(&parts, " as400:23                      INSECURE MW INS REC T  ^] menu  field 10  06/053 ");
+    parts.is_macro = true;
+    shows(&parts, " as400:23                  INSECURE MW INS REC MAC T  ^] menu  field 10  06/053 ");
+    parts.is_macro = false;
+    parts.security = "";
     parts.is_message_lit = parts.is_inserting = parts.is_recording = parts.waits = false;
     parts.note = "This field takes digits only, and not '\xc3\xa9'.";
     shows(&parts, " This field takes digits only, and not '\xc3\xa9'.           ^] menu  field 10  06/053 ");
     parts.note = "A sentence of seventy characters leaves room for the cursor's place al.";
     parts.waits = true;
-    shows(&parts, " A sentence of seventy characters leaves room for the cursor's plac.. T  06/053 ");
+    shows(&parts, " A sentence of seventy characters leaves room for the cursor's place al.       T");
     parts.way = "Reset: ^R";
     parts.is_way_out = true;
-    shows(&parts, " A sentence of seventy characters leaves room for the cu.. T  Reset: ^R  06/053 ");
+    shows(&parts, " A sentence of seventy characters leaves room for the cursor's pl.. T  Reset: ^R");
+    parts.note = "One of fifty-nine characters leaves none for it, and is whole.";
+    shows(&parts, " One of fifty-nine characters leaves none for it, and is whole.     T  Reset: ^R");
+    parts.note = "One of thirty characters or so";
+    shows(&parts, " One of thirty characters or so                  T  Reset: ^R  field 10  06/053 ");
 }
 
 static void the_title_has_it_too(void)
 {
     char text[100];
-    status_parts parts = {.turn = "waiting for the host", .where = "h:1", .note = ""};
+    status_parts parts = {.turn = "waiting for the host", .where = "h:1", .note = "", .security = ""};
     parts.is_inserting = parts.waits = true;
     status_title(&parts, text, sizeof text);
     CHECK(strcmp(text, "h:1: waiting for the host: INS T - term5250") == 0);
-    parts = (status_parts){.turn = "", .where = "h:1", .note = "n"};
+    parts = (status_parts){.turn = "", .where = "h:1", .note = "n", .security = ""};
     status_title(&parts, text, sizeof text);
     CHECK(strcmp(text, "h:1 - term5250") == 0);
 }

@@ -1,6 +1,6 @@
 """What `serve` sends in words, of a script and line by line."""
 
-from live.lines import negotiate_as_station, station_at
+from live.lines import at_host, negotiate_as_host, negotiate_as_station, station_at
 from live.program import expect, Run, script_file
 from live.records import hexed, record, SIGN_ON
 from live.runner import test
@@ -73,6 +73,47 @@ def sends_in_words_line_by_line():
     expect(serve.asked("  CLEAR-UNIT"), told, "a line that belongs to nothing")
     side.close()
     serve.end(1, "")
+
+
+# Letters over the whole screen again and again: with its Write to Display the largest body.
+LARGEST = hexed("04110000" + "110101".join(["C1" * 1920] * 34 + ["C1" * 139]))
+
+
+@test
+def the_largest_record():
+    """It is sent in hex and in words, comes to a host that takes any record, and to a station."""
+    words = "  WRITE 00 00\n" + "  SBA 1 1\n".join(["  TEXT %s\n" % ("A" * 1920)] * 34 + ["  TEXT %s\n" % ("A" * 139)])
+    for kind, ready in ([], "host ready IBM-3179-2\n"), (["--any"], "terminal IBM-3179-2\n"):
+        # A script that is longer than a pipe.
+        text = "await\nsend 2 %s\nsend 2\n%s\n" % (LARGEST.hex(), words) + "await\n" * len(kind)
+        with script_file(".serve", text) as script:
+            serve = Run(["serve", "--wait", "10"] + kind + ["127.0.0.1:0", script.name])
+            side = station_at(serve)
+            negotiate_as_station(side)
+            side.take(record(2, LARGEST) * 2)
+            if kind:
+                side.send(record(3, LARGEST))
+                ready += "record flags 0000 opcode 3 %s\n" % LARGEST.hex().upper()
+            side.close()
+            serve.end(0, ready)
+    for kind in ([], ["--extended"]):
+        def play(side):
+            negotiate_as_host(side)
+            side.send(record(2, LARGEST))
+            side.closed()
+        at_host(play, ["--wait", "10"] + kind, "await record\nshow 1 1 1\n", 0, "A\n")
+
+
+@test
+def a_record_that_is_too_big():
+    for kind, ready in ([], "host ready IBM-3179-2\n"), (["--any"], "terminal IBM-3179-2\n"):
+        with script_file(".serve", "await\nsend 2 %s40\nsend 2\n" % LARGEST.hex()) as script:
+            serve = Run(["serve", "--wait", "10"] + kind + ["127.0.0.1:0", script.name])
+            side = station_at(serve)
+            negotiate_as_station(side)
+            side.take(record(2))
+            side.close()
+            serve.end(1, ready + "send refused TooBig\n")
 
 
 @test

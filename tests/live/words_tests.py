@@ -1,11 +1,46 @@
 """Wrong lines and wrong command lines, and connections that nobody makes."""
 import socket
+import tempfile
 import time
 
 from live.lines import at_host, negotiate_as_host
 from live.program import Failure, Run, script_file
 from live.records import hexed, record, SIGN_ON, SIGN_ON_FIELDS
 from live.runner import test
+
+
+# Words behind `connect` that ask for nothing: options, no host, no port, no address in brackets.
+WRONG_CONNECTS = [
+    ["--wait", "0", "127.0.0.1"],
+    ["--wait", "86401", "127.0.0.1"],
+    ["--wait", "x", "127.0.0.1"],
+    ["--wait", "-1", "127.0.0.1"],
+    ["--wait", "1.5", "127.0.0.1"],
+    ["--wait", "1", "--wait", "2", "127.0.0.1"],
+    ["--terminal", "IBM-1", "127.0.0.1"],
+    ["--terminal", "IBM-3179", "127.0.0.1"],
+    ["--terminal", "", "127.0.0.1"],
+    ["--answers", "127.0.0.1"],
+    ["--screen", "127.0.0.1"],
+    ["127.0.0.1", "a", "b"],
+    [],
+] + [[word] for word in [
+    "", ":23", "127.0.0.1:", "127.0.0.1:99999", "127.0.0.1:65536", "127.0.0.1:+23", "127.0.0.1:-1", "127.0.0.1: 23",
+    "127.0.0.1:23 ", "127.0.0.1:0x17", "127.0.0.1:telnet", "127.0.0.1:1:2", "a:b:c",
+    "[", "[]", "[::1", "[::1]x", "[::1]23", "[::1]:", "[host]:23", "[127.0.0.1]:23", "[127.0.0.1]", "::1]:23",
+    "[fe80::1%]:23", "[%eth0]:23", "[host%eth0]:23", "[fe80::1%eth0:1]:23", "fe80::1%", "fe80::1%eth0:23",
+]]
+WRONG_SERVES = [
+    [],
+    ["--wait", "0", "127.0.0.1:0"],
+    ["--terminal", "IBM-3179-2", "127.0.0.1:0"],
+    ["--color", "127.0.0.1:0"],
+    ["--extended", "127.0.0.1:0"],
+    ["127.0.0.1:0", "a", "b"],
+] + [[word] for word in [
+    "127.0.0.1", "localhost", "::1", "[::1]", "::1:5250", ":5250", "127.0.0.1:", "127.0.0.1:65536", "127.0.0.1:99999",
+    "127.0.0.1:+1",
+]]
 
 
 @test
@@ -33,34 +68,10 @@ def wrong_lines():
 
 @test
 def wrong_command_lines():
-    rows = [
-        ["connect"],
-        ["connect", "--wait", "0", "127.0.0.1"],
-        ["connect", "--wait", "86401", "127.0.0.1"],
-        ["connect", "--wait", "x", "127.0.0.1"],
-        ["connect", "--terminal", "IBM-1", "127.0.0.1"],
-        ["connect", "a:b:c"],
-        ["connect", "127.0.0.1:99999"],
-        ["connect", "127.0.0.1:"],
-        ["connect", "127.0.0.1:+23"],
-        ["connect", ":23"],
-        ["connect", ""],
-        ["connect", "[::1"],
-        ["connect", "[::1]x"],
-        ["connect", "[127.0.0.1]:23"],
-        ["connect", "127.0.0.1", "a", "b"],
-        ["connect", "--screen", "127.0.0.1"],
-        ["serve"],
-        ["serve", "--wait", "0", "127.0.0.1:0"],
-        ["serve", "127.0.0.1"],
-        ["serve", "::1"],
-        ["serve", "127.0.0.1:99999"],
-        ["serve", "--terminal", "IBM-3179-2", "127.0.0.1:0"],
-        ["serve", "--color", "127.0.0.1:0"],
-    ]
-    for words in rows:
-        run = Run(words, "")
-        run.end(2, "", None)
+    for words in WRONG_CONNECTS:
+        Run(["connect"] + words, "").end(2, "", None)
+    for words in WRONG_SERVES:
+        Run(["serve"] + words, "").end(2, "", None)
     for words in (["help", "connect"], ["help", "serve"], ["connect", "--help"]):
         text = Run(words, "").end(0)
         if "Examples:" not in text:
@@ -78,6 +89,10 @@ def no_connection():
     gone.close()
     Run(["connect", "--wait", "5", "no-such-host.invalid"], "await\n").end(2, "", "no connection: unknown name\n")
     Run(["serve", "no-such-host.invalid:0"], "").end(2, "", "no connection: unknown name\n")
+    # By each option, of which one has a longer number than it needs.
+    with script_file(".connect", "await\n") as script, tempfile.NamedTemporaryFile() as recording:
+        words = ["--ready", "--color", "--extended", "--wait=007", "--terminal=ibm-3196-a1", "--record", recording.name]
+        Run(["connect"] + words + ["127.0.0.1:%d" % port, script.name]).end(2, "", "no connection: refused\n")
     # Not one of this machine's addresses.
     Run(["serve", "192.0.2.1:0"], "").end(2, "", "no connection: no address of this machine\n")
     Run(["connect", "127.0.0.1", "no such file"], "").end(2, "", "cannot read\n")

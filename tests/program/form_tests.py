@@ -17,6 +17,14 @@ RECORDING = f"""0 host {HELLO_MADE[:8]}
 1204 host {HELLO_MADE[30:-1]}
 1205 station {ANSWER_MADE[20:-1].lower()}
 """
+PIECES = "0 host ff\n12 station F1\n13 host F1\n"
+
+# Texts, and the first line that is none of a recording.
+NO_RECORDINGS = [
+    ("\n", 1), ("FFF1\n", 1), ("0 host FFF1\n\n", 2), ("0 host FFF1\n0 host FFF\n0 host\n", 2), ("0 host FFG1\n", 1),
+    ("0 host\n", 1), ("0 hostFFF1\n", 1), ("0 Host FFF1\n", 1), ("0  host FFF1\n", 1), (" 0 host FFF1\n", 1),
+    (" host FFF1\n", 1), ("-1 host FFF1\n", 1), ("0 stations FFF1\n", 1), ("0 station FF\n# a comment\n", 2),
+]
 
 # The words, the standard input, and what is wanted: the exit status, standard output, and a line on standard error.
 RECORDINGS = [
@@ -40,9 +48,17 @@ RECORDINGS = [
     (["check", "--of", "host"], f"9 host {INVITE}\n", 2, "", "script line 2\n"),
     (["check", "--of", "host"], f"9 host {INVITE}# nothing\n", 2, "", "script line 2\n"),
     (["check", "--of", "host", "no such file"], RECORDING, 2, "", "cannot read\n"),
+    # two pieces of one end are a command, a time has any length, digits may stand apart
+    (["check", "--of", "host"], PIECES, 0, "accepted: 0 records, 1 commands, 2 bytes\n", ""),
+    (["check", "--of", "station"], PIECES, 1, "truncated at 1\n", ""),
+    (["check", "--of", "station"], "18446744073709551616 station 00", 1, "truncated at 1\n", ""),
+    (["check", "--of", "host"], "007 host 0 1 \t02\r\n", 1, "truncated at 2\n", ""),
+    (["check", "--of", "host"], "5 host \n6 station \n", 0, "accepted: 0 records, 0 commands, 0 bytes\n", ""),
     # wrong command lines
     (["check", "--of", "host", "--raw"], RECORDING, 2, "", None),
     (["show", "--raw", "--of", "host"], RECORDING, 2, "", None),
+    (["show", "--raw", "--raw"], RECORDING, 2, "", None),
+    (["connect", "--raw", "127.0.0.1:1"], "", 2, "", None),
     (["check", "--of", "nobody"], RECORDING, 2, "", None),
     (["check", "--of"], RECORDING, 2, "", None),
     (["make", "--of", "host"], HELLO_TEXT, 2, "", None),
@@ -88,6 +104,9 @@ SECONDS = 6
 def recorded_runs(runs):
     for words, text, status, out, err in RECORDINGS:
         runs.expect(words, run(words, text), status, out, err)
+    for text, number in NO_RECORDINGS:
+        for words in ["check", "--of", "host"], ["show", "--of", "host"]:
+            runs.expect(f"{words} of {text!r}", run(words, text), 2, "", f"script line {number}\n")
 
 
 def byte_runs(runs, folder):

@@ -1,4 +1,4 @@
-"""Too few descriptors, too little memory, and how many writes an output takes."""
+"""The largest records, too few descriptors, too little memory, and how many writes an output takes."""
 import os
 import re
 import resource
@@ -6,6 +6,7 @@ import shutil
 import subprocess
 import time
 
+from program.extended_tests import spelled
 from program.runs import Program, run
 from program.texts import ANSWER, BOB, HELLO, HELLO_TEXT, INVITE, MANY
 
@@ -48,6 +49,36 @@ def small_runs(runs, folder):
         runs.expect(f"{words} without memory", run([*words, path], preexec_fn=limit), 2, "", "memory\n")
 
 
+# The largest body of a host, letters over the whole screen again and again, and of a station, with how they are shown.
+LETTERS = ["C1" * 1920] * 34 + ["C1" * 139]
+LARGEST = "04110000" + "110101".join(LETTERS)
+LARGEST_LINES = "  WRITE 00 00\n" + "  SBA 1 1\n".join(f"  PUT {letters}\n" for letters in LETTERS)
+LARGEST_ANSWER = "0101F1" + "C1" * 65_522
+LARGEST_ANSWER_LINES = f"  HEAD 1 1 F1\n  BYTES {'C1' * 65_522}\n"
+
+
+def largest_runs(runs):
+    """Where there is memory enough none is wanted."""
+    for words, body, lines in ([], LARGEST, LARGEST_LINES), (["--answers"], LARGEST_ANSWER, LARGEST_ANSWER_LINES):
+        for extended in [], ["--extended"]:
+            words = words + extended
+            stream = spelled(body)
+            shown = "at 65538 record flags 0000 opcode 3\n" + lines
+            line = "accepted: 1 records, 0 commands, 65539 bytes\n"
+            runs.expect(f"check {words} of the largest", run(["check", *words], stream), 0, line, "")
+            recorded = run(["check", "--of", "station", *words], f"1 host {stream}\n2 station {stream}\n")
+            runs.expect(f"check --of {words} of the largest", recorded, 0, line, "")
+            runs.expect(f"make {words} of the largest", run(["make", *words], shown), 0, stream + "\n", "")
+            for more, text in ([], stream), (["--so-far"], stream[:-4]):
+                done = run(["show", *more, *words], text)
+                front = "open record flags 0000 opcode 3\n" + lines if more else shown
+                right = done.returncode == len(more) and done.stdout.startswith(front) and done.stderr == ""
+                runs.count(f"show {more} {words} of the largest gave {done.returncode}, {done.stderr}", right)
+    script = f"settle\nsend 2 {LARGEST}\nsettle\n"
+    for words in ["play"], ["play", "--tcp"]:
+        runs.expect(f"{words} of the largest", run(words, script), 0, "host ready IBM-3179-2\n", "")
+
+
 def writes_of(words, text, path):
     """How many writes to standard output a run makes, and how many bytes; None where strace can't tell."""
     traced = ["strace", "-f", "-qq", "-e", "trace=write,writev", "-o", path, Program.path, *words]
@@ -72,6 +103,7 @@ def write_runs(runs, folder):
 
 
 def run_all(runs, folder):
+    largest_runs(runs)
     unconnected_runs(runs)
     small_runs(runs, folder)
     write_runs(runs, folder)

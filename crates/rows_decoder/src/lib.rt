@@ -1,5 +1,5 @@
-//! The tests of the decoder: `ws_record`, and `ws_text` over the bodies of `ws_stream` and `ws_extended`. They call what
-//! these crates hand out, and nothing else.
+//! The tests of the decoder: `ws_record`, and `ws_text` over the bodies of `ws_stream`. They call what these crates hand
+//! out, and nothing else.
 #![tactic(auto)]
 
 // A body for rows of both ways.
@@ -28,13 +28,7 @@ mod command_rows;
 #[cfg(test)]
 mod encoding_rows;
 #[cfg(test)]
-mod extended_answer_line_rows;
-#[cfg(test)]
-mod extended_line_rows;
-#[cfg(test)]
 mod hostile_rows;
-#[cfg(test)]
-mod line_rows;
 
 // Expects two values to be the same, and shows both where they aren't. One call of it is proved sooner than an
 // `assert_eq!`.

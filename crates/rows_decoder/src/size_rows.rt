@@ -135,6 +135,7 @@ fn lists_of_each_length(rt: HostRuntime) {
         expect_list(&rt, rt.alloc(), record, length, 13);
         expect_list(&rt, rt.alloc(), command, length, 2);
     }
+    expect_list(&rt, rt.alloc(), command, 32_769, 2);
 }
 
 #[test]

@@ -8,8 +8,6 @@ mod screens;
 
 // Rows of ws_screen.
 #[cfg(test)]
-mod attribute_rows;
-#[cfg(test)]
 mod screen_rows;
 
 // Rows of ws_keys.
@@ -19,8 +17,6 @@ mod answer_rows;
 mod key_rows;
 #[cfg(test)]
 mod split_rows;
-#[cfg(test)]
-mod stroke_rows;
 
 // Expects two values to be the same, and shows both where they aren't. One call of it is proved sooner than an
 // `assert_eq!`.

@@ -254,6 +254,16 @@ fn fields_of_each_number(rt: HostRuntime) {
     }
 }
 
+// The most fields with all their cells: an answer of 2,307 bytes.
+#[test]
+fn the_most_fields(rt: HostRuntime) {
+    let screen = fields(&rt, 256, 6, 7);
+    same(&rt, screen.fields().len(), 256);
+    for kind in [ReadKind::Input, ReadKind::Mdt, ReadKind::MdtAlternate] {
+        expect_all_read(&rt, rt.alloc(), &screen, kind, 6);
+    }
+}
+
 #[test]
 fn contents_of_each_length(rt: HostRuntime) {
     let alloc = rt.alloc();

@@ -2,19 +2,8 @@
 //! They call what these crates hand out, and nothing else.
 #![tactic(auto)]
 
-// The program's answers, for rows of any command.
 #[cfg(test)]
-mod answers;
-#[cfg(test)]
-mod buffered_rows;
-#[cfg(test)]
-mod extended_rows;
-#[cfg(test)]
-mod form_rows;
-#[cfg(test)]
-mod live_words_rows;
-#[cfg(test)]
-mod make_rows;
+mod growth_rows;
 #[cfg(test)]
 mod memory_rows;
 #[cfg(test)]
@@ -22,17 +11,9 @@ mod play_rows;
 #[cfg(test)]
 mod program_rows;
 #[cfg(test)]
-mod run_rows;
-#[cfg(test)]
 mod show_rows;
 #[cfg(test)]
 mod size_rows;
-#[cfg(test)]
-mod so_far_rows;
-#[cfg(test)]
-mod split_rows;
-#[cfg(test)]
-mod stream_rows;
 #[cfg(test)]
 mod tcp_rows;
 

@@ -1,9 +1,9 @@
-use crate::{holds, same, same_at, same_bytes, says};
+use crate::{same, same_at, same_bytes};
 use std::alloc::Global;
 use std::process::Abort;
 use ws_code::{FailingSink, Fault, List, Reason, VecSink};
 use ws_keys::KeyRefusal;
-use ws_live::{Paint, RunFault, play_to};
+use ws_live::{Paint, play_to};
 use ws_nego::TerminalType;
 use ws_program::{Asked, answer, status};
 use ws_session::{Event, HostEnd, KeyFault, Report, SendFault, Station};
@@ -218,23 +218,6 @@ fn byte_by_byte(rt: HostRuntime) {
     let outcome = answer(&rt, rt.alloc(), play, script.as_bytes(), &mut sink);
     same(&rt, outcome, Ok(true));
     same_bytes(&rt, sink.as_slice(), PLAY_BOB.3.as_bytes());
-}
-
-// A bad line ends the program before anything is run; a sink that fails holds a part of the text.
-#[test]
-fn unplayed(rt: HostRuntime) {
-    let mut sink = VecSink::new(rt.alloc());
-    let screen = asked(true, false);
-    let outcome = answer(&rt, rt.alloc(), screen, b"settle\nhello\n", &mut sink);
-    same(&rt, status(&outcome), 2);
-    same(&rt, outcome, Err(RunFault::Line(2)));
-    holds(&rt, sink.as_slice().is_empty());
-    says(&rt, rt.alloc(), RunFault::Line(2), "script line 2");
-    let mut sink = FailingSink::new(rt.alloc(), 30);
-    let screen = asked(true, false);
-    let bob = PLAY_BOB.1.as_bytes();
-    let outcome = answer(&rt, rt.alloc(), screen, bob, &mut sink);
-    same(&rt, outcome, Err(RunFault::Write));
 }
 
 // Events that no script brings out, and their lines: ends that refuse, and names of faults that no session of these two

@@ -1,8 +1,13 @@
-use crate::{same, same_at};
+use crate::{same, same_at, same_bytes};
 use std::alloc::Global;
+use std::net::{Net, TcpListener, TcpStream};
 use std::process::Abort;
 use ws_code::VecSink;
+use ws_live::read_script;
+use ws_nego::TerminalType;
+use ws_network::play_tcp;
 use ws_program::{TextFault, check_to, hex_bytes, show_to};
+use ws_record::{Opcode, write_record};
 use ws_stream::Commands;
 
 // Where there is memory enough, no call answers want of it: at each size up to 300, and about those at which
@@ -91,4 +96,58 @@ fn streams_of_each_size(rt: HostRuntime) {
             expect_shown(&rt, rt.alloc(), size, bytes.as_slice());
         }
     }
+}
+
+// The largest body in hex: a Write to Display, and letters over the whole screen, again and again.
+fn largest_body(rt: &impl Abort, alloc: Global) -> String {
+    let mut hex = String::new(alloc);
+    hex.push_str("04110000").expect(rt, "memory");
+    for at in 0..65_521u32 {
+        let byte = match at % 1923 {
+            1920 => "11",
+            1921 | 1922 => "01",
+            _ => "C1",
+        };
+        hex.push_str(byte).expect(rt, "memory");
+    }
+    hex
+}
+
+// The record of this body is checked and shown.
+fn expect_accepted(rt: &impl Abort, alloc: Global, hex: &str) {
+    let body = hex_bytes(alloc, hex.as_bytes()).expect(rt, "bytes");
+    let mut stream = VecSink::new(alloc);
+    assert!(rt; body.len() <= 65525);
+    let written = write_record(&mut stream, 0, Opcode::PutGet, body.as_slice());
+    same(rt, written, Ok(()));
+    let mut sink = VecSink::new(alloc);
+    let found = check_to::<Commands, _>(alloc, stream.as_slice(), 4096, &mut sink);
+    same(rt, found, Ok(true));
+    let line = b"accepted: 1 records, 0 commands, 65539 bytes\n";
+    same_bytes(rt, sink.as_slice(), line);
+    let mut sink = VecSink::new(alloc);
+    let found = show_to(alloc, stream.as_slice(), &mut sink);
+    same(rt, found, Ok(true));
+}
+
+// It is sent by a script, and crosses a connection.
+fn expect_played<R: Net<Listener = TcpListener, Stream = TcpStream> + Abort + AllocGlobal>(
+    rt: &R,
+    hex: &str,
+) {
+    let mut script = String::new(rt.alloc());
+    for part in ["settle\nsend 2 ", hex, "\nsettle\n"] {
+        script.push_str(part).expect(rt, "memory");
+    }
+    let moves = read_script(rt.alloc(), script.as_bytes()).expect(rt, "a script");
+    let terminal = TerminalType::default();
+    let report = play_tcp(rt, rt.alloc(), terminal, moves.as_slice()).expect(rt, "a session");
+    same(rt, report.station.records(), 1);
+}
+
+#[test]
+fn the_largest_record(rt: HostRuntime) {
+    let hex = largest_body(&rt, rt.alloc());
+    expect_accepted(&rt, rt.alloc(), hex.as_str());
+    expect_played(&rt, hex.as_str());
 }

@@ -15,8 +15,6 @@ const DO_TERMINAL: &[u8] = b"\xff\xfd\x18";
 
 const WILL_TERMINAL: &[u8] = b"\xff\xfb\x18";
 
-const SEND_TERMINAL: &[u8] = b"\xff\xfa\x18\x01\xff\xf0";
-
 // The opening, where the line down is given, and the station's bytes arrive as `read`.
 fn opening_report<S: Sink, R: Source>(
     alloc: Global,
@@ -30,9 +28,9 @@ fn opening_report<S: Sink, R: Source>(
     World::run_carried(alloc, TerminalType::Ibm3179Model2, &OPENING, down, &mut up)
 }
 
-fn is_in_flight(rt: &impl Abort, report: &Report, to_station: &[u8]) {
+fn nothing_is_in_flight(rt: &impl Abort, report: &Report) {
     let in_flight = (report.to_station.as_slice(), report.to_host.as_slice());
-    same(rt, in_flight, (to_station, b"".as_slice()));
+    same(rt, in_flight, (b"".as_slice(), b"".as_slice()));
 }
 
 // Who refused a byte in a session that tells nothing else, which byte, and why.
@@ -42,19 +40,6 @@ fn refusal_of(rt: &impl Abort, report: &Report) -> (&'static str, u64, Reason) {
         [Event::HostRefused { place, reason }] => ("host", *place, *reason),
         _ => panic!(rt; "a refusal"),
     }
-}
-
-#[test]
-fn lines_that_bring_what_was_written(rt: HostRuntime) {
-    let alloc = rt.alloc();
-    let mut down = Line {
-        sink: FailingSink::new(alloc, 3),
-        source: FailingSource::new(DO_TERMINAL, 3),
-    };
-    let report = opening_report(alloc, &mut down, WILL_TERMINAL).expect(&rt, "an opening");
-    same(&rt, down.sink.as_slice(), DO_TERMINAL);
-    is_in_flight(&rt, &report, SEND_TERMINAL);
-    same(&rt, report.events.as_slice().len(), 0);
 }
 
 // What the lines bring in place of what was written, who refuses it, and what the host end has refused then.
@@ -91,7 +76,7 @@ fn lines_that_bring_other_bytes(rt: HostRuntime) {
         let report = opening_report(rt.alloc(), &mut down, brought.to_host);
         let report = report.expect(&rt, "an opening");
         same(&rt, down.sink.as_slice(), DO_TERMINAL);
-        is_in_flight(&rt, &report, b"");
+        nothing_is_in_flight(&rt, &report);
         same(
             &rt,
             refusal_of(&rt, &report),

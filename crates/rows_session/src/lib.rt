@@ -1,5 +1,5 @@
-//! The tests of sessions, and of sessions by lines: `ws_session` and `ws_live`. They call what these crates hand out,
-//! and nothing else.
+//! The tests of sessions, of scripts, and of lines over devices in memory: `ws_session` and `ws_live`. They call what
+//! these crates hand out, and nothing else.
 #![tactic(auto)]
 
 // What the rows of ws_session share, the callers that docs/CALLING.md shows, and a display of their own.
@@ -11,8 +11,6 @@ mod end_rows;
 mod second_display;
 
 // Rows of ws_session.
-#[cfg(test)]
-mod alarm_rows;
 #[cfg(test)]
 mod attached_rows;
 #[cfg(test)]
@@ -26,10 +24,6 @@ mod display_rows;
 #[cfg(test)]
 mod fault_rows;
 #[cfg(test)]
-mod fed_rows;
-#[cfg(test)]
-mod host_fed_rows;
-#[cfg(test)]
 mod host_rows;
 #[cfg(test)]
 mod run_rows;
@@ -42,23 +36,9 @@ mod station_rows;
 
 // Rows of ws_live.
 #[cfg(test)]
-mod await_rows;
-#[cfg(test)]
-mod colored_rows;
-#[cfg(test)]
-mod extended_live_rows;
-#[cfg(test)]
-mod live_host_rows;
-#[cfg(test)]
 mod live_rows;
 #[cfg(test)]
-mod report_rows;
-#[cfg(test)]
 mod script_rows;
-#[cfg(test)]
-mod serve_rows;
-#[cfg(test)]
-mod stroke_line_rows;
 
 // Expects two values to be the same, and shows both where they aren't. One call of it is proved sooner than an
 // `assert_eq!`.

@@ -1,5 +1,5 @@
-//! Rows of live sessions at a station, over devices in memory: what their lines print, whether all went well, and how
-//! many waits have begun.
+//! Rows of live sessions at a station, over devices in memory: what `carry_lines` prints of their lines, whether all went
+//! well, and how many waits have begun. The program carries lines out one by one.
 ghost use Rattle.std.specs.Prelude.{◌≡◌, false};
 ghost use Rattle.ws_live.specs.live.Waits.{watch_tells, watch_times};
 
@@ -7,7 +7,7 @@ use crate::end_rows::{OPENING_AND_BOB, new_station};
 use crate::same_at;
 use std::alloc::Global;
 use std::process::Abort;
-use ws_code::{FailingSource, SliceSource, VecSink};
+use ws_code::{FailingSource, VecSink};
 use ws_keys::Key;
 use ws_live::{
     BufferedSink, LiveMove, Paint, StationLine, WaitSpan, Watch, carry_lines, read_lines,
@@ -16,10 +16,10 @@ use ws_session::{Attached, Station};
 
 // A watch that counts, and says of each failed read whether it was late, and whether nothing had come.
 #[derive(Drop)]
-pub(crate) struct Counter {
-    pub(crate) begun: u64,
-    pub(crate) late: bool,
-    pub(crate) quiet: bool,
+struct Counter {
+    begun: u64,
+    late: bool,
+    quiet: bool,
 }
 
 impl<S> Watch<S> for Counter {
@@ -44,14 +44,14 @@ impl<S> Watch<S> for Counter {
 
 // What came of the lines of a session.
 #[derive(Clone, Copy, Debug, PartialEq, Eq)]
-pub(crate) struct Came {
-    pub(crate) all_well: bool,
-    pub(crate) is_over: bool,
-    pub(crate) waits: u64,
+struct Came {
+    all_well: bool,
+    is_over: bool,
+    waits: u64,
 }
 
 // Carries out the lines of a script, with `ok`; what they print, and what came of them.
-pub(crate) fn carried<R: Abort + AllocGlobal, E, S, K, L: LiveMove<E, S, K>>(
+fn carried<R: Abort + AllocGlobal, E, S, K, L: LiveMove<E, S, K>>(
     rt: &R,
     attached: &mut Attached<E, S, K>,
     script: &str,
@@ -88,7 +88,7 @@ pub(crate) fn carried<R: Abort + AllocGlobal, E, S, K, L: LiveMove<E, S, K>>(
 }
 
 // A station that is given these bytes, one a read, and behind them nothing in time.
-pub(crate) fn station_given<'a>(
+fn station_given<'a>(
     alloc: Global,
     bytes: &'a [u8],
 ) -> Attached<Station, FailingSource<'a>, VecSink>
@@ -98,17 +98,9 @@ pub(crate) fn station_given<'a>(
     Attached::new(new_station(), source, VecSink::new(alloc))
 }
 
-// Scripts for a station behind the opening and a form, what they print, and what came of them.
-const STATIONS: [(&str, &str, Came); 12] = [
-    (
-        "",
-        "",
-        Came {
-            all_well: true,
-            is_over: false,
-            waits: 0,
-        },
-    ),
+// Scripts for a station behind the opening and a form, what they print, and what came of them: a record is ahead of a
+// wait that shows it, a wait isn't met, a key is refused.
+const STATIONS: [(&str, &str, Came); 4] = [
     (
         "# none\n\nnote A\n",
         "A\nok\n",
@@ -116,15 +108,6 @@ const STATIONS: [(&str, &str, Came); 12] = [
             all_well: true,
             is_over: false,
             waits: 0,
-        },
-    ),
-    (
-        "await\n",
-        "ok\n",
-        Came {
-            all_well: true,
-            is_over: false,
-            waits: 1,
         },
     ),
     (
@@ -137,12 +120,12 @@ const STATIONS: [(&str, &str, Came); 12] = [
         },
     ),
     (
-        "await\nawait\nawait record\nawait text A\n",
-        "ok\nok\nlate\nok\nlate\nok\n",
+        "fields\nnote A\nawait record\nawait record\n",
+        "field 6 53 10 4000\nok\nA\nok\nok\nlate\nok\n",
         Came {
             all_well: false,
             is_over: false,
-            waits: 4,
+            waits: 3,
         },
     ),
     (
@@ -154,115 +137,12 @@ const STATIONS: [(&str, &str, Came); 12] = [
             waits: 2,
         },
     ),
-    (
-        "type A\nawait\n",
-        "key refused Locked A\nok\nok\n",
-        Came {
-            all_well: false,
-            is_over: false,
-            waits: 1,
-        },
-    ),
-    (
-        "await\ntype A\u{20ac} \u{3b1}\ninsert \u{20ac}\nfield 1 A\u{20ac}B\nkey Dup\nfields\n",
-        "ok\nkey refused WrongCharacter \u{20ac}\nkey refused WrongCharacter \u{3b1}\nok\n\
-         key refused WrongCharacter \u{20ac}\nok\nkey refused WrongCharacter \u{20ac}\nok\n\
-         key refused DupNotAllowed\nok\nfield 6 53 10 4800 A\nok\n",
-        Came {
-            all_well: false,
-            is_over: false,
-            waits: 2,
-        },
-    ),
-    // A line that shows takes what has come, and the record is ahead, up to a line that waits or presses a key.
-    (
-        "fields\nnote A\nawait record\nawait record\n",
-        "field 6 53 10 4000\nok\nA\nok\nok\nlate\nok\n",
-        Came {
-            all_well: false,
-            is_over: false,
-            waits: 3,
-        },
-    ),
-    (
-        "show 6 53 1\ntype A\nawait record\n",
-        "\nok\nok\nlate\nok\n",
-        Came {
-            all_well: false,
-            is_over: false,
-            waits: 2,
-        },
-    ),
-    (
-        "cells 24\nawait\nawait record\n",
-        "cells 24 00000000000000000000000000000000000000000000000000000000000000000000000000000000\
-         00000000000000000000000000000000000000000000000000000000000000000000000000000000 \
-         20202020202020202020202020202020202020202020202020202020202020202020202020202020\
-         20202020202020202020202020202020202020202020202020202020202020202020202020202020\n\
-         ok\nok\nlate\nok\n",
-        Came {
-            all_well: false,
-            is_over: false,
-            waits: 3,
-        },
-    ),
-    (
-        "await quiet 5\nawait record\n",
-        "late\nok\nlate\nok\n",
-        Came {
-            all_well: false,
-            is_over: false,
-            waits: 2,
-        },
-    ),
-];
-
-// The same where the source ends behind the form: the text first, and behind it that the host has closed.
-const CLOSED: [(&str, &str, Came); 3] = [
-    (
-        "fields\nnote A\nawait record\n",
-        "field 6 53 10 4000\nended\nok\nA\nok\nok\n",
-        Came {
-            all_well: false,
-            is_over: false,
-            waits: 2,
-        },
-    ),
-    (
-        "await\nawait record\nshow 6 53 1\n",
-        "ok\nended\nok\n\nended\nok\n",
-        Came {
-            all_well: false,
-            is_over: false,
-            waits: 3,
-        },
-    ),
-    (
-        "await quiet 5\n",
-        "ended\nok\n",
-        Came {
-            all_well: false,
-            is_over: false,
-            waits: 1,
-        },
-    ),
 ];
 
 #[test]
 fn lines_at_a_station(rt: HostRuntime) {
     for (script, printed, wanted) in &STATIONS {
         let mut attached = station_given(rt.alloc(), OPENING_AND_BOB);
-        let came = carried::<HostRuntime, _, _, _, StationLine<Key>>(
-            &rt,
-            &mut attached,
-            script,
-            printed,
-        );
-        same_at(&rt, *script, came, *wanted);
-    }
-    for (script, printed, wanted) in &CLOSED {
-        let source = SliceSource::new(OPENING_AND_BOB);
-        let mut attached = Attached::new(new_station(), source, VecSink::new(rt.alloc()));
         let came = carried::<HostRuntime, _, _, _, StationLine<Key>>(
             &rt,
             &mut attached,

@@ -1,9 +1,9 @@
 // Bodies and answers of all lengths: with memory enough none is refused for want of it.
-use crate::end_rows::{joined, ready_host, record, refusal_of, send};
+use crate::end_rows::{joined, last_event, ready_host, record, refusal_of, send};
 use crate::{holds, same, same_at};
 use std::alloc::Global;
 use std::process::Abort;
-use ws_code::{List, Reason};
+use ws_code::{Address, List, Reason};
 use ws_keys::HostFault;
 use ws_live::read_script;
 use ws_nego::TerminalType;
@@ -13,16 +13,17 @@ use ws_stream::{Answers, Commands};
 
 const LARGER: [usize; 6] = [4095, 4096, 4097, 32767, 32768, 65525];
 
-// A body of so many bytes, four at least: Write to Display, letters, and as many addresses with a letter as there is
-// room for.
+// A body of so many bytes, four at least: Write to Display, and letters over the whole screen, again and again. The
+// largest has more than 65,000 elements.
 fn body_of(rt: &impl Abort, alloc: Global, size: usize) -> Vec<u8> {
     let mut body = joined(rt, alloc, &[b"\x04\x11\x00\x00"]);
-    for _ in 0..size % 4 {
-        body.push(0xc1).expect(rt, "memory");
-    }
-    for _ in 0..size.saturating_sub(4) / 4 {
-        let addressed = body.extend_from_slice(b"\x11\x01\x01\xc2");
-        addressed.expect(rt, "memory");
+    for at in 0..size.saturating_sub(4) {
+        let byte = match at % 1923 {
+            1920 => 0x11,
+            1921 | 1922 => 0x01,
+            _ => 0xc1,
+        };
+        body.push(byte).expect(rt, "memory");
     }
     body
 }
@@ -120,6 +121,60 @@ fn answers_of_all_lengths(rt: HostRuntime) {
     for size in [1919usize, 1920, 4095, 4096, 4097, 32767, 32768, 65519] {
         is_read(&rt, alloc, &host, size);
         is_told(&rt, alloc, size);
+    }
+}
+
+// 256 fields of six cells with nothing between them, all modified, and a read; and the answer that tells them all.
+fn most_fields(rt: &impl Abort, alloc: Global) -> (Vec<u8>, Vec<u8>) {
+    let mut form = joined(rt, alloc, &[b"\x04\x40\x04\x11\x00\x08"]);
+    let mut body = joined(rt, alloc, &[b"\x01\x02\xf1"]);
+    for number in 0..256u16 {
+        let attribute = Address::at(number.saturating_mul(7)).expect(rt, "a cell");
+        let first = Address::at(number.saturating_mul(7).saturating_add(1)).expect(rt, "a cell");
+        let address = [0x11, attribute.row(), attribute.col()];
+        for part in [address.as_slice(), b"\x1d\x48\x00\x20\x00\x06"] {
+            form.extend_from_slice(part).expect(rt, "memory");
+        }
+        let field = [
+            0x11,
+            first.row(),
+            first.col(),
+            0xc1,
+            0xc2,
+            0xc3,
+            0xc4,
+            0xc5,
+            0xc6,
+        ];
+        body.extend_from_slice(&field).expect(rt, "memory");
+    }
+    form.extend_from_slice(b"\x04\x52\x00\x00")
+        .expect(rt, "memory");
+    (form, record(rt, alloc, body.as_slice()))
+}
+
+// So many fields of an answer are read by its parts.
+fn reads(rt: &impl Abort, alloc: Global, host: &HostEnd, answer: &[u8], fields: usize) {
+    let items = decode_all::<Answers>(alloc, answer).expect(rt, "an answer");
+    let [Item::Record(whole)] = items.as_slice() else {
+        panic!(rt; "a record")
+    };
+    assert!(rt; host.asked().is_some());
+    let told = host.read_fields(whole.body.as_slice()).expect(rt, "fields");
+    same(rt, told.fields.as_slice().len(), fields);
+}
+
+// The answer of most fields is read by its parts, and told with its last byte.
+#[test]
+fn the_most_fields(rt: HostRuntime) {
+    let alloc = rt.alloc();
+    let (form, answer) = most_fields(&rt, alloc);
+    let mut host = ready_host(&rt, alloc);
+    send(&rt, alloc, &mut host, form.as_slice());
+    reads(&rt, alloc, &host, answer.as_slice(), 256);
+    match last_event(&rt, &mut host, answer.as_slice()) {
+        Some(HostEvent::Answer(told)) => same(&rt, told.fields.as_slice().len(), 256),
+        _ => panic!(rt; "an answer"),
     }
 }
 

@@ -21,8 +21,6 @@ mod negotiation_rows;
 mod answer_part_rows;
 #[cfg(test)]
 mod element_rows;
-#[cfg(test)]
-mod run_rows;
 
 // Expects two values to be the same, and shows both where they aren't. One call of it is proved sooner than an
 // `assert_eq!`.

@@ -3,10 +3,7 @@ use arrayvec::ArrayVec;
 use std::alloc::Global;
 use std::process::Abort;
 use ws_code::{Code, FailingSink, Fault, Push, Reason, VecSink};
-use ws_telnet::{
-    CommandCode, IAC, SB, Sub, Telnet, TelnetWord, Token, Tokens, Verb, Word, spell, write_telnet,
-    write_token,
-};
+use ws_telnet::{CommandCode, Sub, Telnet, Token, Tokens, Verb, spell, write_telnet, write_token};
 
 // The token that the bytes bring with the one at a place, or the reason for which that one is refused. `None` where the
 // token goes on.
@@ -105,30 +102,6 @@ fn bad_tokens(rt: HostRuntime) {
             same_bytes(&rt, sub.data_.as_slice(), &[0x41; 64]);
         }
         _ => panic!(rt; "no subnegotiation"),
-    }
-}
-
-const WORDS: [(u8, Word); 9] = [
-    (0xff, Word::Data),
-    (0xef, Word::Eor),
-    (0xf1, Word::Telnet(TelnetWord::Command(CommandCode::Nop))),
-    (
-        0xf9,
-        Word::Telnet(TelnetWord::Command(CommandCode::GoAhead)),
-    ),
-    (0xfa, Word::More),
-    (0xfb, Word::More),
-    (0xfe, Word::More),
-    (0xf0, Word::Bad(Reason::StraySe)),
-    (0xee, Word::Bad(Reason::BadCommand)),
-];
-
-#[test]
-fn the_byte_behind_an_ff_is_a_word(rt: HostRuntime) {
-    for (byte, word) in &WORDS {
-        let mut tokens = Tokens::start(());
-        same(&rt, tokens.after_iac(*byte), *word);
-        same(&rt, tokens.is_inside(), *word == Word::More);
     }
 }
 

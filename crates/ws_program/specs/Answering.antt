@@ -54,8 +54,8 @@ use Rattle.ws_live.specs.printing.PlayLines.{IsPaintedPlayText, no_end_refuses}
 abbrev pub IsSessionText : Paint → World → Bool → List ℕ → Type 0
 IsSessionText paint w screen text = IsPaintedPlayText paint w.events (screen_at w.station) screen text
 
--- What is told of a session of these moves whose bytes go over a connection, and whether no end refuses in it. What a
--- connection does isn't known: some pieces crossed it, and what came out of it arrived.
+-- What is told of some session of these moves over two lines, and whether no end refuses in it. What a connection does
+-- isn't known: whatever came out of it arrived.
 pub record IsToldText (paint : Paint) (moves : List Move) (screen all_well : Bool) (text : List ℕ) : Type 0 where
   pub downs : List Crossing
   pub ups : List Crossing

@@ -26,6 +26,12 @@ refused_append rules bytes more place reason r = record {
   why = r.why;
 }
 
+-- what leads to a receiver with items leads to an equal one with an equal list
+pub same_received : {Place U : Type 0} (rules : Rules Place U) (bytes : List ℕ) {receiver other : Receiving Place U}
+    {items others : List (Item U)} → HasReceived rules receiver bytes items → other ≡ receiver → others ≡ items
+    → HasReceived rules other bytes others
+same_received rules bytes r same e = rw (same, e) r
+
 module _ {Place U : Type 0} (rules : Rules Place U) where
   module _ {K : Type 0} (list_of : K → List U) where
     -- what a front makes of a receiver, whose keep is a list

@@ -1,4 +1,4 @@
-use Rattle.std.proofs.Common.{◌≡◌, [], ◌∷◌, false, not, arith, sym, ap, ◌∙◌, refl}
+use Rattle.std.proofs.Common.{◌≡◌, [], ◌∷◌, false, not, arith, ◌∙◌, refl}
 use Rattle.ws_code.specs.FormatWord.{is_dup}
 use Rattle.ws_keys.specs.Edits.{after_dup}
 use Rattle.ws_keys.specs.Keys.{next_field, of_open}
@@ -15,11 +15,11 @@ pub returns : goal.returns
 returns c =
     let s = c.args.screen.now in
     let f = c.in_ok-field.field in
-    let lets : not (is_dup f.format) ≡ false = ap not (sym c.dup.ensures ∙ c.if-not-dup.false) in (
+    let lets : not (is_dup f.format) ≡ false = cc in (
       past_open s f ((of_open s (λ f. not (is_dup f.format)), DupNotAllowed) ∷ []) c.in_ok-field.ensures.0
           c.in_ok-field.ensures.1
           ∙ past_test s f (λ f. not (is_dup f.format)) DupNotAllowed [] c.in_ok-field.ensures.1 lets,
-      edited_to s c.change_field.new.screen f (λ f x i. after_dup x i) (λ f. next_field s) _ c.in_ok-field.ensures.1
-          c.next_field-to.ensures c.change_field.ensures,
+      edited_to s _ f (λ f x i. after_dup x i) (λ f. next_field s) _ c.in_ok-field.ensures.1 (cc)
+          c.change_field.ensures,
       refl,
     )

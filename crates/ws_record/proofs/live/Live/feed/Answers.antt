@@ -1,6 +1,20 @@
-use Rattle.ws_record.proofs.Common.{ℕ, length, inl, inr, arith, ◌+◌, ◌^◌, cases_lt, append-nil, bytes_on}
+use Rattle.ws_record.proofs.Common.{ℕ, refl, ap, length, inl, inr, arith, ◌+◌, ◌^◌, cases_lt, append-nil, bytes_on}
+use Rattle.ws_record.proofs.Common.{Watching}
 use Rattle.ws_record.proofs.Lives.{front_step, front_made, front_counted, led_on, part_first, part_on, part_held}
 use Rattle.ws_record.proofs.live.Live.feed.Goals as goal
+
+pub returns-then-not-works-clause-counted : goal.returns-then-not-works-clause-counted
+returns-then-not-works-clause-counted g c = λ _.
+    omega (arith, ap (λ (k : Watching g.row.B-Place.Denot). k.taken) c.failing-step.ensures.after)
+
+pub returns-then-not-works-clause-first : goal.returns-then-not-works-clause-first
+returns-then-not-works-clause-first g c = λ bytes items so_far l fits n lt. absurd (omega (arith, lt))
+
+pub returns-then-not-works-clause-before : goal.returns-then-not-works-clause-before
+returns-then-not-works-clause-before g c = λ bytes items so_far l fits n lt. absurd (omega (arith, lt))
+
+pub returns-then-not-works-clause-idle : goal.returns-then-not-works-clause-idle
+returns-then-not-works-clause-idle g c = λ _. refl
 
 pub loop-used-init : goal.loop-used-init
 loop-used-init g c = (

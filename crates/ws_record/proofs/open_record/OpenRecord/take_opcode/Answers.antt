@@ -18,4 +18,4 @@ returns-in-Some-clause-step g c =
     let right =
     header_more _ c.args.byte c.self.invariant.right (λ e. absurd (omega arith)) (grind (arith, some, nine)) in
     opcode_byte_read g.B.Code.rules reads (omega (arith, nine)) _ c.args.byte (omega arith) right c.push.ensures refl
-    refl c.head_of-head.result c.in-Some.opcode nine says c.in-Some.ensures.some refl
+    refl c.head_of-head.result c.in-Some.opcode nine says c.in-Some.ensures.some (omega arith)

@@ -1,6 +1,7 @@
-use Rattle.ws_record.proofs.Common.{refl, inl, inr, arith, append-nil, length_rest, bytes_on, room_next, handed_on}
+use Rattle.ws_record.proofs.Common.{refl, inl, inr, arith, common_steps, append-nil, length_rest, bytes_on}
+use Rattle.ws_record.proofs.Common.{room_next, handed_on}
 use Rattle.ws_record.proofs.Faults.{item_completed}
-use Rattle.ws_record.proofs.Receivers.{left_feeds}
+use Rattle.ws_record.proofs.Receivers.{left_feeds, same_received}
 use Rattle.ws_record.proofs.receiver.Receiver.take_all.Goals as goal
 
 pub loop-used-init : goal.loop-used-init
@@ -29,10 +30,10 @@ returns-then-is_err-clause-fault g c =
 pub loop-used-preserved-else-is_err : goal.loop-used-preserved-else-is_err
 loop-used-preserved-else-is_err g c = (
   omega (arith, c.in_ok-fed.ensures.used, length_rest c.args.piece.now c.loop-used.used, c.loop-used.invariant.0),
-  λ bytes t fits. rw (rw (c.in-Some.item-is, c.is_err.ensures.negation, c.if-is_err.false) at c.push.ensures.items)
-      (rw (c.in-Some.is, bytes_on bytes c.args.piece.now c.loop-used.used c.in_ok-fed.fed.used) at
+  λ bytes t fits. (let on = rw (c.in-Some.is, bytes_on bytes c.args.piece.now c.loop-used.used c.in_ok-fed.fed.used) at
       (c.in_ok-fed.ensures.taken _ _ (c.loop-used.invariant.1 bytes t fits)
-      (room_next bytes c.args.piece.now _ fits c.loop-used.invariant.0))),
+      (room_next bytes c.args.piece.now _ fits c.loop-used.invariant.0)) in
+      same_received _ _ on (grind (arith, common_steps)) (grind (arith, common_steps))),
 )
 
 pub loop-used-preserved : goal.loop-used-preserved

@@ -1,5 +1,9 @@
-use Rattle.ws_session.proofs.Common.{rules, ◌≡◌, [], None, Some, Err, err_from_is_err_and, went_out_none, KeyFailed}
+use Rattle.ws_session.proofs.Common.{rules, ◌≡◌, [], None, Some, Err, Ok, subst, KeyFault, err_from_is_err_and, went_out_none, KeyFailed}
 use Rattle.ws_session.proofs.Common.{answer_spelling}
+use Rattle.ws_session.specs.attached.Deeds.{WritesDeed, key_judged}
+use Rattle.ws_session.specs.declared.attached.acted.Acted.{Acted}
+use Rattle.ws_session.specs.declared.attached.acted.Acted.TheVariants.{Refused}
+use Rattle.ws_session.specs.station.Displays.{on_display}
 use Rattle.ws_session.proofs.EndDeeds.{key_silent_goes, key_sent_goes, key_refused_goes, key_taken}
 use Rattle.ws_session.proofs.Shuts.{not_shut, shut_fails}
 use Rattle.ws_session.proofs.attached.writing.press_key.Goals as goal
@@ -71,19 +75,23 @@ returns-in_ok-write_answer-in-Ok-Some g c =
     }
 
 pub returns-in-Err : goal.returns-in-Err
-returns-in-Err g c = record {
-  pressed = record {
-    written = [];
-    led = key_refused_goes g.D.Commands.Code.rules g.D.StationDisplay.does g.met.D.StationDisplay.spells _ _ _
-        c.in-Err.fault c.in-Err.ensures.keyed c.in-Err.ensures.same;
-    wrote = went_out_none g.K.Sink.writer c.args.sink.now;
-  };
-  refused = search rules;
-  told = record {
-    led = λ bytes items side l few. (c.in-Err.ensures.keyed bytes items side l few).0;
-    shut = λ shut. (let e : Err c.in-Err.fault ≡ Err KeyFailed = shut_fails _ _ KeyFailed _ c.in-Err.ensures.failed
-        c.in-Err.ensures.full shut in cc);
-  };
-  taken = tt;
-  fault = tt;
-}
+returns-in-Err g c =
+    let d = g.D.StationDisplay.does in
+    let judged = key_judged (on_display g.D.Commands.Code.rules d) c.args.key in
+    subst (λ (a : Acted KeyFault). WritesDeed g.K.Sink.writer judged c.args.station.now c.key.new.self c.args.sink.now
+    c.args.sink.now (Ok a)) {x = Refused c.in-Err.fault} (cc) (record {
+      pressed = record {
+        written = [];
+        led = key_refused_goes g.D.Commands.Code.rules d g.met.D.StationDisplay.spells _ _ _ c.in-Err.fault
+            c.in-Err.ensures.keyed c.in-Err.ensures.same;
+        wrote = went_out_none g.K.Sink.writer c.args.sink.now;
+      };
+      refused = search rules;
+      told = record {
+        led = λ bytes items side l few. (c.in-Err.ensures.keyed bytes items side l few).0;
+        shut = λ shut. (let e : Err c.in-Err.fault ≡ Err KeyFailed = shut_fails _ _ KeyFailed _
+            c.in-Err.ensures.failed c.in-Err.ensures.full shut in cc);
+      };
+      taken = tt;
+      fault = tt;
+    })

@@ -1,0 +1,17 @@
+/* What names a field on the screen. */
+#ifndef LABEL_H
+#define LABEL_H
+
+#include "ribbonscarp.h"
+
+enum { LABEL_LONGEST = 26, LABEL_ROOM = 4 * LABEL_LONGEST + 1 };
+
+/* The text before a field in its row, without the dots and the colon behind it: up to another field, an attribute or
+ * two blanks. False where there is none, or a longer one. */
+bool label_of(ribbon_station *station, const ribbon_field *field, char text[LABEL_ROOM]);
+
+/* The first field that has to be entered and wasn't, by which keys are refused (SC30-3533, mandatory enter); false
+ * where there is none. */
+bool label_missing(ribbon_station *station, ribbon_field *field);
+
+#endif

@@ -1,0 +1,261 @@
+"""What becomes of a connection: the box at a session's end, connecting again, addresses that don't answer, silence."""
+import os
+import pathlib
+import socket
+import subprocess
+import tempfile
+import time
+
+from certificates import Authority, Front, context_of, has_tls
+from faults import ROLL, silent_listener
+from hosts import Host, field, inputs, plain, text, write
+from window import Terminal, check
+from work import FORM, at_form, shown_of
+
+# Another screen than FORM's.
+NEXT = write() + text(2, 2, "Another day") + field(3, 20, 6, 0x4300) + b"\x04\x52\x00\x00"
+QUIET = 1.1  # Seconds, after which the box takes keys.
+
+
+def box(t):
+    """The text in the box: rows that are reversed from the fifth column on."""
+    look = t.window.looks
+    rows = [row for row in range(24) if look(row, 4).get("reverse") and look(row, 75).get("reverse")]
+    return " ".join(" ".join(t.window.text(row) for row in rows).split())
+
+
+def in_box(t, words):
+    return t.until(lambda: words in box(t), f"the box has {words!r}", 15)
+
+
+def the_box():
+    """The whole reason stands in it; its keys connect again, save and leave, and any other shows the screen."""
+    with tempfile.TemporaryDirectory() as folder:
+        host, t = at_form(folder=folder)
+        t.type("42\x0f")
+        t.tells("INS")
+        host.again()
+        host.line.sendall(b"\x00\x0c")
+        host.send_raw(bytes(range(1, 200)))
+        in_box(t, "c connect again s save q leave any other key: the screen")
+        in_box(t, "Refused at the host's byte")
+        check(box(t).count("reason") == 1 and ".." not in box(t), "the reason is whole", box(t))
+        t.rings("a key that was meant for the session", lambda: t.type("q"))
+        time.sleep(QUIET)
+        check("Order" in t.window.text(0) and "42" in t.window.text(2), "the screen stays beside it")
+        t.rings("pasted text", lambda: t.paste("q"))
+        in_box(t, "c connect again")
+        t.type("s")
+        t.tells("Saved in term5250.rec. It holds passwords.")
+        in_box(t, "c connect again")
+        t.type("x")
+        t.until(lambda: not box(t), "any other key takes the box away")
+        t.rings("then keys ring", lambda: t.type("c"))
+        t.type("\x1d")
+        t.shows(3, "c  connect again", "the menu connects again too")
+        t.type("c")
+        check(host.ready(), "it connects again")
+        t.until(lambda: "Order" not in t.window.text(0) and "42" not in t.window.text(2), "an empty screen")
+        host.send(NEXT)
+        t.shows(1, "Another day")
+        t.until(lambda: "INS" not in t.status(), "keys are typed over")
+        t.type("7\r")
+        check(inputs(host.answer()) == (0xF1, {(3, 20): "7"}), "both ways")
+        t.type("\x1ds")
+        t.tells("Saved in term5250.rec-1.")
+        first, second = (shown_of(os.path.join(folder, name)) for name in ("term5250.rec", "term5250.rec-1"))
+        check("reason" in first and "CLEAR-UNIT" in second and "reason" not in second, "each session is kept by itself")
+        host.close()
+        in_box(t, "The host has closed the line.")
+        time.sleep(QUIET)
+        t.type("q")
+        t.ended(0, "The host has closed the line.")
+
+
+def again_where_nobody_is():
+    """Connecting again to a host that is gone is told in the box too; recordings go on in files of their own."""
+    with tempfile.TemporaryDirectory() as folder:
+        host = Host()
+        t = Terminal("--record", "mine", f"127.0.0.1:{host.port}", folder=folder, rows=24)
+        check(host.ready(), "the session begins")
+        host.send(FORM)
+        t.shows(0, "Order")
+        host.again()
+        host.hang_up()
+        in_box(t, "The host has closed the line.")
+        time.sleep(QUIET)
+        t.type("c")
+        check(host.ready(), "with 24 rows too")
+        host.send(NEXT)
+        t.shows(1, "Another day")
+        host.close()
+        in_box(t, "The host has closed the line.")
+        time.sleep(QUIET)
+        t.type("c")
+        in_box(t, f"No connection to 127.0.0.1:{host.port}: Connection refused.")
+        time.sleep(QUIET)
+        t.type("q")
+        t.ended(2, f"No connection to 127.0.0.1:{host.port}: Connection refused.")
+        first, second = (shown_of(os.path.join(folder, name)) for name in ("mine", "mine-1"))
+        check("D699848599" in first and "C195A3883" not in first, "a recording of the first session", first[-200:])
+        check("C19596A388" in second, "and one of the second", second[-200:])
+
+
+def wrapped():
+    """A reason of more than a row is wrapped, and nothing of it is lost."""
+    line = b"220 mail.example.org ESMTP and a greeting of many words that goes on and on\r\n"
+    t = Terminal(f"127.0.0.1:{plain(lambda to: (to.sendall(line), time.sleep(3)))}")
+    in_box(t, "This is no 5250 host: it sent `220 mail.example.org ESMTP")
+    rows = [t.window.text(row).strip() for row in range(15, 23)]
+    check(any(row.startswith("This is no 5250 host") for row in rows), "it begins its row", rows)
+    check(all(len(row) <= 68 for row in rows) and any(row.endswith("`.") for row in rows), "its end is there", rows)
+    t.resize(20, 60)
+    t.shows(0, "This window is 60 by 20")
+    t.resize(25, 80)
+    in_box(t, "c connect again")
+    t.leave(1)
+
+
+def by_itself():
+    """With `--reconnect` it connects again by itself; the pauses are 1, 2, 4 seconds."""
+    came = []
+    listening = socket.create_server(("127.0.0.1", 0))
+    listening.settimeout(15)
+    t = Terminal("--reconnect", f"127.0.0.1:{listening.getsockname()[1]}")
+    for _ in range(4):
+        t.settle()
+        line = listening.accept()[0]
+        came.append(time.monotonic())
+        line.close()
+        in_box(t, "The host has closed the line before a session began.")
+        in_box(t, "It begins again in")
+    pauses = [later - before for before, later in zip(came, came[1:])]
+    check(all(0 <= pause - wanted < 1 for pause, wanted in zip(pauses, (1, 2, 4))), "growing pauses", pauses)
+    listening.close()
+    time.sleep(QUIET)
+    t.type("c")
+    in_box(t, "Connection refused")
+    in_box(t, "It begins again in 16 s.")
+    in_box(t, "It begins again in 15 s.")
+    t.type("\x1dx")
+    t.until(lambda: not box(t), "the screen is there meanwhile")
+    t.leave(2, "No connection")
+
+
+def at_first():
+    """With `--reconnect` a host that isn't there yet is waited for."""
+    free = socket.create_server(("127.0.0.1", 0))
+    port = free.getsockname()[1]
+    free.close()
+    t = Terminal("--reconnect", f"127.0.0.1:{port}")
+    in_box(t, f"No connection to 127.0.0.1:{port}: Connection refused.")
+    host = Host(port=port)
+    host.window = t
+    t.until(host.is_ready.is_set, "it connects when the host is there")
+    host.send(FORM)
+    t.at("03/020")
+    t.type("5\r")
+    check(inputs(host.answer()) == (0xF1, {(3, 20): "5"}), "and works")
+    host.again()
+    host.send(ROLL)
+    in_box(t, "It begins again in")
+    t.until(host.is_ready.is_set, "after a refused record too")
+    host.send(NEXT)
+    t.shows(1, "Another day")
+    t.leave(0, "Left.")
+    host.close()
+
+
+NAMES = r"""
+#define _GNU_SOURCE
+#include <arpa/inet.h>
+#include <netdb.h>
+#include <stdlib.h>
+#include <string.h>
+
+/* Two addresses for each name, one after the other. */
+static struct sockaddr_in at[2];
+static struct addrinfo found[2];
+
+int getaddrinfo(const char *name, const char *port, const struct addrinfo *hints, struct addrinfo **all)
+{
+    if (hints->ai_flags & AI_NUMERICHOST)
+        return EAI_NONAME;
+    for (int k = 0; k < 2; k++) {
+        at[k].sin_family = AF_INET;
+        at[k].sin_port = htons((unsigned short)atoi(port));
+        at[k].sin_addr.s_addr = htonl(0x7f000001 + k);
+        memset(&found[k], 0, sizeof found[k]);
+        found[k].ai_family = AF_INET;
+        found[k].ai_socktype = SOCK_STREAM;
+        found[k].ai_addrlen = sizeof at[k];
+        found[k].ai_addr = (struct sockaddr *)&at[k];
+    }
+    found[0].ai_next = &found[1];
+    *all = found;
+    return 0;
+}
+
+void freeaddrinfo(struct addrinfo *all)
+{
+}
+"""
+
+
+def two_addresses(folder):
+    """A library by which each name has the addresses 127.0.0.1 and 127.0.0.2."""
+    source, made = pathlib.Path(folder, "names.c"), os.path.join(folder, "names.so")
+    source.write_text(NAMES)
+    subprocess.run([os.environ.get("CC", "cc"), "-shared", "-fPIC", "-o", made, source], check=True)
+    return made
+
+
+def mute():
+    """A port that says nothing."""
+    return plain(lambda line: time.sleep(25))
+
+
+def mute_by_tls(folder):
+    """The same behind TLS, and the file of who has signed its certificate."""
+    own = Authority(folder)
+    return Front(context_of(own.sign("mute", "DNS:localhost")), mute()).port, own.file("ca.pem")
+
+
+def silences():
+    """An address that swallows what it gets has ten seconds, then comes the next; a port that says nothing is told."""
+    told = "10 seconds of silence: "
+    with tempfile.TemporaryDirectory() as folder:
+        listening, held = silent_listener()
+        host = Host(where="127.0.0.2", port=listening.getsockname()[1])
+        names = two_addresses(folder)
+        begun = time.monotonic()
+        swallowed = Terminal(f"two.example:{host.port}", LD_PRELOAD=names)
+        alone = Terminal(f"127.0.0.1:{host.port}")
+        silent = Terminal(f"127.0.0.1:{mute()}")
+        more = []
+        if has_tls():
+            port, known = mute_by_tls(folder)
+            more.append((Terminal("--tls", f"127.0.0.1:{mute()}"), "it may be no port for TLS."))
+            more.append((Terminal("--tls", "--ca", known, f"localhost:{port}"), "it may be no 5250 host's port."))
+        swallowed.tells("connecting")
+        silent.tells("the session hasn't begun")
+        silent.idles("meanwhile")
+        silent.until(lambda: "silence" in silent.status(), "silence is told", 15)
+        check(9.5 < time.monotonic() - begun < 13, "after ten seconds", time.monotonic() - begun)
+        more.append((silent, "it may want TLS, or be no 5250 host's port."))
+        for t, may_be in more:
+            wanted = f" {told}{may_be} "
+            t.until(lambda t=t, wanted=wanted: t.status().startswith(wanted), f"with what it may be: {may_be}")
+        silent.type("a")
+        silent.tells("the session hasn't begun")
+        silent.idles("behind it")
+        alone.ended(2, f"No connection to 127.0.0.1:{host.port}: Connection timed out.")
+        swallowed.until(host.is_ready.is_set, "the next address is tried")
+        host.send(FORM)
+        swallowed.at("03/020")
+        swallowed.leave()
+        for t, _ in more:
+            t.leave()
+        host.close()
+        for line in held + [listening]:
+            line.close()

@@ -1,0 +1,1 @@
+"""Wrong bodies laid into rounds: what tests/wrong_bodies.py is made of."""
