@@ -66,12 +66,12 @@ module _ {R K Place U Deed Event Reply : Type 0} (d : Driving R K Place U Deed E
       | inr none ↦ (let v = value_at piece 0 some in
           let is : used ≡ 0 = omega (arith, none) in
           let never = λ (bytes : List ℕ) (items : List (Item U)) (side : d.does.Side) (l : LeadsTo d old bytes items side)
-              (few : length bytes + 1 < 2 ^ 64). absurd {A = ⊥} (omega (
-                arith,
-                is,
-                length-take-le used piece f.within,
-                ((f.takes (works bytes items side l few)).brings bytes items side l).0,
-              )) in
+          (few : length bytes + 1 < 2 ^ 64). absurd {A = ⊥} (omega (
+            arith,
+            is,
+            length-take-le used piece f.within,
+            ((f.takes (works bytes items side l few)).brings bytes items side l).0,
+          )) in
           rw is (
             v.0,
             v.1,

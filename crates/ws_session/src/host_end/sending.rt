@@ -5,9 +5,9 @@ ghost use Rattle.ws_session.specs.host_end.HostLeads.{AtHost, IsSent, IsSendFaul
 ghost use Rattle.ws_session.specs.host_end.HostReacting.{HostStands};
 ghost use Rattle.ws_session.specs.host_end.HostSide.{HostSide, RefusesSend, host_send, host_cancel, is_outstanding};
 
+use super::Host;
 use crate::station::apply::CANCEL;
 use crate::station::body::{body_spelling, is_too_big};
-use super::Host;
 use crate::{Driver, SendFault, Sent};
 use arrayvec::ArrayVec;
 use ws_code::VecSink;

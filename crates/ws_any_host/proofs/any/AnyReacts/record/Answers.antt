@@ -16,5 +16,11 @@ returns-clause-reacted c = λ units chain small keeps items side h.
     let body : c.of-2.result ≡ units =
     c.of-2.ensures ∙ ap (λ v. v.items) c.replace-body.ensures.value ∙ keeps in
     let output : AnyOutput = record { items = []; event = Some (Came (record_of head units)) } in
-    rw allowed (side, output, refl, c.of.ensures ∙ c.new-2.ensures,
-    ap (λ (b : List ℕ). Some (Came (record { flags = head.flags; opcode = head.opcode; body = b }))) body, h)
+    rw allowed (
+      side,
+      output,
+      refl,
+      c.of.ensures ∙ c.new-2.ensures,
+      ap (λ (b : List ℕ). Some (Came (record { flags = head.flags; opcode = head.opcode; body = b }))) body,
+      h,
+    )

@@ -1,5 +1,20 @@
-use Rattle.ws_session.proofs.Common.{◌≡◌, [], ◌∷◌, ◌++◌, ◌∙◌, suc, ◌<◌, take, ap, sym, arith, ◌-◌, Err, Failed,
-    err_from_is_err_and}
+use Rattle.ws_session.proofs.Common.{
+  ◌≡◌,
+  [],
+  ◌∷◌,
+  ◌++◌,
+  ◌∙◌,
+  suc,
+  ◌<◌,
+  take,
+  ap,
+  sym,
+  arith,
+  ◌-◌,
+  Err,
+  Failed,
+  err_from_is_err_and,
+}
 use Rattle.ws_session.proofs.Common.{behind}
 use Rattle.ws_session.proofs.Feedings.{value_at}
 use Rattle.ws_session.proofs.attached.PlaySteps.{no_record, record_comes, keys_fail, known_bytes, known_step, reply_fails, refused_as}
