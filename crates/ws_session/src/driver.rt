@@ -1,5 +1,5 @@
 //! What drives an end of a session by the bytes that come, whatever reacts to their items.
-ghost use Rattle.std.specs.Prelude.{IsTrue, ◌↔◌, ◌≡◌, ◌≢◌, ◌<◌, ◌≤◌, ◌+◌, ◌^◌, [], None, Err, IfOk, length, take, true, false};
+ghost use Rattle.std.specs.Prelude.{IsTrue, ◌↔◌, ◌≡◌, ◌≢◌, ◌<◌, ◌≤◌, ◌+◌, ◌^◌, [], None, Err, IfOk, OnErr, length, take, true, false};
 ghost use Rattle.ws_session.specs.Ends.{refused_byte};
 ghost use Rattle.ws_session.specs.driver.Driven.{AtDriver, DriverFeeds, DriverFronts, DriverPushes, DriverTakes, IsNewsTaken, IsSettled, IsSilent, LeadsTo, TakesNoMore, driving};
 ghost use Rattle.ws_session.specs.driver.Reacting.{Settles};
@@ -145,6 +145,8 @@ impl<R: Reacts> Driver<R> {
             → step.event ≡ None → result.used ≡ length piece.now) }
         ensures taken { DriverTakes (driving R.Body.rules R.Keep.keeper R.does)
             self.old (take result.used piece.now) self.new result.step }
+        ensures stays { length piece.now ≤ 1
+            → OnErr result.step (self.new.reacts ≡ self.old.reacts) }
     {
         let mut used = 0;
         while used < piece.len() {

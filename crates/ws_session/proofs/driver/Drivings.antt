@@ -241,8 +241,10 @@ module _ {R K Place U Deed Event Reply : Type 0} (d : Driving R K Place U Deed E
       → Settles d.does old.reacts mid.reacts done → mid.ended ≡ old.ended → (new.live.taken ≡ mid.live.taken)
       × (old.ended ≡ None → MatchResult result (λ step. new.ended ≡ None) (λ why. new.ended ≡ Some why))
       × (TellsNothing result → d.does.shown new.reacts ≡ d.does.shown old.reacts)
-  stands_so old mid new (Ok step) result e f same = rw (e.0, e.1) (refl, λ works. same ∙ works, λ none. f.1 none)
-  stands_so old mid new (Err why) result e f same = rw (e.0, e.1) (refl, λ works. refl, λ none. ap d.does.shown f.0)
+      × OnErr result (new.reacts ≡ old.reacts)
+  stands_so old mid new (Ok step) result e f same = rw (e.0, e.1) (refl, λ works. same ∙ works, λ none. f.1 none, tt)
+  stands_so old mid new (Err why) result e f same =
+      rw (e.0, e.1) (refl, λ works. refl, λ none. ap d.does.shown f.0, f.0)
 
   -- a front of a piece
   pub front_is : (old : Driven R K Place) (piece : List ℕ) (used : ℕ) (live : Watching Place) (kept : K) (news : News)
@@ -277,6 +279,7 @@ module _ {R K Place U Deed Event Reply : Type 0} (d : Driving R K Place U Deed E
         counted = λ fits. s.0 ∙ same.0 ∙ counted fits;
         ended = s.1;
         seen = s.2;
+        stays = s.3;
       }
 
   -- a front that can be counted, at one that isn't stopped

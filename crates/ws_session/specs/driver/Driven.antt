@@ -1,7 +1,7 @@
 -- What drives it: a live decoder, what is kept of the open record, and why it takes no more bytes.
 
 use Rattle.std.specs.Prelude.{◌≡◌, ◌≢◌, ℕ, ◌+◌, ◌-◌, ◌^◌, ◌<◌, ◌≤◌, ◌⊎◌, ◌++◌, ◌∷◌, List, [], Option, Some, None, IsSome}
-use Rattle.std.specs.Prelude.{OnOk, Result, Ok, Err, IfOk, IfErr, MatchResult, length, take, drop}
+use Rattle.std.specs.Prelude.{OnOk, OnErr, Result, Ok, Err, IfOk, IfErr, MatchResult, length, take, drop}
 use Rattle.ws_code.specs.Code.{Rules, IsChain, spelling_of}
 use Rattle.ws_code.specs.Keep.{Keeper}
 use Rattle.ws_code.specs.declared.keep.Kept.TheVariants.{NoMemory}
@@ -135,6 +135,7 @@ module _ {R K Place U Deed Event Reply : Type 0} (d : Driving R K Place U Deed E
     pub counted : old.live.taken + front.used < 2 ^ 64 → new.live.taken ≡ old.live.taken + front.used
     pub ended : old.ended ≡ None → MatchResult front.step (λ step. new.ended ≡ None) (λ why. new.ended ≡ Some why)
     pub seen : TellsNothing front.step → d.does.shown new.reacts ≡ d.does.shown old.reacts
+    pub stays : OnErr front.step (new.reacts ≡ old.reacts)
 
   -- what the bytes bring: they lead on, and this is written and told; or the last of them is refused, after others at
   -- which nothing is
@@ -172,6 +173,8 @@ module _ {R K Place U Deed Event Reply : Type 0} (d : Driving R K Place U Deed E
     -- what a refusal leaves, and that what is seen changes with an event alone
     pub after : IfErr fed.step (λ why. old.ended ≡ None → new.ended ≡ Some why)
     pub seen : TellsNothing fed.step → d.does.shown new.reacts ≡ d.does.shown old.reacts
+    -- where a byte alone is refused, all that reacts is as it was
+    pub stays : length piece ≤ 1 → OnErr fed.step (new.reacts ≡ old.reacts)
 
   -- what a byte gives: what a piece of that byte alone does
   abbrev pub DriverPushes : Driven R K Place → ℕ → Driven R K Place → Result (EndStep Event Reply) Refusal → Type 0

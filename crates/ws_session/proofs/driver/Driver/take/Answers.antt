@@ -32,6 +32,7 @@ loop-used-preserved-else-not-is_silent-2 g c =
       λ new more result next. rw (← append_assoc (take i piece) front more, bytes_on [] piece i k) at
           (now.invariant.3 new _ result (takes_on d now.self f.new.self new front more f.result.step silent t result
           next)),
+      λ none. absurd (omega (arith, none, f.ensures.used (λ e. cc))),
     )
 
 pub returns-clause-taken : goal.returns-clause-taken

@@ -9,6 +9,7 @@ invariant-loop-used g l =
     (l.used ≤ length l.piece) × (l.self.ended ≡ None) × (l.self.live.taken ≡ l.fn.self.live.taken + l.used)
     × ((new : _) (more : List ℕ) (result : _) → DriverTakes d l.self more new result
     → DriverTakes d l.fn.self (take l.used l.piece ++ more) new result)
+    × (l.used ≡ 0 → l.self.reacts ≡ l.fn.self.reacts)
 
 abbrev pub decreases-loop-used : goal.decreases-loop-used
 decreases-loop-used g l = length l.piece - l.used
