@@ -7,7 +7,7 @@ use std::process::Abort;
 use ws_code::{SliceSource, VecSink};
 use ws_keys::{Answer, Key, KeyRefusal};
 use ws_nego::TerminalType;
-use ws_session::{Acted, Applied, Attached, End, KeyFault, StationOn};
+use ws_session::{Acted, Applied, Attached, End, EndFed, KeyFault, StationOn};
 
 type SecondStation = StationOn<SecondDisplay>;
 
@@ -31,11 +31,12 @@ fn written(
     for piece in bytes.chunks(size) {
         let mut rest = piece;
         for _ in 0..20u8 {
-            let fed = station.feed(rest).expect(rt, "a piece");
+            let EndFed { used, step } = station.feed(rest);
+            let step = step.expect(rt, "a piece");
             written
-                .extend_from_slice(station.bytes(&fed.reply))
+                .extend_from_slice(station.bytes(&step.reply))
                 .expect(rt, "memory");
-            rest = &rest[fed.used..];
+            rest = &rest[used..];
         }
     }
     written

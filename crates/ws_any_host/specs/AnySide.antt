@@ -1,6 +1,6 @@
 -- A host that takes any record: what it does at each item that arrives, and what it sends (RFC 1205, section 3)
 
-use Rattle.std.specs.Prelude.{ℕ, ◌^◌, List, [], ◌∷◌, Bool, not, ◌&&◌, if◌then◌else◌, Option, Some, None}
+use Rattle.std.specs.Prelude.{◌≡◌, ℕ, ◌^◌, List, [], ◌∷◌, Bool, not, ◌&&◌, if◌then◌else◌, Option, Some, None}
 use Rattle.std.specs.Prelude.{map, length, nat_lt}
 use Rattle.ws_code.specs.declared.reason.Reason.TheVariants.{RecordBeforeNegotiation, UnsupportedTerminal}
 use Rattle.ws_nego.specs.Host.{host_allows_records}
@@ -10,9 +10,13 @@ use Rattle.ws_record.specs.RawBody.{raw_rules}
 use Rattle.ws_record.specs.declared.record.Record.{Record}
 use Rattle.ws_record.specs.declared.record.Item.{Item}
 use Rattle.ws_record.specs.declared.record.Item.TheVariants.{Record as RecordItem, Telnet as TelnetItem}
-use Rattle.ws_session.specs.Acts.{Happening, Arrives, Does, Doing, Manner, idle, as_list}
-use Rattle.ws_session.specs.Reaction.{Reaction, Refuses, GoesOn}
-use Rattle.ws_session.specs.station.StationManners.{goes_on}
+use Rattle.std.specs.declared.alloc.Global.{Global}
+use Rattle.std.specs.declared.vec.Vec.{Vec}
+use Rattle.ws_code.specs.Keep.{list_keeper}
+use Rattle.ws_session.specs.Acts.{Doing, idle}
+use Rattle.ws_session.specs.Reaction.{Output, Reaction, Refuses, GoesOn}
+use Rattle.ws_session.specs.driver.Driven.{Driving, driving}
+use Rattle.ws_session.specs.driver.Reacting.{ReactingOf}
 use Rattle.ws_session.specs.declared.host_end.send_fault.SendFault.{SendFault}
 use Rattle.ws_session.specs.declared.host_end.send_fault.SendFault.TheVariants.{NotAllowed, TooBig}
 use Rattle.ws_any_host.specs.AnyOptions.{Negotiated, any_answer}
@@ -20,9 +24,8 @@ use Rattle.ws_any_host.specs.declared.any_event.AnyEvent.{AnyEvent}
 use Rattle.ws_any_host.specs.declared.any_event.AnyEvent.TheVariants.{Ready, Record as Came}
 
 -- what such a host writes at an item, and tells its caller
-pub record AnyOutput : Type 0 where
-  pub items : List (Item ℕ)
-  pub event : Option AnyEvent
+abbrev pub AnyOutput : Type 0
+AnyOutput = Output ℕ AnyEvent
 
 -- a session is ready once records are allowed and weren't before (RFC 1205, section 2)
 abbrev pub any_ready : Bool → Negotiated → Option AnyEvent
@@ -54,21 +57,29 @@ send_fault n r =
     if not (host_allows_records n.host) then Some NotAllowed
     else (if is_any_too_big r then Some TooBig else None)
 
--- what such a host has done behind an item: it has gone on as it reacts; at a refused one nothing
-abbrev pub any_at_item : Negotiated → Reaction Negotiated AnyOutput → Doing Negotiated ℕ AnyEvent
-any_at_item n (Refuses reason) = idle n
-any_at_item n (GoesOn next output) = record { side = next; written = output.items; told = as_list output.event }
-
 -- what such a host has done behind a send: the record is written; at a refused one nothing
 abbrev pub any_at_send : Negotiated → Record ℕ → Option SendFault → Doing Negotiated ℕ AnyEvent
 any_at_send n r (Some fault) = idle n
 any_at_send n r None = record { side = n; written = RecordItem r ∷ []; told = [] }
 
--- what such a host has done behind each thing that happens; its caller sends records
-abbrev pub any_at : Negotiated → Happening ℕ (Record ℕ) → Doing Negotiated ℕ AnyEvent
-any_at n (Arrives item) = any_at_item n (any_takes n item)
-any_at n (Does r) = any_at_send n r (send_fault n r)
+-- how such a host reacts: its caller sends records; no memory is wanted for what it makes of an item
+abbrev pub any_reacting : ReactingOf Negotiated ℕ (Record ℕ) AnyEvent (List ℕ)
+any_reacting = record {
+  Side = Negotiated;
+  Made = AnyOutput;
+  PlaceV = Unit {0};
+  V = ℕ;
+  Shown = Unit {0};
+  out = raw_rules;
+  takes = any_takes;
+  puts = λ item output. output;
+  acts = λ n r. any_at_send n r (send_fault n r);
+  stands = λ host items side. host ≡ side;
+  written = λ host reply. reply;
+  wants = λ output. ⊥;
+  shown = λ host. tt;
+}
 
--- the manner of such a host: what it does at items and sends, and which items it takes
-abbrev pub any_manner : Manner Negotiated ℕ ℕ (Record ℕ) AnyEvent
-any_manner = record { at = any_at; takes = λ n item. goes_on (any_takes n item) }
+-- such a host: what comes to it, how it keeps an open record, and how it reacts
+abbrev pub any_driving : Driving Negotiated (Vec ℕ Global) (Unit {0}) ℕ (Record ℕ) AnyEvent (List ℕ)
+any_driving = driving raw_rules (list_keeper (λ units. units.items)) any_reacting

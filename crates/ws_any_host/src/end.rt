@@ -1,9 +1,10 @@
 //! A host that takes any record, as an end of a session.
 ghost use Rattle.ws_record.specs.RawBody.{raw_rules};
 ghost use Rattle.ws_session.specs.ActLaws.{goes_none, goes_on};
-ghost use Rattle.ws_any_host.specs.AnyLeads.{AnyLeads, any_conduct, IsAnyShut, IsAnySendRefusal, IsAnySendTaken};
-ghost use Rattle.ws_any_host.specs.AnySide.{any_manner};
 ghost use Rattle.ws_session.specs.Acts.{ways};
+ghost use Rattle.ws_session.specs.driver.Driven.{TakesNoMore, manner_of};
+ghost use Rattle.ws_any_host.specs.AnyLeads.{AnyLeads, any_conduct, IsAnySendRefusal, IsAnySendTaken};
+ghost use Rattle.ws_any_host.specs.AnySide.{any_driving};
 
 use crate::{AnyEvent, AnyHost};
 use ws_nego::Reply;
@@ -22,25 +23,16 @@ impl End for AnyHost {
     ghost written = { λ host reply. reply };
 
     fn feed(&mut self, piece: &[u8]) -> EndFed<AnyEvent> {
-        match self.push(piece[0]) {
-            Ok(step) => EndFed {
-                used: 1,
-                step: Ok(step),
-            },
-            Err(refusal) => EndFed {
-                used: 0,
-                step: Err(refusal),
-            },
-        }
+        End::feed(&mut self.driver, piece)
     }
 
     fn bytes<'a>(&'a self, reply: &'a Reply) -> &'a [u8] {
         reply.as_slice()
     }
 
-    ghost stays = { goes_none (ways raw_rules raw_rules any_manner) AnyLeads IsAnyShut };
+    ghost stays = { goes_none (ways raw_rules raw_rules (manner_of any_driving)) AnyLeads TakesNoMore };
 
-    ghost follows = { goes_on (ways raw_rules raw_rules any_manner) AnyLeads IsAnyShut };
+    ghost follows = { goes_on (ways raw_rules raw_rules (manner_of any_driving)) AnyLeads TakesNoMore };
 }
 
 impl Acting for AnyHost {

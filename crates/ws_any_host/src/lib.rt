@@ -1,6 +1,7 @@
 //! A host for tests of emulators, which takes any record and any terminal name, and judges nothing.
 #![tactic(auto)]
 
+mod any;
 mod any_event;
 mod any_host;
 mod any_line;
@@ -10,6 +11,7 @@ mod any_text;
 mod end;
 mod names;
 
+pub use any::Any;
 pub use any_event::AnyEvent;
 pub use any_host::AnyHost;
 pub use any_line::AnyLine;

@@ -1,225 +1,107 @@
--- What feeds of a station and of a host's end come to, one behind another
+-- What feeds of a driver come to, one after another
 
-use Rattle.std.specs.Prelude.{min, Option}
-use Rattle.std.proofs.Common.{◌≡◌, ℕ, ◌+◌, ◌-◌, ◌^◌, ◌<◌, ◌≤◌, inl, inr, List, [], ◌∷◌, ◌++◌, Some, None, IsSome}
-use Rattle.std.proofs.Common.{length, take, drop, refl, ap, subst, sym, ◌∙◌, arith, length-append}
+use Rattle.std.proofs.Common.{◌≡◌, ℕ, ◌+◌, ◌<◌, ◌≤◌, inl, inr, List, [], ◌++◌, Ok, Err, Result, length, take, drop, refl, ap, subst}
+use Rattle.std.proofs.Common.{sym, ◌∙◌, arith, length-append}
+use Rattle.std.proofs.Math.Seq.{take-add}
 use Rattle.std.proofs.lemmas.Bool.{cases_lt}
+use Rattle.std.proofs.lemmas.List.{length-drop, length-take-le, take-take}
 use Rattle.ws_record.specs.declared.record.Item.{Item}
-use Rattle.ws_stream.specs.AnswerParts.{answer_rules}
-use Rattle.ws_stream.specs.Elements.{element_rules}
-use Rattle.ws_stream.specs.declared.answer_part.AnswerPart.{AnswerPart}
-use Rattle.ws_session.specs.ActLaws.{bytes_came}
-use Rattle.ws_session.specs.Acts.{all_came, as_list, bytes_of}
-use Rattle.ws_session.specs.Ends.{CountsUpTo}
-use Rattle.ws_session.specs.Manners.{host_manner}
-use Rattle.ws_session.specs.declared.end_step.Applied.{Applied}
-use Rattle.ws_session.specs.declared.end_step.Order.{Order}
+use Rattle.ws_session.specs.ActLaws.{came_append, gone_on}
+use Rattle.ws_session.specs.Acts.{Act, HasGone, all_came, as_list, ways}
+use Rattle.ws_session.specs.declared.end_step.EndFed.{EndFed}
+use Rattle.ws_session.specs.declared.end_step.EndStep.{EndStep}
+use Rattle.ws_session.specs.driver.Driven.{AreSilent, AtDriver, Come, Driven, DriverFeeds, Driving, LeadsTo, TakesNoMore}
+use Rattle.ws_session.specs.driver.Driven.{manner_of}
 use Rattle.ws_session.specs.declared.refusal.Refusal.{Refusal}
-use Rattle.ws_session.specs.declared.refusal.Refusal.TheVariants.{At, Failed, Memory}
-use Rattle.ws_session.specs.host_end.HostFeeds.{HasHostFed, HasHostRefused}
-use Rattle.ws_session.specs.host_end.HostLeads.{HostParts, HostLeads}
-use Rattle.ws_session.specs.host_end.HostSide.{HostSide}
-use Rattle.ws_session.specs.station.StationActs.{HasFedOn, HasRefusedOn, IsSilentOn}
-use Rattle.ws_session.specs.station.StationManners.{manner_on}
-use Rattle.ws_session.proofs.Counts.{counted_on}
 use Rattle.ws_session.proofs.Feedings.{none_come}
-use Rattle.ws_c.specs.Hosts.{HostTakes, HostRefusesWithin}
-use Rattle.ws_c.specs.Pushes.{BringsAtMostOn, StationTakesOn, StationRefusesOn, StandsBehind, first_bytes}
-use Rattle.ws_c.specs.Pushes.{place_refused_at}
+use Rattle.ws_c.specs.Hosts.{HostTakes}
+use Rattle.ws_c.specs.Pushes.{BringsAtMost, FrontTaken, first_bytes, refused_step}
 use Rattle.ws_c.specs.declared.host.HeldHost.{HeldHost}
-use Rattle.ws_c.proofs.PushLaws.{come_on}
-use Rattle.ws_session.specs.station.Displays.{OnDisplay}
-use Rattle.ws_session.specs.station.Stations.{StationOf, ItemsOf, SideOf, LeadsOn}
 
-module _ (kind : OnDisplay) where
+module _ {R K Place U Deed Event Reply : Type 0} (d : Driving R K Place U Deed Event Reply)
+    (IsTold : List Event → Type 0) where
   -- none of the bytes was taken
-  pub station_takes_none : (station : StationOf kind) (bytes : List ℕ)
-      → StationTakesOn kind station (first_bytes bytes 0) [] station
-  station_takes_none station bytes = record {
-    taken = λ before items side l fits. (
+  pub takes_none : IsTold [] → (end : Driven R K Place) (bytes : List ℕ)
+      → FrontTaken d IsTold end (first_bytes bytes 0) [] end
+  takes_none untold end bytes = record {
+    taken = λ before items side l. (
       [],
-      none_come kind.rules kind.does.out (manner_on kind.does) (LeadsOn kind station) before items side l,
+      untold,
+      none_come d.rules d.does.out (manner_of d) (LeadsTo d end) before items side l,
     );
-    counted = λ fits. omega arith;
-    works = λ some e. absurd (omega (arith, some));
-    counts = λ some e. absurd (omega (arith, some));
+    counted = omega arith;
+    works = λ some shut. absurd (omega (arith, some));
     none = λ e. (refl, refl);
   }
 
-  -- more of them are
-  pub station_takes_on : (old now new : StationOf kind) (bytes : List ℕ) (n k : ℕ) (written reply : List ℕ)
-      (event : Option Applied) → n ≤ length bytes → 0 < k → StationTakesOn kind old (first_bytes bytes n) written now
-      → ((b : List ℕ) (its : ItemsOf kind) (s : SideOf kind) → LeadsOn kind now b its s
-      → length b + length (drop n bytes) + 1 < 2 ^ 64
-      → HasFedOn kind new b its s (take k (drop n bytes)) reply event)
-      → (now.live.taken + k < 2 ^ 64 → new.live.taken ≡ now.live.taken + k)
-      → (IsSome now.ended → ⊥) → (now.live.taken + 1 ≡ 2 ^ 64 → ⊥)
-      → StationTakesOn kind old (first_bytes bytes (n + k)) (written ++ reply) new
-  station_takes_on old now new bytes n k written reply event inside some t fed counted works counts = record {
-    counted = counted_on old.live.taken now.live.taken new.live.taken n k t.counted counted;
-    taken = λ before items side l fits. (let g = t.taken before items side l fits in (
-      g.0 ++ as_list event,
-      come_on kind.rules kind.does.out (manner_on kind.does) (LeadsOn kind now) (LeadsOn kind new) bytes n k
-          before items side written reply g.0 (as_list event) inside fits g.1 fed,
-    ));
-    works = λ _ e. elim (cases_lt 0 n) [
-      | inl lt ↦ t.works lt e
-      | inr ge ↦ works (subst (λ (s : StationOf kind). IsSome s.ended) (sym (t.none (omega (arith, ge))).0) e)
-    ];
-    counts = λ _ e. elim (cases_lt 0 n) [
-      | inl lt ↦ t.counts lt e
-      | inr ge ↦ counts (subst (λ (s : StationOf kind). s.live.taken + 1 ≡ 2 ^ 64)
-          (sym (t.none (omega (arith, ge))).0) e)
-    ];
-    none = λ z. absurd (omega (arith, z, some));
-  }
+  -- what comes after a front
+  come_after : (Then : List ℕ → List (Item U) → d.does.Side → Type 0) (now : Driven R K Place) (bytes : List ℕ)
+      (n k : ℕ) (before : List ℕ) (items : List (Item U)) (side : d.does.Side) (written reply : List ℕ)
+      (told more : List Event) → Come d (LeadsTo d now) before items side (take n bytes) written told
+      → AtDriver d now (λ b its s. Come d Then b its s (take k (drop n bytes)) reply more)
+      → Come d Then before items side (take (n + k) bytes) (written ++ reply) (told ++ more)
+  come_after Then now bytes n k before items side written reply told more gone next =
+      subst (λ (z : List (Act Deed)). HasGone (ways d.rules d.does.out (manner_of d)) Then before items side z
+      (written ++ reply) (told ++ more)) (sym (came_append (take n bytes) (take k (drop n bytes)))
+      ∙ ap (λ (x : List ℕ). all_came {Deed = Deed} x) (sym (take-add n k bytes)))
+      (gone_on (ways d.rules d.does.out (manner_of d)) (LeadsTo d now) Then before items side (all_came (take n bytes))
+      (all_came (take k (drop n bytes))) written reply told more gone (λ b its s m size. next b its s m))
 
-  -- what bytes bring behind these that bring nothing
-  pub station_brings : (old now : StationOf kind) (bytes : List ℕ) (n j : ℕ) (written : List ℕ) (most : ℕ)
-      → n ≤ length bytes → StationTakesOn kind old (first_bytes bytes n) written now
-      → ((b : List ℕ) (its : ItemsOf kind) (s : SideOf kind) → LeadsOn kind now b its s
-      → length b + length (drop n bytes) + 1 < 2 ^ 64
-      → IsSilentOn kind b its s (take j (drop n bytes)))
-      → length written ≤ most → BringsAtMostOn kind old (first_bytes bytes (n + j)) most
-  station_brings old now bytes n j written most inside t silent few = λ before items side l fits.
-      (let g = t.taken before items side l fits in (
+  -- what bytes bring after these that bring nothing
+  pub brings_at_most : (old now : Driven R K Place) (bytes : List ℕ) (n j : ℕ) (written : List ℕ) (most : ℕ)
+      → FrontTaken d IsTold old (first_bytes bytes n) written now
+      → AtDriver d now (λ b its s. AreSilent d b its s (take j (drop n bytes))) → length written ≤ most
+      → BringsAtMost d old (first_bytes bytes (n + j)) most
+  brings_at_most old now bytes n j written most t silent few = λ before items side l.
+      (let p = t.taken before items side l in (
         written ++ [],
-        g.0 ++ [],
-        come_on kind.rules kind.does.out (manner_on kind.does) (LeadsOn kind now) (λ b its s. Unit {0}) bytes n j
-            before items side written [] g.0 [] inside fits g.1 silent,
+        p.0 ++ [],
+        come_after (λ b its s. Unit {0}) now bytes n j before items side written [] p.0 [] p.2 silent,
         omega (arith, few, length-append written []),
       ))
 
--- how many stand before the byte at which an end failed, by what it has taken
-stands_behind : (refusal : Refusal) (n before after length : ℕ)
-    → n ≡ min (place_refused_at refusal before after - before) length → CountsUpTo refusal before after length
-    → StandsBehind refusal n before after length
-stands_behind (At place reason) n before after length is up =
-    (omega (arith, is, up), omega (arith, is, up), omega (arith, is, up))
-stands_behind Memory n before after length is up = (omega (arith, is, up), omega (arith, is, up))
-stands_behind Failed n before after length is up = omega (arith, is)
+  module _ (old now new : Driven R K Place) (bytes : List ℕ) (n : ℕ) (inside : n < length bytes)
+      (fed : EndFed Event Reply) (step : EndStep Event Reply) (is : fed.step ≡ Ok step)
+      (f : DriverFeeds d now (drop n bytes) new fed) where
+    -- it isn't stopped
+    works : TakesNoMore now → ⊥
+    works shut = cc (is, (f.stopped shut).0)
 
-module _ (kind : OnDisplay) (old new : StationOf kind) (bytes : List ℕ) (after : ℕ) where
-  -- how many bytes stand before a refused one
-  station_front : (refusal : Refusal) (b : List ℕ) (its : ItemsOf kind) (s : SideOf kind)
-      → LeadsOn kind old b its s → (r : HasRefusedOn kind old new b its s bytes refusal)
-      → min (place_refused_at refusal old.live.taken after - old.live.taken) (length bytes) ≡ length r.front
-  station_front (At place reason) b its s l r =
-      let here : place ≡ length (b ++ bytes_of (all_came {Deed = kind.Pressed} r.front)) = r.refused.leads.0 in
-      let size : length (b ++ bytes_of (all_came {Deed = kind.Pressed} r.front)) ≡ length b + length r.front =
-      length-append b (bytes_of (all_came {Deed = kind.Pressed} r.front))
-      ∙ ap (λ (x : List ℕ). length b + length x) (bytes_came kind.Pressed r.front) in
-      let all : length bytes ≡ length r.front + length (r.byte ∷ r.rest) =
-      ap length r.split ∙ length-append r.front (r.byte ∷ r.rest) in
-      omega (arith, here, size, all, l.leads.1.count)
-  station_front Failed b its s l r = absurd r.refused.leads
-  station_front Memory b its s l r = absurd r.refused.leads
+    pub some_fed : 0 < fed.used
+    some_fed = f.some (omega (arith, length-drop n bytes, inside)) (λ e. cc (is, e))
 
-  pub station_refuses : (refusal : Refusal) (n : ℕ)
-      → n ≡ min (place_refused_at refusal old.live.taken after - old.live.taken) (length bytes)
-      → ((b : List ℕ) (its : ItemsOf kind) (s : SideOf kind) → LeadsOn kind old b its s
-      → length b + length bytes + 1 < 2 ^ 64 → HasRefusedOn kind old new b its s bytes refusal)
-      → (old.live.taken + 1 ≡ 2 ^ 64 → refusal ≡ Failed)
-      → (IsSome old.ended → (refusal ≡ Failed) × (new ≡ old))
-      → (old.ended ≡ None → new.ended ≡ Some refusal) → new.screen ≡ old.screen → after ≡ new.live.taken
-      → (old.live.taken + length bytes < 2 ^ 64 → CountsUpTo refusal old.live.taken new.live.taken (length bytes))
-      → StationRefusesOn kind old (first_bytes bytes n) refusal new
-  station_refuses refusal n is refused full failed after_it seen now up = record {
-    counted = λ fits. stands_behind refusal n old.live.taken new.live.taken (length bytes)
-        (subst (λ (z : ℕ). n ≡ min (place_refused_at refusal old.live.taken z - old.live.taken) (length bytes)) now is)
-        (up fits);
-    refused = λ b its s l fits. (let r = refused b its s l fits in (r, is ∙ station_front refusal b its s l r));
-    full = full;
-    failed = failed;
-    none = λ e. is ∙ subst (λ (r : Refusal). min (place_refused_at r old.live.taken after - old.live.taken)
-        (length bytes) ≡ 0) (sym e) (omega arith);
-    after = after_it;
-    seen = seen;
-  }
+    -- more of them are
+    pub takes_on : (written : List ℕ) → ((told : List Event) → IsTold told → IsTold (told ++ as_list step.event))
+        → FrontTaken d IsTold old (first_bytes bytes n) written now → FrontTaken d IsTold old
+        (first_bytes bytes (n + fed.used)) (written ++ d.does.written new.reacts step.reply) new
+    takes_on written more t =
+        let k : ℕ = fed.used in
+        let g = f.takes works in
+        record {
+          taken = λ before items side l. (let p = t.taken before items side l in (
+            p.0 ++ as_list step.event,
+            more p.0 p.1,
+            come_after (LeadsTo d new) now bytes n k before items side written (d.does.written new.reacts step.reply) p.0
+                (as_list step.event) p.2 (λ b its s m. rw is at (g.brings b its s m)),
+          ));
+          counted = omega (arith, t.counted, g.counted, length-take-le k (drop n bytes) f.within);
+          works = λ _ shut. elim (cases_lt 0 n) [
+            | inl lt ↦ t.works lt shut
+            | inr ge ↦ works (subst (λ (s : Driven R K Place). TakesNoMore s) (sym (t.none (omega (arith, ge))).0) shut)
+          ];
+          none = λ z. absurd (omega (arith, z, some_fed));
+        }
 
--- The same of a host's end, that tells nothing
-pub host_takes_none : (host : HostParts) (bytes : List ℕ) → HostTakes host (first_bytes bytes 0) [] host
-host_takes_none host bytes = record {
-  taken = λ before items side l fits. none_come answer_rules element_rules host_manner (HostLeads host) before items
-      side l;
-  counted = λ fits. omega arith;
-  works = λ some e. absurd (omega (arith, some));
-  counts = λ some e. absurd (omega (arith, some));
-  none = λ e. (refl, refl);
-}
+    -- nothing came before the last of them
+    pub silent_before : (j : ℕ) → j < fed.used → AtDriver d now (λ b its s. AreSilent d b its s (take j (drop n bytes)))
+    silent_before j less b its s l = rw (take-take j fed.used (drop n bytes) (omega (arith, less)))
+        at ((f.takes works).first b its s l j (omega (arith, less, length-take-le fed.used (drop n bytes) f.within)))
 
-pub host_takes_on : (old now new : HostParts) (bytes : List ℕ) (n k : ℕ) (written reply : List ℕ) → n ≤ length bytes
-    → 0 < k → HostTakes old (first_bytes bytes n) written now
-    → ((b : List ℕ) (its : List (Item AnswerPart)) (s : HostSide) → HostLeads now b its s
-    → length b + length (drop n bytes) + 1 < 2 ^ 64 → HasHostFed new b its s (take k (drop n bytes)) reply None)
-    → (now.receiver.live.taken + k < 2 ^ 64 → new.receiver.live.taken ≡ now.receiver.live.taken + k)
-    → (IsSome now.ended → ⊥) → (now.receiver.live.taken + 1 ≡ 2 ^ 64 → ⊥)
-    → HostTakes old (first_bytes bytes (n + k)) (written ++ reply) new
-host_takes_on old now new bytes n k written reply inside some t fed counted works counts = record {
-  counted = counted_on old.receiver.live.taken now.receiver.live.taken new.receiver.live.taken n k t.counted counted;
-  taken = λ before items side l fits. come_on answer_rules element_rules host_manner (HostLeads now) (HostLeads new)
-      bytes n k before items side written reply [] [] inside fits (t.taken before items side l fits) fed;
-  works = λ _ e. elim (cases_lt 0 n) [
-    | inl lt ↦ t.works lt e
-    | inr ge ↦ works (subst (λ (s : HostParts). IsSome s.ended) (sym (t.none (omega (arith, ge))).0) e)
-  ];
-  counts = λ _ e. elim (cases_lt 0 n) [
-    | inl lt ↦ t.counts lt e
-    | inr ge ↦ counts (subst (λ (s : HostParts). s.receiver.live.taken + 1 ≡ 2 ^ 64)
-        (sym (t.none (omega (arith, ge))).0) e)
-  ];
-  none = λ z. absurd (omega (arith, z, some));
-}
-
-module _ (old new : HostParts) (bytes : List ℕ) where
-  host_front : (refusal : Refusal) (b : List ℕ) (its : List (Item AnswerPart)) (s : HostSide)
-      → HostLeads old b its s → (r : HasHostRefused old new b its s bytes refusal)
-      → min (place_refused_at refusal old.receiver.live.taken new.receiver.live.taken - old.receiver.live.taken)
-      (length bytes) ≡ length r.front
-  host_front refusal b its s l r =
-      let size : length (b ++ bytes_of (all_came {Deed = Order} r.front)) ≡ length b + length r.front =
-      length-append b (bytes_of (all_came {Deed = Order} r.front))
-      ∙ ap (λ (x : List ℕ). length b + length x) (bytes_came Order r.front) in
-      let all : length bytes ≡ length r.front + length (r.byte ∷ r.rest) =
-      ap length r.split ∙ length-append r.front (r.byte ∷ r.rest) in
-      by refusal r size all
-    where
-      by : (refusal : Refusal) (r : HasHostRefused old new b its s bytes refusal)
-          → length (b ++ bytes_of (all_came {Deed = Order} r.front)) ≡ length b + length r.front
-          → length bytes ≡ length r.front + length (r.byte ∷ r.rest)
-          → min (place_refused_at refusal old.receiver.live.taken new.receiver.live.taken
-          - old.receiver.live.taken) (length bytes) ≡ length r.front
-      by (At place reason) r size all =
-          let here : place ≡ length (b ++ bytes_of (all_came {Deed = Order} r.front)) = r.refused.leads.0.0 in
-          omega (arith, here, size, all, l.taken.leads.1.count)
-      by Memory r size all =
-          let here : new.receiver.live.taken ≡ length (b ++ bytes_of (all_came {Deed = Order} r.front)) + 1 =
-          r.refused.leads.1 in
-          omega (arith, here, size, all, l.taken.leads.1.count)
-      by Failed r size all = absurd r.refused.leads.0
-
-  pub host_refuses : (refusal : Refusal) (n : ℕ)
-      → n ≡ min (place_refused_at refusal old.receiver.live.taken new.receiver.live.taken - old.receiver.live.taken)
-      (length bytes)
-      → ((b : List ℕ) (its : List (Item AnswerPart)) (s : HostSide) → HostLeads old b its s
-      → length b + length bytes + 1 < 2 ^ 64 → HasHostRefused old new b its s bytes refusal)
-      → (old.receiver.live.taken + 1 ≡ 2 ^ 64 → refusal ≡ Failed)
-      → (IsSome old.ended → (refusal ≡ Failed) × (new ≡ old))
-      → (old.ended ≡ None → new.ended ≡ Some refusal) → new.screen ≡ old.screen
-      → (old.receiver.live.taken + length bytes < 2 ^ 64
-      → CountsUpTo refusal old.receiver.live.taken new.receiver.live.taken (length bytes))
-      → HostRefusesWithin old (first_bytes bytes n) refusal new
-  host_refuses refusal n is refused full failed after_it seen up = record {
-    counted = λ fits. stands_behind refusal n old.receiver.live.taken new.receiver.live.taken (length bytes) is
-        (up fits);
-    refused = λ b its s l fits. (let r = refused b its s l fits in (r, is ∙ host_front refusal b its s l r));
-    full = full;
-    failed = failed;
-    none = λ e. is ∙ subst (λ (r : Refusal). min (place_refused_at r old.receiver.live.taken
-        new.receiver.live.taken - old.receiver.live.taken) (length bytes) ≡ 0) (sym e) (omega arith);
-    after = after_it;
-    seen = seen;
-  }
+-- a feed whose last byte is refused, as it was
+pub refused_fed : {Event Reply : Type 0} (fed : EndFed Event Reply) (why : Refusal) → fed.step ≡ Err why
+    → fed ≡ refused_step fed.used why
+refused_fed {Event} {Reply} fed why is = ap (λ (z : Result (EndStep Event Reply) Refusal).
+    let f : EndFed Event Reply = record { used = fed.used; step = z } in f) is
 
 -- and keeps what C fetches
 abbrev pub HeldTakes : HeldHost → List ℕ → ℕ → List ℕ → HeldHost → Type 0

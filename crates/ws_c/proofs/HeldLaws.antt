@@ -2,25 +2,31 @@
 
 use Rattle.std.specs.Prelude.{◌==◌, true, false, min}
 use Rattle.std.proofs.Common.{◌≡◌, ◌≢◌, ℕ, ◌+◌, ◌-◌, ◌^◌, ◌<◌, ◌≤◌, inl, inr, List, [], ◌++◌, length, take, drop, refl}
-use Rattle.std.proofs.Common.{sym, ap, ◌∙◌, subst, arith, length-append, append_assoc}
+use Rattle.std.proofs.Common.{Option, Some, sym, ap, ◌∙◌, subst, arith, length-append, append_assoc}
 use Rattle.std.proofs.lemmas.Bool.{cases_lt}
 use Rattle.std.proofs.lemmas.List.{append-nil, drop_all, length-drop, nil_from_length}
 use borrow.Author.Tests.{eqb-true, eqb-false}
-use Rattle.ws_record.specs.declared.record.Item.{Item}
-use Rattle.ws_extended.specs.declared.extended_element.ExtendedElement.{ExtendedElement}
-use Rattle.ws_session.specs.station.StationActs.{IsSilentOn}
-use Rattle.ws_session.specs.station.Stations.{LeadsOn}
-use Rattle.ws_extended_station.specs.ExtendedDisplays.{ExtendedSide}
+use Rattle.ws_session.specs.driver.Driven.{AreSilent}
 use Rattle.ws_c.specs.Calls.{crossed, holds_front}
+use Rattle.ws_c.specs.Held.{OnHost}
+use Rattle.ws_c.specs.declared.host.HeldHost.{HeldHost}
+use Rattle.ws_c.specs.declared.machine.Machine.{Machine}
+use Rattle.ws_c.specs.declared.machine.Machine.TheVariants.{Host}
 use Rattle.ws_c.specs.HeldStations.{HandsOut, IsHeldPush, filling, waiting}
 use Rattle.ws_c.specs.Pushes.{BringsAtMostOn, IsEndOn, StationTakesOn, first_bytes, nothing_pushed, pushed_told}
 use Rattle.ws_c.specs.declared.held_station.HeldStation.{HeldStation}
 use Rattle.ws_c.specs.declared.status.Status.{Status}
 use Rattle.ws_c.specs.declared.status.Status.TheVariants.{NoRoom}
 use Rattle.ws_c.specs.declared.told.PushedTold.{PushedTold}
-use Rattle.ws_c.proofs.FeedLaws.{station_brings, station_takes_none}
+use Rattle.ws_c.proofs.FeedLaws.{brings_at_most, takes_none}
 use Rattle.ws_extended_station.specs.ExtendedDisplays.{on_extended}
-use Rattle.ws_session.specs.station.Stations.{StationOf}
+use Rattle.ws_session.specs.station.Stations.{AtStationOn, StationOf, station_driving}
+
+-- a call has done this with the host's end that a handle holds
+pub on_host : (held now : Option Machine) (old new : HeldHost) (does : HeldHost → HeldHost → Type 0)
+    (otherwise : Type 0) → held ≡ Some (Host old) → now ≡ Some (Host new) → does old new
+    → OnHost held now does otherwise
+on_host held now old new does otherwise is put done = rw is (new, put, done)
 
 -- whether something waits, by the length of what does
 pub nothing_waits : (rest l : List ℕ) → rest ≡ l → (length rest == 0) ≡ true → l ≡ []
@@ -69,7 +75,7 @@ feeding_start old new bytes buffer after told counts fresh h =
       takes = subst (λ (n : ℕ). StationTakesOn on_extended old.station (first_bytes bytes n) [] new.station)
           (sym taken_is)
           (subst (λ s. StationTakesOn on_extended old.station (first_bytes bytes 0) [] s) (sym h.station)
-          (station_takes_none on_extended old.station bytes));
+          (takes_none (station_driving on_extended) (λ told. Unit {0}) tt old.station bytes));
       whole = append-nil (waiting old) ∙ h.whole;
       first = λ few. taken_is;
       in_time = λ n lt. absurd (omega (arith, lt, taken_is));
@@ -90,8 +96,8 @@ all_out old now bytes buffer after told f none =
 brings_more : (old : StationOf on_extended) (bytes : List ℕ) (n few most : ℕ) → few ≤ most
     → BringsAtMostOn on_extended old (first_bytes bytes n) few
     → BringsAtMostOn on_extended old (first_bytes bytes n) most
-brings_more old bytes n few most le b = λ before items side l fits.
-    (let g = b before items side l fits in (g.0, g.1, g.2, omega (arith, le, g.3)))
+brings_more old bytes n few most le b = λ before items side l.
+    (let g = b before items side l in (g.0, g.1, g.2, omega (arith, le, g.3)))
 
 -- more was written, and handed out as far as there was room
 pub feeding_on : (old now fed new : HeldStation) (bytes buffer after last : List ℕ) (told plus counts : PushedTold)
@@ -99,10 +105,8 @@ pub feeding_on : (old now fed new : HeldStation) (bytes buffer after last : List
     → plus ≡ record told { taken = told.taken + used } → told.taken + used ≤ length bytes
     → StationTakesOn on_extended old.station (first_bytes bytes (told.taken + used)) (f.written ++ waiting fed)
     fed.station
-    → ((j : ℕ) → j < used → (b : List ℕ) (its : List (Item ExtendedElement)) (s : ExtendedSide)
-    → LeadsOn on_extended now.station b its s
-    → length b + length (drop told.taken bytes) + 1 < 2 ^ 64
-    → IsSilentOn on_extended b its s (take j (drop told.taken bytes)))
+    → ((j : ℕ) → j < used → AtStationOn on_extended now.station
+    (λ b its s. AreSilent (station_driving on_extended) b its s (take j (drop told.taken bytes))))
     → HandsOut fed new (filling plus after) (filling counts last)
     → HeldFeeding old new bytes buffer last counts
 feeding_on old now fed new bytes buffer after last told plus counts used f none plus_is within takes silent h =
@@ -138,8 +142,8 @@ feeding_on old now fed new bytes buffer after last told plus counts used f none 
             (omega (arith, length-append f.out h.out)) (f.in_time n less)
         | inr ge ↦ subst (λ (z : ℕ). BringsAtMostOn on_extended old.station (first_bytes bytes z)
             (length (f.out ++ h.out) - length (waiting old))) (omega (arith, ge))
-            (station_brings on_extended old.station now.station bytes told.taken (n - told.taken) f.written _
-            f.inside f.takes (silent (n - told.taken) (omega (arith, ge, lt, taken_is)))
+            (brings_at_most (station_driving on_extended) (λ told. Unit {0}) old.station now.station bytes told.taken
+            (n - told.taken) f.written _ f.takes (silent (n - told.taken) (omega (arith, ge, lt, taken_is)))
             (omega (arith, out_is, length-append f.out h.out)))
       ];
       replied = omega (arith, replied_is, f.replied, length-append f.out h.out);

@@ -2,16 +2,10 @@
 
 use Rattle.std.proofs.Common.{◌≡◌, ℕ, ◌+◌, ◌-◌, ◌^◌, ◌<◌, ◌≤◌, List, [], ◌∷◌, ◌++◌, length, take, drop}
 use Rattle.std.proofs.Common.{refl, ap, subst, sym, ◌∙◌, arith, append_assoc, length-append}
-use Rattle.std.proofs.Math.Seq.{take-add}
 use Rattle.std.proofs.lemmas.List.{append-nil, take_all, length-drop, length-take-le}
-use Rattle.ws_code.specs.Code.{Rules}
-use Rattle.ws_record.specs.declared.record.Item.{Item}
-use Rattle.ws_session.specs.ActLaws.{gone_on, came_append, bytes_came}
-use Rattle.ws_session.specs.Acts.{Act, Manner, all_came, HasGone}
 use Rattle.ws_c.specs.Calls.{holds_front}
 use Rattle.ws_c.specs.Pushes.{TakesAll, pushed_told}
 use Rattle.ws_c.specs.declared.told.PushedTold.{PushedTold}
-use Rattle.ws_session.specs.Acts.{ways}
 
 module _ {S : Type 0} (Takes : S → ℕ → List ℕ → S → Type 0) where
   -- one more byte
@@ -64,36 +58,6 @@ feeding_more Takes bytes buffer after last taken replied used now new reply insi
 -- what is left of them
 pub rest_is : (bytes : List ℕ) (n : ℕ) → take (length bytes - n) (drop n bytes) ≡ drop n bytes
 rest_is bytes n = take_all (length bytes - n) (drop n bytes) (omega (arith, length-drop n bytes))
-
--- bytes that come behind others
-module _ {Place PlaceV Side U V Deed Event : Type 0} (rules : Rules Place U) (out : Rules PlaceV V)
-    (manner : Manner Side U V Deed Event) (Mid End : List ℕ → List (Item U) → Side → Type 0) where
-  pub come_on : (bytes : List ℕ) (n k : ℕ) (before : List ℕ) (items : List (Item U)) (side : Side)
-      (written reply : List ℕ) (told more : List Event) → n ≤ length bytes
-      → length before + length bytes + 1 < 2 ^ 64
-      → HasGone (ways rules out manner) Mid before items side (all_came (take n bytes)) written told
-      → ((b : List ℕ) (its : List (Item U)) (s : Side) → Mid b its s → length b + length (drop n bytes) + 1 < 2 ^ 64
-      → HasGone (ways rules out manner) End b its s (all_came (take k (drop n bytes))) reply more)
-      → HasGone (ways rules out manner) End before items side (all_came (take (n + k) bytes)) (written ++ reply)
-      (told ++ more)
-  come_on bytes n k before items side written reply told more inside fits gone next =
-      subst (λ (acts : List (Act Deed)). HasGone (ways rules out manner) End before items side acts (written ++ reply)
-      (told ++ more))
-      (sym (came_append (take n bytes) (take k (drop n bytes)))
-      ∙ ap (λ (x : List ℕ). all_came {Deed = Deed} x) (sym (take-add n k bytes)))
-      (gone_on (ways rules out manner) Mid End before items side (all_came (take n bytes))
-      (all_came (take k (drop n bytes)))
-      written reply told more gone
-      (λ b its s l size. next b its s l
-      (omega (
-        arith,
-        fits,
-        inside,
-        size,
-        ap length (bytes_came Deed (take n bytes)),
-        length-take-le n bytes inside,
-        length-drop n bytes,
-      ))))
 
 -- what is told, by its own counts
 pub told_again : (told : PushedTold) (n m : ℕ) → told ≡ pushed_told n m → told ≡ pushed_told told.taken told.replied

@@ -212,8 +212,9 @@ state_of_screen screen beside = record {
 
 -- what is told of a station but for its cells and fields
 abbrev pub state_told : StationParts → StateTold
-state_told s = state_of_screen s.screen.screen
-    (beside_screen s.records s.screen.alarms (refused_byte s.ended) (station_allows_records s.options) 0)
+state_told s = state_of_screen s.reacts.screen.screen
+    (beside_screen s.reacts.records s.reacts.screen.alarms (refused_byte s.ended)
+    (station_allows_records s.reacts.options) 0)
 
 -- what is told of a station where there is none
 abbrev pub no_state : StateTold

@@ -30,8 +30,8 @@ OnStations held now does also otherwise = (now ≡ held) × otherwise
 
 -- What a call tells of the screen of a station of either kind, which stays as it was.
 abbrev pub OnScreen : Option Machine → Option Machine → (ScreenParts → Type 0) → Type 0 → Type 0
-OnScreen held now tells otherwise = OnStations held now (λ old new. (new ≡ old) × tells old.screen.screen)
-    (λ old new. (new ≡ old) × tells old.station.screen.display.screen) otherwise
+OnScreen held now tells otherwise = OnStations held now (λ old new. (new ≡ old) × tells old.reacts.screen.screen)
+    (λ old new. (new ≡ old) × tells old.station.reacts.screen.display.screen) otherwise
 
 -- What a call does with the station as live hosts use it that a handle holds. Where it holds none the handle stays as
 -- it was, and this is said of what crosses.

@@ -11,9 +11,8 @@ use Rattle.ws_extended_station.specs.ExtendedDisplays.{DisplayParts, extended, e
 use Rattle.ws_extended_station.specs.declared.extended_key.ExtendedKey.{ExtendedKey}
 use Rattle.ws_extended_station.specs.declared.extended_key.ExtendedKey.TheVariants.{Profile, Reset}
 use Rattle.ws_session.specs.Ends.{refused_byte}
-use Rattle.ws_session.specs.station.PartsOn.{PartsOn}
 use Rattle.ws_session.specs.station.StationManners.{new_side_on}
-use Rattle.ws_session.specs.station.Stations.{LeadsOn}
+use Rattle.ws_session.specs.station.Stations.{LeadsOn, PartsOn}
 use Rattle.ws_session.specs.declared.station.key_fault.KeyFault.{KeyFault}
 use Rattle.ws_c.specs.Calls.{Crossed, IsKeyTold, IsPress, StationKeyedOn, TellsOnly, beside_screen, holds_front}
 use Rattle.ws_c.specs.Calls.{row_number, state_of_screen, told_length}
@@ -33,7 +32,7 @@ use Rattle.ws_extended_station.specs.ExtendedDisplays.{on_extended}
 
 -- what of a station's last answer hasn't gone out yet
 abbrev pub waiting : HeldStation → List ℕ
-waiting h = drop h.sent (extended_written h.station.screen h.reply)
+waiting h = drop h.sent (extended_written h.station.reacts.screen h.reply)
 
 -- what a new station as live hosts use it crosses as: it is made for the terminal of the name, or the handle stays as
 -- it is
@@ -127,5 +126,6 @@ IsAnyPressFrom (Some (Profile key)) held now call = OnStations held now (IsPress
 
 -- what is told of a station as live hosts use it but for its cells and fields, with the row on which an error stands
 abbrev pub extended_state_told : PartsOn DisplayParts ExtendedPlace → StateTold
-extended_state_told s = state_of_screen s.screen.display.screen (beside_screen s.records s.screen.alarms
-    (refused_byte s.ended) (station_allows_records s.options) (row_number (standing_row s.screen.display)))
+extended_state_told s = state_of_screen s.reacts.screen.display.screen (beside_screen s.reacts.records s.reacts.screen.alarms
+    (refused_byte s.ended) (station_allows_records s.reacts.options)
+    (row_number (standing_row s.reacts.screen.display)))

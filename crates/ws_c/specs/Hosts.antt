@@ -1,25 +1,22 @@
 -- A host's end, as C sees it (RFC 1205, sections 3 and 4)
 
-use Rattle.std.specs.Prelude.{◌≡◌, ℕ, ◌+◌, ◌-◌, ◌^◌, ◌<◌, ◌≤◌, List, [], ◌∷◌, ◌++◌, length, take, Option, Some}
-use Rattle.std.specs.Prelude.{None, ◌⊎◌, IsSome}
+use Rattle.std.specs.Prelude.{◌≡◌, ℕ, ◌+◌, ◌-◌, ◌<◌, ◌≤◌, List, [], ◌∷◌, ◌++◌, length, Option, Some, None, Ok, ◌⊎◌}
 use Rattle.ws_nego.specs.Host.{opening}
 use Rattle.ws_nego.specs.declared.terminal.TerminalType.{TerminalType}
 use Rattle.ws_nego.specs.declared.terminal.TerminalType.TheVariants.{Ibm5251Model11, Ibm5291Model1, Ibm5292Model2}
 use Rattle.ws_nego.specs.declared.terminal.TerminalType.TheVariants.{Ibm3196ModelA1, Ibm3179Model2}
 use Rattle.ws_record.specs.Encode.{plain_spelling}
-use Rattle.ws_record.specs.declared.record.Item.{Item}
 use Rattle.ws_record.specs.declared.record.Item.TheVariants.{Telnet as TelnetItem}
 use Rattle.ws_stream.specs.Elements.{element_rules}
-use Rattle.ws_stream.specs.declared.answer_part.AnswerPart.{AnswerPart}
 use Rattle.ws_keys.specs.declared.host_answer.HostAnswer.{HostAnswer}
-use Rattle.ws_session.specs.host_end.HostFeeds.{HasHostTakenAll, HasHostFed, HasHostRefused, IsHostSilent as AreSilent}
-use Rattle.ws_session.specs.host_end.HostLeads.{HostParts, HostLeads}
-use Rattle.ws_session.specs.host_end.HostSide.{HostSide, new_host_side}
+use Rattle.ws_session.specs.declared.end_step.EndFed.{EndFed}
+use Rattle.ws_session.specs.driver.Driven.{DriverFeeds}
+use Rattle.ws_session.specs.host_end.HostLeads.{HostParts, HostLeads, host_driving}
+use Rattle.ws_session.specs.host_end.HostSide.{new_host_side}
 use Rattle.ws_session.specs.declared.host_end.host_event.HostEvent.{HostEvent}
 use Rattle.ws_session.specs.declared.host_end.host_event.HostEvent.TheVariants.{Ready, Answer, Attention, SystemRequest}
 use Rattle.ws_session.specs.declared.host_end.host_event.HostEvent.TheVariants.{Cancelled}
 use Rattle.ws_session.specs.declared.refusal.Refusal.{Refusal}
-use Rattle.ws_session.specs.declared.refusal.Refusal.TheVariants.{Failed as HasFailed}
 use Rattle.ws_c.specs.declared.host.EventTold.{EventTold}
 use Rattle.ws_c.specs.declared.host.HeldHost.{HeldHost}
 use Rattle.ws_c.specs.declared.machine.Machine.{Machine}
@@ -30,7 +27,7 @@ use Rattle.ws_c.specs.declared.told.Told.{Told}
 use Rattle.ws_c.specs.declared.told.PushedTold.{PushedTold}
 use Rattle.ws_c.specs.declared.told.TheConstants.{REPLY_ROOM}
 use Rattle.ws_c.specs.Calls.{Crossed, GivesBytes, TellsOnly, holds_front, told_length}
-use Rattle.ws_c.specs.Pushes.{Front, IsPushRefused, StandsBehind, TellsCounts, first_bytes, left_behind}
+use Rattle.ws_c.specs.Pushes.{Front, FrontTaken, IsPushRefused, TellsCounts, first_bytes, left_behind, refused_step}
 
 -- the bytes by which a host asks the station for its terminal type
 abbrev pub opening_bytes : List ℕ
@@ -54,46 +51,9 @@ abbrev pub IsHostNew : Option Machine → Option Machine → Crossed Told → Ty
 IsHostNew (Some held) now call = (now ≡ Some held) × TellsOnly call InUse (told_length 0)
 IsHostNew None now call = IsHostMade now call call.status
 
--- A front of bytes is taken, one after another, to come from the one host end to the other: none of their items is
--- refused, this is written, nothing is told, and the host end counts them. One that has ended takes none.
-pub record HostTakes (old : HostParts) (front : Front) (written : List ℕ) (new : HostParts) : Type 0 where
-  pub taken : (before : List ℕ) (items : List (Item AnswerPart)) (side : HostSide) → HostLeads old before items side
-      → length before + length front.bytes + 1 < 2 ^ 64
-      → HasHostTakenAll (HostLeads new) before items side (take front.count front.bytes) written []
-  pub counted : old.receiver.live.taken + front.count < 2 ^ 64
-      → new.receiver.live.taken ≡ old.receiver.live.taken + front.count
-  pub works : 0 < front.count → IsSome old.ended → ⊥
-  pub counts : 0 < front.count → old.receiver.live.taken + 1 ≡ 2 ^ 64 → ⊥
-  pub none : front.count ≡ 0 → (new ≡ old) × (written ≡ [])
-
--- A front of bytes is taken, the host end writes this and tells this at the last of them, and nothing before.
-pub record HostTells (old : HostParts) (front : Front) (written : List ℕ) (event : HostEvent) (new : HostParts)
-    : Type 0 where
-  pub some : 0 < front.count
-  pub taken : (before : List ℕ) (items : List (Item AnswerPart)) (side : HostSide) → HostLeads old before items side
-      → length before + length front.bytes + 1 < 2 ^ 64
-      → HasHostFed new before items side (take front.count front.bytes) written (Some event)
-  pub counted : old.receiver.live.taken + front.count < 2 ^ 64
-      → new.receiver.live.taken ≡ old.receiver.live.taken + front.count
-  pub first : (before : List ℕ) (items : List (Item AnswerPart)) (side : HostSide) → HostLeads old before items side
-      → length before + length front.bytes + 1 < 2 ^ 64 → (m : ℕ) → m < front.count
-      → AreSilent before items side (take m front.bytes)
-  pub works : IsSome old.ended → ⊥
-  pub counts : old.receiver.live.taken + 1 ≡ 2 ^ 64 → ⊥
-
--- The host end fails at a byte, before which this front of all bytes stands and brings nothing: so it counts them, and
--- so they are in all bytes that it has taken.
-pub record HostRefusesWithin (old : HostParts) (front : Front) (refusal : Refusal) (new : HostParts) : Type 0 where
-  pub refused : (before : List ℕ) (items : List (Item AnswerPart)) (side : HostSide) → HostLeads old before items side
-      → length before + length front.bytes + 1 < 2 ^ 64
-      → (r : HasHostRefused old new before items side front.bytes refusal) × (front.count ≡ length r.front)
-  pub counted : old.receiver.live.taken + length front.bytes < 2 ^ 64
-      → StandsBehind refusal front.count old.receiver.live.taken new.receiver.live.taken (length front.bytes)
-  pub full : old.receiver.live.taken + 1 ≡ 2 ^ 64 → refusal ≡ HasFailed
-  pub failed : IsSome old.ended → (refusal ≡ HasFailed) × (new ≡ old)
-  pub none : refusal ≡ HasFailed → front.count ≡ 0
-  pub after : old.ended ≡ None → new.ended ≡ Some refusal
-  pub seen : new.screen ≡ old.screen
+-- a front of bytes leads a host end to another, which wrote this, told nothing, and counts them
+abbrev pub HostTakes : HostParts → Front → List ℕ → HostParts → Type 0
+HostTakes = FrontTaken host_driving (λ told. told ≡ [])
 
 -- the number of a terminal
 abbrev pub number_of_terminal : TerminalType → ℕ
@@ -127,11 +87,15 @@ pub record HostTold : Type 0 where
 abbrev pub host_told : PushedTold → EventTold → HostTold
 host_told pushed event = record { pushed = pushed; event = event }
 
+-- so many bytes are taken, at the last of which this is written and told
+abbrev pub told_step : ℕ → List ℕ → HostEvent → EndFed HostEvent (List ℕ)
+told_step used last tells = record { used = used; step = Ok (record { reply = last; event = Some tells }) }
+
 -- what a push of bytes crosses as at the last of which the host end tells something, behind a front that tells nothing
 pub record IsHostTold (quiet : Front) (last : List ℕ) (call : Crossed HostTold) (old new : HeldHost) : Type 0 where
   pub length_is : ℕ
   pub tells : HostEvent
-  pub taken : HostTells old.end (first_bytes (left_behind quiet) length_is) last tells new.end
+  pub taken : DriverFeeds host_driving old.end (left_behind quiet) new.end (told_step length_is last tells)
   pub done : call.status ≡ Done
   pub told_is : TellsCounts (quiet.count + length_is) call.told.pushed
   pub event_is : call.told.event ≡ event_told (Some tells)
@@ -140,10 +104,10 @@ pub record IsHostTold (quiet : Front) (last : List ℕ) (call : Crossed HostTold
 
 -- what a push of bytes crosses as at one of which the host end fails, behind a front that tells nothing
 pub record IsHostFailed (quiet : Front) (last : List ℕ) (call : Crossed HostTold) (old new : HeldHost) : Type 0 where
-  pub length_is : ℕ
+  pub used : ℕ
   pub refusal : Refusal
-  pub refuses : HostRefusesWithin old.end (first_bytes (left_behind quiet) length_is) refusal new.end
-  pub taken_is : call.told.pushed.taken ≡ quiet.count + length_is
+  pub refuses : DriverFeeds host_driving old.end (left_behind quiet) new.end (refused_step used refusal)
+  pub taken_is : call.told.pushed.taken ≡ quiet.count + (used - 1)
   pub told_is : IsPushRefused refusal call.status call.told.pushed
   pub event_is : call.told.event ≡ event_told None
   pub silent : last ≡ []

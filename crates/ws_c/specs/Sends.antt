@@ -51,7 +51,7 @@ pub record HostSent (old new : HostParts) (opcode : Opcode) (body : List Element
       (host_send side opcode body) spelled)
       (IsSendFault (host_send side opcode body))
   pub same : OnErr result (new ≡ old)
-  pub full : old.receiver.live.taken + 1 ≡ 2 ^ 64 → result ≡ Err SendFailed
+  pub full : old.live.taken + 1 ≡ 2 ^ 64 → result ≡ Err SendFailed
   pub failed : IsSome old.ended → result ≡ Err SendFailed
 
 -- what a cancel at a host's end gives
@@ -60,7 +60,7 @@ pub record HostCancelled (old new : HostParts) (result : Result (List ℕ) SendF
       → length bytes + 1 < 2 ^ 64 → MatchResult result (λ spelled. IsSent new bytes items (host_cancel side) spelled)
       (λ fault. host_cancel side ≡ RefusesSend fault)
   pub same : OnErr result (new ≡ old)
-  pub full : old.receiver.live.taken + 1 ≡ 2 ^ 64 → result ≡ Err SendFailed
+  pub full : old.live.taken + 1 ≡ 2 ^ 64 → result ≡ Err SendFailed
   pub failed : IsSome old.ended → result ≡ Err SendFailed
 
 -- the status of a send's fault

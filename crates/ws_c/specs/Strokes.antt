@@ -57,7 +57,7 @@ module _ {S : Type 0} (takes : S → S → Key → Result (Option Answer) KeyFau
 -- what a stroke at a station of the profile crosses as
 abbrev pub IsStroke : Stroke → Status → Told → StationParts → StationParts → Type 0
 IsStroke stroke status told old new =
-    AreStruck StationKeyed (keys_of_stroke stroke old.screen.screen) (returned status told) old new
+    AreStruck StationKeyed (keys_of_stroke stroke old.reacts.screen.screen) (returned status told) old new
 
 -- a key of the profile at a station as live hosts use it
 abbrev pub ExtendedKeyed : StationOf on_extended → StationOf on_extended → Key → Result (Option Answer) KeyFault
@@ -68,6 +68,6 @@ ExtendedKeyed old new key result = StationKeyedOn on_extended old new (Profile k
 pub record IsHeldStroke (stroke : Stroke) (status : Status) (told : Told) (old new : HeldStation) : Type 0 where
   pub waits : waiting old ≢ [] → (status ≡ NoRoom) × (new ≡ old) × (told ≡ told_length 0)
   pub pressed : waiting old ≡ []
-      → AreStruck ExtendedKeyed (keys_of_stroke stroke old.station.screen.display.screen) (returned status told)
+      → AreStruck ExtendedKeyed (keys_of_stroke stroke old.station.reacts.screen.display.screen) (returned status told)
       old.station new.station
       × (waiting new ≡ [])

@@ -102,7 +102,7 @@ impl HeldStation {
     /// Presses the keys of a stroke. It too is for a station of which nothing waits.
     pub fn strike(&mut self, stroke: Stroke, told: &mut Told) -> Status
         ensures struck { AreStruck ExtendedKeyed
-            (keys_of_stroke stroke self.old.station.screen.display.screen)
+            (keys_of_stroke stroke self.old.station.reacts.screen.display.screen)
             (returned result told.new) self.old.station self.new.station }
         ensures waits { waiting self.new ≡ [] }
     {

@@ -6,12 +6,12 @@ ghost use Rattle.ws_c.specs.Hosts.{IsHostNew, IsHostPush, IsNewHost, answer_afte
 ghost use Rattle.ws_c.specs.Pushes.{nothing_pushed};
 
 use crate::held::{on_held, on_host};
-use crate::station::{front_length, put_behind, put_front, tell_push_refusal};
+use crate::station::{put_behind, put_front, tell_push_refusal};
 use crate::{Handle, Machine, PushedTold, REPLY_ROOM, Status, Told};
 use std::alloc::Global;
 use ws_code::List;
 use ws_nego::{Reply, TerminalType};
-use ws_session::{HostAnswer, HostEnd, HostEvent};
+use ws_session::{EndFed, HostAnswer, HostEnd, HostEvent};
 
 /// A host's end, with what C fetches by calls of their own.
 #[derive(Drop)]
@@ -172,21 +172,20 @@ fn push_all(
         if buffer.len() - told.replied < REPLY_ROOM {
             return Status::NoRoom;
         }
-        let rest = &bytes[told.taken..];
-        let before = host.end.taken();
-        match host.end.feed(rest) {
-            Ok(fed) => {
-                let text = fed.reply.as_slice();
+        let EndFed { used, step } = host.end.feed(&bytes[told.taken..]);
+        match step {
+            Ok(step) => {
+                let text = step.reply.as_slice();
                 put_behind(buffer, told.replied, text);
-                told.taken += fed.used;
+                told.taken += used;
                 told.replied += text.len();
-                if fed.event.is_some() {
-                    *event = tell_event(fed.event, &mut host.answer);
+                if step.event.is_some() {
+                    *event = tell_event(step.event, &mut host.answer);
                     return Status::Done;
                 }
             }
             Err(refusal) => {
-                told.taken += front_length(refusal, before, host.end.taken(), rest.len());
+                told.taken += used.saturating_sub(1);
                 return tell_push_refusal(refusal, told);
             }
         }

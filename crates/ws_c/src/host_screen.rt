@@ -61,7 +61,7 @@ fn look_at_cells(
     requires room { cells_in first_row last_row ≤ length cells.old }
     ensures { OnHost handle.old.owned.value handle.new.owned.value
         (λ old new. (new ≡ old) × (result ≡ Status.Done)
-        × (cells.new ≡ rows_told old.end.screen first_row last_row
+        × (cells.new ≡ rows_told old.end.reacts.screen first_row last_row
         ++ drop (cells_in first_row last_row) cells.old))
         (HoldsNone result (cells.new ≡ cells.old)) }
 {
@@ -88,7 +88,7 @@ pub extern "C" fn ws_c_host_cells(
         → cells_in first_row last_row ≤ length cells.old → HasStatus result (λ status.
         OnHost handle.old.owned.value handle.new.owned.value
         (λ old new. (new ≡ old) × (status ≡ Status.Done)
-        × (cells.new ≡ rows_told old.end.screen first_row last_row
+        × (cells.new ≡ rows_told old.end.reacts.screen first_row last_row
         ++ drop (cells_in first_row last_row) cells.old))
         (HoldsNone status (cells.new ≡ cells.old))) }
     ensures off { ¬ AreRowNumbers first_row last_row
@@ -110,7 +110,7 @@ pub extern "C" fn ws_c_host_cells(
 fn look_at_field(alloc: Global, handle: &mut Handle, index: usize, field: &mut FieldTold) -> Status
     ensures { OnHost handle.old.owned.value handle.new.owned.value
         (λ old new. (new ≡ old)
-        × IsFieldTold (slice_get old.end.screen.fields index) result field.new)
+        × IsFieldTold (slice_get old.end.reacts.screen.fields index) result field.new)
         (HoldsNone result (field.new ≡ no_field)) }
 {
     *field = FieldTold::nothing();
@@ -133,7 +133,7 @@ pub extern "C" fn ws_c_host_field(
 ) -> u32
     ensures { HasStatus result (λ status. OnHost handle.old.owned.value handle.new.owned.value
         (λ old new. (new ≡ old)
-        × IsFieldTold (slice_get old.end.screen.fields index) status field.new)
+        × IsFieldTold (slice_get old.end.reacts.screen.fields index) status field.new)
         (HoldsNone status (field.new ≡ no_field))) }
 {
     look_at_field(alloc, handle, index, field).number()

@@ -1,19 +1,19 @@
 //! Display stations.
-ghost use Rattle.std.specs.Prelude.{◌≡◌, ◌≤◌, ◌<◌, ◌+◌, ◌-◌, ◌++◌, List, ℕ, None, length, min};
+ghost use Rattle.std.specs.Prelude.{◌≡◌, ◌≤◌, ◌<◌, ◌+◌, ◌++◌, List, ℕ, None, length};
 ghost use Rattle.ws_nego.specs.Terminal.{terminal_named};
 ghost use Rattle.ws_session.specs.station.StationLeads.{StationParts, StationLeads};
 ghost use Rattle.ws_session.specs.station.StationSide.{new_station_side};
 ghost use Rattle.ws_c.specs.Calls.{HasStatus, IsStationNew, TellsOnly, crossed, holds_front};
 ghost use Rattle.ws_c.specs.Held.{IsStationFreed, OnStations};
 ghost use Rattle.ws_c.specs.HeldStations.{IsHeldPush};
-ghost use Rattle.ws_c.specs.Pushes.{IsPushRefused, IsStationPush, nothing_pushed, place_refused_at, pushed_told};
+ghost use Rattle.ws_c.specs.Pushes.{IsPushRefused, IsStationPush, nothing_pushed, pushed_told};
 
 use crate::held::{on_stations, on_two};
 use crate::station_extended::push_all as push_extended;
 use crate::{Handle, Machine, PushedTold, REPLY_ROOM, Status, Told};
 use std::alloc::Global;
 use ws_nego::TerminalType;
-use ws_session::{Refusal, Station};
+use ws_session::{EndFed, Refusal, Station};
 
 // Makes a station of the terminal, unless the handle holds something.
 fn make_station(alloc: Global, handle: &mut Handle, name: &[u8]) -> Status
@@ -104,20 +104,6 @@ pub(crate) fn tell_push_refusal(refusal: Refusal, told: &mut PushedTold) -> Stat
     }
 }
 
-// How many bytes of a piece of this length stand before the one that is refused. The end had taken `before` bytes, and
-// now it has taken `after`.
-pub(crate) fn front_length(refusal: Refusal, before: u64, after: u64, length: usize) -> usize
-    ensures { result ≡ min (place_refused_at refusal before after - before) length }
-{
-    let place = match refusal {
-        Refusal::At { place, .. } => place,
-        Refusal::Memory => after.saturating_sub(1),
-        Refusal::Failed => before,
-    };
-    let front = place.saturating_sub(before) as usize;
-    if front < length { front } else { length }
-}
-
 // Feeds bytes to a station. What it writes comes with the last byte of a front, so that there is room before each of
 // its bytes where there is before the first.
 fn push_all(station: &mut Station, bytes: &[u8], buffer: &mut [u8], told: &mut PushedTold) -> Status
@@ -129,17 +115,16 @@ fn push_all(station: &mut Station, bytes: &[u8], buffer: &mut [u8], told: &mut P
         if buffer.len() - told.replied < REPLY_ROOM {
             return Status::NoRoom;
         }
-        let rest = &bytes[told.taken..];
-        let before = station.taken();
-        match station.feed(rest) {
-            Ok(fed) => {
-                let text = fed.reply.as_slice();
+        let EndFed { used, step } = station.feed(&bytes[told.taken..]);
+        match step {
+            Ok(step) => {
+                let text = step.reply.as_slice();
                 put_behind(buffer, told.replied, text);
-                told.taken += fed.used;
+                told.taken += used;
                 told.replied += text.len();
             }
             Err(refusal) => {
-                told.taken += front_length(refusal, before, station.taken(), rest.len());
+                told.taken += used.saturating_sub(1);
                 return tell_push_refusal(refusal, told);
             }
         }

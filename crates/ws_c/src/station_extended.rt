@@ -4,10 +4,11 @@ ghost use Rattle.ws_c.specs.Calls.{HasStatus, crossed};
 ghost use Rattle.ws_c.specs.HeldStations.{IsExtendedNew, IsHeldPush};
 ghost use Rattle.ws_c.specs.Pushes.{nothing_pushed};
 
-use crate::station::{front_length, tell_push_refusal};
+use crate::station::tell_push_refusal;
 use crate::{Handle, HeldStation, Machine, PushedTold, REPLY_ROOM, Status};
 use std::alloc::Global;
 use ws_nego::TerminalType;
+use ws_session::EndFed;
 
 // Makes a station of the terminal, unless the handle holds something.
 fn make_station(alloc: Global, handle: &mut Handle, name: &[u8]) -> Status
@@ -62,17 +63,16 @@ pub(crate) fn push_all(
         if buffer.len() - told.replied < REPLY_ROOM {
             return Status::NoRoom;
         }
-        let rest = &bytes[told.taken..];
-        let before = held.station.taken();
-        match held.station.feed(rest) {
-            Ok(fed) => {
-                told.taken += fed.used;
-                held.reply = fed.reply;
+        let EndFed { used, step } = held.station.feed(&bytes[told.taken..]);
+        match step {
+            Ok(step) => {
+                told.taken += used;
+                held.reply = step.reply;
                 held.sent = 0;
                 held.hand_out(buffer, told);
             }
             Err(refusal) => {
-                told.taken += front_length(refusal, before, held.station.taken(), rest.len());
+                told.taken += used.saturating_sub(1);
                 return tell_push_refusal(refusal, told);
             }
         }

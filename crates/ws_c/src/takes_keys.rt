@@ -32,7 +32,7 @@ pub(crate) trait TakesKeys {
 impl TakesKeys for Station {
     ghost takes = { StationKeyed };
 
-    ghost shows = { λ station. station.screen.screen };
+    ghost shows = { λ station. station.reacts.screen.screen };
 
     fn press(&mut self, key: Key) -> Result<Option<Answer>, KeyFault> {
         self.key(key)
@@ -46,7 +46,7 @@ impl TakesKeys for Station {
 impl TakesKeys for ExtendedStation {
     ghost takes = { ExtendedKeyed };
 
-    ghost shows = { λ station. station.screen.display.screen };
+    ghost shows = { λ station. station.reacts.screen.display.screen };
 
     fn press(&mut self, key: Key) -> Result<Option<Answer>, KeyFault> {
         self.key(ExtendedKey::Profile(key))

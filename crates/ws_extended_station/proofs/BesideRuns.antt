@@ -28,7 +28,9 @@ use Rattle.ws_session.specs.Acts.{HoldsItems, bytes_of, doing, IsHappeningTaken,
 use Rattle.ws_session.specs.Reaction.{Reaction, Refuses, GoesOn}
 use Rattle.ws_session.specs.declared.end_step.Applied.{Applied}
 use Rattle.ws_session.specs.station.Displays.{KeyReactionOn, RefusesKey, Silent, Answers, Signals}
-use Rattle.ws_session.specs.station.StationManners.{at_item_on, at_key_on, at_on, goes_on, key_on, manner_on, takes_on}
+use Rattle.ws_session.specs.station.StationManners.{at_key_on, key_on, takes_on}
+use Rattle.ws_session.specs.station.StationReacting.{at_item_on, at_on, manner_on}
+use Rattle.ws_session.specs.Reaction.{goes_on}
 use Rattle.ws_session.specs.station.StationSide.{StationSide, profile}
 use Rattle.ws_extended_station.specs.BesideProfile.{HaveJustArrived, NoErrorStands, act_there, as_reacted, item_there}
 use Rattle.ws_extended_station.specs.BesideProfile.{record_there}

@@ -20,7 +20,8 @@ use Rattle.ws_extended.specs.declared.extended_element.ExtendedElement.{Extended
 use Rattle.ws_session.specs.Acts.{Arrives, Does, Happening, doing}
 use Rattle.ws_session.specs.Reaction.{Refuses, GoesOn}
 use Rattle.ws_session.specs.station.Displays.{KeyReactionOn, RefusesKey, Silent, Answers, Signals}
-use Rattle.ws_session.specs.station.StationManners.{at_item_on, at_key_on, at_on, key_on, manner_on}
+use Rattle.ws_session.specs.station.StationManners.{at_key_on, key_on}
+use Rattle.ws_session.specs.station.StationReacting.{at_item_on, at_on, manner_on}
 use Rattle.ws_session.specs.station.StationSide.{opcode_answer}
 use Rattle.ws_extended_station.specs.Bytewise.{by_bytes}
 use Rattle.ws_extended_station.specs.ExtendedDisplays.{ExtendedHappened, ExtendedSide, extended, extended_applies}

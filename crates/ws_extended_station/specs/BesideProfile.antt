@@ -16,7 +16,7 @@ use Rattle.ws_session.specs.Acts.{Act, Came, Did, HasGone}
 use Rattle.ws_session.specs.station.Displays.{SideOn}
 use Rattle.ws_session.specs.Reaction.{Reaction, Refuses, GoesOn}
 use Rattle.ws_session.specs.declared.end_step.Applied.{Applied}
-use Rattle.ws_session.specs.station.StationManners.{manner_on}
+use Rattle.ws_session.specs.station.StationReacting.{manner_on}
 use Rattle.ws_session.specs.station.StationSide.{StationSide, profile}
 use Rattle.ws_extended_station.specs.Bytewise.{by_bytes}
 use Rattle.ws_extended_station.specs.ExtendedDisplays.{ExtendedSide, extended, with_profile}

@@ -175,10 +175,10 @@ module _ {S K : Type 0} (at : AttachedDisplay S K) (Met : at.on.Parts → Type 0
   Parts = AttachedParts (StationOf at.on) S K
 
   pub waited_more : (from mid to : Parts) (told : List Applied) (one : Applied) → HasWaited at Met from told mid
-      → (Met mid.end.screen → ⊥) → Hears at mid (Some one) to → HasWaited at Met from (told ++ one ∷ []) to
+      → (Met mid.end.reacts.screen → ⊥) → Hears at mid (Some one) to → HasWaited at Met from (told ++ one ∷ []) to
   waited_more from mid to [] one h unmet heard = (
     to,
-    subst (λ (z : Parts). Met z.end.screen → ⊥) h unmet,
+    subst (λ (z : Parts). Met z.end.reacts.screen → ⊥) h unmet,
     subst (λ (z : Parts). Hears at z (Some one) to) h heard,
     refl,
   )

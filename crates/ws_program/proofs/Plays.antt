@@ -38,13 +38,13 @@ carried_err {S} {A} {E} writer from to action result given fault is same h =
 
 pub session_text : (moves given : List Move) (report : Report) (paint : Paint) (screen : Bool) (text : List ℕ)
     → given ≡ moves → IsReport report (after_moves (new_world Ibm3179Model2) given)
-    → IsPaintedPlayText paint report.events report.station.screen.screen screen text → IsSessionText paint
+    → IsPaintedPlayText paint report.events report.station.reacts.screen.screen screen text → IsSessionText paint
     (after_moves (new_world Ibm3179Model2) moves) screen text
 session_text moves given report paint screen text same r t =
     let w : World = after_moves (new_world Ibm3179Model2) given in
     let told : IsPaintedPlayText paint w.events (screen_at w.station) screen text = subst
     (λ (s : ScreenParts). IsPaintedPlayText paint w.events s screen text) r.screen
-    (subst (λ (es : List Event). IsPaintedPlayText paint es report.station.screen.screen screen text) r.events t) in
+    (subst (λ (es : List Event). IsPaintedPlayText paint es report.station.reacts.screen.screen screen text) r.events t) in
     subst (λ (ms : List Move). IsSessionText paint (after_moves (new_world Ibm3179Model2) ms) screen text) same told
 
 pub session_well : (moves given : List Move) (report : Report) → given ≡ moves

@@ -61,7 +61,7 @@ pub record IsToldText (paint : Paint) (moves : List Move) (screen all_well : Boo
   pub ups : List Crossing
   pub now : TwoEnds
   pub ran : HasRun Ibm3179Model2 moves downs ups now
-  pub told : IsPaintedPlayText paint now.events now.station.screen.screen screen text
+  pub told : IsPaintedPlayText paint now.events now.station.reacts.screen.screen screen text
   pub well : all_well ≡ no_end_refuses now.events
 
 -- a script is good as far as it was read, or as a whole

@@ -93,8 +93,8 @@ pub use Rattle.ws_keys.proofs.StationLaws.{same_apart}
 pub use Rattle.ws_session.specs.ActLaws.{came_append, gone_on, bytes_came}
 pub use Rattle.ws_session.specs.Acts.{Doing, Act, all_came, Did, Happening, Does, doing, items_of, HasGone, Arrives}
 pub use Rattle.ws_session.specs.Acts.{as_list, Manner, AllTaken, Happen, HoldsItems, Goes}
-pub use Rattle.ws_session.specs.Manners.{station_at_item, StationRefuses, station_manner, station_at_key, host_at_send}
-pub use Rattle.ws_session.specs.Manners.{host_at_item, IsKeyRefusal, StationGoes, host_manner, HostGoes, HostRefuses}
+pub use Rattle.ws_session.specs.Manners.{station_at_item, StationRefuses, station_manner, station_at_key}
+pub use Rattle.ws_session.specs.Manners.{IsKeyRefusal, StationGoes, host_manner, HostGoes, HostRefuses}
 pub use Rattle.ws_session.specs.Manners.{applied_by, IsKeyTaken, goes_on, told_by}
 pub use Rattle.ws_session.specs.Reaction.{empty_record, Refuses, GoesOn, Reaction}
 pub use Rattle.ws_session.specs.Telnets.{telnets}
@@ -112,7 +112,6 @@ pub use Rattle.ws_session.specs.declared.host_end.host_event.HostEvent.{HostEven
 pub use Rattle.ws_session.specs.declared.host_end.host_event.HostEvent.TheVariants.{Answer as Answered, Cancelled}
 pub use Rattle.ws_session.specs.declared.host_end.host_event.HostEvent.TheVariants.{Attention as AttentionCame}
 pub use Rattle.ws_session.specs.declared.host_end.host_event.HostEvent.TheVariants.{SystemRequest as RequestCame}
-pub use Rattle.ws_session.specs.host_end.HostLeads.{HostStep}
 pub use Rattle.ws_session.specs.declared.host_end.send_fault.SendFault.{SendFault}
 pub use Rattle.ws_session.specs.declared.host_end.send_fault.SendFault.TheVariants.{Failed as SendFailed}
 pub use Rattle.ws_session.specs.declared.host_end.send_fault.SendFault.TheVariants.{Memory as NoMemory, NotAllowed}
@@ -131,10 +130,11 @@ pub use Rattle.ws_session.specs.declared.world.Event.TheVariants.{HostRefused}
 pub use Rattle.ws_session.specs.declared.world.Move.{Move}
 pub use Rattle.ws_session.specs.declared.world.Move.TheVariants.{ToStation, ToHost, Cancel, Key as Press}
 pub use Rattle.ws_session.specs.declared.world.Move.TheVariants.{Send as SendMove}
-pub use Rattle.ws_session.specs.host_end.HostFeeds.{HasHostFed, IsHostSilent, EndsAt}
-pub use Rattle.ws_session.specs.host_end.HostFronts.{IsHostFronted, quiet, DoesItem, IsHostNewsTaken}
-pub use Rattle.ws_session.specs.host_end.HostLeads.{AtHost, HostLeads, HostParts, IsSent, IsSendFault, IsHostPushed}
-pub use Rattle.ws_session.specs.host_end.HostLeads.{HostStands, IsReacted, unopened_host_side}
+pub use Rattle.ws_session.specs.driver.Driven.{IsFronted, IsWhy, TakesNoMore}
+pub use Rattle.ws_session.specs.driver.Reacting.{IsReaction, at_reaction}
+pub use Rattle.ws_session.specs.host_end.HostLeads.{AtHost, HostLeads, IsSent, IsSendFault, unopened_host_side}
+pub use Rattle.ws_session.specs.host_end.HostReacting.{HostKept, HostParts, HostStands, HostStep, host_driving}
+pub use Rattle.ws_session.specs.host_end.HostReacting.{host_reacting, host_at_send}
 pub use Rattle.ws_session.specs.host_end.HostSide.{HostSide, sent_record, is_outstanding, after_read, event_output}
 pub use Rattle.ws_session.specs.host_end.HostSide.{ready_event, host_negotiates, host_reads, host_reads_by}
 pub use Rattle.ws_session.specs.host_end.HostSide.{host_ends_cancel, signal, host_takes_record, host_takes, HostOutput}

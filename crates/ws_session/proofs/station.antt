@@ -1,2 +1,1 @@
-pub mod StationFeedings
 pub mod StationSteps

@@ -1,28 +1,20 @@
 -- How an end of a session conducts itself, as whoever attaches it to devices or to a wire sees it.
 
-use Rattle.std.specs.Prelude.{IsSome}
 use Rattle.ws_keys.specs.declared.key.Key.{Key}
 use Rattle.ws_session.specs.declared.end_step.Applied.{Applied}
 use Rattle.ws_session.specs.declared.end_step.Order.{Order}
 use Rattle.ws_session.specs.declared.host_end.host_event.HostEvent.{HostEvent}
 use Rattle.ws_session.specs.Conduct.{Conduct}
-use Rattle.ws_session.specs.host_end.HostFeeds.{HostStaysSilent}
-use Rattle.ws_session.specs.host_end.HostLeads.{HostParts}
-use Rattle.ws_session.specs.Manners.{HostGoes, HostRefuses}
-use Rattle.ws_session.specs.station.StationActs.{GoesOnDisplay, RefusesOn, StaysSilentOn}
+use Rattle.ws_session.specs.driver.Conducting.{driver_conduct}
+use Rattle.ws_session.specs.host_end.HostReacting.{HostParts, host_driving}
 use Rattle.ws_session.specs.station.StationLeads.{StationParts}
 use Rattle.ws_session.specs.station.Displays.{OnDisplay}
 use Rattle.ws_session.specs.station.StationSide.{on_profile}
-use Rattle.ws_session.specs.station.Stations.{StationOf}
+use Rattle.ws_session.specs.station.Stations.{StationOf, station_driving}
 
 -- a station on any display
 abbrev pub station_conduct : (on : OnDisplay) → Conduct (StationOf on) on.Pressed Applied
-station_conduct on = record {
-  goes = GoesOnDisplay on;
-  refuses = RefusesOn on;
-  silent = StaysSilentOn on;
-  over = λ station. IsSome station.ended;
-}
+station_conduct on = driver_conduct (station_driving on)
 
 -- a station of the profile
 abbrev pub profile_conduct : Conduct StationParts Key Applied
@@ -30,9 +22,4 @@ profile_conduct = station_conduct on_profile
 
 -- a host end
 abbrev pub host_conduct : Conduct HostParts Order HostEvent
-host_conduct = record {
-  goes = HostGoes;
-  refuses = HostRefuses;
-  silent = HostStaysSilent;
-  over = λ host. IsSome host.ended;
-}
+host_conduct = driver_conduct host_driving

@@ -1,5 +1,3 @@
-pub mod HostFeeds
-pub mod HostFronts
 pub mod HostLeads
+pub mod HostReacting
 pub mod HostSide
-pub mod HostTakes

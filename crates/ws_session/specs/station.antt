@@ -3,12 +3,10 @@ pub mod AnswerSpelling
 pub mod Answered
 pub mod Displays
 pub mod Moments
-pub mod PartsOn
 pub mod StationActs
 pub mod StationCounts
 pub mod StationLeads
 pub mod StationManners
-pub mod StationNews
+pub mod StationReacting
 pub mod StationSide
-pub mod StationTakes
 pub mod Stations

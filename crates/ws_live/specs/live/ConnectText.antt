@@ -148,7 +148,7 @@ module _ {S K : Type 0} (at : AttachedDisplay S K) where
   -- records were applied one after another, and before each it wasn't yet met
   abbrev pub HasWaited : (at.on.Parts → Type 0) → AttachedStation → List Applied → AttachedStation → Type 0
   HasWaited Met' from [] to = to ≡ from
-  HasWaited Met' from (told ∷ more) to = (mid : AttachedStation) × (Met' from.end.screen → ⊥)
+  HasWaited Met' from (told ∷ more) to = (mid : AttachedStation) × (Met' from.end.reacts.screen → ⊥)
       × Hears from (Some told) mid × HasWaited Met' mid more to
 
 -- Keys by their words.
@@ -219,9 +219,9 @@ module _ {S K : Type 0} (display : WatchedDisplay S K) where
   -- records
   abbrev pub WaitsFor : (display.at.on.Parts → Type 0) → WatchedStation → Waited → WatchedStation → Type 0
   WaitsFor Met' from waited to =
-      ((told : List Applied) × HasWaited display.at Met' from told to × Met' to.end.screen × (waited ≡ Met))
+      ((told : List Applied) × HasWaited display.at Met' from told to × Met' to.end.reacts.screen × (waited ≡ Met))
       ⊎ (((told : List Applied) × (mid : WatchedStation) × HasWaited display.at Met' from told mid
-      × (Met' mid.end.screen → ⊥) × HearsNone mid waited to)
+      × (Met' mid.end.reacts.screen → ⊥) × HearsNone mid waited to)
       ⊎ ((told : List Applied) × HasWaited display.at Met' from told to × (length told ≡ most_reads)
       × (waited ≡ Failed fault.Read)))
 
@@ -287,15 +287,15 @@ module _ {S K : Type 0} (display : LiveDisplay)
   StationRuns paint NoLine from came to = (to ≡ from) × (came.outcome ≡ Ok Nothing) × (came.text ≡ [])
   StationRuns paint (Press keys) from came to = KeysRun for_keys keys from.0 came to.0 × (to.1 ≡ 0)
   StationRuns paint (Stroke stroke) from came to = StrokeRuns for_keys
-      (stroke_keys display.words (display.on.does.shown from.0.end.screen) stroke) from.0 came to.0 × (to.1 ≡ 0)
+      (stroke_keys display.words (display.on.does.shown from.0.end.reacts.screen) stroke) from.0 came to.0 × (to.1 ≡ 0)
   StationRuns paint (Await awaited) from came to = (waited : Waited)
       × IsWaited for_waits display.operated awaited from waited to.0
       × (came.outcome ≡ waited_outcome waited) × (came.text ≡ waited_text waited) × (to.1 ≡ 0)
   StationRuns paint Fields from came to =
-      ShowsStation for_waits (λ station. AreFieldLines (display.on.does.shown station.screen)) from came to
+      ShowsStation for_waits (λ station. AreFieldLines (display.on.does.shown station.reacts.screen)) from came to
   StationRuns paint Show from came to =
-      ShowsStation for_waits (λ station. IsDisplayText paint (display.on.does.shown station.screen)
-      (display.operated.behind station.screen)) from came to
+      ShowsStation for_waits (λ station. IsDisplayText paint (display.on.does.shown station.reacts.screen)
+      (display.operated.behind station.reacts.screen)) from came to
   StationRuns paint (Report report) from came to = Reports for_waits report from came to
   StationRuns paint (Bad cause) from came to = (to ≡ from) × (came.outcome ≡ bad_outcome)
       × (came.text ≡ bad_text (string_bytes cause))

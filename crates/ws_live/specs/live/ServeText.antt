@@ -135,7 +135,7 @@ module _ {S K : Type 0} (on : WatchedDevices S K) where
   HostDoes Await from came to = HostHearsOne from came to
   HostDoes (AwaitAnswer awaited) from came to = HearsAnswer awaited from came to
   HostDoes Show from came to = (to ≡ from) × (came.outcome ≡ Ok Done)
-      × IsScreenText Plain from.end.screen came.text
+      × IsScreenText Plain from.end.reacts.screen came.text
   HostDoes (Wire line) from came to = WireRuns on.devices.writer line from came.outcome to × (came.text ≡ [])
   HostDoes (Bad cause) from came to = (to ≡ from) × (came.outcome ≡ bad_outcome)
       × (came.text ≡ bad_text (string_bytes cause))

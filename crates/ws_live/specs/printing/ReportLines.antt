@@ -11,7 +11,7 @@ use Rattle.ws_screen.specs.Lines.{shown_row}
 use Rattle.ws_screen.specs.ScreenParts.{ScreenParts, holds}
 use Rattle.ws_screen.specs.declared.shown.Shown.{Shown}
 use Rattle.ws_session.specs.station.Displays.{DisplayOf}
-use Rattle.ws_session.specs.station.PartsOn.{PartsOn}
+use Rattle.ws_session.specs.station.Stations.{PartsOn}
 use Rattle.ws_text.specs.ItemLines.{cell_text}
 use Rattle.ws_live.specs.printing.FieldLines.{text_of_cells}
 use Rattle.ws_live.specs.printing.ScreenLines.{IsWithoutLastBlanks, lock_name}
@@ -45,9 +45,9 @@ pub record ReportedStation : Type 0 where
 abbrev pub reported_station : {D P U H PlaceV V Q R : Type 0} → DisplayOf D U H PlaceV V Q R → PartsOn D P
     → ReportedStation
 reported_station does station = record {
-  screen = does.shown station.screen;
-  is_ready = station_allows_records station.options;
-  records = station.records;
+  screen = does.shown station.reacts.screen;
+  is_ready = station_allows_records station.reacts.options;
+  records = station.reacts.records;
   taken = station.live.taken;
 }
 

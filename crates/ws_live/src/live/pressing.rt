@@ -92,7 +92,7 @@ where
     requires works { attached.old.broken ≡ false }
     ensures runs { (text : List ℕ)
         × Spec.StrokeRuns (keyed D.Commands.rules D.does (on_devices K.writer S.reader) D.Key.words)
-        (stroke_keys D.Key.words (D.does.shown attached.old.end.screen) stroke.now)
+        (stroke_keys D.Key.words (D.does.shown attached.old.end.reacts.screen) stroke.now)
         attached.old (line_result result.outcome text) attached.new
         × Prints O.writer out.old out.new output result.output text }
     ensures works { IfOk result.outcome (λ closing. attached.new.broken ≡ false) }

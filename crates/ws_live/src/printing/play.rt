@@ -18,11 +18,11 @@ use ws_text::{Output, put, put_cell, put_hex, put_hex_behind_blank, put_number, 
 /// It allocates no memory. `Write` is the only fault: the sink failed, and then a proper prefix of the text went out.
 pub fn play_to<S: Sink>(report: &Report, screen: bool, sink: &mut S) -> Result<bool, Fault>
     ensures printed { IfOk result (λ all_well. (text : List ℕ)
-        × Spec.IsPlayText report.now.events report.now.station.screen.screen screen text
+        × Spec.IsPlayText report.now.events report.now.station.reacts.screen.screen screen text
         × WentOut S.writer sink.old sink.new text
         × (all_well ≡ Spec.no_end_refuses report.now.events)) }
     ensures fault { IfErr result (λ fault. (fault ≡ Fault.Write) × ((text : List ℕ)
-        × Spec.IsPlayText report.now.events report.now.station.screen.screen screen text
+        × Spec.IsPlayText report.now.events report.now.station.reacts.screen.screen screen text
         × FailedWithin S.writer sink.old sink.new text)) }
 {
     play_painted_to(report, Paint::Plain, screen, sink)
@@ -36,12 +36,12 @@ pub fn play_painted_to<S: Sink>(
     sink: &mut S,
 ) -> Result<bool, Fault>
     ensures printed { IfOk result (λ all_well. (text : List ℕ)
-        × Spec.IsPaintedPlayText paint report.now.events report.now.station.screen.screen screen
+        × Spec.IsPaintedPlayText paint report.now.events report.now.station.reacts.screen.screen screen
         text
         × WentOut S.writer sink.old sink.new text
         × (all_well ≡ Spec.no_end_refuses report.now.events)) }
     ensures fault { IfErr result (λ fault. (fault ≡ Fault.Write) × ((text : List ℕ)
-        × Spec.IsPaintedPlayText paint report.now.events report.now.station.screen.screen screen
+        × Spec.IsPaintedPlayText paint report.now.events report.now.station.reacts.screen.screen screen
         text
         × FailedWithin S.writer sink.old sink.new text)) }
 {

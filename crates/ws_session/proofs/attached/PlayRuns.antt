@@ -61,9 +61,9 @@ module _ {R S : Type 0} (reader : Reader R) (writer : Writer S) (t : TerminalTyp
       after = [];
       split = refl;
       items = [];
-      so_far = l.leads.0;
+      so_far = l.so_far.bytes;
       begun = station.live.begun;
-      holds = l.leads.1.holds;
+      holds = l.leads.holds;
       taken = keys_taken _ 0 keys;
       failed = failed;
     };

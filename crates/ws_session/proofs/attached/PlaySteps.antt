@@ -6,17 +6,54 @@ use C.{failed_within_both, TerminalType, Item, RecordItem, TelnetItem, element_r
 use C.{fault_of, HaveBroughtPlayer, HasDone, records_from, keys_left_from, IsRunFault, refusal_count, behind, run_text}
 use C.{RunUnwritten, Player, Refusal, At, EndStep, Presses, outcome, due, later, Moment, Outcome, idle_outcome}
 use C.{outcome_of_both, at_item, at_moment, AreTaken, records_in_item, moments_from, moments, AtStation, StationParts}
-use C.{StationLeads, is_record, StationSide, new_station_side, Applied, told_by, is_some, Option}
+use C.{StationLeads, is_record, StationSide, new_station_side, Applied, told_by, is_some, Option, AnswerPart, None, ◌⊎◌}
+use C.{IsFronted, Failed, Memory, GoesOn, Result, answer_rules, plain_spelling, station_takes}
 use Rattle.std.proofs.lemmas.Bool.{cases_Bool}
 use Rattle.ws_session.specs.station.Moments.{Arrives}
-use Rattle.ws_session.specs.station.StationManners.{goes_on}
-use Rattle.ws_session.specs.station.StationNews.{IsFrontedOn}
-use Rattle.ws_session.specs.station.Stations.{TakesItemOn}
+use Rattle.ws_session.specs.Reaction.{goes_on}
+use Rattle.ws_session.specs.station.Stations.{station_driving}
 use Rattle.ws_session.proofs.attached.Plays.{outcome_append, text_append, later_by, none_due, text_of}
 use Rattle.ws_session.specs.attached.StationRun.{asked, outflow}
 use Rattle.ws_session.specs.station.StationSide.{on_profile}
 
 -- What a front of a piece makes of a run's player.
+
+-- the last of these bytes completes an item, at which the station goes on with this reply
+record TakesItem (new : StationParts) (bytes : List ℕ) (items : List (Item Element)) (side : StationSide)
+    (reply : List ℕ) : Type 0 where
+  item : Item Element
+  next : StationSide
+  writes : List (Item AnswerPart)
+  goes_on : station_takes side item ≡ GoesOn next writes
+  spelled : reply ≡ plain_spelling answer_rules writes
+  leads : StationLeads new bytes (items ++ item ∷ []) next
+
+-- what a front gives at which the station goes on
+parts : (new : StationParts) (bytes : List ℕ) (items : List (Item Element)) (side : StationSide)
+    (step : EndStep Applied (List ℕ)) → IsFronted (station_driving on_profile) new bytes items side (Ok step)
+    → (StationLeads new bytes items side × (step.reply ≡ []) × (step.event ≡ None))
+    ⊎ ((taken : TakesItem new bytes items side step.reply) × (step.event ≡ told_by (is_record taken.item)))
+parts new bytes items side step (inl q) = inl q
+parts new bytes items side step (inr q) = inr (
+  record { item = q.0; next = q.1; writes = q.2; goes_on = q.3; spelled = q.4; leads = q.6 },
+  q.5,
+)
+
+-- what a front gives is known, or its bytes
+pub known_step : (new : StationParts) (bytes : List ℕ) (items : List (Item Element)) (side : StationSide)
+    (step is : Result (EndStep Applied (List ℕ)) Refusal) → step ≡ is
+    → IsFronted (station_driving on_profile) new bytes items side step
+    → IsFronted (station_driving on_profile) new bytes items side is
+known_step new bytes items side step is e f =
+    subst (λ (z : Result (EndStep Applied (List ℕ)) Refusal). IsFronted (station_driving on_profile) new bytes items
+    side z) e f
+
+pub known_bytes : (new : StationParts) (bytes front is : List ℕ) (items : List (Item Element)) (side : StationSide)
+    (step : Result (EndStep Applied (List ℕ)) Refusal) → front ≡ is
+    → IsFronted (station_driving on_profile) new (bytes ++ front) items side step
+    → IsFronted (station_driving on_profile) new (bytes ++ is) items side step
+known_bytes new bytes front is items side step e f =
+    subst (λ (z : List ℕ). IsFronted (station_driving on_profile) new (bytes ++ z) items side step) e f
 
 -- ---- the moments of one item more
 
@@ -110,7 +147,7 @@ module _ {S : Type 0} (writer : Writer S) (t : TerminalType) (keys : List (ℕ �
     }
 
     module _ (reply : List ℕ)
-        (taken : TakesItemOn on_profile old.station longer items so_far.side reply) where
+        (taken : TakesItem old.station longer items so_far.side reply) where
       abbrev more : List (Item Element)
       more = items ++ taken.item ∷ []
 
@@ -169,9 +206,9 @@ module _ {S : Type 0} (writer : Writer S) (t : TerminalType) (keys : List (ℕ �
         after = drop used piece;
         split = ap (λ z. bytes ++ z) (sym (take-append-drop used piece)) ∙ sym (append_assoc bytes _ _);
         items = more;
-        so_far = taken.leads.leads.0;
+        so_far = taken.leads.so_far.bytes;
         begun = old.station.live.begun;
-        holds = taken.leads.leads.1.holds;
+        holds = taken.leads.leads.holds;
         taken = taken_more;
         failed = failed;
       }
@@ -197,12 +234,12 @@ module _ {S : Type 0} (writer : Writer S) (t : TerminalType) (keys : List (ℕ �
       room = omega (arith, few, size, within)
 
       module _ (step : EndStep Applied (List ℕ))
-          (fronted : IsFrontedOn on_profile before old.station longer items so_far.side (Ok step)) where
+          (fronted : IsFronted (station_driving on_profile) old.station longer items so_far.side (Ok step)) where
         -- the reply isn't written
         pub reply_fails : (to : S) → FailedWithin writer now to step.reply
             → RunUnwritten (asked t keys) (outflow writer start to) (bytes ++ piece)
-        reply_fails to failed = elim fronted [
-          | inl i ↦ (let none = rw i.0.silent at failed in
+        reply_fails to failed = elim (parts old.station longer items so_far.side step fronted) [
+          | inl i ↦ (let none = rw i.1 at failed in
               absurd (let e : 0 < 0 = omega (arith, none.within) in omega (arith, e)))
           | inr taken ↦ reply_unwritten step.reply taken.0 to failed
         ]
@@ -210,8 +247,8 @@ module _ {S : Type 0} (writer : Writer S) (t : TerminalType) (keys : List (ℕ �
         -- it ends no record
         pub no_record : (to : S) → is_some step.event ≡ false → WentOut writer now to step.reply
             → (next : List (Item Element)) × HaveBroughtPlayer (asked t keys) (outflow writer start to) old longer next
-        no_record to e went = elim fronted [
-          | inl i ↦ (items, inside_comes step.reply to i.0.silent i.0.leads went)
+        no_record to e went = elim (parts old.station longer items so_far.side step fronted) [
+          | inl i ↦ (items, inside_comes step.reply to i.1 i.0 went)
           | inr taken ↦ (let item : Item Element = taken.0.item in
               let one : records_in_item item ≡ 0 = one_of item (is_some step.event)
               (ends_with step.event _ taken.1) e in
@@ -257,8 +294,8 @@ module _ {S : Type 0} (writer : Writer S) (t : TerminalType) (keys : List (ℕ �
               (due records (drop old.pressed keys)))) → drop new.pressed keys ≡ later records (drop old.pressed keys)
               → (next : List (Item Element))
               × HaveBroughtPlayer (asked t keys) (outflow writer start to) new longer next
-          record_comes new to done left = elim fronted [
-            | inl i ↦ absurd (let e : true ≡ false = sym ends ∙ ap is_some i.1 in cc)
+          record_comes new to done left = elim (parts old.station longer items so_far.side step fronted) [
+            | inl i ↦ absurd (let e : true ≡ false = sym ends ∙ ap is_some i.2 in cc)
             | inr taken ↦ (let item : Item Element = taken.0.item in
                 let n = counts item taken.1 in (
                   items ++ item ∷ [],
@@ -272,8 +309,8 @@ module _ {S : Type 0} (writer : Writer S) (t : TerminalType) (keys : List (ℕ �
           pub keys_fail : (to : S) → AtStation old.station (λ bytes items side. length bytes + 1 < 2 ^ 64 → FailedWithin
               writer mid to (text_of (outcome side (due records (drop old.pressed keys))).written))
               → RunUnwritten (asked t keys) (outflow writer start to) (bytes ++ piece)
-          keys_fail to failed = elim fronted [
-            | inl i ↦ absurd (let e : true ≡ false = sym ends ∙ ap is_some i.1 in cc)
+          keys_fail to failed = elim (parts old.station longer items so_far.side step fronted) [
+            | inl i ↦ absurd (let e : true ≡ false = sym ends ∙ ap is_some i.2 in cc)
             | inr taken ↦ keys_unwritten step.reply taken.0 mid to went
                 (rw (← now_due taken.0.item taken.1) (failed longer (items ++ taken.0.item ∷ [])
                 taken.0.next taken.0.leads room))
@@ -285,13 +322,13 @@ pub refused_as : {S : Type 0} (writer : Writer S) (t : TerminalType) (keys : Lis
     → HaveBroughtPlayer (asked t keys) (outflow writer start now) old bytes items
     → (piece front : List ℕ) (byte : ℕ) (rest : List ℕ)
     → piece ≡ front ++ byte ∷ rest → HoldsItems element_rules (bytes ++ front) items → (refusal : Refusal)
-    → IsFrontedOn on_profile old.station new (bytes ++ (front ++ byte ∷ [])) items (behind (asked t keys) items).side
+    → IsFronted (station_driving on_profile) new (bytes ++ (front ++ byte ∷ [])) items (behind (asked t keys) items).side
     (Err refusal)
     → IsRunFault (asked t keys) (outflow writer start now) (length bytes) (bytes ++ piece) (fault_of refusal)
 refused_as writer t keys start now old new bytes items c piece front byte rest split held (At place reason) f =
     let upto : (bytes ++ front) ++ byte ∷ [] ≡ bytes ++ (front ++ byte ∷ []) = append_assoc bytes front (byte ∷ []) in
     let at : place ≡ length (bytes ++ front) =
-    omega (arith, f.0, ap length upto, length-append (bytes ++ front) (byte ∷ [])) in
+    omega (arith, f.0.0, ap length upto, length-append (bytes ++ front) (byte ∷ [])) in
     record {
       before = bytes;
       front = front;
@@ -304,10 +341,12 @@ refused_as writer t keys start now old new bytes items c piece front byte rest s
       station = old.station;
       is_behind = c.is_behind;
       inside = held;
-      why = rw upto f.2;
+      why = rw upto f.0.1;
       wrote = c.wrote;
     }
-refused_as writer t keys start now old new bytes items c piece front byte rest split held why f = f
+refused_as writer t keys start now old new bytes items c piece front byte rest split held Failed f = f.0
+refused_as writer t keys start now old new bytes items c piece front byte rest split held Memory f =
+    absurd (elim f.0 [ inl q ↦ cc q.0 | inr item ↦ item.so.3 ])
 
 -- a fault of a last read is one where that read began earlier
 pub fault_within : (t : TerminalType) (keys : List (ℕ × Key)) {S : Type 0} (writer : Writer S)

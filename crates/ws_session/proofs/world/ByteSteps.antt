@@ -3,9 +3,9 @@ use C.{flat_map, ◌≡◌, ◌+◌, ◌≤◌, List, [], ◌∷◌, ◌++◌, r
 use C.{min, inl, inr, length, get_or, length-take, if◌then◌else◌, Bool, true, false, nat_lt, IsSome, Err, subst₂}
 use C.{false≢true, nat_tests, append-nil, TerminalType, ending_at, arrived, plain_spelling, Item, answer_rules}
 use C.{element_bytes, element_prefix_free, element_begins, element_rules, AnswerPart, Element, Arrives, as_list}
-use C.{HoldsItems, station_at_item, StationRefuses, station_manner, host_at_item, host_manner}
-use C.{HostRefuses, goes_on, Refuses, GoesOn, Reaction, Applied, HostEvent, Refusal, At, Failed, Memory, Event, Host}
-use C.{StationRefused, HostRefused, ToStation, ToHost, HostLeads, HostParts, IsHostPushed, HostSide, host_takes}
+use C.{HoldsItems, station_at_item, StationRefuses, station_manner, host_manner}
+use C.{HostRefuses, HostStands, at_reaction, host_driving, TakesNoMore, IsWhy, goes_on, Refuses, GoesOn, Reaction, Applied, HostEvent, Refusal, At, Failed, Memory, Event, Host}
+use C.{StationRefused, HostRefused, ToStation, ToHost, HostLeads, HostParts, HostSide, host_takes}
 use C.{HostOutput, StationParts, StationLeads, StationSide, station_takes, AreWritable, WorldParts, RunsWith}
 use C.{Runs, WireParts, HasMemory, AreDelivered, at_end, at_station_end, at_host_end, World, down_bytes, station_did}
 use C.{station_gets, byte_to_station}
@@ -13,16 +13,16 @@ use C.{up_bytes, host_did, host_gets, byte_to_host, events_with, bytes_to_statio
 use Rattle.ws_record.proofs.Flights.{byte_more, ByteMore}
 use Rattle.ws_stream.specs.AnswerLaws.{part_prefix_free, part_begins, part_bytes}
 use Rattle.ws_session.specs.Conducts.{host_conduct, profile_conduct}
-use Rattle.ws_session.specs.Manners.{IsHostShut}
-use Rattle.ws_session.specs.host_end.HostFeeds.{HostStaysSilent}
-use Rattle.ws_session.specs.station.StationActs.{IsShutOn, StaysSilentOn}
+use Rattle.ws_session.specs.driver.Conducting.{DriverSilent}
 use Rattle.ws_session.specs.world.Wires.{host_telling, station_telling}
 use Rattle.ws_session.proofs.Writables.{host_writes_well, answers_writable, WritesWell}
 use Rattle.ws_session.proofs.world.Bytes.{byte_down, byte_up}
 use Rattle.ws_session.proofs.world.OneByOne.{Later, gone_first, delivered, many_on, stop}
 use Rattle.ws_session.proofs.world.Reached.{station_writes, going_station, host_writes, going_host, is_sound, OfStation}
 use Rattle.ws_session.proofs.world.Reached.{OfHost}
-use Rattle.ws_session.specs.station.Stations.{IsPushedOn}
+use Rattle.ws_session.specs.station.Stations.{station_driving}
+use Rattle.ws_session.specs.station.StationReacting.{StationStands}
+use Rattle.ws_session.specs.station.StationSide.{profile}
 use Rattle.ws_session.specs.station.StationSide.{on_profile}
 
 -- A byte comes to the station of a running session.
@@ -88,15 +88,15 @@ module _ {S : OfStation} {H : OfHost} {t : TerminalType} {w : World} {old : Worl
           held leads (steps (Some item) o.0 ∙ ap (station_did byte_on) does)
 
     -- no byte is refused
-    pub station_never : (from station : StationParts) (refusal : Refusal) → IsPushedOn on_profile from station
-        (take w.at_station (down_bytes w)) done w.station byte (Err refusal) → ⊥
-    station_never from station (At at reason) p = elim p.2 [
+    pub station_never : (why : Refusal) → IsWhy (station_driving on_profile) why front done w.station → ⊥
+    station_never Failed p = p
+    station_never Memory p = elim p [ inl q ↦ cc q.0 | inr item ↦ item.so.3 ]
+    station_never (At at reason) p = elim p.1 [
       | inl refused ↦ came.none_refused at reason refused
-      | inr item ↦ (let o = came.one_ends item.item (item.so_far, item.begun, item.holds) in
+      | inr item ↦ (let o = came.one_ends item.item item.holds in
           let e : true ≡ false = ap (λ (z : World). z.station_refused) (sym (steps (Some item.item) o.0
-          ∙ ap (station_did byte_on) item.refuses)) ∙ (byte_down t w (is_sound r)).station_going in cc)
+          ∙ ap (station_did byte_on) item.so)) ∙ (byte_down t w (is_sound r)).station_going in cc)
     ]
-    station_never from station why p = p
 
   -- another thing holds of what came to the station
   pub with_station : {S' : OfStation} (station : StationParts)
@@ -199,11 +199,12 @@ station_delivered {t} {w} {old} r {station} {from} {to} {events} {count} d =
     (λ A B n up told w' h on. with_station h station (on _ _ _ (at_most_down h)))
     (λ A n up told w' h. (_, _, _, h.station))
     (λ Then x xs v said n up told w' h more is. station_next Then x xs v said h more is)
-    (λ A n up told w' h all. none_comes h all) StationLeads IsShutOn StationRefuses
-    (StaysSilentOn on_profile) (λ (e : StationParts). IsSome e.ended) (λ place reason. StationRefused place reason)
-    (λ e byte why e' b i s. IsPushedOn on_profile e e' b i s byte (Err why))
+    (λ A n up told w' h all. none_comes h all) StationLeads TakesNoMore StationRefuses
+    (DriverSilent (station_driving on_profile)) (λ (e : StationParts). IsSome e.ended) (λ place reason. StationRefused place reason)
+    (λ e byte why e' b i s. IsWhy (station_driving on_profile) why (b ++ byte ∷ []) i s
+    × StationStands profile e'.reacts i s)
     (λ e front byte why e' refuses b i s l few. refuses.led b i s l few)
-    (λ e byte why e' n up told w' h more is memory. station_never h more byte is e e' why h.station)
+    (λ e byte why e' n up told w' h more is memory. station_never h more byte is why h.station.0)
     old.station old.at_station old.up old.events w (with_station r station (λ l. l)) station from to old.at_host events
     count d)
 
@@ -274,11 +275,11 @@ module _ {S : OfStation} {H : OfHost} {t : TerminalType} {w : World} {old : Worl
       -- an item that is whole, by the reaction to it
       pub host_taken : (reply : List ℕ) (events : List Event) (item : Item AnswerPart)
           (z : Reaction HostSide HostOutput)
-          → events ≡ old.events ++ flat_map host_tells (host_at_item w.host z).told
+          → events ≡ old.events ++ flat_map host_tells (at_reaction (λ output. output) w.host z).told
           → host_takes w.host item ≡ z → goes_on z ≡ true
-          → reply ≡ plain_spelling element_rules (host_at_item w.host z).written
+          → reply ≡ plain_spelling element_rules (at_reaction (λ output. output) w.host z).written
           → HoldsItems answer_rules front_up (done_up ++ item ∷ [])
-          → Then front_up (done_up ++ item ∷ []) (host_at_item w.host z).side → AfterUp reply events
+          → Then front_up (done_up ++ item ∷ []) (at_reaction (λ output. output) w.host z).side → AfterUp reply events
       host_taken reply events item (Refuses reason) e does on spelled held leads = absurd (false≢true on)
       host_taken reply events item (GoesOn next output) e does on spelled held leads =
           let o = came_up.one_ends item held in
@@ -286,15 +287,14 @@ module _ {S : OfStation} {H : OfHost} {t : TerminalType} {w : World} {old : Worl
           (host_writes_well w.host item o.1)) (e ∙ one_told old.events output.event) held leads
           (steps_up (Some item) o.0 ∙ ap (host_did byte_off) does)
 
-    pub host_never : (from host : HostParts) (why : Refusal) → IsHostPushed from host (take w.at_host (up_bytes w))
-        done_up w.host byte (Err why) → HasMemory (Some why) → ⊥
-    host_never from host Failed p m = p
-    host_never from host Memory p m = m
-    host_never from host (At at reason) p m = elim p.2 [
+    pub host_never : (why : Refusal) → IsWhy host_driving why front_up done_up w.host → HasMemory (Some why) → ⊥
+    host_never Failed p m = p
+    host_never Memory p m = m
+    host_never (At at reason) p m = elim p.1 [
       | inl refused ↦ came_up.none_refused at reason refused
-      | inr item ↦ (let o = came_up.one_ends item.item (item.so_far, item.begun, item.holds) in
+      | inr item ↦ (let o = came_up.one_ends item.item item.holds in
           let e : true ≡ false = ap (λ (z : World). z.host_refused) (sym (steps_up (Some item.item) o.0
-          ∙ ap (host_did byte_off) item.refuses)) ∙ (byte_up t w (is_sound r)).host_going in cc)
+          ∙ ap (host_did byte_off) item.so)) ∙ (byte_up t w (is_sound r)).host_going in cc)
     ]
 
   pub with_host : {H' : OfHost} (host : HostParts)
@@ -383,9 +383,9 @@ host_delivered {t} {w} {old} r {host} {from} {to} {events} {count} d =
     (λ A B n down told w' h on. with_host h host (on _ _ _ (at_most_up h)))
     (λ A n down told w' h. (_, _, _, h.host))
     (λ Then x xs v said n down told w' h more is. host_next Then x xs v said h more is)
-    (λ A n down told w' h all. none_comes_up h all) HostLeads IsHostShut HostRefuses
-    HostStaysSilent (λ (e : HostParts). IsSome e.ended) (λ place reason. HostRefused place reason)
-    (λ e byte why e' b i s. IsHostPushed e e' b i s byte (Err why))
+    (λ A n down told w' h all. none_comes_up h all) HostLeads TakesNoMore HostRefuses
+    (DriverSilent host_driving) (λ (e : HostParts). IsSome e.ended) (λ place reason. HostRefused place reason)
+    (λ e byte why e' b i s. IsWhy host_driving why (b ++ byte ∷ []) i s × HostStands e'.reacts s)
     (λ e front byte why e' refuses b i s l few. refuses.led b i s l few)
-    (λ e byte why e' n down told w' h more is memory. host_never h more byte is e e' why h.host memory)
+    (λ e byte why e' n down told w' h more is memory. host_never h more byte is why h.host.0 memory)
     old.host old.at_host old.down old.events w (with_host r host (λ l. l)) host from to old.at_station events count d)

@@ -5,13 +5,12 @@ use C.{answer_rules, element_rules, bytes_came, all_came, Did, doing, items_of, 
 use C.{station_manner, host_manner, HostRefuses, Refusal, Event}
 use C.{Move, ToStation, ToHost, Cancel, Press, HostLeads, HostParts, new_host_side, StationParts, StationLeads}
 use C.{new_station_side, Crossing, Through, TwoEnds, all_read, HasMoved, HaveMoved, HasRun, StationIsLed}
-use C.{HostIsLed, Comes}
+use C.{HostIsLed, Comes, TakesNoMore, host_driving}
 use Rattle.ws_session.specs.Acts.{bytes_of}
 use Rattle.ws_session.specs.Conduct.{Conduct}
-use Rattle.ws_session.specs.Manners.{IsHostShut}
 use Rattle.ws_session.specs.declared.world.Move.TheVariants.{Send}
-use Rattle.ws_session.specs.host_end.HostFeeds.{HostStaysSilent}
-use Rattle.ws_session.specs.station.StationActs.{IsShutOn, StaysSilentOn}
+use Rattle.ws_session.specs.driver.Conducting.{DriverSilent}
+use Rattle.ws_session.specs.station.Stations.{station_driving}
 use Rattle.ws_session.specs.world.Wires.{Telling, host_telling, station_telling}
 use Rattle.ws_session.specs.Acts.{ways}
 use Rattle.ws_session.specs.station.StationSide.{on_profile}
@@ -80,13 +79,13 @@ station_moved a b Cancel ds us front p few l = stays StationIsLed a.station b.st
 station_moved a b (ToHost n) ds us front p few l = stays StationIsLed a.station b.station ds front p.0 p.1.1 l
 station_moved a b (ToStation n) ds us front p few l = bytes_led element_rules answer_rules station_manner StationLeads
     StationRefuses
-    (StaysSilentOn on_profile) (λ (s : StationParts). IsSome s.ended) station_telling IsShutOn a.station b.station
+    (DriverSilent (station_driving on_profile)) (λ (s : StationParts). IsSome s.ended) station_telling TakesNoMore a.station b.station
     (all_read ds) p.1.0.written p.1.0.told front
     p.1.0.come few l
 station_moved a b (Press key) ds us front p few l = stays StationIsLed b.station b.station ds front p.0 refl
     (act_led element_rules answer_rules station_manner StationLeads StationRefuses
-    (StaysSilentOn on_profile) (λ (s : StationParts). IsSome s.ended) station_telling
-    IsShutOn a.station b.station key p.2.0 [] front p.2.2.led (λ o. (p.2.2.stays (inl o)).0) (omega (arith, few)) l)
+    (DriverSilent (station_driving on_profile)) (λ (s : StationParts). IsSome s.ended) station_telling
+    TakesNoMore a.station b.station key p.2.0 [] front p.2.2.led (λ o. (p.2.2.stays (inl o)).0) (omega (arith, few)) l)
 
 host_moved : (a b : TwoEnds) (move : Move) (ds us : List Crossing) (front : List ℕ) → HasMoved a move ds us b → length
     front + length (all_read us) + 1 < 2 ^ 64 → HostIsLed a.host front → HostIsLed b.host (front ++ all_read us)
@@ -94,16 +93,16 @@ host_moved a b (Press key) ds us front p few l = stays HostIsLed a.host b.host u
     (ap (λ (z : TwoEnds). z.host) p.2.3) l
 host_moved a b (ToStation n) ds us front p few l = stays HostIsLed a.host b.host us front p.0 p.1.1 l
 host_moved a b (ToHost n) ds us front p few l = bytes_led answer_rules element_rules host_manner HostLeads HostRefuses
-    HostStaysSilent
-    (λ (h : HostParts). IsSome h.ended) host_telling IsHostShut a.host b.host (all_read us) p.1.0.written p.1.0.told
+    (DriverSilent host_driving)
+    (λ (h : HostParts). IsSome h.ended) host_telling TakesNoMore a.host b.host (all_read us) p.1.0.written p.1.0.told
     front p.1.0.come few l
 host_moved a b (Send opcode body) ds us front p few l = stays HostIsLed b.host b.host us front p.1 refl
-    (act_led answer_rules element_rules host_manner HostLeads HostRefuses HostStaysSilent
-    (λ (h : HostParts). IsSome h.ended) host_telling IsHostShut a.host
+    (act_led answer_rules element_rules host_manner HostLeads HostRefuses (DriverSilent host_driving)
+    (λ (h : HostParts). IsSome h.ended) host_telling TakesNoMore a.host
     b.host _ p.2.0 [] front p.2.2.led (λ o. (p.2.2.stays (inl o)).0) (omega (arith, few)) l)
 host_moved a b Cancel ds us front p few l = stays HostIsLed b.host b.host us front p.1 refl
-    (act_led answer_rules element_rules host_manner HostLeads HostRefuses HostStaysSilent
-    (λ (h : HostParts). IsSome h.ended) host_telling IsHostShut a.host
+    (act_led answer_rules element_rules host_manner HostLeads HostRefuses (DriverSilent host_driving)
+    (λ (h : HostParts). IsSome h.ended) host_telling TakesNoMore a.host
     b.host _ p.2.0 [] front p.2.2.led (λ o. (p.2.2.stays (inl o)).0) (omega (arith, few)) l)
 
 reads_append : (cs ds : List Crossing) → all_read (cs ++ ds) ≡ all_read cs ++ all_read ds

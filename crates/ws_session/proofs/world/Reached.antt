@@ -235,16 +235,16 @@ module _ {t : TerminalType} {w : World} {old : WorldParts} (r : Runs t old w) (k
         (item ∷ []) w.at_station told station text old.at_station does
         (spelled ∙ sym (append-nil (item_spelling answer_rules item))) ((fit, tt), (range, tt)) r.at_station leads
 
-    pub key_wrote : IsKey key → IsLegal old.station.screen.screen → AreBytes old.station.screen.screen.cells
-        → old.station.screen.screen.cursor < 1920 → (answer : Answer) → Keys (Ok (Some answer))
+    pub key_wrote : IsKey key → IsLegal old.station.reacts.screen.screen → AreBytes old.station.reacts.screen.screen.cells
+        → old.station.reacts.screen.screen.cursor < 1920 → (answer : Answer) → Keys (Ok (Some answer))
         → Runs t (record old { station = station; up = old.up ++ answer_spelling answer }) (after_press w key)
     key_wrote known legal bytes small (Read body) p =
         let k = p _ _ _ r.station (few_down r few) in
         let shown : ScreenParts = screen_at w.station in
         let parts : List AnswerPart = answer_parts k.1 shown k.2 in
         let aid : IsAid k.2 = subst AidIs k.3 (aid_is w.station key known) in
-        let same : old.station.screen.screen ≡ shown =
-        one_screen w.station.happened old.station.screen.screen r.station.given.shows legal.size in
+        let same : old.station.reacts.screen.screen ≡ shown =
+        one_screen w.station.happened old.station.reacts.screen.screen r.station.stands.given.shows legal.size in
         let lawful : IsLegal shown = subst IsLegal same legal in
         let whole = answer_whole k.1 shown k.2 lawful (subst (λ (z : ScreenParts). AreBytes z.cells) same bytes)
         (subst (λ (z : ScreenParts). z.cursor < 1920) same small) aid in

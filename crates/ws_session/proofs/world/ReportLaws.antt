@@ -259,7 +259,7 @@ module _ (t : TerminalType) (ms : List Move) (report : Report) (r : IsReport rep
         (s.later, s.answered ∙ ap (λ l. answers_in l ++ s.later) (sym r.events), rest_on_its_way t now s)
 
     pub tables_agree : report.to_station ≡ [] → report.to_host ≡ []
-        → TablesAgree report.station.options report.host.options
+        → TablesAgree report.station.reacts.options report.host.reacts.options
     tables_agree d u =
         let s = sound t ms in
         let at_station : now.at_station ≡ length (down_bytes now) = all_gone (down_bytes now) now.at_station

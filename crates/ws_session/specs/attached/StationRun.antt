@@ -18,8 +18,10 @@ use Rattle.ws_session.specs.declared.attached.run.Played.{Played}
 use Rattle.ws_session.specs.Acts.{HoldsItems}
 use Rattle.ws_session.specs.station.Moments.{Outcome, outcome, AreTaken, moments}
 use Rattle.ws_session.specs.station.StationLeads.{StationParts, StationLeads}
-use Rattle.ws_session.specs.station.StationSide.{new_station_side}
-use Rattle.ws_session.specs.station.Stations.{RefusesItemOn}
+use Rattle.ws_session.specs.Reaction.{Refuses}
+use Rattle.ws_session.specs.station.StationSide.{new_station_side, station_takes}
+use Rattle.ws_session.specs.driver.Driven.{Completes}
+use Rattle.ws_session.specs.station.Stations.{station_driving}
 use Rattle.ws_session.specs.world.Carrying.{Passage}
 use Rattle.ws_session.specs.station.StationSide.{on_profile}
 
@@ -96,7 +98,8 @@ module _ (run : Asked) where
       pub is_behind : IsBehind before items station
       pub inside : HoldsItems element_rules (before ++ front) items
       pub why : IsRefused element_rules ((before ++ front) ++ byte ∷ []) at.0 at.1
-          ⊎ RefusesItemOn on_profile ((before ++ front) ++ byte ∷ []) items (behind items).side at.1
+          ⊎ Completes (station_driving on_profile) ((before ++ front) ++ byte ∷ []) items
+          (λ item. station_takes (behind items).side item ≡ Refuses at.1)
       pub wrote : HasWrittenAll items
 
     -- A write failed, in what was to be written behind items of these bytes.

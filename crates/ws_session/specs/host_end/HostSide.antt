@@ -35,7 +35,7 @@ use Rattle.ws_session.specs.declared.host_end.send_fault.SendFault.TheVariants.{
 use Rattle.ws_session.specs.declared.host_end.send_fault.SendFault.TheVariants.{NoReadToCancel}
 use Rattle.ws_session.specs.declared.host_end.send_fault.SendFault.TheVariants.{BadSequence, Screen as RefusedByScreen}
 use Rattle.ws_session.specs.declared.host_end.send_fault.SendFault.TheVariants.{TooBig}
-use Rattle.ws_session.specs.Reaction.{Reaction, Refuses, GoesOn, empty_record}
+use Rattle.ws_session.specs.Reaction.{Output, Reaction, Refuses, GoesOn, empty_record}
 use Rattle.ws_session.specs.declared.station.answer.TheConstants.{ATN, SRQ}
 
 -- what a host end has become: its options, the events of the screen that it keeps, and whether a cancel is unanswered
@@ -53,9 +53,8 @@ abbrev pub asked_read : HostSide → Option ReadKind
 asked_read h = pending_read h.kept
 
 -- what the host end writes at an item, and what it tells its caller
-pub record HostOutput : Type 0 where
-  pub items : List (Item Element)
-  pub event : Option HostEvent
+abbrev pub HostOutput : Type 0
+HostOutput = Output Element HostEvent
 
 -- what the host end puts out where it writes nothing, and tells this
 abbrev pub event_output : Option HostEvent → HostOutput

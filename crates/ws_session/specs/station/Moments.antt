@@ -9,7 +9,7 @@ use Rattle.ws_keys.specs.declared.key.Key.{Key}
 use Rattle.ws_session.specs.Reaction.{Reaction, Refuses, GoesOn, empty_record}
 use Rattle.ws_session.specs.station.StationSide.{StationSide, screen_at, station_takes, KeyReaction, RefusesKey, Silent}
 use Rattle.ws_session.specs.station.StationSide.{Answers, Signals, station_key, answer_record}
-use Rattle.ws_session.specs.station.StationManners.{goes_on}
+use Rattle.ws_session.specs.Reaction.{goes_on}
 
 -- what happens to a station: an item arrives, or a key is pressed
 pub data Moment : Type 0 where

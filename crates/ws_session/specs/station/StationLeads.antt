@@ -5,8 +5,7 @@ use Rattle.ws_record.specs.declared.record.Item.{Item}
 use Rattle.ws_stream.specs.declared.element.Element.{Element}
 use Rattle.ws_stream.specs.declared.place.Place.{Place}
 use Rattle.ws_session.specs.station.StationSide.{ProfileParts, StationSide}
-use Rattle.ws_session.specs.station.PartsOn.{PartsOn}
-use Rattle.ws_session.specs.station.Stations.{LeadsOn, AtStationOn, FreshOn}
+use Rattle.ws_session.specs.station.Stations.{LeadsOn, AtStationOn, FreshOn, PartsOn}
 pub use Rattle.ws_session.specs.station.StationCounts.{is_record, records_in, keeps_body}
 use Rattle.ws_session.specs.station.StationSide.{on_profile}
 

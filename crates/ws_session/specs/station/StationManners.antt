@@ -10,7 +10,7 @@ use Rattle.ws_record.specs.declared.record.Item.TheVariants.{Record as RecordIte
 use Rattle.ws_session.specs.declared.station.key_fault.KeyFault.TheVariants.{NotReady}
 use Rattle.ws_session.specs.declared.end_step.Applied.{Applied}
 use Rattle.ws_session.specs.Reaction.{Reaction, Refuses, GoesOn, empty_record}
-use Rattle.ws_session.specs.Acts.{Happening, Arrives, Does, Doing, Manner, idle}
+use Rattle.ws_session.specs.Acts.{Doing, idle}
 use Rattle.ws_session.specs.station.Displays.{DisplayOf, SideOn, KeyReactionOn, RefusesKey, Silent, Answers, Signals}
 
 -- what a station tells at the end of a record: it has applied it
@@ -20,16 +20,6 @@ applied = record {}
 -- what a station tells, by whether a record ended
 abbrev pub told_by : Bool → Option Applied
 told_by ends_record = if ends_record then Some applied else None
-
--- what a station tells at an item: of a record that it was applied, of a Telnet command nothing
-abbrev pub applied_by : {U : Type 0} → Item U → List Applied
-applied_by (RecordItem r) = applied ∷ []
-applied_by (TelnetItem token) = []
-
--- the end doesn't refuse the item
-abbrev pub goes_on : {Side W : Type 0} → Reaction Side W → Bool
-goes_on (Refuses reason) = false
-goes_on (GoesOn next told) = true
 
 module _ {D U H PlaceV V K R : Type 0} (d : DisplayOf D U H PlaceV V K R) where
   -- the side of a station to which nothing has happened
@@ -50,11 +40,6 @@ module _ {D U H PlaceV V K R : Type 0} (d : DisplayOf D U H PlaceV V K R) where
   key_on s key =
       if d.sends key && not (station_allows_records s.options) then RefusesKey NotReady else d.presses s key
 
-  -- what a station has done behind an item: it has gone on as it reacts; at a refused one nothing
-  abbrev pub at_item_on : SideOn H → Item U → Reaction (SideOn H) (List (Item V)) → Doing (SideOn H) V Applied
-  at_item_on s item (Refuses reason) = idle s
-  at_item_on s item (GoesOn next items) = record { side = next; written = items; told = applied_by item }
-
   -- what a station has done behind a key: it has gone on, and written what the key sends; at a refused one nothing
   abbrev pub at_key_on : SideOn H → KeyReactionOn H → Doing (SideOn H) V Applied
   at_key_on s (RefusesKey fault) = idle s
@@ -65,12 +50,3 @@ module _ {D U H PlaceV V K R : Type 0} (d : DisplayOf D U H PlaceV V K R) where
     told = [];
   }
   at_key_on s (Signals opcode flags) = record { side = s; written = empty_record flags opcode ∷ []; told = [] }
-
-  -- what a station has done behind each thing that happens
-  abbrev pub at_on : SideOn H → Happening U K → Doing (SideOn H) V Applied
-  at_on s (Arrives item) = at_item_on s item (takes_on s item)
-  at_on s (Does key) = at_key_on s (key_on s key)
-
-  -- the manner of a station: what it does at items and keys, and which items it takes
-  abbrev pub manner_on : Manner (SideOn H) U V K Applied
-  manner_on = record { at = at_on; takes = λ s item. goes_on (takes_on s item) }

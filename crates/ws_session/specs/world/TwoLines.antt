@@ -29,8 +29,8 @@ use Rattle.ws_session.specs.Conducts.{host_conduct, profile_conduct}
 use Rattle.ws_session.specs.world.Crossings.{Crossing, AreFaithful}
 use Rattle.ws_session.specs.host_end.HostLeads.{AtHost, HostParts, HostLeads, sent_bytes}
 use Rattle.ws_session.specs.host_end.HostSide.{HostSide, new_host_side, host_orders, SendReaction, RefusesSend}
-use Rattle.ws_session.specs.station.StationActs.{IsShutOn}
-use Rattle.ws_session.specs.Manners.{StationGoes, HostGoes, IsHostShut}
+use Rattle.ws_session.specs.Manners.{StationGoes, HostGoes}
+use Rattle.ws_session.specs.driver.Driven.{TakesNoMore}
 use Rattle.ws_session.specs.world.Runs.{WorldParts}
 use Rattle.ws_session.specs.station.StationLeads.{AtStation, StationParts, StationLeads}
 use Rattle.ws_session.specs.station.StationSide.{StationSide, new_station_side, station_key, KeyReaction, RefusesKey}
@@ -139,14 +139,14 @@ pub record HasPressed (old : StationParts) (key : Key) (new : StationParts) (wri
     (told : List Event) : Type 0 where
   pub led : StationGoes old (Did key ∷ []) written [] new
   pub tells : AtStation old (λ bytes items side. length bytes + 1 < 2 ^ 64 → told ≡ key_told (station_key side key))
-  pub stays : IsShutOn old → (new ≡ old) × (written ≡ []) × (told ≡ KeyRefused KeyFailed ∷ [])
+  pub stays : TakesNoMore old → (new ≡ old) × (written ≡ []) × (told ≡ KeyRefused KeyFailed ∷ [])
 
 -- A send or a cancel at the host end: what it writes and what is told. A host end that is shut stays as it is.
 pub record HasOrdered (old : HostParts) (order : Order) (new : HostParts) (written : List ℕ)
     (told : List Event) : Type 0 where
   pub led : HostGoes old (Did order ∷ []) written [] new
   pub tells : AtHost old (λ bytes items side. length bytes + 1 < 2 ^ 64 → told ≡ send_told (host_orders side order))
-  pub stays : IsHostShut old → (new ≡ old) × (written ≡ []) × (told ≡ SendRefused SendFailed ∷ [])
+  pub stays : TakesNoMore old → (new ≡ old) × (written ≡ []) × (told ≡ SendRefused SendFailed ∷ [])
 
 -- What each act makes of both ends: what an end writes is in flight to the other, behind what was.
 

@@ -1,19 +1,31 @@
 //! What a host end does at an item.
-ghost use Rattle.std.specs.Prelude.{◌≡◌};
-ghost use Rattle.ws_nego.specs.Host.{host_answer};
-ghost use Rattle.ws_session.specs.host_end.HostFronts.{HasHostSettled};
-ghost use Rattle.ws_session.specs.host_end.HostLeads.{HostStands, IsReacted};
-ghost use Rattle.ws_session.specs.host_end.HostSide.{HostSide, host_takes, host_negotiates, host_takes_record, host_reads_by, host_ends_cancel, ready_event};
+ghost use Rattle.std.specs.Prelude.{◌≡◌, []};
+ghost use Rattle.ws_session.specs.driver.Reacting.{Settles};
+ghost use Rattle.ws_session.specs.host_end.HostReacting.{HostReacts, host_reacting};
+ghost use Rattle.ws_session.specs.host_end.HostSide.{host_takes_record, host_reads_by, host_ends_cancel, ready_event, asked_read};
 ghost use Rattle.ws_session.specs.host_end.HostSide as side_spec;
 
-use super::told;
+use super::Host;
+use crate::end_step::Order;
 use crate::station::answer::{ATN, SRQ};
-use crate::{HostEnd, HostEvent, HostStep, Refusal};
-use ws_code::Reason;
+use crate::{Halt, HostEvent, HostStep, Reacts};
+use arrayvec::ArrayVec;
+use std::mem;
+use ws_code::{ByteList, Reason};
 use ws_keys::{HostFault, split_answer};
-use ws_record::{Item, Opcode, Record};
-use ws_stream::AnswerPart;
-use ws_telnet::Telnet;
+use ws_nego::Reply;
+use ws_record::{Head, Opcode, Telnet};
+use ws_stream::{AnswerPart, Answers};
+
+// Nothing is written, and this is told.
+fn told(event: Option<HostEvent>) -> HostStep
+    ensures { result ≡ record { reply = []; event = event } }
+{
+    HostStep {
+        reply: ByteList::of(ArrayVec::new()),
+        event,
+    }
+}
 
 // What an empty record tells by its flags, ATN and SRQ (RFC 1205, section 3).
 fn signal(flags: u16) -> Option<HostEvent>
@@ -28,45 +40,48 @@ fn signal(flags: u16) -> Option<HostEvent>
     }
 }
 
-impl HostEnd {
-    // Does what an item asks for, whose last byte stands at the place.
-    pub(super) fn react(&mut self, item: &Item<AnswerPart>, place: u64) -> Result<HostStep, Refusal>
-        ensures reacted { (side : HostSide) → HostStands self.old side
-            → IsReacted self.old self.new (host_takes side item.now) place result }
-        ensures same { self.new.receiver ≡ self.old.receiver }
-        ensures settled { HasHostSettled self.old self.new place result }
-    {
-        match item {
-            Item::Telnet(token) => self.negotiate(token, place),
-            Item::Record(record) => {
-                if !self.options.records_allowed() {
-                    return self.refuse(place, Reason::RecordBeforeNegotiation);
-                }
-                self.take_record(record, place)
-            }
-        }
+impl Reacts for Host {
+    type Body = Answers;
+
+    type Keep = Vec<AnswerPart>;
+
+    type Deed = Order;
+
+    type Event = HostEvent;
+
+    type Reply = Reply;
+
+    ghost does = { host_reacting };
+
+    fn silence() -> Reply {
+        ByteList::of(ArrayVec::new())
     }
 
-    // Answers a token.
-    fn negotiate(&mut self, token: &Telnet, place: u64) -> Result<HostStep, Refusal>
-        // What comes of it at a host that stands so; no byte is taken.
-        ensures reacted { (side : HostSide) → HostStands self.old side
-            → IsReacted self.old self.new
-            (host_negotiates side (host_answer side.options token.now)) place result }
-        ensures same { self.new.receiver ≡ self.old.receiver }
-        // Where it is refused, what that leaves, and when the screen changes.
-        ensures settled { HasHostSettled self.old self.new place result }
-    {
+    fn bytes<'a>(&'a self, reply: &'a Reply) -> &'a [u8] {
+        reply.as_slice()
+    }
+
+    fn telnet(&mut self, token: &Telnet) -> Result<HostStep, Halt> {
         let was_allowed = self.options.records_allowed();
         match self.options.answer(token) {
             Ok(reply) => Ok(HostStep {
                 reply,
                 event: self.ready(was_allowed),
             }),
-            Err(reason) => self.refuse(place, reason),
+            Err(reason) => Err(Halt::Refused(reason)),
         }
     }
 
+    fn record(&mut self, head: Head, keep: &mut Vec<AnswerPart>) -> Result<HostStep, Halt> {
+        let units = mem::replace(keep, Vec::new(self.alloc));
+        if !self.options.records_allowed() {
+            return Err(Halt::Refused(Reason::RecordBeforeNegotiation));
+        }
+        self.take_record(head.flags, head.opcode, units.as_slice())
+    }
+}
+
+impl Host {
     // That records have become allowed, and the terminal.
     fn ready(&self, was_allowed: bool) -> Option<HostEvent>
         ensures { result ≡ ready_event was_allowed self.now.options }
@@ -81,42 +96,37 @@ impl HostEnd {
     }
 
     // Does what a record asks for.
-    fn take_record(&mut self, record_: &Record<AnswerPart>, place: u64) -> Result<HostStep, Refusal>
-        // What comes of it at a host that stands so; no byte is taken.
-        ensures reacted { (side : HostSide) → HostStands self.old side
-            → IsReacted self.old self.new
-            (host_takes_record side record_.now.flags record_.now.opcode record_.now.body)
-            place result }
-        ensures same { self.new.receiver ≡ self.old.receiver }
-        // Where it is refused, what that leaves, and when the screen changes.
-        ensures settled { HasHostSettled self.old self.new place result }
+    fn take_record(
+        &mut self,
+        flags: u16,
+        opcode: Opcode,
+        parts: &[AnswerPart],
+    ) -> Result<HostStep, Halt>
+        ensures reacted { HostReacts self.old self.new (λ side.
+            (host_takes_record side flags opcode parts.now)) result }
+        ensures settled { Settles host_reacting self.old self.new result }
     {
-        let parts = record_.body.as_slice();
-        if record_.opcode == Opcode::PutGet {
-            return self.take_answer(parts, place);
+        if opcode == Opcode::PutGet {
+            return self.take_answer(parts);
         }
         if !parts.is_empty() {
-            return self.refuse(place, Reason::UnaskedAnswer);
+            return Err(Halt::Refused(Reason::UnaskedAnswer));
         }
-        match record_.opcode {
-            Opcode::CancelInvite => self.end_cancel(place),
-            Opcode::NoOperation => Ok(told(signal(record_.flags))),
-            _ => self.refuse(place, Reason::UnaskedAnswer),
+        match opcode {
+            Opcode::CancelInvite => self.end_cancel(),
+            Opcode::NoOperation => Ok(told(signal(flags))),
+            _ => Err(Halt::Refused(Reason::UnaskedAnswer)),
         }
     }
 
     // Takes an answer to the asked read.
-    fn take_answer(&mut self, parts: &[AnswerPart], place: u64) -> Result<HostStep, Refusal>
-        // What comes of it at a host that stands so; no byte is taken.
-        ensures reacted { (side : HostSide) → HostStands self.old side
-            → IsReacted self.old self.new
-            (host_reads_by side (side_spec.asked_read side) parts.now) place result }
-        ensures same { self.new.receiver ≡ self.old.receiver }
-        // Where it is refused, what that leaves, and when the screen changes.
-        ensures settled { HasHostSettled self.old self.new place result }
+    fn take_answer(&mut self, parts: &[AnswerPart]) -> Result<HostStep, Halt>
+        ensures reacted { HostReacts self.old self.new (λ side.
+            (host_reads_by side (asked_read side) parts.now)) result }
+        ensures settled { Settles host_reacting self.old self.new result }
     {
         let Some(kind) = self.kept.pending() else {
-            return self.refuse(place, Reason::UnaskedAnswer);
+            return Err(Halt::Refused(Reason::UnaskedAnswer));
         };
         self.kept.known();
         match split_answer(self.alloc, &self.kept, kind, parts) {
@@ -124,22 +134,19 @@ impl HostEnd {
                 self.kept.cancel_read();
                 Ok(told(Some(HostEvent::Answer(answer))))
             }
-            Err(HostFault::Reason(reason)) => self.refuse(place, reason),
-            Err(HostFault::Memory) => self.end(Refusal::Memory),
+            Err(HostFault::Reason(reason)) => Err(Halt::Refused(reason)),
+            Err(HostFault::Memory) => Err(Halt::Memory),
         }
     }
 
     // Takes the end of a cancel.
-    fn end_cancel(&mut self, place: u64) -> Result<HostStep, Refusal>
-        // What comes of it at a host that stands so; no byte is taken.
-        ensures reacted { (side : HostSide) → HostStands self.old side
-            → IsReacted self.old self.new (host_ends_cancel side side.cancelling) place result }
-        ensures same { self.new.receiver ≡ self.old.receiver }
-        // Where it is refused, what that leaves, and when the screen changes.
-        ensures settled { HasHostSettled self.old self.new place result }
+    fn end_cancel(&mut self) -> Result<HostStep, Halt>
+        ensures reacted { HostReacts self.old self.new (λ side.
+            (host_ends_cancel side side.cancelling)) result }
+        ensures settled { Settles host_reacting self.old self.new result }
     {
         if !self.cancelling {
-            return self.refuse(place, Reason::UnaskedAnswer);
+            return Err(Halt::Refused(Reason::UnaskedAnswer));
         }
         self.kept.cancel_read(); // The read is over too.
         self.cancelling = false;

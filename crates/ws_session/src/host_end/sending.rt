@@ -1,19 +1,21 @@
 //! What a host end sends.
 ghost use Rattle.std.specs.Prelude.{◌≡◌, ◌≢◌, ◌<◌, ◌+◌, ◌^◌, Err, length, IsSome, OnErr, MatchResult};
 ghost use Rattle.ws_session.specs.declared.end_step.Order.TheVariants.{Send as Sending, Cancel as Cancelling};
-ghost use Rattle.ws_session.specs.host_end.HostLeads.{AtHost, HostStands, IsSent, IsSendFault, CarriesOut};
+ghost use Rattle.ws_session.specs.host_end.HostLeads.{AtHost, IsSent, IsSendFault, CarriesOut};
+ghost use Rattle.ws_session.specs.host_end.HostReacting.{HostStands};
 ghost use Rattle.ws_session.specs.host_end.HostSide.{HostSide, RefusesSend, host_send, host_cancel, is_outstanding};
 
+use super::Host;
 use crate::station::apply::CANCEL;
 use crate::station::body::{body_spelling, is_too_big};
-use crate::{HostEnd, SendFault, Sent};
+use crate::{Driver, SendFault, Sent};
 use arrayvec::ArrayVec;
 use ws_code::VecSink;
 use ws_record::{Opcode, write_record};
 use ws_screen::{Screen, apply_elements};
 use ws_stream::{Element, is_body};
 
-impl HostEnd {
+impl Driver<Host> {
     /// Sends a record with flags 0, and gives its bytes. The body's write ends with it.
     ///
     /// # Errors
@@ -27,18 +29,15 @@ impl HostEnd {
             IsSent self.new bytes items (host_send side opcode body.now) sent.items) (IsSendFault
             (host_send side opcode body.now))) }
         ensures same { OnErr result (self.new ≡ self.old) }
-        // Nothing at the greatest count or behind a refusal.
-        ensures full { self.old.receiver.live.taken + 1 ≡ 2 ^ 64
+        // Nothing at the greatest count or after a refusal.
+        ensures full { self.old.live.taken + 1 ≡ 2 ^ 64
             → result ≡ Err SendFault.Failed }
         ensures failed { IsSome self.old.ended → result ≡ Err SendFault.Failed }
     {
-        if self.ended.is_some() {
+        if self.is_shut() {
             return Err(SendFault::Failed);
         }
-        if self.live.taken() == u64::MAX {
-            return Err(SendFault::Failed);
-        }
-        if !self.options.records_allowed() {
+        if !self.reacts.options.records_allowed() {
             return Err(SendFault::NotAllowed);
         }
         if self.is_disturbed(body) {
@@ -48,7 +47,7 @@ impl HostEnd {
             return Err(SendFault::BadSequence);
         }
         let mut copy = Screen::new();
-        copy.assign(&self.kept);
+        copy.assign(&self.reacts.kept);
         if let Err(reason) = apply_elements(&mut copy, body) {
             return Err(SendFault::Screen(reason));
         }
@@ -56,14 +55,14 @@ impl HostEnd {
         if is_too_big(body) {
             return Err(SendFault::TooBig);
         }
-        let Ok(bytes) = body_spelling(self.alloc, body) else {
+        let Ok(bytes) = body_spelling(self.reacts.alloc, body) else {
             return Err(SendFault::Memory);
         };
-        let mut sink = VecSink::new(self.alloc);
+        let mut sink = VecSink::new(self.reacts.alloc);
         if write_record(&mut sink, 0, opcode, bytes.as_slice()).is_err() {
             return Err(SendFault::Memory);
         }
-        self.kept.assign(&copy);
+        self.reacts.kept.assign(&copy);
         Ok(sink.into_inner())
     }
 
@@ -80,23 +79,20 @@ impl HostEnd {
             host_cancel side ≡ RefusesSend fault)) }
         ensures same { OnErr result (self.new ≡ self.old) }
         ensures wanting { result ≢ Err SendFault.Memory }
-        ensures full { self.old.receiver.live.taken + 1 ≡ 2 ^ 64
+        ensures full { self.old.live.taken + 1 ≡ 2 ^ 64
             → result ≡ Err SendFault.Failed }
         ensures failed { IsSome self.old.ended → result ≡ Err SendFault.Failed }
     {
-        if self.ended.is_some() {
+        if self.is_shut() {
             return Err(SendFault::Failed);
         }
-        if self.live.taken() == u64::MAX {
-            return Err(SendFault::Failed);
-        }
-        if !self.options.records_allowed() {
+        if !self.reacts.options.records_allowed() {
             return Err(SendFault::NotAllowed);
         }
-        if self.cancelling || self.kept.pending().is_none() {
+        if self.reacts.cancelling || self.reacts.kept.pending().is_none() {
             return Err(SendFault::NoReadToCancel);
         }
-        self.cancelling = true;
+        self.reacts.cancelling = true;
         Ok(ArrayVec::from(CANCEL))
     }
 
@@ -125,9 +121,9 @@ impl HostEnd {
 
     // Whether the body would disturb a read or a cancel.
     fn is_disturbed(&self, body: &[Element]) -> bool
-        ensures { (side : HostSide) → HostStands self.now side
+        ensures { (side : HostSide) → HostStands self.now.reacts side
             → result ≡ is_outstanding side body.now }
     {
-        !body.is_empty() && (self.kept.pending().is_some() || self.cancelling)
+        !body.is_empty() && (self.reacts.kept.pending().is_some() || self.reacts.cancelling)
     }
 }

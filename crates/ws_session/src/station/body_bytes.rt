@@ -45,14 +45,9 @@ impl BodyBytes {
 
 /// The elements aren't kept: they are read again once the record is whole.
 impl<U: Drop> Keep<U> for BodyBytes {
-    ghost use Rattle.std.specs.Prelude.{◌≡◌};
-    ghost use Rattle.ws_code.specs.declared.keep.Kept.{Kept};
-    ghost use Rattle.ws_session.specs.station.StationCounts.{keeps_body};
+    ghost use Rattle.ws_session.specs.station.StationReacting.{body_keeper};
 
-    ghost keeper = { record {
-      holds = λ kept units told. keeps_body kept told;
-      may_answer = λ answer. answer ≡ Kept.GoOn;
-    } };
+    ghost keeper = { body_keeper };
 
     fn keep(&mut self, _unit: U) -> Kept {
         Kept::GoOn

@@ -1,14 +1,17 @@
-use Rattle.std.specs.Prelude.{min, is_some}
-use Rattle.std.proofs.Common.{◌≡◌, ◌+◌, ◌-◌, ◌<◌, ◌≤◌, ◌^◌, ◌++◌, inl, inr, ℕ, List, [], Option, Some, None, true}
-use Rattle.std.proofs.Common.{false, length, take, drop, refl, sym, subst, ap, ◌∙◌, arith, add-zero}
-use Rattle.std.proofs.lemmas.List.{length-drop}
-use Rattle.ws_session.specs.Ends.{CountsUpTo}
+use Rattle.std.specs.Prelude.{is_some}
+use Rattle.std.proofs.Common.{◌≡◌, ◌+◌, ◌-◌, ◌<◌, ◌≤◌, ◌++◌, inl, inr, ℕ, List, [], Option, Some, None, true, Err, Ok}
+use Rattle.std.proofs.Common.{false, length, take, drop, refl, sym, subst, ap, ◌∙◌, arith, add-zero, Result}
+use Rattle.std.proofs.lemmas.List.{append-nil, length-drop}
+use Rattle.ws_session.specs.declared.end_step.EndFed.{EndFed}
+use Rattle.ws_session.specs.declared.end_step.EndStep.{EndStep}
 use Rattle.ws_session.specs.declared.host_end.host_event.HostEvent.{HostEvent}
-use Rattle.ws_session.specs.host_end.HostFeeds.{HasHostFed, HasHostRefused, IsHostSilent}
-use Rattle.ws_c.specs.Hosts.{HostTells, HostRefusesWithin, answer_after, event_told}
-use Rattle.ws_c.specs.Pushes.{first_bytes, place_refused_at}
+use Rattle.ws_session.specs.declared.refusal.Refusal.{Refusal}
+use Rattle.ws_session.specs.driver.Driven.{DriverFeeds}
+use Rattle.ws_session.specs.Acts.{as_list}
+use Rattle.ws_session.specs.host_end.HostLeads.{host_driving}
+use Rattle.ws_c.specs.Hosts.{answer_after, event_told, told_step}
 use Rattle.ws_c.specs.declared.told.PushedTold.{PushedTold}
-use Rattle.ws_c.proofs.FeedLaws.{HeldTakes, host_takes_none, host_takes_on, host_refuses}
+use Rattle.ws_c.proofs.FeedLaws.{HeldTakes, refused_fed, takes_none, takes_on}
 use Rattle.ws_c.proofs.PushLaws.{feeding_more, put_no_more, rest_is, told_again}
 use Rattle.ws_c.proofs.host.push_all.Goals as goal
 
@@ -30,7 +33,7 @@ loop-told-init c =
         inside = omega (arith, ap (λ (t : PushedTold). t.taken) none);
         written = [];
         takes = subst (λ (n : ℕ). HeldTakes host bytes n [] host) (sym (ap (λ (t : PushedTold). t.taken) none))
-            (host_takes_none host.end bytes, refl, refl);
+            (takes_none host_driving (λ told. told ≡ []) refl host.end bytes, refl, refl);
         put = refl;
         fits = omega (arith, ap (λ (t : PushedTold). t.replied) none);
         replied_is = ap (λ (t : PushedTold). t.replied) none;
@@ -39,36 +42,48 @@ loop-told-init c =
       event = c.requires.event;
     }
 
+-- a feed that goes on, with this told, as it was
+abbrev stepping : List ℕ → Option HostEvent → EndStep HostEvent (List ℕ)
+stepping reply event = record { reply = reply; event = event }
+
+told_fed : (fed : EndFed HostEvent (List ℕ)) (step : EndStep HostEvent (List ℕ)) (last : List ℕ) (tells : HostEvent)
+    → fed.step ≡ Ok step → step.reply ≡ last → step.event ≡ Some tells → fed ≡ told_step fed.used last tells
+told_fed fed step last tells is written told =
+    let same : step ≡ stepping last (Some tells) = ap (λ (r : List ℕ). stepping r step.event) written
+    ∙ ap (λ (e : Option HostEvent). stepping last e) told in
+    ap (λ (z : Result (EndStep HostEvent (List ℕ)) Refusal). let f : EndFed HostEvent (List ℕ) = record {
+      used = fed.used;
+      step = z;
+    } in f) (is ∙ ap (λ (z : EndStep HostEvent (List ℕ)). Ok z) same)
+
+untold_on : (event : Option HostEvent) → event ≡ None → (told : List HostEvent) → told ≡ [] → told ++ as_list event ≡ []
+untold_on event none told e = rw (none, e) refl
+
 pub loop-told-preserved : goal.loop-told-preserved
 loop-told-preserved c =
     let now = c.loop-told in
     let f = now.invariant.feeding in
     let bytes = c.args.bytes.now in
     let n : ℕ = now.told.taken in
-    let fed = c.in-Ok.fed in
+    let fed = c.feed-used.result in
     let k : ℕ = fed.used in
-    let e = c.in-Ok.ensures in
+    let step = c.in-Ok.step in
     let text = c.as_slice-text.result.now in
-    let same : text ≡ fed.reply = c.as_slice-text.ensures.value in
-    let untold : fed.event ≡ None = none_of fed.event (sym c.is_some.ensures ∙ c.if-is_some.false) in
-    let is = rest_is bytes n in
-    let new = c.feed.new.self in
-    let within : k ≤ length (drop n bytes) = subst (λ (x : List ℕ). k ≤ length x) is e.within in
-    let some : 0 < k = e.some (omega (arith, ap length is, length-drop n bytes, c.loop-told-test.true)) in
+    let same : text ≡ step.reply = c.as_slice-text.ensures.value in
+    let untold : step.event ≡ None = none_of step.event (sym c.is_some.ensures ∙ c.if-is_some.false) in
+    let new = c.feed-used.new.self in
+    let feeds = subst (λ (x : List ℕ). DriverFeeds host_driving now.host.end x new fed) (rest_is bytes n)
+    c.feed-used.ensures in
     record {
       feeding = feeding_more (HeldTakes c.args.host.now bytes) bytes c.args.buffer.now now.buffer
           c.put_behind.new.buffer n now.told.replied k now.host
           (record { end = new; sent = now.host.sent; answer = now.host.answer }) text
-          (omega (arith, within, length-drop n bytes, f.inside))
+          (omega (arith, feeds.within, length-drop n bytes, f.inside))
           (omega (arith, c.as_slice-text.ensures.fits, ap length same)) f
           (subst (λ (r : List ℕ). HeldTakes c.args.host.now bytes (n + k) (f.written ++ r)
           (record { end = new; sent = now.host.sent; answer = now.host.answer })) (sym same) (
-            host_takes_on c.args.host.now.end now.host.end new bytes n k f.written fed.reply f.inside some f.takes.0
-                (λ b its s l fits. subst (λ (o : Option HostEvent). HasHostFed new b its s (take k (drop n bytes))
-                fed.reply o) untold
-                (subst (λ (x : List ℕ). HasHostFed new b its s (take k x) fed.reply fed.event) is
-                (e.fed b its s l (subst (λ (x : List ℕ). length b + length x + 1 < 2 ^ 64) (sym is) fits))))
-                e.counted (λ ended. (let x = (e.failed ended).0 in cc)) (λ full. (let x = e.full full in cc)),
+            takes_on host_driving (λ told. told ≡ []) c.args.host.now.end now.host.end new bytes n
+                c.loop-told-test.true fed step c.in-Ok.is feeds f.written (untold_on step.event untold) f.takes.0,
             f.takes.1,
             f.takes.2,
           ))
@@ -136,29 +151,20 @@ returns-in-Err c =
     let f = now.invariant.feeding in
     let bytes = c.args.bytes.now in
     let n : ℕ = now.told.taken in
-    let m : ℕ = c.front_length.result in
-    let e = c.in-Err.ensures in
+    let fed = c.feed-used.result in
     let refusal = c.in-Err.refusal in
-    let is = rest_is bytes n in
-    let new = c.feed.new.self in
-    let old = now.host.end in
-    let few : m ≡ min (place_refused_at refusal old.receiver.live.taken new.receiver.live.taken
-    - old.receiver.live.taken) (length (drop n bytes)) =
-    subst (λ (z : ℕ). m ≡ min (place_refused_at refusal old.receiver.live.taken z - old.receiver.live.taken)
-    (length (drop n bytes))) c.taken.ensures.count
-    (subst (λ (z : ℕ). m ≡ min (place_refused_at refusal z c.taken.result - z) (length (drop n bytes)))
-    c.taken-before.ensures.count
-    (subst (λ (x : List ℕ). m ≡ min (place_refused_at refusal c.taken-before.result c.taken.result
-    - c.taken-before.result) (length x)) is c.front_length.ensures)) in
-    let refuses : HostRefusesWithin old (first_bytes (drop n bytes) m) refusal new =
-    host_refuses old new (drop n bytes) refusal m few
-    (λ b its s l fits. subst (λ (x : List ℕ). HasHostRefused old new b its s x refusal) is
-    (e.refused b its s l (subst (λ (x : List ℕ). length b + length x + 1 < 2 ^ 64) (sym is) fits)))
-    (λ h. (let x = e.full h in cc)) (λ h. ((let x = (e.failed h).0 in cc), (e.failed h).1)) e.after e.seen
-    (subst (λ (x : List ℕ). old.receiver.live.taken + length x < 2 ^ 64
-    → CountsUpTo refusal old.receiver.live.taken new.receiver.live.taken (length x)) is e.counted_up) in
+    let new = c.feed-used.new.self in
+    let feeds = subst (λ (x : List ℕ). DriverFeeds host_driving now.host.end x new fed) (rest_is bytes n)
+    c.feed-used.ensures in
     record {
-      counted = omega (arith, c.tell_push_refusal.ensures.taken, few, length-drop n bytes, f.inside);
+      counted = omega (
+        arith,
+        c.tell_push_refusal.ensures.taken,
+        c.saturating_sub.ensures,
+        feeds.within,
+        length-drop n bytes,
+        f.inside,
+      );
       quiet = n;
       written = f.written;
       before = now.host;
@@ -173,10 +179,11 @@ returns-in-Err c =
         all = λ none. absurd (omega (arith, none, c.loop-told-test.true));
         crowded = λ _ small. absurd (omega (arith, small, c.tell_push_refusal.ensures.replied));
         tells = λ _ _. inr (record {
-          length_is = m;
+          used = fed.used;
           refusal = refusal;
-          refuses = refuses;
-          taken_is = c.tell_push_refusal.ensures.taken;
+          refuses = subst (λ (z : EndFed HostEvent (List ℕ)). DriverFeeds host_driving now.host.end (drop n bytes) new z)
+              (refused_fed fed refusal c.in-Err.is) feeds;
+          taken_is = c.tell_push_refusal.ensures.taken ∙ ap (λ (m : ℕ). n + m) c.saturating_sub.ensures;
           told_is = c.tell_push_refusal.ensures.refused;
           event_is = now.invariant.event;
           silent = refl;
@@ -192,32 +199,17 @@ returns-then-is_some c =
     let f = now.invariant.feeding in
     let bytes = c.args.bytes.now in
     let n : ℕ = now.told.taken in
-    let fed = c.in-Ok.fed in
+    let fed = c.feed-used.result in
     let k : ℕ = fed.used in
-    let e = c.in-Ok.ensures in
+    let step = c.in-Ok.step in
     let text = c.as_slice-text.result.now in
-    let same : text ≡ fed.reply = c.as_slice-text.ensures.value in
-    let tells = some_of fed.event (sym c.is_some.ensures ∙ c.if-is_some.true) in
-    let is = rest_is bytes n in
-    let new = c.feed.new.self in
-    let old = now.host.end in
-    let within : k ≤ length (drop n bytes) = subst (λ (x : List ℕ). k ≤ length x) is e.within in
-    let some : 0 < k = e.some (omega (arith, ap length is, length-drop n bytes, c.loop-told-test.true)) in
-    let taken : HostTells old (first_bytes (drop n bytes) k) text tells.0 new = record {
-      some = some;
-      taken = λ b its s l fits. subst (λ (r : List ℕ). HasHostFed new b its s (take k (drop n bytes)) r
-          (Some tells.0)) (sym same)
-          (subst (λ (o : Option HostEvent). HasHostFed new b its s (take k (drop n bytes)) fed.reply o) tells.1
-          (subst (λ (x : List ℕ). HasHostFed new b its s (take k x) fed.reply fed.event) is
-          (e.fed b its s l (subst (λ (x : List ℕ). length b + length x + 1 < 2 ^ 64) (sym is) fits))));
-      counted = e.counted;
-      first = λ b its s l fits m few. subst (λ (x : List ℕ). IsHostSilent b its s (take m x)) is
-          (e.first b its s l (subst (λ (x : List ℕ). length b + length x + 1 < 2 ^ 64) (sym is) fits) m few);
-      works = λ ended. (let x = (e.failed ended).0 in cc);
-      counts = λ full. (let x = e.full full in cc);
-    } in
+    let same : text ≡ step.reply = c.as_slice-text.ensures.value in
+    let tells = some_of step.event (sym c.is_some.ensures ∙ c.if-is_some.true) in
+    let new = c.feed-used.new.self in
+    let feeds = subst (λ (x : List ℕ). DriverFeeds host_driving now.host.end x new fed) (rest_is bytes n)
+    c.feed-used.ensures in
     record {
-      counted = omega (arith, within, length-drop n bytes, f.inside);
+      counted = omega (arith, feeds.within, length-drop n bytes, f.inside);
       quiet = n;
       written = f.written;
       before = now.host;
@@ -234,7 +226,8 @@ returns-then-is_some c =
         tells = λ _ _. inl (record {
           length_is = k;
           tells = tells.0;
-          taken = taken;
+          taken = subst (λ (z : EndFed HostEvent (List ℕ)). DriverFeeds host_driving now.host.end (drop n bytes) new z)
+              (told_fed fed step text tells.0 c.in-Ok.is (sym same) tells.1) feeds;
           done = refl;
           told_is = ap (λ (t : PushedTold). record t { taken = n + k; replied = now.told.replied + length text })
               now.invariant.told;

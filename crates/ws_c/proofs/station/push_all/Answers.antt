@@ -1,28 +1,27 @@
-use Rattle.std.specs.Prelude.{min}
-use Rattle.std.proofs.Common.{◌≡◌, ◌+◌, ◌-◌, ◌<◌, ◌≤◌, ◌^◌, ◌++◌, ℕ, List, [], length, take, drop, refl, sym, subst, ap}
-use Rattle.std.proofs.Common.{◌∙◌, arith}
+use Rattle.std.proofs.Common.{◌≡◌, ◌+◌, ◌-◌, ◌<◌, ◌≤◌, ◌++◌, ℕ, List, [], length, drop, refl, sym, subst, ap, ◌∙◌, arith}
 use Rattle.std.proofs.lemmas.List.{length-drop}
-use Rattle.ws_session.specs.Ends.{CountsUpTo}
-use Rattle.ws_c.specs.Pushes.{StationTakes, StationRefusesWithin, first_bytes, place_refused_at}
+use Rattle.ws_session.specs.declared.end_step.EndFed.{EndFed}
+use Rattle.ws_session.specs.declared.end_step.Applied.{Applied}
+use Rattle.ws_session.specs.driver.Driven.{DriverFeeds}
+use Rattle.ws_session.specs.station.StationSide.{on_profile}
+use Rattle.ws_session.specs.station.Stations.{station_driving}
+use Rattle.ws_c.specs.Pushes.{StationTakes, first_bytes}
 use Rattle.ws_c.specs.declared.told.PushedTold.{PushedTold}
-use Rattle.ws_c.proofs.FeedLaws.{station_takes_none, station_takes_on, station_refuses}
+use Rattle.ws_c.proofs.FeedLaws.{refused_fed, takes_none, takes_on}
 use Rattle.ws_c.proofs.PushLaws.{feeding_more, rest_is, told_again}
 use Rattle.ws_c.proofs.station.push_all.Goals as goal
-use Rattle.ws_session.specs.station.StationActs.{HasFedOn, HasRefusedOn}
-use Rattle.ws_session.specs.station.StationManners.{told_by}
-use Rattle.ws_session.specs.station.StationSide.{on_profile}
 
 pub loop-told-init : goal.loop-told-init
 loop-told-init c =
     let station = c.args.station.now in
     let bytes = c.args.bytes.now in
-    let buffer = c.args.buffer.now in
     record {
       feeding = record {
         inside = omega (arith, ap (λ (t : PushedTold). t.taken) c.requires);
         written = [];
         takes = subst (λ (n : ℕ). StationTakes station (first_bytes bytes n) [] station)
-            (sym (ap (λ (t : PushedTold). t.taken) c.requires)) (station_takes_none on_profile station bytes);
+            (sym (ap (λ (t : PushedTold). t.taken) c.requires))
+            (takes_none (station_driving on_profile) (λ told. Unit {0}) tt station bytes);
         put = refl;
         fits = omega (arith, ap (λ (t : PushedTold). t.replied) c.requires);
         replied_is = ap (λ (t : PushedTold). t.replied) c.requires;
@@ -36,28 +35,22 @@ loop-told-preserved c =
     let f = now.invariant.feeding in
     let bytes = c.args.bytes.now in
     let n : ℕ = now.told.taken in
-    let fed = c.in-Ok.fed in
+    let fed = c.feed-used.result in
     let k : ℕ = fed.used in
-    let e = c.in-Ok.ensures in
+    let step = c.in-Ok.step in
+    let new = c.feed-used.new.self in
     let text = c.as_slice-text.result.now in
-    let same : text ≡ fed.reply = c.as_slice-text.ensures.value in
-    let is = rest_is bytes n in
-    let within : k ≤ length (drop n bytes) = subst (λ (x : List ℕ). k ≤ length x) is e.within in
-    let some : 0 < k = e.some (omega (arith, ap length is, length-drop n bytes, c.loop-told-test.true)) in
+    let same : text ≡ step.reply = c.as_slice-text.ensures.value in
+    let feeds = subst (λ (x : List ℕ). DriverFeeds (station_driving on_profile) now.station x new fed) (rest_is bytes n)
+    c.feed-used.ensures in
     record {
       feeding = feeding_more (λ m. StationTakes c.args.station.now (first_bytes bytes m)) bytes c.args.buffer.now
-          now.buffer c.put_behind.new.buffer n now.told.replied k now.station c.feed.new.self text
-          (omega (arith, within, length-drop n bytes, f.inside))
+          now.buffer c.put_behind.new.buffer n now.told.replied k now.station new text
+          (omega (arith, feeds.within, length-drop n bytes, f.inside))
           (omega (arith, c.as_slice-text.ensures.fits, ap length same)) f
-          (subst (λ (r : List ℕ). StationTakes c.args.station.now (first_bytes bytes (n + k)) (f.written ++ r)
-          c.feed.new.self) (sym same)
-          (station_takes_on on_profile c.args.station.now now.station c.feed.new.self bytes n k f.written fed.reply
-          (told_by fed.ends_record) f.inside some f.takes
-          (λ b its s l fits. subst
-          (λ (x : List ℕ). HasFedOn on_profile c.feed.new.self b its s (take k x) fed.reply
-          (told_by fed.ends_record)) is
-          (e.fed b its s l (subst (λ (x : List ℕ). length b + length x + 1 < 2 ^ 64) (sym is) fits)))
-          e.counted (λ ended. (let x = (e.failed ended).0 in cc)) (λ full. (let x = e.full full in cc))))
+          (subst (λ (r : List ℕ). StationTakes c.args.station.now (first_bytes bytes (n + k)) (f.written ++ r) new)
+          (sym same) (takes_on (station_driving on_profile) (λ told. Unit {0}) c.args.station.now now.station new bytes n
+          c.loop-told-test.true fed step c.in-Ok.is feeds f.written (λ told u. tt) f.takes))
           (c.put_behind.ensures f.written c.args.buffer.now (sym f.replied_is) f.put);
       told = ap (λ (t : PushedTold). record t { taken = t.taken + k; replied = t.replied + length text })
           now.invariant.told;
@@ -109,28 +102,20 @@ returns-in-Err c =
     let f = now.invariant.feeding in
     let bytes = c.args.bytes.now in
     let n : ℕ = now.told.taken in
-    let m : ℕ = c.front_length.result in
-    let e = c.in-Err.ensures in
+    let fed = c.feed-used.result in
     let refusal = c.in-Err.refusal in
-    let is = rest_is bytes n in
-    let new = c.feed.new.self in
-    let last : ℕ = c.taken.result in
-    let few : m ≡ min (place_refused_at refusal now.station.live.taken last - now.station.live.taken)
-    (length (drop n bytes)) =
-    subst (λ (z : ℕ). m ≡ min (place_refused_at refusal z last - z) (length (drop n bytes)))
-    c.taken-before.ensures.count
-    (subst (λ (x : List ℕ). m ≡ min (place_refused_at refusal c.taken-before.result last - c.taken-before.result)
-    (length x)) is c.front_length.ensures) in
-    let refuses : StationRefusesWithin now.station (first_bytes (drop n bytes) m) refusal new =
-    station_refuses on_profile now.station new (drop n bytes) last refusal m few
-    (λ b its s l fits. subst (λ (x : List ℕ). HasRefusedOn on_profile now.station new b its s x refusal) is
-    (e.refused b its s l (subst (λ (x : List ℕ). length b + length x + 1 < 2 ^ 64) (sym is) fits)))
-    (λ h. (let x = e.full h in cc)) (λ h. ((let x = (e.failed h).0 in cc), (e.failed h).1)) e.after e.seen
-    c.taken.ensures.count
-    (subst (λ (x : List ℕ). now.station.live.taken + length x < 2 ^ 64
-    → CountsUpTo refusal now.station.live.taken new.live.taken (length x)) is e.counted_up) in
+    let new = c.feed-used.new.self in
+    let feeds = subst (λ (x : List ℕ). DriverFeeds (station_driving on_profile) now.station x new fed) (rest_is bytes n)
+    c.feed-used.ensures in
     record {
-      counted = omega (arith, c.tell_push_refusal.ensures.taken, few, length-drop n bytes, f.inside);
+      counted = omega (
+        arith,
+        c.tell_push_refusal.ensures.taken,
+        c.saturating_sub.ensures,
+        feeds.within,
+        length-drop n bytes,
+        f.inside,
+      );
       fed = n;
       written = f.written;
       before = now.station;
@@ -141,7 +126,13 @@ returns-in-Err c =
       ends = record {
         all = λ none. absurd (omega (arith, none, c.loop-told-test.true));
         crowded = λ _ small. absurd (omega (arith, small, c.tell_push_refusal.ensures.replied));
-        refused = λ _ _.
-            (refusal, m, refuses, c.tell_push_refusal.ensures.taken, c.tell_push_refusal.ensures.refused);
+        refused = λ _ _. (
+          refusal,
+          fed.used,
+          subst (λ (z : EndFed Applied (List ℕ)). DriverFeeds (station_driving on_profile) now.station (drop n bytes) new
+              z) (refused_fed fed refusal c.in-Err.is) feeds,
+          c.tell_push_refusal.ensures.taken ∙ ap (λ (m : ℕ). n + m) c.saturating_sub.ensures,
+          c.tell_push_refusal.ensures.refused,
+        );
       };
     }

@@ -14,9 +14,9 @@ returns c =
     let rest = c.rest-rest.result.now in
     let is : rest ≡ waiting old = c.rest-rest.ensures.rest in
     let took : length (take count rest) ≡ count = length-take-le count rest (omega (arith, c.min-count.ensures)) in
-    let left : drop count rest ≡ drop (old.sent + count) (extended_written old.station.screen old.reply) =
+    let left : drop count rest ≡ drop (old.sent + count) (extended_written old.station.reacts.screen old.reply) =
     ap (λ (l : List ℕ). drop count l) is
-    ∙ drop-drop count old.sent (extended_written old.station.screen old.reply) in
+    ∙ drop-drop count old.sent (extended_written old.station.reacts.screen old.reply) in
     let full = all_room rest count _ c.min-count.ensures in
     record {
       out = take count rest;

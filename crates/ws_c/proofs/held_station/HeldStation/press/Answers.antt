@@ -13,5 +13,5 @@ returns c = let k = c.key-keyed.ensures in (
       c.key-keyed.result) c.or_reset-pressed.ensures
       (record { keyed = k.keyed; full = k.full; failed = k.failed; same = k.same }),
   c.tell_key.ensures,
-  ap (λ (r : ExtendedReply). drop 0 (extended_written c.key-keyed.new.self.screen r)) c.no_reply-self.ensures,
+  ap (λ (r : ExtendedReply). drop 0 (extended_written c.key-keyed.new.self.reacts.screen r)) c.no_reply-self.ensures,
 )

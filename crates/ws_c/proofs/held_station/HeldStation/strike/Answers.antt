@@ -5,4 +5,4 @@ use Rattle.ws_c.proofs.held_station.HeldStation.strike.Goals as goal
 
 pub returns-clause-waits : goal.returns-clause-waits
 returns-clause-waits c =
-    ap (λ (r : ExtendedReply). drop 0 (extended_written c.press_stroke.new.station.screen r)) c.no_reply-self.ensures
+    ap (λ (r : ExtendedReply). drop 0 (extended_written c.press_stroke.new.station.reacts.screen r)) c.no_reply-self.ensures

@@ -9,10 +9,10 @@ pub returns-in_default-clause-waited : goal.returns-in_default-clause-waited
 returns-in_default-clause-waited g c =
     let so_far = c.loop.invariant in
     let unmet : IsMet g.D.StationDisplay.does.shown g.D.OperatedDisplay.operated c.args.awaited.now
-    c.loop.attached.end.screen
+    c.loop.attached.end.reacts.screen
     → ⊥ = λ met. c.is_met.ensures.unmet c.if-is_met.false (subst (IsMet g.D.StationDisplay.does.shown
     g.D.OperatedDisplay.operated c.args.awaited.now)
-    (sym (c.display.ensures ∙ ap (λ e. e.screen) c.end.ensures)) met) in
+    (sym (c.display.ensures ∙ ap (λ e. e.reacts.screen) c.end.ensures)) met) in
     inr (inl (
       so_far.0,
       c.loop.attached,
@@ -27,10 +27,10 @@ pub loop-preserved : goal.loop-preserved
 loop-preserved g c =
     let so_far = c.loop.invariant in
     let unmet : IsMet g.D.StationDisplay.does.shown g.D.OperatedDisplay.operated c.args.awaited.now
-    c.loop.attached.end.screen
+    c.loop.attached.end.reacts.screen
     → ⊥ = λ met. c.is_met.ensures.unmet c.if-is_met.false (subst (IsMet g.D.StationDisplay.does.shown
     g.D.OperatedDisplay.operated c.args.awaited.now)
-    (sym (c.display.ensures ∙ ap (λ e. e.screen) c.end.ensures)) met) in
+    (sym (c.display.ensures ∙ ap (λ e. e.reacts.screen) c.end.ensures)) met) in
     let heard = c.in-Met.ensures.heard in (
       so_far.0 ++ heard.0 ∷ [],
       waited_more (attached_display g.D.Commands.Code.rules g.D.StationDisplay.does

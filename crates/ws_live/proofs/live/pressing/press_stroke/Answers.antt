@@ -24,14 +24,14 @@ returns-then-not-is_done-clause-runs g c =
     let stroke = c.args.stroke.now in
     let runs = c.in-Some.runs.items in
     let begun = c.press_runs-begun.ensures.runs in
-    let has = c.in-Some.ensures ∙ ap (λ s. stroke_runs s stroke) (c.screen.ensures ∙ ap (λ e. shown e.screen)
+    let has = c.in-Some.ensures ∙ ap (λ s. stroke_runs s stroke) (c.screen.ensures ∙ ap (λ e. shown e.reacts.screen)
     c.end.ensures) in
     let keys = subst (λ (items : List KeyRun). KeysUntil (keyed g.D.Commands.Code.rules g.D.StationDisplay.does
     (on_devices g.K.Sink.writer g.S.Source.reader) g.D.Key.NamedKey.words) (map w.profile (keys_of items)) from
     (line_result outcome begun.0) to) c.as_slice.ensures.value begun.1 in (
       begun.0,
       stroke_some (keyed g.D.Commands.Code.rules g.D.StationDisplay.does (on_devices g.K.Sink.writer
-          g.S.Source.reader) g.D.Key.NamedKey.words) (shown from.end.screen) stroke from to
+          g.S.Source.reader) g.D.Key.NamedKey.words) (shown from.end.reacts.screen) stroke from to
           (line_result outcome begun.0) runs has
           (until_stopped (keyed g.D.Commands.Code.rules g.D.StationDisplay.does
           (on_devices g.K.Sink.writer g.S.Source.reader) g.D.Key.NamedKey.words) (map w.profile (keys_of runs))
@@ -53,7 +53,7 @@ returns-clause-runs g c =
     let begun = c.press_runs-begun.ensures.runs in
     let behind = c.press_behind.ensures.runs in
     let done = c.is_done.ensures.done c.if-not-is_done.false in
-    let has = c.in-Some.ensures ∙ ap (λ s. stroke_runs s stroke) (c.screen.ensures ∙ ap (λ e. shown e.screen)
+    let has = c.in-Some.ensures ∙ ap (λ s. stroke_runs s stroke) (c.screen.ensures ∙ ap (λ e. shown e.reacts.screen)
     c.end.ensures) in
     let first = subst (λ (items : List KeyRun). KeysUntil (keyed g.D.Commands.Code.rules g.D.StationDisplay.does
     (on_devices g.K.Sink.writer g.S.Source.reader) g.D.Key.NamedKey.words) (map w.profile (keys_of items)) from
@@ -66,7 +66,7 @@ returns-clause-runs g c =
     (keys_of runs)) from mid begun.0 keys in (
       behind.0,
       stroke_some (keyed g.D.Commands.Code.rules g.D.StationDisplay.does (on_devices g.K.Sink.writer
-          g.S.Source.reader) g.D.Key.NamedKey.words) (shown from.end.screen) stroke from to
+          g.S.Source.reader) g.D.Key.NamedKey.words) (shown from.end.reacts.screen) stroke from to
           (line_result outcome behind.0) runs has
           (until_on (keyed g.D.Commands.Code.rules g.D.StationDisplay.does
           (on_devices g.K.Sink.writer g.S.Source.reader) g.D.Key.NamedKey.words) (map w.profile (keys_of runs))

@@ -6,7 +6,7 @@ use Rattle.ws_live.proofs.printing.report_lines.put_status.Goals as goal
 
 pub returns : goal.returns
 returns g c =
-    let shown = g.D.StationDisplay.does.shown c.args.station.now.screen in
+    let shown = g.D.StationDisplay.does.shown c.args.station.now.reacts.screen in
     let operator = prints_same (ap (λ s. operator_words s c.is_ready.result) c.screen.ensures
     ∙ ap (operator_words shown) c.is_ready.ensures) c.put_operator-output.ensures in
     let records = prints_both (prints_both operator c.put_text-output.ensures)

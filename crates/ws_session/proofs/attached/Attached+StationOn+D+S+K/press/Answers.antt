@@ -1,6 +1,6 @@
 use Rattle.ws_session.proofs.Common.{rules, [], ◌∷◌, subst, Did, AttachedParts}
 use Rattle.ws_session.specs.attached.Deeds.{IfDone}
-use Rattle.ws_session.specs.station.PartsOn.{PartsOn}
+use Rattle.ws_session.specs.station.Stations.{PartsOn}
 use Rattle.ws_session.specs.station.StationActs.{IsKeyTakenOn}
 use Rattle.ws_session.proofs.EndDeeds.{refused_then, unmoved}
 use Rattle.ws_session.proofs.attached.Attached+StationOn+D+S+K.press.Goals as goal

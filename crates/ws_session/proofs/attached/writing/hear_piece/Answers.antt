@@ -1,6 +1,6 @@
 use Rattle.ws_session.proofs.Common.{refl, take, inl, inr, as_list}
 use Rattle.ws_session.specs.attached.Attachments.{TellsAtLast}
-use Rattle.ws_session.proofs.EndFeeds.{last_of, with_next}
+use Rattle.ws_session.proofs.Feedings.{last_of, with_next}
 use Rattle.ws_session.proofs.attached.FirstTold.{if_told_ok, untold_refusal, tells_at_once}
 use Rattle.ws_session.proofs.attached.writing.hear_piece.Goals as goal
 

@@ -36,7 +36,7 @@ returns-in-Fields-clause-runs g c =
     let text : List ℕ = p.0 ++ waited_text (rested true t.1) in
     let shows : ShowsStation (watched g.D.Commands.Code.rules g.D.StationDisplay.does
     (on_devices g.K.Sink.writer g.S.Source.reader) g.W.Watch.tells) (λ station. AreFieldLines
-    (g.D.StationDisplay.does.shown station.screen))
+    (g.D.StationDisplay.does.shown station.reacts.screen))
     (c.args.attached.now, c.args.ahead.now) (line_result c.put_waited-in-Fields.result.outcome text)
     (c.take_what_came-ended.new.attached, c.take_what_came-ended.new.ahead) = record {
       told = t.0;
@@ -44,7 +44,7 @@ returns-in-Fields-clause-runs g c =
       taken = t.2;
       ahead = t.3;
       shown = p.0;
-      is = subst (λ s. AreFieldLines s p.0) (c.screen.ensures ∙ ap (λ e. g.D.StationDisplay.does.shown e.screen)
+      is = subst (λ s. AreFieldLines s p.0) (c.screen.ensures ∙ ap (λ e. g.D.StationDisplay.does.shown e.reacts.screen)
           c.end.ensures) p.1;
       closes = c.put_waited-in-Fields.ensures.outcome ∙ ap waited_outcome t.4;
       all = refl;
@@ -65,8 +65,8 @@ returns-in-Show-clause-runs g c =
     let text : List ℕ = p.0 ++ waited_text (rested true t.1) in
     let shows : ShowsStation (watched g.D.Commands.Code.rules g.D.StationDisplay.does
     (on_devices g.K.Sink.writer g.S.Source.reader) g.W.Watch.tells) (λ station. IsDisplayText c.args.paint
-    (g.D.StationDisplay.does.shown station.screen)
-    (g.D.OperatedDisplay.operated.behind station.screen))
+    (g.D.StationDisplay.does.shown station.reacts.screen)
+    (g.D.OperatedDisplay.operated.behind station.reacts.screen))
     (c.args.attached.now, c.args.ahead.now) (line_result c.put_waited-in-Show.result.outcome text)
     (c.take_what_came-ended-in-Show.new.attached, c.take_what_came-ended-in-Show.new.ahead) = record {
       told = t.0;
@@ -76,7 +76,7 @@ returns-in-Show-clause-runs g c =
       shown = p.0;
       is = subst (λ d. IsDisplayText c.args.paint (g.D.StationDisplay.does.shown d)
           (g.D.OperatedDisplay.operated.behind d) p.0) (c.display.ensures ∙ ap
-          (λ e. e.screen) c.end-in-Show.ensures) p.1;
+          (λ e. e.reacts.screen) c.end-in-Show.ensures) p.1;
       closes = c.put_waited-in-Show.ensures.outcome ∙ ap waited_outcome t.4;
       all = refl;
     } in (

@@ -1,0 +1,2 @@
+pub mod DriverConducts
+pub mod Drivings
