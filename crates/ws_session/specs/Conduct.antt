@@ -1,6 +1,6 @@
 -- The conduct of an end of a session
 
-use Rattle.std.specs.Prelude.{◌≡◌, ◌<◌, ◌≤◌, ◌++◌, ◌∷◌, ℕ, List, Err, IfOk, IfErr, OnOk, OnErr, length, take}
+use Rattle.std.specs.Prelude.{◌≡◌, ◌-◌, ◌<◌, ◌≤◌, ◌++◌, ◌∷◌, ℕ, List, Err, IfOk, IfErr, OnOk, OnErr, length, take}
 use Rattle.ws_session.specs.declared.end_step.EndFed.{EndFed}
 use Rattle.ws_session.specs.declared.refusal.Refusal.{Refusal}
 use Rattle.ws_session.specs.declared.refusal.Refusal.TheVariants.{Failed}
@@ -19,8 +19,8 @@ pub record Conduct (E Deed Told : Type 0) : Type 1 where
   -- it has ended, at a byte that it refused
   pub over : E → Type 0
 
--- What a piece gives an end: it takes bytes of it, up to and with the first at which it writes or tells something, or
--- some before it. Where it refuses one, that is the next.
+-- What a piece gives an end: it takes bytes of it, up to and with the first at which it writes or tells something or that
+-- it refuses, or some before it.
 pub record TakesSome {E Deed Told R : Type 0} (conduct : Conduct E Deed Told) (written : E → R → List ℕ) (old : E)
     (piece : List ℕ) (new : E) (front : EndFed Told R) : Type 0 where
   -- how much of the piece is used
@@ -30,9 +30,9 @@ pub record TakesSome {E Deed Told R : Type 0} (conduct : Conduct E Deed Told) (w
   pub fed : IfOk front.step (λ step. conduct.goes old (all_came (take front.used piece)) (written new step.reply)
       (as_list step.event) new)
   pub first : IfOk front.step (λ step. (n : ℕ) → n < front.used → conduct.silent old (take n piece))
-  -- at which byte it is refused; an end that is over takes none
+  -- which byte is refused: the last that is used; an end that is shut uses none, and refuses the first
   pub refused : IfErr front.step (λ refusal. (byte : ℕ) × (rest : List ℕ)
-      × (piece ≡ take front.used piece ++ byte ∷ rest)
-      × conduct.refuses old (take front.used piece) byte refusal new)
+      × (piece ≡ take (front.used - 1) piece ++ byte ∷ rest)
+      × conduct.refuses old (take (front.used - 1) piece) byte refusal new)
   pub over : conduct.over old → (front.step ≡ Err Failed) × (front.used ≡ 0) × (new ≡ old)
   pub after : OnErr front.step (conduct.over new)

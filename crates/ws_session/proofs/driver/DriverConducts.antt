@@ -85,17 +85,15 @@ module _ {R K Place U Deed Event Reply : Type 0} (d : Driving R K Place U Deed E
           ))
     ]
 
-  pub takes_some : (fed : EndFed Event Reply) → DriverFeeds d old piece new fed → (used : ℕ)
-      → OnOk fed.step (used ≡ fed.used) → OnErr fed.step (used ≡ fed.used - 1)
-      → TakesSome (driver_conduct d) Written old piece new (record { used = used; step = fed.step })
-  takes_some fed f used ok err = by fed.step refl where
+  pub takes_some : (fed : EndFed Event Reply) → DriverFeeds d old piece new fed
+      → TakesSome (driver_conduct d) Written old piece new fed
+  takes_some fed f = by fed.step refl where
     by : (step : Result (EndStep Event Reply) Refusal) → fed.step ≡ step
-        → TakesSome (driver_conduct d) Written old piece new (record { used = used; step = fed.step })
+        → TakesSome (driver_conduct d) Written old piece new fed
     by (Ok step) is =
         let works : TakesNoMore old → ⊥ = λ shut. cc (is, (f.stopped shut).0) in
         let t = f.takes works in
-        let same : used ≡ fed.used = rw is at ok in
-        rw (is, same) (record {
+        rw is (record {
           within = f.within;
           some = f.some some (λ e. cc (is, e));
           fed = record {
@@ -111,10 +109,8 @@ module _ {R K Place U Deed Event Reply : Type 0} (d : Driving R K Place U Deed E
           over = λ over. absurd (works (inl over));
           after = tt;
         })
-    by (Err why) is =
-        let same : used ≡ fed.used - 1 = rw is at err in
-        rw (is, same) (record {
-          within = omega (arith, f.within);
+    by (Err why) is = rw is (record {
+          within = f.within;
           some = tt;
           fed = tt;
           first = tt;

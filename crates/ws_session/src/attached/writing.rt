@@ -20,7 +20,8 @@ pub(crate) struct Heard<T> {
     pub(crate) told: Result<Option<T>, Fault>,
 }
 
-// Takes bytes of the piece as `End::feed` does, and writes what the end answers. One that is refused is gone too.
+// Takes bytes of the piece as `End::feed` does, and writes what the end answers. An end that is shut refuses the first,
+// which is gone too.
 pub(crate) fn hear_piece<E: End, K: Sink>(
     end: &mut E,
     sink: &mut K,
@@ -53,7 +54,7 @@ pub(crate) fn hear_piece<E: End, K: Sink>(
             },
         },
         Err(refusal) => Heard {
-            used: used + 1,
+            used: used.max(1),
             told: Err(fault_of(refusal)),
         },
     }

@@ -1,4 +1,4 @@
-use Rattle.std.proofs.Common.{[], ◌∷◌, refl}
+use Rattle.std.proofs.Common.{[], ◌∷◌, refl, arith}
 use Rattle.ws_stream.proofs.UnfinishedAnswer.{at_row_goes_on}
 use Rattle.ws_extended.specs.declared.extended_answer_place.ExtendedAnswerPlace.TheVariants.{Fields}
 use Rattle.ws_extended.proofs.AnswerSteps.{fields_up, part_more}
@@ -7,4 +7,4 @@ use Rattle.ws_extended.proofs.extended_answers.ExtendedAnswers.at_row.Goals as g
 pub returns : goal.returns
 returns c = part_more (0x11 ∷ []) c.args.byte Fields _ _ _ _ _ c.wait_for.ensures.more c.wait_for.ensures.waits refl
     refl (fields_up (0x11 ∷ c.args.byte ∷ [])
-    (at_row_goes_on c.args.byte c.if-byte-lt1.false c.if-byte-gt-ROWS.false))
+    (at_row_goes_on c.args.byte (omega arith) (omega arith)))

@@ -1,4 +1,4 @@
-use Rattle.ws_session.proofs.Common.{refl, take, inl, inr, as_list}
+use Rattle.ws_session.proofs.Common.{refl, ℕ, ◌+◌, ◌-◌, ◌≡◌, ◌∙◌, ap, arith, take, inl, inr, as_list}
 use Rattle.ws_session.specs.attached.Attachments.{TellsAtLast}
 use Rattle.ws_session.proofs.Feedings.{last_of, with_next}
 use Rattle.ws_session.proofs.attached.FirstTold.{if_told_ok, untold_refusal, tells_at_once}
@@ -25,10 +25,13 @@ returns-in-Err-write_whole-clause-fault g c =
 
 pub returns-in-Err-clause-fault : goal.returns-in-Err-clause-fault
 returns-in-Err-clause-fault g c =
-    let r = rw c.in-Err.is at c.feed-used.ensures.refused in (
-      take c.feed-used.result.used c.args.piece.now,
+    let r = rw c.in-Err.is at c.feed-used.ensures.refused in
+    let used : ℕ = c.feed-used.result.used in
+    let all : c.max.result ≡ used - 1 + 1 = omega (arith, c.max.ensures) in (
+      take (used - 1) c.args.piece.now,
       r.0,
-      with_next c.args.piece.now c.feed-used.result.used c.feed-used.ensures.within r.0 r.1 r.2,
+      ap (λ (n : ℕ). take n c.args.piece.now) all
+          ∙ with_next c.args.piece.now (used - 1) (omega (arith, c.feed-used.ensures.within)) r.0 r.1 r.2,
       inr (record { refusal = c.in-Err.refusal; refused = r.3; is = c.fault_of.ensures; unwritten = refl }),
     )
 

@@ -1,4 +1,4 @@
-use Rattle.ws_session.proofs.Common.{◌≡◌, ◌++◌, refl, ◌∙◌, take, ap, arith, length, Err, Ok, take_all, Refusal, Failed}
+use Rattle.ws_session.proofs.Common.{◌≡◌, ◌-◌, ◌++◌, refl, ◌∙◌, take, ap, arith, length, Err, Ok, take_all, Refusal, Failed}
 use Rattle.ws_session.proofs.world.Arriving.{goes_come, refused_come}
 use Rattle.ws_session.proofs.world.delivery.come.Goals as goal
 
@@ -15,7 +15,7 @@ returns-in_ok-tell-in-Err-clause-come g c =
     let why : Refusal = c.in-Err.refusal in
     let r = rw c.in-Err.is at c.feed-used.ensures.refused in
     refused_come g.E.End.conduct g.E.Reported.telling g.met.E.End.stays
-    c.args.end.now c.feed-used.new.self (take (length piece) piece) (take c.feed-used.result.used piece) r.1 r.0 why
+    c.args.end.now c.feed-used.new.self (take (length piece) piece) (take (c.feed-used.result.used - 1) piece) r.1 r.0 why
     (take_all (length piece) piece (omega arith) ∙ r.2) c.in_ok-refused-in-Err.ensures.memory c.args.to.now
     c.args.events.now.items c.tell-in-Err.new.events.items r.3 (rw c.in-Err.is at c.feed-used.ensures.after)
     (λ o. (
