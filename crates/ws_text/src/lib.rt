@@ -17,6 +17,7 @@ mod item_text;
 mod items;
 mod kind;
 mod line;
+mod lined;
 mod lines;
 mod number;
 mod open_record;
