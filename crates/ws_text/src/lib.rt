@@ -29,12 +29,10 @@ mod telnet_words;
 mod worded;
 mod words;
 
-pub use answer_text::put_answer_item;
 pub use elements::read_elements;
-pub use extended_answer_text::put_extended_answer_item;
-pub use extended_text::put_extended_item;
 pub use item_text::put_item;
 pub use items::{TextFault, read_items, shown_is_read};
+pub use lined::Lined;
 pub use lines::first_line;
 pub use number::read_number;
 pub use output::{Output, put, put_cell, put_hex, put_hex_behind_blank, put_number, put_text};
