@@ -23,11 +23,10 @@ use Rattle.ws_text.specs.ExtendedWords.{extended_wording}
 use Rattle.ws_text.specs.Printed.{Printing, in_whole}
 use Rattle.ws_text.specs.Wording.{Wording}
 use Rattle.ws_live.specs.asked.RunFaults.{run_fault}
-use Rattle.ws_program.specs.StreamText.{showing, View}
+use Rattle.ws_program.specs.StreamText.{show_printing, showing, View}
 use Rattle.ws_program.specs.Actions.{Action}
 use Rattle.ws_program.specs.Checking.{check_printing}
 use Rattle.ws_program.specs.Making.{make_action}
-use Rattle.ws_program.specs.SoFar.{show_printing}
 use Rattle.ws_program.specs.StreamBytes.{AreBytesOf, IsFormFault}
 use Rattle.ws_program.specs.ExtendedView.{extended_view}
 use Rattle.ws_program.specs.Views.{painted_host_view, answer_view, told_view}
@@ -164,8 +163,8 @@ of_bytes form printing input = record {
 abbrev pub answer_action : Asked → List ℕ → Action Bool RunFault
 answer_action (Check file form cut sender) input =
     of_bytes form (λ bytes. check_printing (sender_parts sender).rules bytes) input
-answer_action (Show file form sender paint so_far) input =
-    of_bytes form (show_printing so_far (showing (sender_parts sender).rules ((sender_parts sender).view paint))) input
+answer_action (Show file form sender paint) input =
+    of_bytes form (show_printing (showing (sender_parts sender).rules ((sender_parts sender).view paint))) input
 answer_action (Play file screen false paint) input = play_action paint screen input
 answer_action (Play file screen true paint) input = play_tcp_action paint screen input
 answer_action (Make file sender raw) input = make_action (sender_parts sender).rules (sender_parts sender).wording
