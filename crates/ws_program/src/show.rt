@@ -1,4 +1,4 @@
-ghost use Rattle.std.specs.Prelude.{◌≡◌, ◌++◌, [], Bool, List, ℕ, true, false, IfOk, IfErr, OnOk};
+ghost use Rattle.std.specs.Prelude.{◌≡◌, ◌++◌, [], Bool, List, ℕ, true, IfOk, IfErr, OnOk};
 ghost use Rattle.ws_code.specs.Device.{WentOut, FailedWithin};
 ghost use Rattle.ws_record.specs.Grammar.{IsInGrammar};
 ghost use Rattle.ws_record.specs.declared.record.Item.{Item as AnItem};
