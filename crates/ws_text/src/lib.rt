@@ -32,7 +32,7 @@ mod words;
 pub use elements::read_elements;
 pub use item_text::put_item;
 pub use items::{TextFault, read_items, shown_is_read};
-pub use lined::Lined;
+pub use lined::Listed;
 pub use lines::first_line;
 pub use number::read_number;
 pub use output::{Output, put, put_cell, put_hex, put_hex_behind_blank, put_number, put_text};
