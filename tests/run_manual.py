@@ -2,8 +2,7 @@
 """Checks the examples of the program's help, and the page of the manual and the completions for bash that `make -C c
 install` makes of it.
 
-Each example has to end with status 0 from the top folder of the repository, `connect` and `serve` with one another; one
-of `--so-far`, which shows a refused stream, with 1. Each
+Each example has to end with status 0 from the top folder of the repository, `connect` and `serve` with one another. Each
 command, each option and each line of the help has to be in the page, under its command, and the completions have to
 offer the commands, and of each command its options and no others. Another program than that of `crates/t5250/out` may
 be named. The last line tells how many passed and how many failed, and the status is 1 where one failed.
@@ -136,8 +135,7 @@ def of_examples(folder):
                 print(f"left out: {line}, since there is no IPv6 here")
                 continue
             ends = shell.carry_out(line)
-            status = 1 if "--so-far" in line else 0
-            yield f"{line} gives {ends}", all(end == (status, "") for end in ends)
+            yield f"{line} gives {ends}", all(end == (0, "") for end in ends)
 
 
 def of_page():

@@ -27,7 +27,6 @@ WITHIN_MEMORY = [
     "memory_rows::program_within_memory",
     "growth_rows::split_within_memory",
     "growth_rows::made_within_memory",
-    "growth_rows::so_far_within_memory",
     "growth_rows::any_host_within_memory",
     "tcp_rows::tcp_without_memory",
 ]

@@ -69,11 +69,9 @@ def largest_runs(runs):
             recorded = run(["check", "--of", "station", *words], f"1 host {stream}\n2 station {stream}\n")
             runs.expect(f"check --of {words} of the largest", recorded, 0, line, "")
             runs.expect(f"make {words} of the largest", run(["make", *words], shown), 0, stream + "\n", "")
-            for more, text in ([], stream), (["--so-far"], stream[:-4]):
-                done = run(["show", *more, *words], text)
-                front = "open record flags 0000 opcode 3\n" + lines if more else shown
-                right = done.returncode == len(more) and done.stdout.startswith(front) and done.stderr == ""
-                runs.count(f"show {more} {words} of the largest gave {done.returncode}, {done.stderr}", right)
+            done = run(["show", *words], stream)
+            right = done.returncode == 0 and done.stdout.startswith(shown) and done.stderr == ""
+            runs.count(f"show {words} of the largest gave {done.returncode}, {done.stderr}", right)
     script = f"settle\nsend 2 {LARGEST}\nsettle\n"
     for words in ["play"], ["play", "--tcp"]:
         runs.expect(f"{words} of the largest", run(words, script), 0, "host ready IBM-3179-2\n", "")

@@ -1,4 +1,4 @@
-"""What `show` prints of an open record, with `--so-far`, and of a screen in colour."""
+"""What `show` prints of a stream that isn't accepted, and of a screen in colour."""
 import re
 
 from program.extended_tests import spelled
@@ -15,27 +15,11 @@ HI_SCREEN = """screen
  1  HI
 cursor 1 1, unlocked, message off, blink off, fields 0
 """
-EMPTY = "screen\ncursor 1 1, locked, message off, blink off, fields 0\n"
 
-# The words behind `show --so-far`, a hex text, the status, and what is written.
-SO_FAR = [
+# The words behind `show`, a hex text, the status, and what is written.
+STOPPED = [
     # cut in an order
-    ([], HI_HEX + "0014 12A0 0000 04 0004 03 0411 0008 C1C2 1102", 1,
-     HI + "open record flags 0004 opcode 3\n  WRITE 00 08\n  PUT C1C2\n" + HI_SCREEN + "truncated at 41\n"),
-    # refused in a command
-    ([], "0011 12A0 0000 04 0000 03 04F3 0005 D970 00 FFEF", 1,
-     "open record flags 0000 opcode 3\n" + EMPTY + "refused at 11: reason 30 StructuredField\n"),
-    # an EOR too early
-    ([], "000E 12A0 0000 04 0000 03 0440 FFEF", 1,
-     "open record flags 0000 opcode 3\n  CLEAR-UNIT\n" + EMPTY + "refused at 13: reason 16 TooShort\n"),
-    # with the tenth byte
-    ([], "000E 12A0 0000 04 0000 03", 1, "open record flags 0000 opcode 3\n" + EMPTY + "truncated at 10\n"),
-    # before the tenth byte
-    ([], "000E 12A0 0000 04 0000", 1, "open record\n" + EMPTY + "truncated at 9\n"),
-    # a first byte FF
-    ([], "FFFF", 1, "open record\n" + EMPTY + "truncated at 2\n"),
-    # a command inside the header, and another begun
-    ([], "00 FFF1 FF", 1, "at 2 telnet NOP\nopen record\n" + EMPTY + "truncated at 4\n"),
+    ([], HI_HEX + "0014 12A0 0000 04 0004 03 0411 0008 C1C2 1102", 1, HI + "truncated at 41\n"),
     # no record, and a command begun
     ([], "FFF1 FF", 1, "at 1 telnet NOP\ntruncated at 3\n"),
     # no record behind a record, and a command refused
@@ -47,14 +31,7 @@ SO_FAR = [
     # accepted
     ([], HI_HEX, 0, HI + HI_SCREEN),
     # a live host's, cut
-    (["--extended"], HI_HEX + "0011 12A0 0000 04 0000 03 04F3 0005 D970 00", 1,
-     HI + "open record flags 0000 opcode 3\n  QUERY\n" + HI_SCREEN + "truncated at 40\n"),
-    # a station's, cut
-    (["--answers"], "0013 12A0 0000 04 4004 03 0638F1 110635 C2D6", 1,
-     "open record flags 4004 opcode 3\n  HEAD 6 56 F1\n  AT 6 53\n  BYTES C2D6\ntruncated at 18\n"),
-    # a live host's station's, cut
-    (["--answers", "--extended"], "0013 12A0 0000 04 0000 08 0102 00 40C1", 1,
-     "open record flags 0000 opcode 8\n  IMMEDIATE 1 2\n  BYTES 40C1\ntruncated at 15\n"),
+    (["--extended"], HI_HEX + "0011 12A0 0000 04 0000 03 04F3 0005 D970 00", 1, HI + "truncated at 40\n"),
 ]
 
 # The codes of each attribute, behind the reset, as a colour display shows it (IBM 3179-2): the colours 32 green, 37 and
@@ -98,9 +75,9 @@ COLORED = [
 STATE = "cursor 1 1, locked, message off, blink off, fields 0\n"
 
 
-def so_far_runs(runs):
-    for words, text, status, written in SO_FAR:
-        runs.expect(f"show --so-far {words} of {text}", run(["show", "--so-far", *words], text), status, written, "")
+def stopped_runs(runs):
+    for words, text, status, written in STOPPED:
+        runs.expect(f"show {words} of {text}", run(["show", *words], text), status, written, "")
 
 
 def colored_runs(runs):
@@ -119,5 +96,5 @@ def colored_runs(runs):
 
 
 def run_all(runs, _folder):
-    so_far_runs(runs)
+    stopped_runs(runs)
     colored_runs(runs)

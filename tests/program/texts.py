@@ -15,14 +15,6 @@ screen
  1  HI
 cursor 1 1, unlocked, message off, blink off, fields 0
 """
-# What has come of a second one, up to its bytes for cells.
-HELLO_OPEN = """open record flags 0000 opcode 2
-  CLEAR-UNIT
-  WRITE 00 08
-  SBA 1 2
-  PUT C8
-screen
-"""
 ANSWER = "00 13 12 A0 00 00 04 00 00 03 06 38 F1 11 06 35 C2 D6 C2 FF EF\n"
 ANSWER_LINE = "accepted: 1 records, 0 commands, 21 bytes\n"
 ANSWER_LINES = """at 20 record flags 0000 opcode 3

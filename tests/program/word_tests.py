@@ -4,7 +4,7 @@ import os
 from program.runs import files, run
 from program.texts import (
     ANSWER, ANSWER_LINE, ANSWER_LINES, ANSWER_MADE, BOB, BOB_COLORED, BOB_LINES, BOB_SCREEN, COLORS, COLORS_COLORED,
-    COLORS_PLAIN, EMPTY_SCREEN, HELLO, HELLO_LINES, HELLO_MADE, HELLO_OPEN, HELLO_TEXT, INVITE, INVITE_LINE, MANY,
+    COLORS_PLAIN, EMPTY_SCREEN, HELLO, HELLO_LINES, HELLO_MADE, HELLO_TEXT, INVITE, INVITE_LINE, MANY,
     MANY_LINE, QUERY, QUERY_LINE, SHORT, SHORT_LINE, TOLD, TOLD_LINE, TOLD_LINES, TOLD_MADE,
 )
 
@@ -24,11 +24,7 @@ RUNS = [
     (["show"], QUERY, 1, QUERY_LINE, ""),
     (["show"], SHORT, 1, SHORT_LINE, ""),
     (["show"], "", 0, EMPTY_SCREEN, ""),
-    (["show", "--so-far"], SHORT, 1, "open record\n" + EMPTY_SCREEN + SHORT_LINE, ""),
-    (["show", "--so-far"], HELLO + HELLO[:59], 1,
-     HELLO_LINES.replace("screen\n", HELLO_OPEN) + "truncated at 43\n", ""),
-    (["show", "--so-far"], HELLO, 0, HELLO_LINES, ""),
-    (["show", "--so-far", "--answers"], "FF F1 FF", 1, "at 1 telnet NOP\ntruncated at 3\n", ""),
+    (["show", "--answers"], "FF F1 FF", 1, "at 1 telnet NOP\ntruncated at 3\n", ""),
     (["show"], "0g", 2, "", "not hex\n"),
     (["make"], HELLO_LINES, 0, HELLO_MADE, ""),
     (["make"], HELLO_TEXT, 0, HELLO_MADE, ""),
@@ -125,10 +121,7 @@ RUNS = [
     (["check", "--answers", "--answers"], INVITE, 2, "", None),
     (["check", "--answers=1"], INVITE, 2, "", None),
     (["check", "--extended", "--extended"], INVITE, 2, "", None),
-    (["check", "--so-far"], INVITE, 2, "", None),
     (["show", "--cut", "1"], INVITE, 2, "", None),
-    (["show", "--so-far=1"], INVITE, 2, "", None),
-    (["show", "--so-far", "--so-far"], INVITE, 2, "", None),
     (["show", "a", "b"], INVITE, 2, "", None),
     (["play", "--screen", "--screen"], BOB, 2, "", None),
     (["play", "--tcp=1"], BOB, 2, "", None),

@@ -6,7 +6,7 @@ use std::process::Abort;
 use ws_code::{Fault, Reason, VecSink};
 use ws_record::{Head, Item, Live, Opcode, Step, decode_all};
 use ws_stream::{Answers, Commands, Element};
-use ws_text::{Output, put_answer_item, put_item};
+use ws_text::{Output, put_item};
 
 // A row, its bytes, and its items as they are shown, with the places of their last bytes.
 type Accepted<'a> = (&'a str, &'a [u8], &'a str);
@@ -126,7 +126,7 @@ fn expect_answer(rt: &impl Abort, alloc: Global, bytes: &[u8], wanted: &str) {
     let items = decode_all::<Answers>(alloc, bytes).expect(rt, wanted);
     let mut sink = VecSink::new(alloc);
     for item in items.iter() {
-        let output = put_answer_item(&mut sink, Output::Open, 14, item);
+        let output = put_item(&mut sink, Output::Open, 14, item);
         same(rt, output, Output::Open);
     }
     same_bytes(rt, sink.as_slice(), wanted.as_bytes());

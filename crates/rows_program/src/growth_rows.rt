@@ -1,5 +1,5 @@
 //! Calls that take memory, where a growth may be refused, as those of memory_rows.rt: an answer that is split, items as
-//! text, an open record, and a host that takes any record.
+//! text, and a host that takes any record.
 use crate::memory_rows::{BOB_ANSWER, OPENED, is_bob, parts, station_with_bob};
 use crate::{holds, same, same_bytes};
 use std::alloc::Global;
@@ -7,8 +7,8 @@ use std::process::Abort;
 use ws_any_host::{AnyEvent, AnyHost};
 use ws_code::{List, Reason, VecSink};
 use ws_keys::{HostFault, split_answer};
-use ws_live::{Paint, RunFault, Sender};
-use ws_program::{Asked, StreamForm, answer};
+use ws_live::{RunFault, Sender};
+use ws_program::{Asked, answer};
 use ws_record::{Opcode, Record};
 use ws_session::{Refusal, SendFault};
 
@@ -52,49 +52,6 @@ fn made_within_memory(rt: HostRuntime) {
         Err(RunFault::Memory) => holds(&rt, sink.as_slice().is_empty()),
         Err(fault) => same(&rt, fault, RunFault::Write),
     }
-}
-
-// A record, and another that is cut in an order; and what is shown of them.
-const OPEN_RECORD: &[u8] = b"0015 12A0 0000 04 0000 02 0440 0411 0008 110102 C8C9 FFEF
-0014 12A0 0000 04 0004 03 0411 0008 C1C2 1102";
-
-const SHOWN_SO_FAR: &[u8] = b"at 22 record flags 0000 opcode 2
-  CLEAR-UNIT
-  WRITE 00 08
-  SBA 1 2
-  PUT C8C9
-open record flags 0004 opcode 3
-  WRITE 00 08
-  PUT C1C2
-screen
- 1  HI
-cursor 1 1, unlocked, message off, blink off, fields 0
-truncated at 41
-";
-
-// All of it, or its first part for want of memory, which is the sink's own where it has failed.
-#[test]
-fn so_far_within_memory(rt: HostRuntime) {
-    let asked = Asked::Show {
-        file: None,
-        form: StreamForm::Hex,
-        from: Sender::Host,
-        paint: Paint::Plain,
-        so_far: true,
-    };
-    let mut sink = VecSink::new(rt.alloc());
-    let found = answer(&rt, rt.alloc(), asked, OPEN_RECORD, &mut sink);
-    let written = sink.as_slice();
-    holds(
-        &rt,
-        match found {
-            Ok(accepted) => !accepted && written == SHOWN_SO_FAR,
-            Err(RunFault::Memory) => sink.failures() == 0 && SHOWN_SO_FAR.starts_with(written),
-            Err(fault) => {
-                fault == RunFault::Write && sink.failures() > 0 && SHOWN_SO_FAR.starts_with(written)
-            }
-        },
-    );
 }
 
 // A host that takes any record, to which a station has answered. None of this takes memory.

@@ -16,7 +16,7 @@ use ws_code::{Aid, Body, List};
 use ws_extended::{ExtendedCommands, ExtendedElement};
 use ws_live::{LineFault, LiveLine, ScriptFault, WireLine, aid_named, read_wire};
 use ws_record::{Opcode, Record};
-use ws_text::{TextFault, read_extended_elements, read_number};
+use ws_text::{TextFault, read_elements, read_number};
 
 /// A line of a script for a host that takes any record.
 #[derive(Drop)]
@@ -79,7 +79,7 @@ fn read_words(alloc: Global, opcode: Opcode, text: &[u8]) -> Result<Vec<u8>, Tex
     ensures only { IfErr result (λ fault. (body : Seq ℕ)
         → Spec.SayBytes (lines text.now) opcode body → fault ≡ TextFault.Memory) }
 {
-    match read_extended_elements(alloc, opcode, text) {
+    match read_elements::<ExtendedCommands>(alloc, opcode, text) {
         Ok(elements) => match spelled(alloc, elements.as_slice()) {
             Ok(bytes) => Ok(bytes),
             Err(_) => Err(TextFault::Memory),

@@ -4,13 +4,11 @@ pub mod ExtendedRecords
 pub mod FrontItems
 pub mod HexDigits
 pub mod Makings
-pub mod OpenParts
 pub mod Parts
 pub mod Plays
 pub mod Printings
 pub mod Shows
-pub mod SoFarShows
-pub mod SoFarTexts
+pub mod ShowEnds
 pub mod SourceAnswers
 pub mod SourceReads
 pub mod ViewLaws

@@ -14,7 +14,6 @@ use Rattle.ws_record.specs.declared.record.Item.{Item}
 use Rattle.ws_record.proofs.Fronts.{one_holding}
 use Rattle.ws_program.specs.StreamText.{showing, View, Placed, items_without_places, lines_of, lines_with, HoldsItems}
 use Rattle.ws_program.specs.CheckLine.{line_of}
-use Rattle.ws_program.specs.SoFar.{IsShownSoFar, IsSoFarEnd}
 use Rattle.ws_program.specs.StreamText.{IsComplete, AreShown, IsShown, AreFirstLines, IsEnd}
 use Rattle.ws_program.specs.declared.verdict.Verdict.TheVariants.{Refused}
 use Rattle.ws_program.proofs.FrontItems.{front_items}
@@ -152,20 +151,6 @@ module _ {Place U : Type 0} (rules : Rules Place U) (prefix_free : IsPrefixFree 
         ),
       )
 
-  -- and of one with what has come of an open record
-  ends_behind_so_far : (bytes : List ℕ) (placed : List (Placed U)) (accepted : Bool) (end : List ℕ)
-      → IsSoFarEnd (showing rules view) bytes placed accepted end → EndsBehind bytes (items_without_places placed) end
-  ends_behind_so_far bytes placed true end e x c = ends_behind bytes placed true end e x c
-  ends_behind_so_far bytes placed false end (inl e) x c = none_complete bytes e.2.0
-      (items_without_places placed) x e.2.3
-      (before_refused bytes e.2.0 e.2.1 (items_without_places placed) x e.2.2 c) c
-  ends_behind_so_far bytes placed false end (inr (inl e)) x c = none_complete bytes (length bytes)
-      (items_without_places placed) x
-      (subst (λ (z : List ℕ). HoldsItems rules z (items_without_places placed)) (sym (take_all (length bytes) bytes
-      (omega arith)))
-      e.2.1) (omega (arith, c.within)) c
-  ends_behind_so_far bytes placed false end (inr (inr e)) x c = ends_behind bytes placed false end (inr (inr e)) x c
-
   lines_on : (x : Placed U) (part : List (Placed U)) (last : Option (Placed U)) → lines_with view (x ∷ part) last
       ≡ view.lines x.0 x.1 ++ lines_with view part last
   lines_on x part None = refl
@@ -225,12 +210,4 @@ module _ {Place U : Type 0} (rules : Rules Place U) (prefix_free : IsPrefixFree 
   part_begins bytes accepted whole part w p =
       let found = begins bytes [] p.placed w.placed p.last w.end p.shown p.complete w.shown
       (ends_behind bytes w.placed accepted w.end w.ends) in
-      (found.0, w.lines ∙ found.1 ∙ ap (λ z. z ++ found.0) (sym p.lines))
-
-  pub part_begins_so_far : (bytes : List ℕ) (accepted : Bool) (whole part : List ℕ)
-      → IsShownSoFar (showing rules view) bytes accepted whole → AreFirstLines (showing rules view) bytes part
-      → (rest : List ℕ) × (whole ≡ part ++ rest)
-  part_begins_so_far bytes accepted whole part w p =
-      let found = begins bytes [] p.placed w.placed p.last w.end p.shown p.complete w.shown
-      (ends_behind_so_far bytes w.placed accepted w.end w.ends) in
       (found.0, w.lines ∙ found.1 ∙ ap (λ z. z ++ found.0) (sym p.lines))

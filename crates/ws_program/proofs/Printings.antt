@@ -16,7 +16,7 @@ use Rattle.ws_program.specs.Actions.{Action, IsCarriedOut, print_made}
 use Rattle.ws_program.specs.Answering.{answer_action, of_bytes, run_outcome, sender_parts}
 use Rattle.ws_program.specs.CheckLine.{IsVerdict, is_accepted, line_of}
 use Rattle.ws_program.specs.Checking.{check_printing}
-use Rattle.ws_program.specs.SoFar.{show_printing}
+use Rattle.ws_program.specs.StreamText.{show_printing}
 use Rattle.ws_program.specs.StreamBytes.{AreBytesOf}
 use Rattle.ws_program.specs.Streams.{closed_outcome, into_closed}
 use Rattle.ws_program.specs.declared.verdict.Verdict.{Verdict}
@@ -31,16 +31,16 @@ pub check_cut : {Place U : Type 0} (rules : Rules Place U) (bytes : List ℕ)
     → CanBeCut (check_printing rules bytes) device.Write
 check_cut rules bytes text outcome h = (refl, (outcome, h))
 
-show_cut : {Place U : Type 0} (so_far : Bool) (rules : Rules Place U) (view : View U) (bytes : List ℕ)
-    → CanBeCut (show_printing so_far (showing rules view) bytes) device.Write
-show_cut so_far rules view bytes text (Ok accepted) h = (refl, inr (accepted, h))
-show_cut so_far rules view bytes text (Err device.Memory) h =
+show_cut : {Place U : Type 0} (rules : Rules Place U) (view : View U) (bytes : List ℕ)
+    → CanBeCut (show_printing (showing rules view) bytes) device.Write
+show_cut rules view bytes text (Ok accepted) h = (refl, inr (accepted, h))
+show_cut rules view bytes text (Err device.Memory) h =
     (refl, inl (record { placed = h.0; shown = h.1; last = None; complete = tt; lines = h.3 }))
-show_cut so_far rules view bytes text (Err (device.Refused place reason)) h = absurd h
-show_cut so_far rules view bytes text (Err (device.Truncated n)) h = absurd h
-show_cut so_far rules view bytes text (Err device.Read) h = absurd h
-show_cut so_far rules view bytes text (Err device.Write) h = absurd h
-show_cut so_far rules view bytes text (Err device.Failed) h = absurd h
+show_cut rules view bytes text (Err (device.Refused place reason)) h = absurd h
+show_cut rules view bytes text (Err (device.Truncated n)) h = absurd h
+show_cut rules view bytes text (Err device.Read) h = absurd h
+show_cut rules view bytes text (Err device.Write) h = absurd h
+show_cut rules view bytes text (Err device.Failed) h = absurd h
 
 bytes_cut : (form : StreamForm) (printing : List ℕ → Printing Bool Fault) (input : List ℕ)
     → ((bytes : List ℕ) → CanBeCut (printing bytes) device.Write) → CanBeCut (of_bytes form printing input).prints Write
@@ -50,9 +50,9 @@ bytes_cut form printing input cut text outcome h =
 pub answer_cut : (asked : Asked) (input : List ℕ) → CanBeCut (answer_action asked input).prints Write
 answer_cut (Check file form cut sender) input = bytes_cut form
     (λ bytes. check_printing (sender_parts sender).rules bytes) input (check_cut (sender_parts sender).rules)
-answer_cut (Show file form sender paint so_far) input = bytes_cut form
-    (show_printing so_far (showing (sender_parts sender).rules ((sender_parts sender).view paint))) input
-    (show_cut so_far (sender_parts sender).rules ((sender_parts sender).view paint))
+answer_cut (Show file form sender paint) input = bytes_cut form
+    (show_printing (showing (sender_parts sender).rules ((sender_parts sender).view paint))) input
+    (show_cut (sender_parts sender).rules ((sender_parts sender).view paint))
 answer_cut (Play file screen false paint) input = λ text outcome h. (refl, (outcome, h))
 answer_cut (Play file screen true paint) input = λ text outcome h. (refl, (outcome, h))
 answer_cut (Make file sender raw) input = λ text outcome h. (refl, (outcome, h))

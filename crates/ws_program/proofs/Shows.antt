@@ -20,7 +20,7 @@ use Rattle.ws_text.specs.Printed.{IsPrinted}
 use Rattle.ws_live.specs.printing.Printouts.{printout}
 use Rattle.ws_program.specs.StreamText.{showing}
 use Rattle.ws_program.specs.CheckLine.{line_of, verdict_by}
-use Rattle.ws_program.specs.SoFar.{IsStop, show_printing}
+use Rattle.ws_program.specs.StreamText.{IsStop, show_printing}
 use Rattle.ws_program.specs.StreamText.{View, Placed, items_without_places, lines_of, HoldsItems, IsComplete, AreShown}
 use Rattle.ws_program.specs.StreamText.{IsShown, AreFirstLines, HasTaken, HasBegunStream}
 use Rattle.ws_program.specs.StreamText.{IsNextItem, IsNext, IsNextFault}
@@ -313,7 +313,7 @@ module _ {S : Type 0} (writer : Writer S) (from : S) where
       → WentOut writer from mid lines → AreFirstLines (showing rules view) bytes (lines ++ text)
       ⊎ ((accepted : Bool) × IsShown (showing rules view) bytes accepted (lines ++ text))
       → (fault : Fault) → (fault ≡ faults.Write) × FailedWithin writer mid to text
-      → IsPrinted writer from to (show_printing false (showing rules view) bytes) (Err fault)
+      → IsPrinted writer from to (show_printing (showing rules view) bytes) (Err fault)
   text_fails rules view bytes lines text mid to w shown fault f =
       inr (lines ++ text, (f.0, shown), fails_last writer from mid to lines text w f.1)
 
@@ -327,7 +327,7 @@ module _ {S : Type 0} (writer : Writer S) (from : S) where
         (refl, (lines, part w, went, refused_behind w place reason f.0 (f.1 (items_without_places w.placed) w.taken)))
     stops_next went (faults.Truncated n) f = absurd f
     stops_next went faults.Memory f =
-        inl (lines, (w.placed, w.shown, inl (f (items_without_places w.placed) w.taken), w.are_lines), went)
+        inl (lines, (w.placed, w.shown, f (items_without_places w.placed) w.taken, w.are_lines), went)
     stops_next went faults.Read f = absurd f
     stops_next went faults.Write f = absurd f
     stops_next went faults.Failed f = absurd f

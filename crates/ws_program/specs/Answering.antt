@@ -15,20 +15,17 @@ use Rattle.ws_extended.specs.declared.extended_answer_part.ExtendedAnswerPart.{E
 use Rattle.ws_extended.specs.declared.extended_answer_place.ExtendedAnswerPlace.{ExtendedAnswerPlace}
 use Rattle.ws_extended.specs.declared.extended_element.ExtendedElement.{ExtendedElement}
 use Rattle.ws_extended.specs.declared.extended_place.ExtendedPlace.{ExtendedPlace}
-use Rattle.ws_record.specs.declared.record.Item.{Item}
 use Rattle.ws_text.specs.AnswerWords.{answer_wording}
 use Rattle.ws_text.specs.ElementWords.{element_wording}
 use Rattle.ws_text.specs.ExtendedAnswerWords.{told_wording}
 use Rattle.ws_text.specs.ExtendedWords.{extended_wording}
 use Rattle.ws_text.specs.Printed.{Printing, in_whole}
-use Rattle.ws_text.specs.Shown.{ShowsElements, ShowsAnswers, ShowsExtended, ShowsTold}
 use Rattle.ws_text.specs.Wording.{Wording}
 use Rattle.ws_live.specs.asked.RunFaults.{run_fault}
-use Rattle.ws_program.specs.StreamText.{showing, View}
+use Rattle.ws_program.specs.StreamText.{show_printing, showing, View}
 use Rattle.ws_program.specs.Actions.{Action}
 use Rattle.ws_program.specs.Checking.{check_printing}
 use Rattle.ws_program.specs.Making.{make_action}
-use Rattle.ws_program.specs.SoFar.{show_printing}
 use Rattle.ws_program.specs.StreamBytes.{AreBytesOf, IsFormFault}
 use Rattle.ws_program.specs.ExtendedView.{extended_view}
 use Rattle.ws_program.specs.Views.{painted_host_view, answer_view, told_view}
@@ -104,15 +101,13 @@ play_tcp_action paint screen script = record {
       × ((all_well : Bool) × IsToldText paint moves screen all_well text × (outcome ≡ Ok all_well)));
 }
 
--- What is known of a sender: what it sends, how that is shown in a paint, how it is written as text, and which texts
--- show it.
+-- What is known of a sender: what it sends, how that is shown in a paint, and how it is written as text.
 pub record SenderParts : Type 1 where
   pub Place : Type 0
   pub Sent : Type 0
   pub rules : Rules Place Sent
   pub view : Paint → View Sent
   pub wording : Wording Sent
-  pub IsShowing : List ℕ → List (Item Sent) → Type 0
 
 -- A sender's parts: a host sends the commands of the profile alone, or also beside it; a station answers, alone or with
 -- what is told at once, and has no screen.
@@ -123,7 +118,6 @@ sender_parts Host = record {
   rules = element_rules;
   view = painted_host_view;
   wording = element_wording;
-  IsShowing = ShowsElements;
 }
 sender_parts ExtendedHost = record {
   Place = ExtendedPlace;
@@ -131,7 +125,6 @@ sender_parts ExtendedHost = record {
   rules = extended_rules;
   view = extended_view;
   wording = extended_wording;
-  IsShowing = ShowsExtended;
 }
 sender_parts Station = record {
   Place = AnswerPlace;
@@ -139,7 +132,6 @@ sender_parts Station = record {
   rules = answer_rules;
   view = λ paint. answer_view;
   wording = answer_wording;
-  IsShowing = ShowsAnswers;
 }
 sender_parts ExtendedStation = record {
   Place = ExtendedAnswerPlace;
@@ -147,7 +139,6 @@ sender_parts ExtendedStation = record {
   rules = extended_answer_rules;
   view = λ paint. told_view;
   wording = told_wording;
-  IsShowing = ShowsTold;
 }
 
 -- the outcome of a command as the program's own
@@ -171,12 +162,12 @@ of_bytes form printing input = record {
 abbrev pub answer_action : Asked → List ℕ → Action Bool RunFault
 answer_action (Check file form cut sender) input =
     of_bytes form (λ bytes. check_printing (sender_parts sender).rules bytes) input
-answer_action (Show file form sender paint so_far) input =
-    of_bytes form (show_printing so_far (showing (sender_parts sender).rules ((sender_parts sender).view paint))) input
+answer_action (Show file form sender paint) input =
+    of_bytes form (show_printing (showing (sender_parts sender).rules ((sender_parts sender).view paint))) input
 answer_action (Play file screen false paint) input = play_action paint screen input
 answer_action (Play file screen true paint) input = play_tcp_action paint screen input
 answer_action (Make file sender raw) input = make_action (sender_parts sender).rules (sender_parts sender).wording
-    (sender_parts sender).IsShowing raw input
+    raw input
 
 -- the exit status: 0 where all was accepted, 1 where it wasn't, 2 on a fault
 abbrev pub status_of : {E : Type 0} → Result Bool E → ℕ

@@ -5,10 +5,8 @@ pub mod Checking
 pub mod ExtendedView
 pub mod HexText
 pub mod InputFaults
-pub mod OpenParts
 pub mod Recorded
 pub mod Runs
-pub mod SoFar
 pub mod SourceChecks
 pub mod StreamBytes
 pub mod StreamText

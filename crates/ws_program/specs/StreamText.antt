@@ -1,7 +1,7 @@
 -- What is shown of a stream: the lines of its items, and what stands behind them: a screen, or the line of a refusal.
 
 use Rattle.std.specs.Prelude.{◌≡◌, ℕ, ◌+◌, ◌<◌, List, [], ◌∷◌, ◌++◌, ◌⊎◌, Bool, true, false, Option, None, Some, IfSome}
-use Rattle.std.specs.Prelude.{length, take, map}
+use Rattle.std.specs.Prelude.{length, take, map, Result, Ok, Err}
 use Rattle.std.specs.List.{flat_map}
 use Rattle.ws_code.specs.Code.{Rules, IsChain}
 use Rattle.ws_code.specs.declared.fault.Fault.{Fault}
@@ -14,7 +14,10 @@ use Rattle.ws_record.specs.Receiver.{Receiving, HasReceived, HasUnit}
 use Rattle.ws_record.specs.declared.record.Item.{Item}
 use Rattle.ws_record.specs.declared.record.Item.TheVariants.{Record as RecordItem, Telnet as TelnetItem}
 pub use Rattle.ws_session.specs.Acts.{HoldsItems}
-use Rattle.ws_program.specs.CheckLine.{line_of}
+use Rattle.ws_text.specs.Printed.{Printing, IsPrinted}
+use Rattle.ws_live.specs.printing.Printouts.{IsPrintedOut, Printout}
+use Rattle.ws_program.specs.CheckLine.{line_of, is_accepted}
+use Rattle.ws_program.specs.declared.verdict.Verdict.{Verdict}
 use Rattle.ws_program.specs.declared.verdict.Verdict.TheVariants.{Refused, Truncated}
 
 -- How items of some body are shown: an item's lines, why one isn't carried out behind others, and what stands behind
@@ -152,3 +155,33 @@ module _ {Place U : Type 0} where
   IsNextFault rules bytes old Memory = (items : List (Item U)) → HasTaken rules bytes old items
       → GrowsBehind rules bytes items
   IsNextFault rules bytes old fault = ⊥
+
+  -- how what is shown ends: with the whole text; or with the lines of the first items, behind which a growth is refused
+  abbrev pub IsShowEnd : Showing Place U → List ℕ → List ℕ → Result Bool Fault → Type 0
+  IsShowEnd way bytes text (Ok accepted) = IsShown way bytes accepted text
+  IsShowEnd way bytes text (Err Memory) = (placed : List (Placed U)) × AreShown way bytes [] placed
+      × GrowsBehind way.rules bytes (items_without_places placed) × (text ≡ lines_of way.view placed)
+  IsShowEnd way bytes text (Err fault) = ⊥
+
+  -- what is shown of a stream; a sink may fail within the lines of the first items, or within the whole text
+  abbrev pub show_printing : Showing Place U → List ℕ → Printing Bool Fault
+  show_printing way bytes = record {
+    Ends = IsShowEnd way bytes;
+    Cut = λ text fault. (fault ≡ faults.Write) × (AreFirstLines way bytes text
+        ⊎ ((accepted : Bool) × IsShown way bytes accepted text));
+  }
+
+  module _ {S : Type 0} (out : Printout S) (way : Showing Place U) (bytes : List ℕ) where
+    -- what is answered where not all items are carried out: the items' lines went out, and the line of a verdict
+    -- goes on behind them, or there was a fault
+    abbrev pub IsStop : Result Verdict Fault → Type 0
+    IsStop (Ok verdict) = (is_accepted verdict ≡ false) × ((lines : List ℕ) × AreFirstLines way bytes lines
+        × IsPrintedOut out lines × IsShown way bytes false (lines ++ line_of verdict (length bytes)))
+    IsStop (Err fault) = IsPrinted out.writer out.from out.to (show_printing way bytes) (Err fault)
+
+    -- All items were shown and carried out, and so is a stream that is accepted; or the last one isn't carried out, and
+    -- the line of that verdict goes on behind it.
+    abbrev pub IsThrough : (List ℕ → Type 0) → Option Verdict → Type 0
+    IsThrough IsEnding None = (lines : List ℕ) × AreFirstLines way bytes lines × IsPrintedOut out lines
+        × ((text : List ℕ) → IsEnding text → IsShown way bytes true (lines ++ text))
+    IsThrough IsEnding (Some verdict) = IsStop (Ok verdict)

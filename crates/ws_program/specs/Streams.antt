@@ -11,7 +11,7 @@ use Rattle.ws_live.specs.declared.asked.fault.RunFault.TheVariants.{Write}
 -- what is asked for, without a connection
 abbrev pub in_one_place : Asked → Asked
 in_one_place (Check file form cut sender) = Check file form cut sender
-in_one_place (Show file form sender paint so_far) = Show file form sender paint so_far
+in_one_place (Show file form sender paint) = Show file form sender paint
 in_one_place (Play file screen tcp paint) = Play file screen false paint
 in_one_place (Make file sender raw) = Make file sender raw
 

@@ -9,7 +9,7 @@ use ws_code::{Reason, Sink};
 use ws_extended::{ExtendedCommands, ExtendedElement, ExtendedScreen};
 use ws_live::{Paint, put_error_row, put_screen};
 use ws_record::Item;
-use ws_text::{Output, put_extended_item};
+use ws_text::{Output, put_item};
 
 // A live host's records make a display, which stands behind them.
 impl Shown for ExtendedCommands {
@@ -38,7 +38,7 @@ impl Shown for ExtendedCommands {
         place: u64,
         item: &Item<ExtendedElement>,
     ) -> Output {
-        put_extended_item(sink, output, place, item)
+        put_item::<S, ExtendedElement>(sink, output, place, item)
     }
 
     fn put_end<S: Sink>(

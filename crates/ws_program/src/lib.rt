@@ -10,13 +10,11 @@ mod extended_shown;
 mod hex_text;
 mod input;
 mod make;
-mod open_part;
 mod program;
 mod recorded;
 mod running;
 mod show;
 mod shown;
-mod so_far;
 mod source_check;
 mod stream_bytes;
 mod told;
@@ -32,9 +30,7 @@ pub use make::{make_stream_to, make_to};
 pub use program::{answer, answer_buffered, answer_openly, status};
 pub use recorded::{RecordingFault, recorded_bytes};
 pub use running::{run, run_task};
-pub use show::{
-    show_answers_to, show_extended_answers_to, show_extended_to, show_painted_to, show_to,
-};
+pub use show::show_to;
 pub use source_check::check_source_openly;
 pub use told::with_cause;
 pub use words::{Asked, RecordedEnd, StreamForm, Task, no_text, read_words};

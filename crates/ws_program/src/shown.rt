@@ -13,7 +13,7 @@ use ws_record::Item;
 use ws_screen::Screen;
 use ws_session::apply_record;
 use ws_stream::{AnswerPart, Answers, Commands, Element};
-use ws_text::{Output, put_answer_item, put_extended_answer_item, put_item, put_text};
+use ws_text::{Output, put_item, put_text};
 
 /// A body whose items are shown, and carried out one after another.
 pub trait Shown: Body {
@@ -86,7 +86,7 @@ impl Shown for Commands {
         place: u64,
         item: &Item<Element>,
     ) -> Output {
-        put_item(sink, output, place, item)
+        put_item::<S, Element>(sink, output, place, item)
     }
 
     fn put_end<S: Sink>(sink: &mut S, output: Output, paint: Paint, screen: &Screen) -> Output {
@@ -116,7 +116,7 @@ impl Shown for Answers {
         place: u64,
         item: &Item<AnswerPart>,
     ) -> Output {
-        put_answer_item(sink, output, place, item)
+        put_item::<S, AnswerPart>(sink, output, place, item)
     }
 
     fn put_end<S: Sink>(sink: &mut S, output: Output, _paint: Paint, _made: &()) -> Output {
@@ -146,7 +146,7 @@ impl Shown for ExtendedAnswers {
         place: u64,
         item: &Item<ExtendedAnswerPart>,
     ) -> Output {
-        put_extended_answer_item(sink, output, place, item)
+        put_item::<S, ExtendedAnswerPart>(sink, output, place, item)
     }
 
     fn put_end<S: Sink>(sink: &mut S, output: Output, _paint: Paint, _made: &()) -> Output {

@@ -4,6 +4,7 @@ use Rattle.ws_text.proofs.Common.{flat_map-append, take_more, encode_upper, uppe
 use Rattle.ws_text.proofs.Common.{element_lines, Run, Bytes, Other}
 use Rattle.ws_record.specs.Grammar.{two_bytes}
 use Rattle.ws_stream.specs.declared.element.Element.TheVariants.{Put}
+pub use Rattle.ws_text.specs.Lined.{lines_behind}
 use Rattle.ws_text.specs.ItemLines.{runs_with, runs_of, run_line}
 use Rattle.ws_text.proofs.Prints.{encode_append}
 
@@ -25,16 +26,11 @@ module _ {S U : Type 0} (is_byte : U → S) (line : S → U → List ℕ) where
   is_byte_last before [] = before
   is_byte_last before (u ∷ us) = is_byte_last (is_byte u) us
 
-  -- the lines that units add to those of the units before them, of which the last is a byte or not
-  abbrev pub lines_behind : S → List U → List ℕ
-  lines_behind before [] = []
-  lines_behind before (u ∷ us) = line before u ++ lines_behind (is_byte u) us
-
-  pub lines_behind_more : (before : S) (us : List U) (u : U) → lines_behind before (us ++ u ∷ [])
-      ≡ lines_behind before us ++ line (is_byte_last before us) u
+  pub lines_behind_more : (before : S) (us : List U) (u : U) → lines_behind is_byte line before (us ++ u ∷ [])
+      ≡ lines_behind is_byte line before us ++ line (is_byte_last before us) u
   lines_behind_more before [] u = append-nil (line before u)
   lines_behind_more before (x ∷ us) u = ap (λ z. line before x ++ z) (lines_behind_more (is_byte x) us u)
-      ∙ sym (append_assoc (line before x) (lines_behind (is_byte x) us) (line (is_byte_last (is_byte x) us) u))
+      ∙ sym (append_assoc (line before x) (lines_behind is_byte line (is_byte x) us) (line (is_byte_last (is_byte x) us) u))
 
   pub is_byte_last_more : (before : S) (us : List U) (u : U) → is_byte_last before (us ++ u ∷ []) ≡ is_byte u
   is_byte_last_more before [] u = refl

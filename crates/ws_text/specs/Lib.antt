@@ -13,6 +13,7 @@ pub mod ItemLines
 pub mod Items
 pub mod BodyLines
 pub mod Reading
+pub mod Lined
 pub mod Names
 pub mod WordLaws
 pub mod Wording

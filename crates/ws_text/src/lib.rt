@@ -17,6 +17,7 @@ mod item_text;
 mod items;
 mod kind;
 mod line;
+mod lined;
 mod lines;
 mod number;
 mod open_record;
@@ -28,14 +29,12 @@ mod telnet_words;
 mod worded;
 mod words;
 
-pub use answer_text::put_answer_item;
-pub use elements::{read_elements, read_extended_elements};
-pub use extended_answer_text::put_extended_answer_item;
-pub use extended_text::put_extended_item;
+pub use elements::read_elements;
 pub use item_text::put_item;
-pub use items::{
-    TextFault, read_answer_items, read_extended_answer_items, read_extended_items, read_items,
-};
+pub use items::{TextFault, read_items, shown_is_read};
+pub use lined::Listed;
 pub use lines::first_line;
 pub use number::read_number;
 pub use output::{Output, put, put_cell, put_hex, put_hex_behind_blank, put_number, put_text};
+pub use run_name::RunName;
+pub use worded::Worded;

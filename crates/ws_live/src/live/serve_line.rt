@@ -18,6 +18,7 @@ use std::str;
 use ws_code::Aid;
 use ws_record::Opcode;
 use ws_session::{Move, Order};
+use ws_stream::Commands;
 use ws_text::{TextFault, read_elements};
 
 /// The answer that a host waits for.
@@ -60,7 +61,7 @@ impl LiveLine for HostLine {
             return read_alone(alloc, line);
         }
         match sent_alone(line) {
-            Some(opcode) => match read_elements(alloc, opcode, inside) {
+            Some(opcode) => match read_elements::<Commands>(alloc, opcode, inside) {
                 Ok(body) => Ok(HostLine::Give(Order::Send(opcode, body))),
                 Err(TextFault::Line(at)) => Err(ScriptFault::Line(at.saturating_add(1))),
                 Err(TextFault::Memory) => Err(ScriptFault::Memory),

@@ -109,7 +109,7 @@ fn read_telnet(alloc: Global, line: &str) -> Result<List<u8>, LineFault>
     ensures fault { IfErr result
         (IsLineFault (Spec.IsCommandSaid line.now) (Spec.SaysItems line.now)) }
 {
-    match read_items(alloc, line.as_bytes()) {
+    match read_items::<Commands>(alloc, line.as_bytes()) {
         Ok(items) => spelled_alone(alloc, items.as_slice()),
         Err(TextFault::Line(_)) => Err(LineFault::Bad),
         Err(TextFault::Memory) => Err(LineFault::Memory),

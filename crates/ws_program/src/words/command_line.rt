@@ -2,7 +2,7 @@ use crate::words::command_parts::{CommandParts, fault, flag, place};
 use crate::words::input_help::{
     ANSWERS_HELP, CHECK_EXAMPLES, EXTENDED_HELP, HEX_AND_STATUS, ITEMS_HELP, MAKE_EXAMPLES,
     OF_HELP, PLAY_EXAMPLES, RAW_HELP, RAW_OUT_HELP, SCREEN_HELP, SCRIPT_HELP, SHOW_EXAMPLES,
-    SO_FAR_HELP, STREAM_HELP, TCP_HELP,
+    STREAM_HELP, TCP_HELP,
 };
 use crate::words::live_command::{
     COLOR_HELP, connect_asked, connect_command, paint_asked, serve_asked, serve_command,
@@ -53,13 +53,12 @@ pub enum Asked<'a> {
         from: Sender,
     },
     /// To show the items of such bytes: as a host's commands, with the screen that they make in a paint, or as a
-    /// station's answers. With `so_far` also what has come of the record that is open where the bytes stop.
+    /// station's answers.
     Show {
         file: Option<&'a str>,
         form: StreamForm,
         from: Sender,
         paint: Paint,
-        so_far: bool,
     },
     /// To play a script with both ends, and to tell what happens; with `screen` also the station's screen at the end,
     /// in a paint. With `tcp` their bytes go over a connection.
@@ -135,7 +134,6 @@ fn show_command<'a>(alloc: Global) -> CommandParts<'a> {
     .word(flag(alloc, "answers", ANSWERS_HELP))
     .word(flag(alloc, "extended", EXTENDED_HELP))
     .word(flag(alloc, "color", COLOR_HELP))
-    .word(flag(alloc, "so-far", SO_FAR_HELP))
     .word(of(alloc))
     .made_word(raw(alloc))
     .word(place(alloc, "FILE", STREAM_HELP, false))
@@ -274,7 +272,6 @@ fn show_asked<'a>(words: &ArgMatches<'a>) -> Asked<'a> {
         form: form_asked(words),
         from: sender_asked(words),
         paint: paint_asked(words),
-        so_far: words.get_flag("so-far"),
     }
 }
 

@@ -47,11 +47,6 @@ more for what a live host's station tells at once:
     IMMEDIATE R C     the cursor; the fields that were read at once follow
 Of a host's stream the last line is then `error row R` where an error stands.
 
-With --so-far, where a stream is refused or ends too early in a record, before
-the last line come `open record flags FFFF opcode K`, lines for the elements
-that are complete, and of a host's stream the screen that the records before
-it made; before the record's tenth byte the first line is `open record`.
-
 With --of, FILE is a recording, as of check; with --raw it has the bytes.
 
 Examples:
@@ -60,7 +55,6 @@ Examples:
   t5250 show --answers --of station examples/inquiry.recording
   t5250 show --color examples/inquiry.hex
   t5250 show --extended examples/live-host.hex
-  t5250 show --so-far examples/live-host.hex
   t5250 show --answers examples/inquiry-answers.hex
   t5250 show --answers --extended examples/live-station.hex
   echo 000A12A0000004000001FFEF | t5250 show";
@@ -111,9 +105,6 @@ pub const ANSWERS_HELP: &str = "Reads what a station sends, and not what a host 
 
 pub const EXTENDED_HELP: &str =
     "Takes also what live hosts send beside the profile, or with --answers what their stations tell";
-
-pub const SO_FAR_HELP: &str =
-    "Prints also what has come of the record that is open where the stream isn't accepted";
 
 pub const STREAM_HELP: &str =
     "A hex text, or what --of or --raw says; without it, standard input is read";

@@ -6,7 +6,7 @@ use Rattle.ws_program.specs.StreamText.{items_without_places}
 use Rattle.ws_program.specs.Views.{in_paint}
 use Rattle.ws_program.proofs.Shows.{shows_none, next_is, none_next, fewer_left, goes_on, stops_next, stops_early}
 use Rattle.ws_program.proofs.Shows.{stops_at_item}
-use Rattle.ws_program.proofs.SoFarShows.{through_all, through_unapplied, halts_next, halts_early, fails_at_item}
+use Rattle.ws_program.proofs.ShowEnds.{through_all, through_unapplied}
 use Rattle.ws_program.proofs.WholeItems.{whole_next}
 use Rattle.ws_program.proofs.show.show_items.Goals as goal
 
@@ -52,25 +52,6 @@ carry_out-requires-clause-known g c = (
   items_without_places (c.loop-receiver.invariant Plain).1.placed,
   (c.loop-receiver.invariant Plain).1.makes_it,
 )
-
-pub returns-in_err-place-clause-halted : goal.returns-in_err-place-clause-halted
-returns-in_err-place-clause-halted g c =
-    let p = err_from_is_err_and c.from_residual.result c.from_residual.ensures.1 in
-    rw (p.1, p.2) (λ paint.
-    let inv = c.loop-receiver.invariant paint in
-    halts_next inv.1 g.S.Sink.writer c.args.sink.now c.loop-receiver.sink inv.2 _
-    c.in_err-place.ensures.fault)
-
-pub returns-in_err-write_item-clause-halted : goal.returns-in_err-write_item-clause-halted
-returns-in_err-write_item-clause-halted g c =
-    let p = err_from_is_err_and c.from_residual-in_err-write_item.result c.from_residual-in_err-write_item.ensures.1 in
-    let f = c.in_err-write_item.ensures.err in
-    rw (p.1, p.2, f.0) (λ paint.
-    let inv = c.loop-receiver.invariant paint in
-    let next = next_is inv.1 c.next_item.new.receiver _ (c.in-Some.place, c.in-Some.item) c.in-Some.is
-    c.in_ok-place.ensures.next in
-    fails_at_item inv.1 g.S.Sink.writer c.args.sink.now c.loop-receiver.sink c.write_item.new.sink
-    (c.in-Some.place, c.in-Some.item) inv.2 next.complete f.1)
 
 pub returns-in-Err-clause-ok : goal.returns-in-Err-clause-ok
 returns-in-Err-clause-ok g c = λ paint.
@@ -119,16 +100,6 @@ returns-in_err-finish-clause-err g c =
     let inv = c.loop-receiver.invariant paint in
     let received = none_next inv.1 c.next_item.new.receiver _ c.in_default.is c.in_ok-place.ensures.next in
     stops_early g.S.Sink.writer c.args.sink.now inv.1 c.loop-receiver.sink inv.2
-    c.next_item.new.receiver received _
-    (c.in_err-finish.ensures.truncated c.args.bytes.now (items_without_places inv.1.placed) received (omega arith)))
-
-pub returns-in_err-finish-clause-halted : goal.returns-in_err-finish-clause-halted
-returns-in_err-finish-clause-halted g c =
-    let p = err_from_is_err_and c.from_residual-in_err-finish.result c.from_residual-in_err-finish.ensures.1 in
-    rw (p.1, p.2) (λ paint.
-    let inv = c.loop-receiver.invariant paint in
-    let received = none_next inv.1 c.next_item.new.receiver _ c.in_default.is c.in_ok-place.ensures.next in
-    halts_early inv.1 g.S.Sink.writer c.args.sink.now c.loop-receiver.sink inv.2
     c.next_item.new.receiver received _
     (c.in_err-finish.ensures.truncated c.args.bytes.now (items_without_places inv.1.placed) received (omega arith)))
 

@@ -1,8 +1,0 @@
-use Rattle.ws_text.proofs.Common.{ap}
-use Rattle.ws_text.specs.ExtendedLines.{extended_lines}
-use Rattle.ws_text.proofs.Prints.{prints_both, prints_same}
-use Rattle.ws_text.proofs.extended_text.put_extended_item.Goals as goal
-
-pub returns-in-Record : goal.returns-in-Record
-returns-in-Record g c = rw c.in-Record.is (prints_both (prints_both c.put_head-output.ensures
-    (prints_same (ap extended_lines c.as_slice.ensures) c.put_elements-output.ensures)) c.put_text.ensures)
