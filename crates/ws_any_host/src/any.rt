@@ -77,13 +77,14 @@ impl Reacts for Any {
         if !self.options.records_allowed() {
             return Err(Halt::Refused(Reason::RecordBeforeNegotiation));
         }
-        Ok(EndStep {
+        let told = EndStep {
             reply: ByteList::of(ArrayVec::new()),
             event: Some(AnyEvent::Record(Record {
                 flags: head.flags,
                 opcode: head.opcode,
                 body: List::of(body),
             })),
-        })
+        };
+        Ok(told)
     }
 }
