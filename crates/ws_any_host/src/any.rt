@@ -77,7 +77,7 @@ impl Reacts for Any {
         if !self.options.records_allowed() {
             return Err(Halt::Refused(Reason::RecordBeforeNegotiation));
         }
-        let told = EndStep {
+        let told: EndStep<AnyEvent> = EndStep {
             reply: ByteList::of(ArrayVec::new()),
             event: Some(AnyEvent::Record(Record {
                 flags: head.flags,

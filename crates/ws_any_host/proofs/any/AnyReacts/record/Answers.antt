@@ -10,9 +10,7 @@ use Rattle.ws_any_host.proofs.any.AnyReacts.record.Goals as goal
 pub returns-clause-reacted : goal.returns-clause-reacted
 returns-clause-reacted c = λ units chain small keeps items side h.
     let head = c.args.head in
-    let allowed : host_allows_records side.host ≡ true =
-    ap (λ (n : Negotiated). host_allows_records n.host) (sym h ∙ sym c.self.view_is)
-    ∙ sym c.if-not-records_allowed.ensures in
+    let allowed : host_allows_records side.host ≡ true = cc in
     let body : c.of-2.result ≡ units =
     c.of-2.ensures ∙ ap (λ v. v.items) c.replace-body.ensures.value ∙ keeps in
     let output : AnyOutput = record { items = []; event = Some (Came (record_of head units)) } in
