@@ -15,17 +15,18 @@ const DO_TERMINAL: &[u8] = b"\xff\xfd\x18";
 
 const WILL_TERMINAL: &[u8] = b"\xff\xfb\x18";
 
-// The opening, where the line down is given, and the station's bytes arrive as `read`.
-fn opening_report<S: Sink, R: Source>(
+// The opening, where the line down is given, and the station's bytes arrive as `read`; and what went into the line up.
+fn opening<S: Sink, R: Source>(
     alloc: Global,
     down: &mut Line<S, R>,
     read: &[u8],
-) -> Result<Report, Fault> {
+) -> (Result<Report, Fault>, VecSink) {
     let mut up = Line {
         sink: VecSink::new(alloc),
         source: SliceSource::new(read),
     };
-    World::run_carried(alloc, TerminalType::Ibm3179Model2, &OPENING, down, &mut up)
+    let report = World::run_carried(alloc, TerminalType::Ibm3179Model2, &OPENING, down, &mut up);
+    (report, up.sink)
 }
 
 fn nothing_is_in_flight(rt: &impl Abort, report: &Report) {
@@ -73,7 +74,7 @@ fn lines_that_bring_other_bytes(rt: HostRuntime) {
             sink: VecSink::new(rt.alloc()),
             source: SliceSource::new(brought.to_station),
         };
-        let report = opening_report(rt.alloc(), &mut down, brought.to_host);
+        let (report, _) = opening(rt.alloc(), &mut down, brought.to_host);
         let report = report.expect(&rt, "an opening");
         same(&rt, down.sink.as_slice(), DO_TERMINAL);
         nothing_is_in_flight(&rt, &report);
@@ -86,47 +87,41 @@ fn lines_that_bring_other_bytes(rt: HostRuntime) {
     }
 }
 
-// The opening ends with this fault.
-fn fails<S: Sink, R: Source>(
-    rt: &impl Abort,
-    alloc: Global,
-    down: &mut Line<S, R>,
-    read: &[u8],
-    fault: Fault,
-) {
-    same(rt, opening_report(alloc, down, read).err(), Some(fault));
-}
-
-// The line down takes so many bytes before a write fails, and gives so many before a read fails.
-fn stops_behind(
+// The line down takes so many bytes before a write fails, and gives so many before a read fails. The opening ends with
+// this fault, where the station's bytes arrive as `read`, and `up` had gone into its line.
+fn stops(
     rt: &impl Abort,
     alloc: Global,
     (taken, given): (usize, usize),
-    read: &[u8],
+    (read, up): (&[u8], &[u8]),
     fault: Fault,
 ) {
     let mut down = Line {
         sink: FailingSink::new(alloc, taken as u64),
         source: FailingSource::new(DO_TERMINAL, given as u64),
     };
-    fails(rt, alloc, &mut down, read, fault);
+    let (report, went_up) = opening(alloc, &mut down, read);
+    same(rt, report.err(), Some(fault));
     same(rt, Some(down.sink.as_slice()), DO_TERMINAL.get(..taken));
+    same(rt, went_up.as_slice(), up);
 }
 
-// A write fails, a read fails, or the station's bytes end early.
+// A write fails, a read fails, or the station's bytes end early; and what had crossed each line.
 #[test]
 fn lines_that_fail(rt: HostRuntime) {
     let alloc = rt.alloc();
     for at in 0..3usize {
-        stops_behind(&rt, alloc, (at, 3), WILL_TERMINAL, Fault::Write);
-        stops_behind(&rt, alloc, (3, at), WILL_TERMINAL, Fault::Read);
+        stops(&rt, alloc, (at, 3), (WILL_TERMINAL, b""), Fault::Write);
+        stops(&rt, alloc, (3, at), (WILL_TERMINAL, b""), Fault::Read);
         let front = WILL_TERMINAL.get(..at).expect(&rt, "a front");
         let ends = Fault::Truncated { at: at as u64 };
-        stops_behind(&rt, alloc, (3, 3), front, ends);
+        stops(&rt, alloc, (3, 3), (front, WILL_TERMINAL), ends);
     }
     let mut down = Line {
         sink: StuckSink,
         source: SliceSource::new(DO_TERMINAL),
     };
-    fails(&rt, alloc, &mut down, WILL_TERMINAL, Fault::Write);
+    let (report, went_up) = opening(alloc, &mut down, WILL_TERMINAL);
+    same(&rt, report.err(), Some(Fault::Write));
+    same(&rt, went_up.as_slice(), b"".as_slice());
 }

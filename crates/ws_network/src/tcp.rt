@@ -1,17 +1,11 @@
-ghost use Rattle.std.specs.Prelude.{◌≡◌, List as Seq, IfOk, IfErr};
-ghost use Rattle.ws_code.specs.declared.fault.Fault.{Fault as AFault};
-ghost use Rattle.ws_code.specs.Device.{on_devices};
-ghost use Rattle.ws_session.specs.world.Carried.{HasRunOver};
-ghost use Rattle.ws_session.specs.world.Carrying.{passage};
-ghost use Rattle.ws_session.specs.world.Crossings.{Crossing, HaveCrossed, AreEnded, passages};
-ghost use Rattle.ws_session.specs.world.TwoLines.{HasRun};
+ghost use Rattle.std.specs.Prelude.{◌≡◌};
 ghost use Rattle.ws_network.specs.TcpFaults.{tcp_fault, tcp_run_fault};
 
 use std::alloc::Global;
 use std::io;
 use std::net::{Ipv4Addr, Net, SocketAddr, TcpListener, TcpStream};
 use thiserror::Error;
-use ws_code::{Fault, ReadSource, Sink, Source, WriteSink};
+use ws_code::{Fault, ReadSource, WriteSink};
 use ws_live::RunFault;
 use ws_nego::TerminalType;
 use ws_session::{Line, Move, Report, World};
@@ -63,9 +57,8 @@ impl From<TcpFault> for RunFault {
 
 /// Plays a session whose bytes go over one TCP connection on 127.0.0.1: the host end listens and accepts, and the
 /// station connects. Bytes wait in memory until a move delivers them. Then they go in pieces of at most 4,096, each of
-/// which is written at the one end and read at the other before the next, so that one thread plays both ends. An end
-/// takes what was read. What a connection does can't be proved: the session is that of some pieces that crossed it.
-/// Where it brings what was written, the report is that of `World::run`, as `play_over` promises.
+/// which is written at the one end and read at the other before the next, so that one thread plays both ends. What a
+/// connection does can't be proved: `World::run_carried` says what a session over two lines is, whatever devices they have.
 ///
 /// # Errors
 ///
@@ -77,16 +70,7 @@ pub fn play_tcp<R: Net<Listener = TcpListener, Stream = TcpStream>>(
     alloc: Global,
     terminal: TerminalType,
     moves: &[Move],
-) -> Result<Report, TcpFault>
-    ensures { IfOk result (λ r. (downs ups : Seq Crossing)
-        × HasRun terminal moves.now downs ups (record {
-          station = r.station;
-          host = r.host;
-          to_station = r.to_station;
-          to_host = r.to_host;
-          events = r.events;
-        })) }
-{
+) -> Result<Report, TcpFault> {
     let (host, station) = match connect(rt) {
         Ok(ends) => ends,
         Err(_) => return Err(TcpFault::NoConnection),
@@ -99,31 +83,7 @@ pub fn play_tcp<R: Net<Listener = TcpListener, Stream = TcpStream>>(
         sink: WriteSink::new(&station),
         source: ReadSource::new(&host),
     };
-    play_over(alloc, terminal, moves, &mut down, &mut up)
-}
-
-/// Plays a session whose bytes go over two lines, one for each direction.
-///
-/// # Errors
-///
-/// `Write` and `Read` where a piece doesn't cross a line, `Memory` where a growth was refused.
-pub fn play_over<S: Sink, R: Source, T: Sink, Q: Source>(
-    alloc: Global,
-    terminal: TerminalType,
-    moves: &[Move],
-    down: &mut Line<S, R>,
-    up: &mut Line<T, Q>,
-) -> Result<Report, TcpFault>
-    // These pieces crossed the lines, and what came out of them arrived. Where it is what went in, the session is
-    // that of `World::run`.
-    ensures done { IfOk result (HasRunOver terminal moves.now
-        (λ downs. HaveCrossed (on_devices S.writer R.reader) down.old downs down.new)
-        (λ ups. HaveCrossed (on_devices T.writer Q.reader) up.old ups up.new)) }
-    ensures fault { IfErr result (λ told. (fault : AFault) × (told ≡ tcp_fault fault)
-        × AreEnded (passages (passage (on_devices S.writer R.reader) down.old down.new)
-        (passage (on_devices T.writer Q.reader) up.old up.new)) fault) }
-{
-    Ok(World::run_carried(alloc, terminal, moves, down, up)?)
+    Ok(World::run_carried(alloc, terminal, moves, &mut down, &mut up)?)
 }
 
 // A connection of this program with itself: the end that accepts, and the end that connects. What is written goes at

@@ -5,13 +5,9 @@ use Rattle.ws_nego.specs.declared.terminal.TerminalType.TheVariants.{Ibm3179Mode
 use Rattle.ws_screen.specs.ScreenParts.{ScreenParts}
 use Rattle.ws_session.specs.declared.world.Event.{Event}
 use Rattle.ws_session.specs.declared.world.Move.{Move}
-use Rattle.ws_session.specs.host_end.HostLeads.{HostParts}
-use Rattle.ws_session.specs.station.StationLeads.{StationParts}
 use Rattle.ws_session.specs.station.StationSide.{screen_at}
-use Rattle.ws_session.specs.world.Crossings.{Crossing}
 use Rattle.ws_session.specs.declared.world.Report.{Report}
 use Rattle.ws_session.specs.world.Reports.{IsReport}
-use Rattle.ws_session.specs.world.TwoLines.{TwoEnds, HasRun}
 use Rattle.ws_session.specs.world.World.{World, new_world, after_moves}
 use Rattle.ws_live.specs.asked.RunFaults.{script_run_fault}
 use Rattle.ws_live.specs.declared.printing.paint.Paint.{Paint}
@@ -52,12 +48,6 @@ pub session_well : (moves given : List Move) (report : Report) → given ≡ mov
     ≡ no_end_refuses (after_moves (new_world Ibm3179Model2) moves).events
 session_well moves given report same r = ap no_end_refuses r.events
     ∙ ap (λ (ms : List Move). no_end_refuses (after_moves (new_world Ibm3179Model2) ms).events) same
-
--- a session of the moves that were given is one of the script's
-pub carried_moves : (given moves : List Move) (downs ups : List Crossing) (now : TwoEnds) → given ≡ moves
-    → HasRun Ibm3179Model2 given downs ups now → HasRun Ibm3179Model2 moves downs ups now
-carried_moves given moves downs ups now same ran =
-    subst (λ (ms : List Move). HasRun Ibm3179Model2 ms downs ups now) same ran
 
 -- where a script isn't read
 pub unread_script : (script : List ℕ) (fault : ScriptFault) → IsScriptFault script fault

@@ -15,6 +15,7 @@ use Rattle.ws_extended.specs.declared.extended_answer_part.ExtendedAnswerPart.{E
 use Rattle.ws_extended.specs.declared.extended_answer_place.ExtendedAnswerPlace.{ExtendedAnswerPlace}
 use Rattle.ws_extended.specs.declared.extended_element.ExtendedElement.{ExtendedElement}
 use Rattle.ws_extended.specs.declared.extended_place.ExtendedPlace.{ExtendedPlace}
+use Rattle.ws_screen.specs.ScreenParts.{ScreenParts}
 use Rattle.ws_text.specs.AnswerWords.{answer_wording}
 use Rattle.ws_text.specs.ElementWords.{element_wording}
 use Rattle.ws_text.specs.ExtendedAnswerWords.{told_wording}
@@ -38,9 +39,8 @@ use Rattle.ws_program.specs.declared.words.command_line.StreamForm.{StreamForm}
 use Rattle.ws_live.specs.declared.asked.fault.RunFault.{RunFault}
 use Rattle.ws_live.specs.declared.asked.fault.RunFault.TheVariants.{Read, Line, Memory, Write, NoConnection}
 use Rattle.ws_nego.specs.declared.terminal.TerminalType.TheVariants.{Ibm3179Model2}
+use Rattle.ws_session.specs.declared.world.Event.{Event}
 use Rattle.ws_session.specs.declared.world.Move.{Move}
-use Rattle.ws_session.specs.world.Crossings.{Crossing}
-use Rattle.ws_session.specs.world.TwoLines.{TwoEnds, HasRun}
 use Rattle.ws_session.specs.world.World.{World, new_world, after_moves}
 use Rattle.ws_session.specs.station.StationSide.{screen_at}
 use Rattle.ws_live.specs.script.Script.{IsScript, IsFirstBad}
@@ -50,16 +50,6 @@ use Rattle.ws_live.specs.printing.PlayLines.{IsPaintedPlayText, no_end_refuses}
 -- what is told of a session, and its screen in a paint where it is asked for
 abbrev pub IsSessionText : Paint → World → Bool → List ℕ → Type 0
 IsSessionText paint w screen text = IsPaintedPlayText paint w.events (screen_at w.station) screen text
-
--- What is told of some session of these moves over two lines, and whether no end refuses in it. What a connection does
--- isn't known: whatever came out of it arrived.
-pub record IsToldText (paint : Paint) (moves : List Move) (screen all_well : Bool) (text : List ℕ) : Type 0 where
-  pub downs : List Crossing
-  pub ups : List Crossing
-  pub now : TwoEnds
-  pub ran : HasRun Ibm3179Model2 moves downs ups now
-  pub told : IsPaintedPlayText paint now.events now.station.reacts.screen.screen screen text
-  pub well : all_well ≡ no_end_refuses now.events
 
 -- a script is good as far as it was read, or as a whole
 abbrev pub IsGoodScript : List ℕ → Type 0
@@ -93,12 +83,13 @@ play_action paint screen script = record {
       × (outcome ≡ Ok (no_end_refuses (after_moves (new_world Ibm3179Model2) moves).events)));
 }
 
--- a script is played over a connection, and what is told of its session is printed
+-- A script is played over a connection, and what is told of a session is printed. What a connection does isn't known, so
+-- the session isn't either.
 abbrev pub play_tcp_action : Paint → Bool → List ℕ → Action Bool RunFault
 play_tcp_action paint screen script = record {
   Refuses = IsUnplayedByTcp script;
-  prints = in_whole Write (λ text outcome. (moves : List Move) × IsScript script moves
-      × ((all_well : Bool) × IsToldText paint moves screen all_well text × (outcome ≡ Ok all_well)));
+  prints = in_whole Write (λ text outcome. SpellsMoves script × ((events : List Event) × (shown : ScreenParts)
+      × IsPaintedPlayText paint events shown screen text × (outcome ≡ Ok (no_end_refuses events))));
 }
 
 -- What is known of a sender: what it sends, how that is shown in a paint, and how it is written as text.

@@ -154,18 +154,15 @@ pub use Rattle.ws_session.specs.station.StationSide.{opcode_answer, station_appl
 pub use Rattle.ws_session.specs.station.StationSide.{RefusesKey, Silent, Answers, Signals, station_key, sends}
 pub use Rattle.ws_session.specs.station.StationSide.{answers_read, key_by_refusal, new_station_side, presses}
 pub use Rattle.ws_session.specs.station.StationSide.{answer_record}
-pub use Rattle.ws_session.specs.world.Crossings.{Crossing, with_piece_at, AreFaithful, HaveCrossed, HasCrossed}
-pub use Rattle.ws_session.specs.world.Crossings.{IsStopped, IsEnded, AreEnded}
+pub use Rattle.ws_session.specs.world.Crossings.{Crossing, with_piece_at, AreFaithful, HaveCrossed, IsStopped}
+pub use Rattle.ws_session.specs.world.Crossings.{all_sent, all_read}
 pub use Rattle.ws_session.specs.world.Deliveries.{delivery, three_deliveries}
 pub use Rattle.ws_session.specs.world.Refusals.{is_refusal, refusals_in}
 pub use Rattle.ws_session.specs.declared.world.Report.{Report}
 pub use Rattle.ws_session.specs.world.Reports.{IsReport, IsOpened}
-pub use Rattle.ws_session.specs.world.Runs.{AreWritable, WorldParts, RunsWith, Runs, IsKey}
+pub use Rattle.ws_session.specs.world.Runs.{AreWritable, WorldParts, RunsWith, Runs, IsKey, IsGiven}
+pub use Rattle.ws_session.specs.world.Runs.{at_station_end, at_host_end}
 pub use Rattle.ws_session.specs.world.Through.{HasRefusedIn, Through}
-pub use Rattle.ws_session.specs.world.TwoLines.{two_ends_of, TwoEnds, key_told, send_told, HasOrdered, Orders}
-pub use Rattle.ws_session.specs.world.TwoLines.{all_read, HasMoved, HaveMoved, HasRun, StationIsLed, HostIsLed}
-pub use Rattle.ws_session.specs.world.TwoLines.{all_sent, HaveCome, AreDeliveredOver, Hearing, hearing_of}
-pub use Rattle.ws_session.specs.world.TwoLines.{at_station_end, at_host_end}
 pub use Rattle.ws_session.specs.world.Wires.{WireParts, reported, HasMemory, Comes, AtEnd, at_end, AreDelivered}
 pub use Rattle.ws_session.specs.world.World.{World, new_world, after_moves, IsQuiet, after_move, down_bytes}
 pub use Rattle.ws_session.specs.world.World.{station_did, station_gets, byte_to_station, up_bytes, host_did, host_gets}

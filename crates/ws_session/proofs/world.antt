@@ -3,8 +3,7 @@ pub mod BetweenSteps
 pub mod Betweens
 pub mod ByteSteps
 pub mod Bytes
-pub mod LineLeads
-pub mod LineMoves
+pub mod Crossed
 pub mod OneByOne
 pub mod Reached
 pub mod ReportLaws

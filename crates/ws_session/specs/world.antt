@@ -1,4 +1,3 @@
-pub mod BrokenOff
 pub mod Carried
 pub mod Carrying
 pub mod Crossings
@@ -7,6 +6,5 @@ pub mod Refusals
 pub mod Reports
 pub mod Runs
 pub mod Through
-pub mod TwoLines
 pub mod Wires
 pub mod World

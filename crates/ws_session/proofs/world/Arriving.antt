@@ -1,11 +1,12 @@
 use Rattle.ws_session.proofs.Common as C
-use C.{flat_map, ◌≡◌, ◌+◌, ◌≤◌, List, [], ◌∷◌, ◌++◌, refl, subst, ◌∙◌, ℕ, zero, suc, ◌<◌, Option, Some, None, take}
+use C.{flat_map, ◌≡◌, ◌+◌, ◌≤◌, List, [], ◌∷◌, ◌++◌, refl, subst, ◌∙◌, ℕ, ◌<◌, Option, Some, None, take}
 use C.{drop, ap, sym}
 use C.{arith, ◌^◌, min, inl, inr, length, append_assoc, add-zero, length-append, length-drop, length-take, ◌-◌}
 use C.{take-add, cases_lt, flat_map-append, length-take-le, append-nil, take_all, take-take, drop-drop}
 use C.{came_append, Act, all_came, Refusal, At, Event, Through, WireParts, reported, HasMemory, Comes, AreDelivered}
 use Rattle.ws_session.specs.Conduct.{Conduct}
 use Rattle.ws_session.specs.world.Wires.{AtEnd, HasCome, Telling}
+use Rattle.ws_session.proofs.world.Crossed.{past}
 
 -- Bytes that arrive at an end, piece by piece.
 
@@ -165,11 +166,6 @@ module _ {E Deed Told : Type 0} (conduct : Conduct E Deed Told) (telling : Telli
     to_is = rw (append-nil now.to.bytes);
     told_is = sym (append-nil now.events);
   }
-
-  past : (n : ℕ) (xs : List ℕ) → drop (length (take n xs)) xs ≡ drop n xs
-  past zero xs = refl
-  past (suc n) [] = refl
-  past (suc n) (x ∷ xs) = past n xs
 
   module _ (old mid : AtEnd E) (n : ℕ) (d : AreDelivered conduct telling old n mid) where
     -- so many came, and no byte more was written

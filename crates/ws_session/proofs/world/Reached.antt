@@ -9,7 +9,7 @@ use C.{SendFailed, NoMemory, ATN, SRQ, KeyFault, KeyFailed, NotReady, Event, Key
 use C.{AtHost, HostLeads, HostParts, IsSent, IsSendFault, HostSide, SendReaction, RefusesSend, host_send}
 use C.{answer_spelling, AtStation, StationParts, StationLeads, StationSide, screen_at, KeyReaction, RefusesKey}
 use C.{Silent, Answers, Signals, station_key, answers_read, key_by_refusal, presses, answer_record, AreWritable}
-use C.{WorldParts, RunsWith, Runs, IsKey, World, new_world, after_moves, after_move, down_bytes, up_bytes}
+use C.{WorldParts, RunsWith, Runs, IsGiven, IsKey, World, new_world, after_moves, after_move, down_bytes, up_bytes}
 use C.{station_pressed, host_sent, after_press, after_send}
 use Rattle.ws_code.specs.Aid.{IsAid}
 use Rattle.ws_record.proofs.Flights.{writable_append, still_led, not_more}
@@ -20,7 +20,6 @@ use Rattle.ws_session.specs.declared.end_step.Order.TheVariants.{Send as Sending
 use Rattle.ws_session.specs.declared.end_step.Sent.{Sent}
 use Rattle.ws_session.specs.host_end.HostLeads.{CarriesOut, sent_bytes}
 use Rattle.ws_session.specs.host_end.HostSide.{host_orders}
-use Rattle.ws_session.specs.world.TwoLines.{IsGiven}
 use Rattle.ws_session.proofs.world.Betweens.{Sound}
 use Rattle.ws_session.proofs.world.Worlds.{sound}
 use Rattle.ws_session.specs.station.Stations.{IsKeyedOn}
@@ -172,6 +171,10 @@ other_send o ne h body = refl
 pub weaker_ok : {A E : Type 0} (r : Result A E) (P Q : A → Type 0) → ((a : A) → P a → Q a) → IfOk r P → IfOk r Q
 weaker_ok (Ok a) P Q f p = f a p
 weaker_ok (Err e) P Q f p = tt
+
+pub both_if_ok : {A E : Type 0} (r : Result A E) (P Q : A → Type 0) → IfOk r P → IfOk r Q → IfOk r (λ a. P a × Q a)
+both_if_ok (Ok a) P Q p q = (p, q)
+both_if_ok (Err e) P Q p q = tt
 
 -- What a key makes of a running session.
 

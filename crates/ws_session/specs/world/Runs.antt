@@ -1,6 +1,6 @@
 -- A session that runs, against the world of whole items.
 
-use Rattle.std.specs.Prelude.{◌≡◌, ℕ, List, take}
+use Rattle.std.specs.Prelude.{◌≡◌, ℕ, List, [], ◌∷◌, ◌++◌, take, Result, Ok, Err}
 use Rattle.std.specs.List.{AllByRecursion}
 use Rattle.ws_code.specs.Aid.{IsAid}
 use Rattle.ws_code.specs.Code.{Rules}
@@ -13,13 +13,18 @@ use Rattle.ws_stream.specs.AnswerParts.{answer_rules}
 use Rattle.ws_stream.specs.Elements.{element_rules}
 use Rattle.ws_stream.specs.declared.answer_part.AnswerPart.{AnswerPart}
 use Rattle.ws_stream.specs.declared.element.Element.{Element}
+use Rattle.ws_session.specs.declared.end_step.Sent.{Sent}
+use Rattle.ws_session.specs.declared.host_end.send_fault.SendFault.{SendFault}
+use Rattle.ws_session.specs.declared.host_end.send_fault.SendFault.TheVariants.{Memory as SendMemory}
 use Rattle.ws_session.specs.declared.world.Event.{Event}
+use Rattle.ws_session.specs.declared.world.Event.TheVariants.{SendRefused}
 use Rattle.ws_session.specs.declared.world.Move.{Move}
-use Rattle.ws_session.specs.host_end.HostLeads.{HostParts, HostLeads}
+use Rattle.ws_session.specs.host_end.HostLeads.{HostParts, HostLeads, sent_bytes}
 use Rattle.ws_session.specs.host_end.HostSide.{HostSide}
 use Rattle.ws_session.specs.station.StationSide.{StationSide}
 use Rattle.ws_session.specs.station.StationLeads.{StationParts, StationLeads}
 use Rattle.ws_record.specs.Arrived.{arrived}
+use Rattle.ws_session.specs.world.Wires.{AtEnd, at_end}
 use Rattle.ws_session.specs.world.World.{World, new_world, after_moves, down_bytes, up_bytes}
 
 -- What a running session keeps: both ends, all bytes that each has written, how many of them have arrived, and what
@@ -32,6 +37,22 @@ pub record WorldParts : Type 0 where
   pub up : List ℕ
   pub at_host : ℕ
   pub events : List Event
+
+-- the station's end of a running session
+abbrev pub at_station_end : WorldParts → AtEnd StationParts
+at_station_end w =
+    at_end w.station (record { bytes = w.down; at = w.at_station }) (record { bytes = w.up; at = w.at_host }) w.events
+
+-- the host's end of it
+abbrev pub at_host_end : WorldParts → AtEnd HostParts
+at_host_end w =
+    at_end w.host (record { bytes = w.up; at = w.at_host }) (record { bytes = w.down; at = w.at_station }) w.events
+
+-- what the host end has sent is in flight to the station, or it is told why nothing is
+abbrev pub IsGiven : WorldParts → Result Sent SendFault → WorldParts → Type 0
+IsGiven old (Ok sent) new = new ≡ record old { down = old.down ++ sent_bytes sent }
+IsGiven old (Err SendMemory) new = ⊥
+IsGiven old (Err fault) new = new ≡ record old { events = old.events ++ SendRefused fault ∷ [] }
 
 -- items that can be written
 abbrev pub AreWritable : {Place U : Type 0} → Rules Place U → List (Item U) → Type 0

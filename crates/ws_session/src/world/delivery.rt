@@ -1,11 +1,6 @@
 //! Bytes in flight that arrive at an end of a session.
-ghost use Rattle.std.specs.Prelude.{◌≡◌, ◌<◌, ◌≤◌, ◌+◌, ◌++◌, ◌∷◌, [], List as Seq, flat_map, Some, length, take, drop, IfErr, IfOk, OnOk};
-ghost use Rattle.ws_code.specs.Device.{on_devices};
+ghost use Rattle.std.specs.Prelude.{◌≡◌, ◌<◌, ◌≤◌, ◌++◌, ◌∷◌, [], flat_map, Some, length, take, IfErr, IfOk, OnOk};
 ghost use Rattle.ws_session.specs.Acts.{as_list};
-ghost use Rattle.ws_session.specs.world.BrokenOff.{IsDeliveryCut, CutsDelivery};
-ghost use Rattle.ws_session.specs.world.Carrying.{passage};
-ghost use Rattle.ws_session.specs.world.Crossings.{Crossing, HaveCrossed};
-ghost use Rattle.ws_session.specs.world.TwoLines.{AreDeliveredOver, hearing_of};
 ghost use Rattle.ws_session.specs.world.Wires.{HasCome, HasMemory, AreDelivered, Telling, at_end, host_telling, reported, station_telling};
 ghost use Rattle.ws_session.specs.declared.world.Event.TheVariants.{Host as HostEventOf};
 
@@ -13,11 +8,8 @@ use super::Event;
 use crate::end::End;
 use crate::end_step::{Applied, EndFed};
 use crate::world::wire::Wire;
-use crate::{HostEnd, HostEvent, Line, Refusal, Station, carry};
-use ws_code::{Fault, Reason, Sink, Source};
-
-// The most bytes that are written to a line before they are read.
-const PIECE: usize = 4096;
+use crate::{HostEnd, HostEvent, Refusal, Station};
+use ws_code::{Fault, Reason};
 
 // An end of a session, and what a report tells of it.
 pub(crate) trait Reported: End {
@@ -84,73 +76,6 @@ pub(crate) fn deliver<E: Reported>(
         left -= used;
     }
     Ok(())
-}
-
-// As `deliver`, but what comes goes over a line: in pieces of at most 4,096 bytes, each of which is written and read
-// before the next.
-pub(crate) fn deliver_over<E: Reported, S: Sink, R: Source>(
-    end: &mut E,
-    from: &mut Wire,
-    to: &mut Wire,
-    events: &mut Vec<Event>,
-    line: &mut Line<S, R>,
-    count: usize,
-) -> Result<(), Fault>
-    // What crossed, and what it led to.
-    ensures came { OnOk result ((crossings : Seq Crossing)
-        × HaveCrossed (on_devices S.writer R.reader) line.old crossings line.new
-        × AreDeliveredOver E.conduct E.telling
-        (at_end end.old from.old to.old events.old.items) count crossings
-        (at_end end.new from.new to.new events.new.items)) }
-    ensures early { IfErr result (CutsDelivery
-        (passage (on_devices S.writer R.reader) line.old line.new) E.conduct E.telling
-        (hearing_of (at_end end.old from.old to.old events.old.items)) count) }
-{
-    from.known();
-    let mut left = count;
-    while left > 0 {
-        let piece = left.min(PIECE).min(from.in_flight());
-        if piece == 0 {
-            return Ok(());
-        }
-        deliver_piece(end, from, to, events, line, piece)?;
-        left -= piece;
-    }
-    Ok(())
-}
-
-// So many of the bytes in flight go over the line. What is read takes their place, and comes to the end.
-fn deliver_piece<E: Reported, S: Sink, R: Source>(
-    end: &mut E,
-    from: &mut Wire,
-    to: &mut Wire,
-    events: &mut Vec<Event>,
-    line: &mut Line<S, R>,
-    piece: usize,
-) -> Result<(), Fault>
-    // A piece of what is in flight.
-    requires some { from.old.at + piece ≤ length from.old.bytes }
-    requires small { piece ≤ 4096 }
-    // What crossed, and what it led to; at a fault what had crossed before it.
-    ensures came { OnOk result ((crossing : Crossing)
-        × HaveCrossed (on_devices S.writer R.reader) line.old (crossing ∷ []) line.new
-        × AreDeliveredOver E.conduct E.telling
-        (at_end end.old from.old to.old events.old.items) piece (crossing ∷ [])
-        (at_end end.new from.new to.new events.new.items)) }
-    ensures early { IfErr result (IsDeliveryCut (on_devices S.writer R.reader)
-        (take piece (drop from.old.at from.old.bytes)) line.old line.new) }
-{
-    to.known();
-    let mut taken = [0u8; PIECE];
-    let read = &mut taken[..piece];
-    carry(
-        &from.waiting()[..piece],
-        &mut line.sink,
-        &mut line.source,
-        read,
-    )?;
-    from.write_over(read);
-    deliver(end, from, to, events, piece)
 }
 
 // Bytes of the piece come to the end, at least one, and this many. At an end that refuses one all others come to nothing.

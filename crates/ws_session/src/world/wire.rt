@@ -1,9 +1,12 @@
-ghost use Rattle.std.specs.Prelude.{[], ◌^◌, ◌≡◌, ◌<◌, ◌≤◌, ◌+◌, ◌++◌, length, drop, OnOk, IfErr};
-ghost use Rattle.ws_session.specs.world.Crossings.{with_piece_at};
+ghost use Rattle.std.specs.Prelude.{[], ◌^◌, ◌≡◌, ◌<◌, ◌≤◌, ◌+◌, ◌++◌, List as Seq, length, take, drop, OnOk, IfErr};
+ghost use Rattle.ws_code.specs.Device.{on_devices};
+ghost use Rattle.ws_session.specs.world.Carrying.{passage};
+ghost use Rattle.ws_session.specs.world.Crossings.{Crossing, HaveCrossed, IsStopped, all_read, all_sent, with_piece_at};
 
+use crate::Line;
 use std::alloc::Global;
 use std::marker::Model;
-use ws_code::Fault;
+use ws_code::{Fault, Sink, Source};
 
 /// What one end of a session writes for the other, and how much of it has arrived.
 #[derive(Drop)]
@@ -52,7 +55,6 @@ impl Wire {
 
     // Has no effect, and tells what is so of every wire.
     pub(crate) fn known(&self)
-        ensures arrived { self.now.at ≤ length self.now.bytes }
         ensures few { length self.now.bytes + 1 < 2 ^ 64 }
     {
         let _at = self.at;
@@ -82,14 +84,23 @@ impl Wire {
         self.at += count;
     }
 
-    // Puts a piece in the place of as many bytes in flight.
-    pub(crate) fn write_over(&mut self, piece: &[u8])
-        requires some { self.old.at + length piece.now ≤ length self.old.bytes }
-        ensures { self.new ≡ record self.old {
-          bytes = with_piece_at self.old.bytes self.old.at piece.now;
-        } }
+    // So many of the bytes in flight, or all where there are fewer, go over a line. What is read takes their place.
+    pub(crate) fn cross<S: Sink, R: Source>(
+        &mut self,
+        line: &mut Line<S, R>,
+        count: usize,
+    ) -> Result<(), Fault>
+        ensures crossed { OnOk result ((crossings : Seq Crossing)
+            × HaveCrossed (on_devices S.writer R.reader) line.old crossings line.new
+            × (all_sent crossings ≡ take count (drop self.old.at self.old.bytes))
+            × (self.new ≡ record self.old {
+              bytes = with_piece_at self.old.bytes self.old.at (all_read crossings);
+            })) }
+        ensures fault { IfErr result (IsStopped
+            (passage (on_devices S.writer R.reader) line.old line.new)) }
     {
         let at = self.at;
-        self.bytes[at..at + piece.len()].copy_from_slice(piece);
+        let end = at + count.min(self.in_flight());
+        line.cross(&mut self.bytes[at..end])
     }
 }

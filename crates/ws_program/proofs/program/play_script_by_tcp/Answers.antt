@@ -1,10 +1,9 @@
 use Rattle.std.proofs.Common.{inl, inr, refl, ap, ◌∙◌}
 use Rattle.std.proofs.lemmas.Result.{err_from_is_err_and}
 use Rattle.ws_live.specs.asked.RunFaults.{run_fault}
-use Rattle.ws_live.specs.printing.PlayLines.{no_end_refuses}
 use Rattle.ws_live.specs.declared.asked.fault.RunFault.TheVariants.{Write}
-use Rattle.ws_program.specs.Answering.{play_tcp_action}
-use Rattle.ws_program.proofs.Plays.{carried_err, carried_moves, unconnected, unread_tcp_script}
+use Rattle.ws_program.specs.Answering.{SpellsMoves, play_tcp_action}
+use Rattle.ws_program.proofs.Plays.{carried_err, unconnected, unread_tcp_script}
 use Rattle.ws_program.proofs.program.play_script_by_tcp.Goals as goal
 
 pub returns-in_err-moves : goal.returns-in_err-moves
@@ -26,25 +25,11 @@ returns-in_err-report g c =
 pub returns : goal.returns
 returns g c =
     let printed = c.in_ok-play_painted_to.ensures.printed in
-    let ran = c.in_ok-report.ensures in
+    let report = c.in_ok-report.report in
+    let script : SpellsMoves c.args.script.now = (c.in_ok-moves.moves.items, c.in_ok-moves.ensures.moves) in
     inr (
       printed.0,
-      (
-        c.in_ok-moves.moves.items,
-        c.in_ok-moves.ensures.moves,
-        (
-          _,
-          record {
-            downs = ran.0;
-            ups = ran.1;
-            now = _;
-            ran = carried_moves c.as_slice.result.now _ _ _ _ c.as_slice.ensures.value ran.2;
-            told = printed.1;
-            well = printed.3;
-          },
-          refl,
-        ),
-      ),
+      (script, report.events, report.station.reacts.screen.screen, printed.1, rw printed.3 refl),
       printed.2,
     )
 
@@ -52,33 +37,12 @@ pub returns-in_err-play_painted_to : goal.returns-in_err-play_painted_to
 returns-in_err-play_painted_to g c =
     let p = err_from_is_err_and c.from_residual-in_err-play_painted_to.result
     c.from_residual-in_err-play_painted_to.ensures.1 in
-    let report = c.in_ok-report.report in
-    let ran = c.in_ok-report.ensures in
     let e = c.in_err-play_painted_to.ensures.fault in
+    let report = c.in_ok-report.report in
+    let script : SpellsMoves c.args.script.now = (c.in_ok-moves.moves.items, c.in_ok-moves.ensures.moves) in
     carried_err g.S.Sink.writer c.args.sink.now c.play_painted_to.new.sink
     (play_tcp_action c.args.paint c.args.screen c.args.script.now) _ _ Write p.1 (p.2 ∙ ap run_fault e.0) (inr (inr (
       e.1.0,
-      (
-        refl,
-        (
-          _,
-          (
-            c.in_ok-moves.moves.items,
-            c.in_ok-moves.ensures.moves,
-            (
-              no_end_refuses report.events,
-              record {
-                downs = ran.0;
-                ups = ran.1;
-                now = _;
-                ran = carried_moves c.as_slice.result.now _ _ _ _ c.as_slice.ensures.value ran.2;
-                told = e.1.1;
-                well = refl;
-              },
-              refl,
-            ),
-          ),
-        ),
-      ),
+      (refl, (_, (script, report.events, report.station.reacts.screen.screen, e.1.1, refl))),
       e.1.2,
     )))
