@@ -4,18 +4,25 @@ import struct
 IAC, EOR, SB, SE = 0xFF, 0xEF, 0xFA, 0xF0
 WILL, DO = 0xFB, 0xFD
 BINARY, TERMINAL, END_OF_RECORD = 0, 24, 25
-NAME = b"IBM-3179-2"
 OPENING = bytes([IAC, DO, TERMINAL])
 SEND_NAME = bytes([IAC, SB, TERMINAL, 1, IAC, SE])
-# What a host asks and offers behind that, and the answers.
+
+
+# End of record and binary both ways, and the answers.
 OPTIONS = [(bytes([IAC, verb, option]), bytes([IAC, answer, option]))
            for option in (END_OF_RECORD, BINARY) for verb, answer in ((DO, WILL), (WILL, DO))]
-# All that a host sends until records are allowed.
-ALL_ASKED = OPENING + SEND_NAME + b"".join(asked for asked, _ in OPTIONS)
 
 
-def is_name(name: bytes = NAME) -> bytes:
+def is_name(name: bytes = b"IBM-3179-2") -> bytes:
     return bytes([IAC, SB, TERMINAL, 0]) + name + bytes([IAC, SE])
+
+
+def negotiation(name: bytes = b"IBM-3179-2") -> list[tuple[bytes, bytes]]:
+    """What a host asks and offers until records are allowed (RFC 1205 and 4777), each with its station's answer."""
+    return [(OPENING, bytes([IAC, WILL, TERMINAL])), (SEND_NAME, is_name(name)), *OPTIONS]
+
+
+ASKED, ANSWERED = (b"".join(tokens) for tokens in zip(*negotiation()))
 
 
 def record(body: bytes | str = b"", opcode: int = 3, flags: int = 0) -> bytes:

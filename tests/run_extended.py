@@ -162,9 +162,9 @@ def play_host(line):
     answers = iter(ANSWERS)
     for step in STEPS:
         for opcode, body in step:
-            line.send(record(opcode, IMAGE if body is None else bytes.fromhex(body)))
+            line.send(record(IMAGE if body is None else bytes.fromhex(body), opcode))
         opcode, body = next(answers)
-        line.take(record(opcode, body), f"answer behind {step[-1][1]}")
+        line.take(record(body, opcode), f"answer behind {step[-1][1]}")
 
 
 def run_session(folder):
@@ -192,7 +192,7 @@ def lines_of_station():
     lengths = [3, len(NAME), 3, 3, 3, 3]
     heads = [f"telnet {line}" for line in TELNET_LINES]
     for opcode, body in ANSWERS:
-        lengths.append(len(record(opcode, body)))
+        lengths.append(len(record(body, opcode)))
         heads.append(f"record flags 0000 opcode {opcode}")
     text = ""
     for index, (head, more) in enumerate(zip(heads, [[]] * len(TELNET_LINES) + ANSWER_LINES)):

@@ -134,7 +134,7 @@ def a_return_more_in_an_element_s_line():
         serve, side = served(text % ending)
         serve.process.stdin.close()
         if number is None:
-            side.take(record(3, CLEAR))
+            side.take(record(CLEAR))
             side.stream.close()
             serve.process.stdin = None
             serve.end(0, READY)
@@ -153,7 +153,7 @@ def a_return_more_in_an_element_s_line():
 def a_line_that_is_not_utf_8_behind_a_good_block():
     for words, ready in ((), READY), (["--any"], "terminal IBM-3179-2\n"):
         serve, side = served(b"send 3\n  CLEAR-UNIT\n\xff\n", words)
-        side.take(record(3, CLEAR))
+        side.take(record(CLEAR))
         serve.end(2, ready, "script line 4: not UTF-8\n")
         side.stream.close()
     # Within the block it is the block's, and nothing is sent.
@@ -177,7 +177,7 @@ def the_end_in_order_behind_a_bad_line():
 
     def play(side):
         side.negotiate_as_host()
-        side.send(record(2, CLEAR) * 50)
+        side.send(record(CLEAR, 2) * 50)
         go_on(side)
     host = Host(play)
     run = Run(["connect", "--wait", "5", "127.0.0.1:%d" % host.port], b"await record\nnonsense\n")
@@ -196,7 +196,7 @@ def the_end_in_order_behind_a_bad_line():
 @test
 def a_write_in_a_wait_has_the_time_of_the_wait():
     # Each of these asks for a picture of the screen, of which the line is full soon.
-    asks = record(4, bytes.fromhex("0402")) * 2000
+    asks = record(bytes.fromhex("0402"), 4) * 2000
     over = threading.Event()
 
     def play(side):
@@ -298,7 +298,7 @@ def a_recording_of_connect():
         seen["side"] = side
         side.negotiate_as_host()
         time.sleep(0.3)
-        side.send(record(3, FORM))
+        side.send(record(FORM))
         while piece := side.stream.recv(4096):
             side.note(piece)
     with tempfile.TemporaryDirectory() as folder:
@@ -333,7 +333,7 @@ def a_recording_of_serve():
         with tempfile.TemporaryDirectory() as folder:
             name = os.path.join(folder, "session.rec")
             serve, side = served(b"send 2 0440\n", ["--record", name] + words)
-            side.take(record(2, CLEAR))
+            side.take(record(CLEAR, 2))
             side.stream.shutdown(socket.SHUT_WR)
             serve.end(0, told)
             by_host, by_station, _ = read_recording(name)

@@ -144,7 +144,7 @@ class Plan:
                 self.step()
         if not self.is_silent and self.chance.one_in(4):
             if self.chance.one_in(3):
-                self.sends(record(3, b"\x04\x40")[:self.random.randrange(1, 14)])
+                self.sends(record(b"\x04\x40")[:self.random.randrange(1, 14)])
             self.closes()
             for _ in self.chance.some(1, 4):
                 self.line(self.any_line())
