@@ -4,6 +4,7 @@ from __future__ import annotations
 import os
 import pathlib
 import subprocess
+import sys
 import tempfile
 import threading
 from collections.abc import Callable
@@ -11,11 +12,12 @@ from collections.abc import Callable
 from ribbonscarp import Host, Station
 
 TOP = pathlib.Path(__file__).resolve().parents[2]
+sys.path.append(str(TOP / "tests"))
+
+from records import ASKED as ASKED, record as record  # noqa: E402
+
 PROGRAM = os.environ.get("T5250", str(TOP / "crates/t5250/out/t5250"))
 EXAMPLES = TOP / "examples"
-
-# What a host sends until records are allowed (RFC 1205, section 2).
-OPENING = bytes.fromhex("FFFD18 FFFA1801FFF0 FFFD19 FFFB19 FFFD00 FFFB00")
 
 # Clear Unit, Write to Display that unlocks, a field of ten cells at 6 53, and Read MDT Fields.
 FORM = bytes.fromhex("0440 04110008 110634 1D400020000A 04520000")
@@ -29,16 +31,10 @@ SIGN_ON = bytes.fromhex(
 PAST_END = bytes.fromhex("04110008 111850 C1C1")
 
 
-def record(body: bytes, opcode: int = 3) -> bytes:
-    """A record as it goes over the line (RFC 1205, section 3; RFC 885)."""
-    head = (10 + len(body)).to_bytes(2, "big") + bytes.fromhex("12A0 0000 04 0000") + bytes([opcode])
-    return (head + body).replace(b"\xff", b"\xff\xff") + b"\xff\xef"
-
-
 def ready_station(*bodies: bytes) -> Station:
     """A station to which records may be sent, and which has taken some."""
     station = Station()
-    station.push(OPENING)
+    station.push(ASKED)
     for body in bodies:
         station.push(record(body))
     return station

@@ -3,7 +3,7 @@ from model import told_at_once
 from model.keys import AIDS, Keys
 from model.keys import Refused as KeyRefused
 from model.options import Station
-from live.records import record
+from records import record
 from model.screen import COLUMNS, Faulty, Screen
 from model.wire import Record, Refused, Stream, elements, extended_elements
 

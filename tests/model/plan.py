@@ -6,7 +6,7 @@ all that has come: that stands only where all is taken, and what comes next wait
 """
 import random
 
-from live.records import record
+from records import record
 from model.bodies import Chance
 from model.connect import Over
 

@@ -1,5 +1,5 @@
 """What `t5250 serve` does: what it prints and sends, its status, by docs/PROFILE.md, "A session", "Live sessions"."""
-from live.records import record
+from records import record
 from model.connect import Over
 from model.options import Host, UnsupportedTerminal
 from model.screen import COLUMNS, character, Faulty, Screen

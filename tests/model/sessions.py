@@ -1,5 +1,5 @@
 """Random sessions of a station at a host, and of a host for one station."""
-from live.records import record
+from records import record
 from model.bodies import NAMES, OFTEN, TEXTS, is_body, words_of
 from model.connect import Connect
 from model.keys import AIDS

@@ -1,6 +1,6 @@
 """What a station tells a live host at once, by docs/PROFILE.md, "What is sent at once"."""
 from model.keys import answer_data
-from live.records import record
+from records import record
 from model.screen import COLUMNS
 
 ASKED = {"QUERY", "SAVE-SCREEN", "READ-SCREEN", "READ-IMMEDIATE", "READ-IMMEDIATE-ALTERNATE"}
