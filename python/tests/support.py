@@ -8,6 +8,7 @@ import sys
 import tempfile
 import threading
 from collections.abc import Callable
+from concurrent.futures import Future
 
 from ribbonscarp import Host, Station
 
@@ -102,24 +103,19 @@ def run_connect(port: int, script: str, *words: str) -> subprocess.Popen[str]:
     return process
 
 
-class Beside(threading.Thread):
+class Beside(Future[None]):
     """Something that runs on a thread of its own; `finish` raises what it raised."""
 
     def __init__(self, work: Callable[[], None]) -> None:
-        super().__init__(daemon=True)
-        self.work = work
-        self.error: BaseException | None = None
-        self.start()
+        super().__init__()
+        threading.Thread(target=self.run, args=(work,), daemon=True).start()
 
-    def run(self) -> None:
+    def run(self, work: Callable[[], None]) -> None:
         try:
-            self.work()
+            work()
+            self.set_result(None)
         except BaseException as error:
-            self.error = error
+            self.set_exception(error)
 
     def finish(self) -> None:
-        self.join(20)
-        if self.is_alive():
-            raise AssertionError("it doesn't end")
-        if self.error is not None:
-            raise self.error
+        self.result(20)
