@@ -66,4 +66,4 @@ def main(folder=None, warnings="ignore"):
         print(f"left out: {test.id()}, since {why}")
     failed = len(result.failures) + len(result.errors) + len(result.unexpectedSuccesses)
     print(f"{result.passed} passed, {failed} failed")
-    sys.exit(failed > 0)
+    sys.exit(failed > 0 or result.testsRun == 0)
