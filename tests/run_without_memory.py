@@ -14,6 +14,7 @@ import subprocess
 import unittest
 
 from counted import PROGRAM, TOP, Test, main
+from program.runs import files
 
 TEST_PROGRAM = str(TOP / "crates/rows_program/out/rows_program_tests")
 COMPILER = os.environ.get("CC", "cc")
@@ -122,7 +123,7 @@ class TestWithoutMemory(Test):
 
     def look_at_program(self, words, text):
         """It ends as it does with memory, or tells of its want after a part of its text; what is told as faults."""
-        words, faults = [PROGRAM, *self.files(words)], []
+        words, faults = [PROGRAM, *files(words, self.folder)], []
         plain = self.run_refused(words, text, "0")
         for what, done in self.each(words, text):
             same = (done.returncode, done.stdout, done.stderr) == (plain.returncode, plain.stdout, plain.stderr)
@@ -130,16 +131,6 @@ class TestWithoutMemory(Test):
             self.count(what, same or wanting)
             faults.append(done.stderr)
         return faults
-
-    def files(self, words):
-        for number, word in enumerate(words):
-            if word.startswith("@"):
-                path = os.path.join(self.folder, f"text{number}")
-                with open(path, "w") as file:
-                    file.write(word[1:])
-                yield path
-            else:
-                yield word
 
     def test_program(self):
         for words, text in RUNS:
