@@ -88,14 +88,12 @@ class Host:
     """A listening socket, at which a function plays the host in a thread of its own."""
 
     def __init__(self, play, address="127.0.0.1", port=0, narrow=False):
-        self.listener = socket.socket(socket.AF_INET6 if ":" in address else socket.AF_INET)
-        self.listener.setsockopt(socket.SOL_SOCKET, socket.SO_REUSEADDR, 1)
+        family = socket.AF_INET6 if ":" in address else socket.AF_INET
+        self.listener = socket.create_server((address, port), family=family)
         if narrow:
             # Little is under way then before a write has to wait.
             self.listener.setsockopt(socket.SOL_SOCKET, socket.SO_RCVBUF, 4096)
             self.listener.setsockopt(socket.IPPROTO_TCP, socket.TCP_MAXSEG, 536)
-        self.listener.bind((address, port))
-        self.listener.listen(5)
         self.port = self.listener.getsockname()[1]
         self.fault = None
         self.thread = threading.Thread(target=self.run, args=(play,), daemon=True)

@@ -6,8 +6,6 @@ WILL, DO = 0xFB, 0xFD
 BINARY, TERMINAL, END_OF_RECORD = 0, 24, 25
 OPENING = bytes([IAC, DO, TERMINAL])
 SEND_NAME = bytes([IAC, SB, TERMINAL, 1, IAC, SE])
-
-
 # End of record and binary both ways, and the answers.
 OPTIONS = [(bytes([IAC, verb, option]), bytes([IAC, answer, option]))
            for option in (END_OF_RECORD, BINARY) for verb, answer in ((DO, WILL), (WILL, DO))]
