@@ -46,8 +46,8 @@ class Session:
 
     def run(self):
         """Starts the program and the other side, and sees to it that both end."""
-        is_asked, lines = self.plan.form == "asked", "".join(line + "\n" for line in self.plan.script())
-        given = {"script": lines} if self.plan.form == "file" else {"text": "" if is_asked else lines, "keep_open": is_asked}
+        lines = "".join(line + "\n" for line in self.plan.script())
+        given = {"file": {"script": lines}, "asked": {"text": "", "keep_open": True}}.get(self.plan.form, {"text": lines})
         if isinstance(self.plan, ConnectPlan):
             host = Host(self.peer.play)
             run = Run([*self.plan.words(), f"127.0.0.1:{host.port}"], **given)

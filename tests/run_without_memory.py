@@ -108,7 +108,7 @@ class TestWithoutMemory(Test):
             if done is None:
                 print(f"{' '.join(map(os.path.basename, words))}: {number - 1} allocations refused")
                 return
-            yield f"{words[1:]} with {number} refused {done.returncode}, {done.stdout!r:.200}, {done.stderr!r:.300}", done
+            yield f"{words[1:]}, {number} refused: {done.returncode}, {done.stdout!r:.200}, {done.stderr!r:.300}", done
         self.fail(f"{words} takes memory {MOST} times")
 
     def test_within_memory(self):
