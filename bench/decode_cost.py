@@ -31,6 +31,10 @@ import sys
 import tempfile
 
 HERE = os.path.dirname(os.path.abspath(__file__))
+sys.path.insert(0, os.path.join(HERE, "..", "tests"))
+
+from records import ASKED, record  # noqa: E402
+
 CRATES = os.path.join(HERE, "..", "crates")
 PROGRAM = os.path.join(CRATES, "t5250", "out", "t5250")
 CUTS = {"whole": [], "--cut 1": ["--cut", "1"]}
@@ -38,12 +42,6 @@ END_OF_RECORD = b"\xff\xef"
 
 
 # ---- Streams ----
-
-
-def record(body, opcode=3, flags=0):
-    """A record with its end, each FF doubled."""
-    whole = (10 + len(body)).to_bytes(2, "big") + b"\x12\xa0\0\0\x04" + flags.to_bytes(2, "big") + bytes([opcode]) + body
-    return whole.replace(b"\xff", b"\xff\xff") + END_OF_RECORD
 
 
 def small_records(_):
@@ -405,16 +403,13 @@ def compare_kept(programs, folder, size, runs, counts):
         stream.print_costs(programs, [], runs, counts)
 
 
-# What a host sends until records are allowed.
-OPENING = "FFFD18FFFA1801FFF0FFFD19FFFB19FFFD00FFFB00\n"
-
-
 def compare_fed(feeder, plain, folder, size, runs, counts):
     """What `Receiver::feed` costs beside the plain decoder, `Station::feed` beside that, and an extended station's."""
     receiver, station, extended = [feeder], [feeder, "station"], [feeder, "extended", "station"]
+    opening = ASKED.hex() + "\n"
     for title, programs, begin in (("Receiver::feed", [receiver, [plain]], ""),
-                                   ("Station::feed", [station, receiver], OPENING),
-                                   ("ExtendedStation::feed", [extended, station], OPENING)):
+                                   ("Station::feed", [station, receiver], opening),
+                                   ("ExtendedStation::feed", [extended, station], opening)):
         print_columns(title, counts)
         for name, parts_of in FED.items():
             stream = Stream(folder, parts_of(random.Random(1205)), size, begin)

@@ -21,15 +21,10 @@ import time
 TOP = pathlib.Path(__file__).resolve().parent.parent
 sys.path.insert(0, str(TOP / "tests"))
 
-from live.records import IS_NAME, OPENING, SEND_NAME, record  # noqa: E402
+from records import ANSWERED, ASKED, record  # noqa: E402
 
 BUILT = TOP / "crates/t5250/out/t5250"
 TURNS, ROUNDS = 40, 100
-# What either side of the negotiation says (RFC 854, 885, 1091; RFC 1205, section 2).
-OPTIONS_OF_HOST = bytes.fromhex("FFFD19 FFFB19 FFFD00 FFFB00")
-OPTIONS_OF_STATION = bytes.fromhex("FFFB19 FFFD19 FFFB00 FFFD00")
-HOST_SAYS = OPENING + SEND_NAME + OPTIONS_OF_HOST
-STATION_SAYS = bytes.fromhex("FFFB18") + IS_NAME + OPTIONS_OF_STATION
 
 # A form clears the screen, puts a field on it and asks for it; the rows are a whole screen of text.
 SCREENS = {
@@ -152,18 +147,18 @@ def beside_echo(echo, ours, told, printed, asked, reply):
 
 
 def connect_ratios(program, echo, name):
-    screen, sent = record(3, SCREENS[name]), record(3, CURSORS[name] + b"\xf1")
+    screen, sent = record(SCREENS[name]), record(CURSORS[name] + b"\xf1")
     with socket.create_server(("127.0.0.1", 0)) as listening:
         words = [program, "connect", "--ready", f"127.0.0.1:{listening.getsockname()[1]}"]
-        ours = Piped(words, accept, listening, HOST_SAYS + screen, len(STATION_SAYS), len(sent), screen)
+        ours = Piped(words, accept, listening, ASKED + screen, len(ANSWERED), len(sent), screen)
         ours.round(b"await\n", len("ok\n"))
         return beside_echo(echo, ours, b"key Enter\nawait\n", b"ok\nok\n", len(sent), screen)
 
 
 def serve_ratios(program, echo, name):
-    screen, reply = record(3, SCREENS[name]), record(3, CURSORS[name] + b"\xf1")
+    screen, reply = record(SCREENS[name]), record(CURSORS[name] + b"\xf1")
     words = [program, "serve", "--ready", "127.0.0.1:0"]
-    ours = Piped(words, dial, STATION_SAYS, len(HOST_SAYS), len(screen), reply)
+    ours = Piped(words, dial, ANSWERED, len(ASKED), len(screen), reply)
     ours.round(b"await\n", len("host ready IBM-3179-2\nok\n"))
     told = f"send 3 {SCREENS[name].hex().upper()}\nawait\n".encode()
     row, column = CURSORS[name]

@@ -13,21 +13,16 @@ import subprocess
 import sys
 import threading
 
-PROGRAM = os.path.join(os.path.dirname(__file__), "..", "crates", "t5250", "out", "t5250")
-# DO TERMINAL-TYPE and SEND; DO and WILL END-OF-RECORD; DO and WILL BINARY.
-OPENING = bytes.fromhex("FFFD18 FFFA1801FFF0 FFFD19 FFFB19 FFFD00 FFFB00")
+TOP = os.path.join(os.path.dirname(os.path.abspath(__file__)), "..")
+PROGRAM = os.path.join(TOP, "crates", "t5250", "out", "t5250")
+sys.path.insert(0, os.path.join(TOP, "tests"))
 
-
-def record(body):
-    """A record of opcode 2 (Output Only) with its end, each FF doubled."""
-    whole = (10 + len(body)).to_bytes(2, "big") + bytes.fromhex("12A00000040000") + b"\x02" + body
-    return whole.replace(b"\xff", b"\xff\xff") + b"\xff\xef"
-
+from records import ASKED, record  # noqa: E402
 
 # A form clears the screen, puts a field on it and asks for it; the rows are a whole screen of text.
 STREAMS = {
-    "small forms": (record(bytes.fromhex("0440 04110000 110634 1D400020000A 04520000")), 500, 5_500),
-    "rows of text": (record(bytes.fromhex("04110000 110101") + bytes([0xC1, 0xC2, 0x40, 0xD5]) * 437), 10, 110),
+    "small forms": (record("0440 04110000 110634 1D400020000A 04520000", 2), 500, 5_500),
+    "rows of text": (record("04110000 110101" + "C1C240D5" * 437, 2), 10, 110),
 }
 
 
@@ -35,7 +30,7 @@ def serve(listening, stream):
     """Sends a session, reads what comes back, and closes."""
     line, _ = listening.accept()
     with line:
-        line.sendall(OPENING)
+        line.sendall(ASKED)
         reader = threading.Thread(target=lambda: [None for _ in iter(lambda: line.recv(65_536), b"")], daemon=True)
         reader.start()
         line.sendall(stream)

@@ -18,10 +18,12 @@ import threading
 import time
 
 TOP = pathlib.Path(__file__).resolve().parent.parent
-sys.path.insert(0, str(TOP / "python"))
+sys.path[:0] = [str(TOP / "python"), str(TOP / "tests")]
+
+from records import ASKED  # noqa: E402
+
 LIBRARY = "RIBBONSCARP_LIBRARY"
 SESSIONS, PAGES, TRIPS, WAIT = 500, 3, 5000, 60
-OPENING = bytes.fromhex("FFFD18 FFFA1801FFF0 FFFD19 FFFB19 FFFD00 FFFB00")
 
 
 def page(number):
@@ -42,7 +44,7 @@ def serve():
     class Host(asyncio.Protocol):
         def connection_made(self, transport):
             self.transport, self.answers, self.last = transport, 0, b""
-            transport.write(OPENING + pages[0])
+            transport.write(ASKED + pages[0])
 
         def data_received(self, data):
             for _ in range((self.last + data).count(b"\xff\xef")):

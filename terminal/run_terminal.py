@@ -15,7 +15,8 @@ import time
 import traceback
 
 sys.dont_write_bytecode = True
-sys.path.insert(0, str(pathlib.Path(__file__).resolve().parent / "tests"))
+HERE = pathlib.Path(__file__).resolve().parent
+sys.path[:0] = [str(HERE / "tests"), str(HERE.parent / "tests")]
 import connecting
 import desk
 import faults

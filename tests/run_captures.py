@@ -1,26 +1,21 @@
 #!/usr/bin/env python3
 """Runs examples/from_capture.sh on packet captures that it makes, and looks at the two sides that it writes.
 
-Call it from anywhere: `python3 tests/run_captures.py`. It needs tshark, and says so where there is none. It tells of each
-capture that went otherwise. Its last line counts the captures, and its own status is 1 where one went otherwise.
+Call it from anywhere: `python3 tests/run_captures.py [NAME..]`. It needs tshark, and says so where there is none. Its last
+line counts the captures, and its own status is 1 where one went otherwise.
 """
 import os
 import shutil
 import subprocess
-import sys
-import tempfile
+import unittest
 
-from packets import SYN, ACK, Session, write_capture
+from counted import TOP, Test, main
+from packets import ACK, SYN, Session, write_capture
+from records import ANSWERED, ASKED, negotiation, record
 
-SCRIPT = os.path.abspath(os.path.join(os.path.dirname(__file__), "..", "examples", "from_capture.sh"))
-
-DO, WILL = bytes.fromhex("FFFD18"), bytes.fromhex("FFFB18")
-SEND = bytes.fromhex("FFFA1801FFF0")
-INVITE = bytes.fromhex("000A12A00000040000 01 FFEF")
-ANSWER = bytes.fromhex("000D12A00000040000 03 110531 FFEF")
-# All that both ends negotiate, which tshark has to see before it knows records.
-NAME = bytes.fromhex("FFFA1800") + b"IBM-3179-2" + bytes.fromhex("FFF0")
-ASKED, GRANTED = bytes.fromhex("FFFD19FFFB19FFFD00FFFB00"), bytes.fromhex("FFFB19FFFD19FFFB00FFFD00")
+SCRIPT = str(TOP / "examples/from_capture.sh")
+(DO, WILL), (SEND, _), *_ = negotiation()
+INVITE, ANSWER = record(opcode=1), record("110531")
 
 
 def out_of_order():
@@ -45,7 +40,10 @@ def sign_on(session):
 
 
 def negotiated(session):
-    return session.host(DO).station(WILL).host(SEND).station(NAME).host(ASKED).station(GRANTED).host(INVITE)
+    """All that both ends negotiate, which tshark has to see before it knows records."""
+    for asked, answer in negotiation():
+        session.host(asked).station(answer)
+    return session.host(INVITE)
 
 
 # A capture, the words behind it, and what is wanted: the two sides, and the status.
@@ -73,53 +71,38 @@ CAPTURES = {
     ),
     "by a stream's number": (two_sessions(web(), sign_on(Session().open())), ["1"], DO + SEND + INVITE, WILL + ANSWER, 0),
     "by its records": (
-        two_sessions(web(), negotiated(Session().open())), [], DO + SEND + ASKED + INVITE, WILL + NAME + GRANTED, 0
+        two_sessions(web(), negotiated(Session().open())), [], ASKED + INVITE, ANSWERED, 0
     ),
     "without records": (Session().open().host(DO).station(WILL), [], DO, WILL, 0),
 }
 
 
-def wrong_uses(folder):
-    capture = os.path.join(folder, "capture.pcap")
-    nothing = os.path.join(folder, "nothing.pcap")
-    write_capture(capture, Session().open().packets)
-    write_capture(nothing, [])
-    return [], [capture, "0", "0"], ["no such file"], [SCRIPT], [nothing], [capture, "1"], [capture, "first"]
+@unittest.skipUnless(shutil.which("tshark"), "tshark isn't there")
+class TestCaptures(Test):
+    def run_script(self, *words):
+        done = subprocess.run(["bash", SCRIPT, *words], cwd=self.folder, capture_output=True, text=True, timeout=120)
+        return done.returncode, done.stdout, done.stderr
 
+    def capture(self, packets):
+        name = os.path.join(self.folder, f"{len(packets)}.pcap")
+        write_capture(name, packets)
+        return name
 
-def run(words, folder):
-    done = subprocess.run(["bash", SCRIPT, *words], cwd=folder, capture_output=True, text=True, timeout=120)
-    return done.returncode, done.stdout, done.stderr
+    def side(self, name):
+        with open(os.path.join(self.folder, name)) as file:
+            return bytes.fromhex(file.read())
 
+    def test_captures(self):
+        for name, (session, words, *wanted) in CAPTURES.items():
+            status, said, fault = self.run_script(self.capture(session.packets), *words)
+            found = [self.side("host.hex"), self.side("station.hex"), status]
+            self.count(f"{name}: {said}, {fault}, {found}", found == wanted and fault == "")
 
-def side(folder, name):
-    with open(os.path.join(folder, name)) as file:
-        return bytes.fromhex(file.read())
-
-
-def main():
-    if shutil.which("tshark") is None:
-        print("left out: captures, since there is no tshark\n0 passed, 0 failed")
-        return
-    passed = failed = 0
-    with tempfile.TemporaryDirectory() as folder:
-        capture = os.path.join(folder, "capture.pcap")
-        for name, (session, words, host, station, status) in CAPTURES.items():
-            write_capture(capture, session.packets)
-            done = run([capture, *words], folder)
-            found = side(folder, "host.hex"), side(folder, "station.hex"), done[0]
-            right = found == (host, station, status) and done[2] == ""
-            if not right:
-                print(f"{name}: {done}, {found}")
-            passed, failed = passed + right, failed + (not right)
-        for words in wrong_uses(folder):
-            done = run(words, folder)
-            right = done[0] == 2 and done[1] == "" and done[2].count("\n") == 1
-            if not right:
-                print(f"{words}: {done}")
-            passed, failed = passed + right, failed + (not right)
-    print(f"{passed} passed, {failed} failed")
-    sys.exit(1 if failed else 0)
+    def test_wrong_uses(self):
+        good, nothing = self.capture(Session().open().packets), self.capture([])
+        for words in [], [good, "0", "0"], ["no such file"], [SCRIPT], [nothing], [good, "1"], [good, "first"]:
+            status, said, fault = self.run_script(*words)
+            self.count(f"{words}: {status}, {said}, {fault}", (status, said, fault.count("\n")) == (2, "", 1))
 
 
 main()

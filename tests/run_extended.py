@@ -9,27 +9,19 @@ where there is none. What `check` and `show --answers --extended` print of the s
 `make` gives its bytes back.
 
 Build the program first (`cd crates/t5250 && rt run -- check < stdin`), then call `python3 tests/run_extended.py` from
-anywhere; another program may be named behind it. The last line tells how many passed and how many failed, and the status
-is 1 where one failed.
+anywhere, or name one with a slash. The last line tells how many passed and how many failed, and the status is 1 where one
+failed.
 """
 import os
 import shutil
-import socket
 import subprocess
-import sys
-import tempfile
 import xml.etree.ElementTree
 
-from live.lines import Side
-from live.program import BUILT, Failure, expect
-from live.records import record
+from counted import PROGRAM, Test, main
+from live.lines import at_host
 from packets import Session, write_capture
-
-PROGRAM = os.path.abspath(sys.argv[1]) if len(sys.argv) > 1 else BUILT
-
-ASKED = bytes.fromhex("FFFD18"), bytes.fromhex("FFFA1801FFF0"), bytes.fromhex("FFFD19FFFB19FFFD00FFFB00")
-NAME = bytes.fromhex("FFFA1800") + b"IBM-3179-2" + bytes.fromhex("FFF0")
-GRANTED = bytes.fromhex("FFFB18"), NAME, bytes.fromhex("FFFB19FFFD19FFFB00FFFD00")
+from peers import Side, expect, negotiate_as_host
+from records import is_name, record
 
 NO_OPERATION, OUTPUT, PUT_GET, SAVE, RESTORE = 0, 2, 3, 4, 5
 QUERY = "04F30005D97000"
@@ -140,59 +132,32 @@ class Line(Side):
 
     def __init__(self, stream):
         super().__init__(stream, 30)
-        self.taken = b""
         self.seen = Session().open()
 
     def send(self, data, pieces=0):
         self.seen.host(data)
         super().send(data, pieces)
 
-    def get(self, length):
-        got = super().get(length)
-        self.seen.station(got)
-        self.taken += got
-        return got
+    def read(self):
+        piece = super().read()
+        self.seen.station(piece)
+        return piece
 
-
-def play_host(line):
-    """Negotiates, and sends what live hosts send; each answer is compared."""
-    for asked, granted in zip(ASKED, GRANTED):
-        line.send(asked)
-        line.take(granted, "negotiation")
-    answers = iter(ANSWERS)
-    for step in STEPS:
-        for opcode, body in step:
-            line.send(record(opcode, IMAGE if body is None else bytes.fromhex(body)))
-        opcode, body = next(answers)
-        line.take(record(opcode, body), f"answer behind {step[-1][1]}")
-
-
-def run_session(folder):
-    """The session, as the packets of a capture, and the station's bytes."""
-    script = os.path.join(folder, "live-host.connect")
-    with open(script, "w") as file:
-        file.write(SCRIPT)
-    with socket.create_server(("127.0.0.1", 0)) as listener:
-        listener.settimeout(30)
-        words = ["connect", "--extended", "--wait", "20", f"127.0.0.1:{listener.getsockname()[1]}", script]
-        station = subprocess.Popen([PROGRAM, *words], stdout=subprocess.PIPE, stderr=subprocess.PIPE, text=True)
-        try:
-            line = Line(listener.accept()[0])
-            play_host(line)
-            line.stream.close()
-            printed, error = station.communicate(timeout=30)
-        finally:
-            station.kill()
-    expect((station.returncode, printed, error), (1, PRINTED, ""), "what connect printed")
-    return line.seen.packets, line.taken
+    def play(self):
+        """Negotiates, and sends what live hosts send; each answer is compared."""
+        negotiate_as_host(self)
+        for step, (opcode, body) in zip(STEPS, ANSWERS):
+            for asked, asks in step:
+                self.send(record(IMAGE if asks is None else asks, asked))
+            self.take(record(body, opcode), f"answer behind {step[-1][1]}")
 
 
 def lines_of_station():
     """What `show` prints of the station's bytes: the place of an item is that of its last byte."""
-    lengths = [3, len(NAME), 3, 3, 3, 3]
+    lengths = [3, len(is_name()), 3, 3, 3, 3]
     heads = [f"telnet {line}" for line in TELNET_LINES]
     for opcode, body in ANSWERS:
-        lengths.append(len(record(opcode, body)))
+        lengths.append(len(record(body, opcode)))
         heads.append(f"record flags 0000 opcode {opcode}")
     text = ""
     for index, (head, more) in enumerate(zip(heads, [[]] * len(TELNET_LINES) + ANSWER_LINES)):
@@ -200,20 +165,23 @@ def lines_of_station():
     return text
 
 
+def run(words, text):
+    done = subprocess.run([PROGRAM, *words], input=text, capture_output=True, text=True, timeout=60)
+    return done.returncode, done.stdout, done.stderr
+
+
 def compare_lines(station):
     """What the program prints of the station's side."""
+    live = ["--answers", "--extended"]
     told = f"accepted: {len(ANSWERS)} records, {len(TELNET_LINES)} commands, {len(station)} bytes\n"
     for words, wanted in (["check"], told), (["check", "--cut", "1"], told), (["show"], lines_of_station()):
-        done = subprocess.run([PROGRAM, *words, "--answers", "--extended"], input=station.hex(), capture_output=True,
-                              text=True, timeout=60)
-        expect((done.returncode, done.stdout, done.stderr), (0, wanted, ""), " ".join(words))
-    done = subprocess.run([PROGRAM, "make", "--answers", "--extended"], input=lines_of_station(), capture_output=True,
-                          text=True, timeout=60)
-    expect((done.returncode, bytes.fromhex(done.stdout), done.stderr), (0, station, ""), "make")
+        expect(run([*words, *live], station.hex()), (0, wanted, ""), " ".join(words))
+    status, made, fault = run(["make", *live], lines_of_station())
+    expect((status, bytes.fromhex(made), fault), (0, station, ""), "make")
     # The reply to the query is no answer of the profile.
-    done = subprocess.run([PROGRAM, "check", "--answers"], input=station.hex(), capture_output=True, text=True, timeout=60)
-    place = 3 + len(NAME) + 12 + 10
-    expect((done.returncode, done.stdout), (1, f"refused at {place}: reason 24 BadAddress\n"), "check --answers")
+    place = 3 + len(is_name()) + 12 + 10
+    refused = f"refused at {place}: reason 24 BadAddress\n"
+    expect(run(["check", "--answers"], station.hex()), (1, refused, ""), "check --answers")
 
 
 def fields_of(capture):
@@ -250,29 +218,21 @@ def compare_with_wireshark(folder, packets):
     expect(with_command("0x21", ERROR_NAMES), [ERROR_FIELDS], "the error")
 
 
-def main():
-    passed = failed = 0
-    with tempfile.TemporaryDirectory() as folder:
-        packets = None
-        try:
-            packets, station = run_session(folder)
-            passed += 1
-            compare_lines(station)
-            passed += 1
-        except (Failure, OSError, subprocess.TimeoutExpired) as failure:
-            failed += 1
-            print(f"session: {failure}")
-        if shutil.which("tshark") is None:
-            print("left out: a live host's session as tshark reads it, since tshark isn't there")
-        elif packets is not None:
-            try:
-                compare_with_wireshark(folder, packets)
-                passed += 1
-            except (Failure, xml.etree.ElementTree.ParseError, subprocess.TimeoutExpired) as failure:
-                failed += 1
-                print(f"tshark: {failure}")
-    print(f"{passed} passed, {failed} failed")
-    sys.exit(failed != 0)
+class TestExtended(Test):
+    def test_a_session(self):
+        lines = []
+
+        def play(side):
+            lines.append(Line(side.stream))
+            lines[0].play()
+        with self.subTest("connect"):
+            at_host(play, ["--extended", "--wait", "20"], None, 1, PRINTED, script=SCRIPT)
+        with self.subTest("check, show and make"):
+            compare_lines(lines[0].heard)
+        with self.subTest("tshark"):
+            if shutil.which("tshark") is None:
+                self.skipTest("tshark isn't there")
+            compare_with_wireshark(self.folder, lines[0].seen.packets)
 
 
 main()

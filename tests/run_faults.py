@@ -3,232 +3,29 @@
 answer, a line that can't be read, a peer that reads nothing, a second station.
 
 Build the program first (`cd crates/t5250 && rt run -- check < stdin`), then call `python3 tests/run_faults.py` from
-anywhere; another program than that of `crates/t5250/out` may be named behind it, and `-v` tells the time of each test.
-What is left out for want of a C compiler, of IPv6 or of an address with a zone is told. The last line tells how many
-passed and how many failed, and the status is 1 where one failed.
+anywhere, or name one with a slash; `-v` tells the time of each test. What is left out for want of a C compiler, of IPv6
+or of an address with a zone is told. The last line tells how many passed and how many failed, and the status is 1 where
+one failed.
 """
 import contextlib
 import errno
 import os
-import re
 import shutil
 import socket
 import subprocess
-import sys
-import tempfile
 import threading
 import time
+import unittest
 
-from live.program import expect, Failure
-from live.records import IAC, record
-from live.runner import LeftOut, run_tests, test
-from live.tapped import Host, Run, Side, station_at
+from counted import PROGRAM, TOP, Test, main
+from live.lines import KINDS, READY, at_host, served, station_at
+from live.program import Run, timed
+from peers import Host, Side, expect, negotiate_as_host, swallowed
+from records import record
 
-READY = "host ready IBM-3179-2\n"
-CLEAR = bytes.fromhex("0440")
-
-
-def expect_time(began, low, high, what):
-    took = time.monotonic() - began
-    if not low < took < high:
-        raise Failure("%s took %.2f s" % (what, took))
-
-
-@contextlib.contextmanager
-def file_of(text):
-    with tempfile.NamedTemporaryFile() as file:
-        file.write(text)
-        file.flush()
-        yield file.name
-
-
-# A name of several addresses, of which some don't answer.
-
-
-@contextlib.contextmanager
-def swallowed(addresses):
-    """A port at which these addresses answer to no connection: their queues are full."""
-    with contextlib.ExitStack() as kept:
-        port = 0
-        for address in addresses:
-            listener = kept.enter_context(socket.socket())
-            listener.bind((address, port))
-            listener.listen(0)
-            port = listener.getsockname()[1]
-            for _ in range(4):
-                filler = kept.enter_context(socket.socket())
-                filler.setblocking(False)
-                filler.connect_ex((address, port))
-        time.sleep(0.1)
-        yield port
-
-
-def connect_to_many(addresses, port, seconds):
-    """Runs `connect` at a name that has these addresses, by a library that is loaded before the program's."""
-    compiler = os.environ.get("CC", "cc")
-    if shutil.which(compiler) is None:
-        raise LeftOut("addresses that don't answer, for want of a C compiler")
-    with tempfile.TemporaryDirectory() as folder:
-        library = os.path.join(folder, "many_addresses.so")
-        source = os.path.join(os.path.dirname(os.path.abspath(__file__)), "many_addresses.c")
-        subprocess.run([compiler, "-shared", "-fPIC", "-o", library, source, "-ldl"], check=True)
-        run = Run(["connect", "--wait", str(seconds), "many.test:%d" % port], LD_PRELOAD=library,
-                  ADDRESSES=",".join(addresses))
-        try:
-            run.process.stdin.close()
-            run.process.wait(timeout=30)
-        finally:
-            run.process.kill()
-        took = time.monotonic() - run.began
-        return run.process.returncode, run.process.stderr.read().decode(), took
-
-
-@test
-def addresses_share_the_time():
-    # Two that don't answer have a third and then a half of what is left, so that the last one has its part.
-    with swallowed(["127.0.0.2", "127.0.0.3"]) as port:
-        host = Host(Side.is_closed, "127.0.0.4", port)
-        status, error, took = connect_to_many(["127.0.0.2", "127.0.0.3", "127.0.0.4"], port, 3)
-        expect((status, error), (0, ""), "status and fault")
-        if not 1.8 < took < 2.9:
-            raise Failure("it took %.2f s" % took)
-        host.end()
-        # Where none answers it is over when the wait is.
-        status, error, took = connect_to_many(["127.0.0.2", "127.0.0.3"], port, 1)
-        expect((status, error), (2, "no connection: late\n"), "status and fault")
-        if not 0.9 < took < 1.8:
-            raise Failure("it took %.2f s" % took)
-
-
-@test
-def families_take_turns():
-    # Behind the first address of IPv4 that of IPv6 is tried, before the others of IPv4.
-    with swallowed(["127.0.0.2", "127.0.0.3", "127.0.0.4"]) as port:
-        try:
-            host = Host(Side.is_closed, "::1", port)
-        except OSError:
-            raise LeftOut("addresses of IPv4 and IPv6 by turns, for want of IPv6")
-        status, error, took = connect_to_many(["127.0.0.2", "127.0.0.3", "127.0.0.4", "::1"], port, 4)
-        expect((status, error), (0, ""), "status and fault")
-        if not 0.9 < took < 1.8:
-            raise Failure("it took %.2f s" % took)
-        host.end()
-
-
-# Lines of standard input.
-
-
-def served(text, words=()):
-    """A `serve` that carries these lines out behind its first `await`, and its station."""
-    serve = Run(["serve", "--wait", "5"] + list(words) + ["127.0.0.1:0"], b"await\n" + text)
-    side = station_at(serve)
-    side.negotiate_as_station()
-    return serve, side
-
-
-@test
-def a_return_more_in_an_element_s_line():
-    # One CR before the LF belongs to the line's end; a second one is part of the line, which is bad then.
-    text = b"send 3\r\n  CLEAR-UNIT%s\n\n"
-    for ending, number in (b"", None), (b"\r", None), (b"\r\r", 3):
-        serve, side = served(text % ending)
-        serve.process.stdin.close()
-        if number is None:
-            side.take(record(3, CLEAR))
-            side.stream.close()
-            serve.process.stdin = None
-            serve.end(0, READY)
-            continue
-        if not side.is_closed():
-            raise Failure("a bad record was sent")
-        side.stream.close()
-        serve.process.stdin = None
-        wanted = "script line %d: unknown word `CLEAR-UNIT\\0D`\n" % number
-        serve.end(2, READY, wanted)
-        with file_of(b"await\n" + text % ending) as name:
-            Run(["serve", "127.0.0.1:0", name]).end(2, "", wanted)
-
-
-@test
-def a_line_that_is_not_utf_8_behind_a_good_block():
-    for words, ready in ((), READY), (["--any"], "terminal IBM-3179-2\n"):
-        serve, side = served(b"send 3\n  CLEAR-UNIT\n\xff\n", words)
-        side.take(record(3, CLEAR))
-        serve.end(2, ready, "script line 4: not UTF-8\n")
-        side.stream.close()
-    # Within the block it is the block's, and nothing is sent.
-    serve, side = served(b"send 3\n  CLEAR-UNIT\n  TEXT \xff\ncancel\n")
-    if not side.is_closed():
-        raise Failure("a bad record was sent")
-    serve.end(2, READY, "script line 4: not UTF-8\n")
-    side.stream.close()
-
-
-@test
-def the_end_in_order_behind_a_bad_line():
-    def go_on(side):
-        """What comes then is taken for a moment, so that nobody is told of a fault."""
-        if not side.is_closed():
-            raise Failure("it goes on")
-        until = time.monotonic() + 0.5
-        while time.monotonic() < until:
-            side.send(bytes([IAC, 0xF1]) * 100)
-            time.sleep(0.01)
-
-    def play(side):
-        side.negotiate_as_host()
-        side.send(record(2, CLEAR) * 50)
-        go_on(side)
-    host = Host(play)
-    run = Run(["connect", "--wait", "5", "127.0.0.1:%d" % host.port], b"await record\nnonsense\n")
-    run.end(2, "", "script line 2: unknown word `nonsense`\n")
-    host.end()
-    for words, ready in ((), READY), (["--any"], "terminal IBM-3179-2\n"):
-        serve, side = served(b"nonsense\n", words)
-        go_on(side)
-        side.stream.close()
-        serve.end(2, ready, "script line 2: unknown word `nonsense`\n")
-
-
-# A peer that doesn't read.
-
-
-@test
-def a_write_in_a_wait_has_the_time_of_the_wait():
-    # Each of these asks for a picture of the screen, of which the line is full soon.
-    asks = record(4, bytes.fromhex("0402")) * 2000
-    over = threading.Event()
-
-    def play(side):
-        side.negotiate_as_host()
-        time.sleep(2.5)
-        side.stream.settimeout(1)
-        with contextlib.suppress(OSError):
-            side.send(asks)
-        over.wait(15)
-    host = Host(play, narrow=True)
-    run = Run(["connect", "--extended", "--wait", "4", "127.0.0.1:%d" % host.port], b"await text none\n")
-    run.end(2, "", "cannot write\n")
-    expect_time(run.began, 3.9, 5.8, "the wait")
-    over.set()
-    host.end()
-
-
-# A second station.
-
-
-@test
-def a_second_station_is_refused():
-    serve, side = served(b"")
-    host, port = side.stream.getpeername()[:2]
-    with socket.socket() as second:
-        second.settimeout(5)
-        expect(second.connect_ex((host, port)), errno.ECONNREFUSED, "a second station")
-    side.stream.close()
-    serve.end(0, READY)
-
-
-# Addresses with a zone.
+CLEAR = record("0440")
+# A field to be typed into, and one whose cells are hidden; then a Read MDT Fields.
+FORM = "0440" "04110008" "110502" "1D400020000A" "110602" "1D400027000A" "04520000"
 
 
 def linked():
@@ -238,141 +35,216 @@ def linked():
             digits, number, _, scope, _, name = line.split()
             if scope == "20":
                 return socket.inet_ntop(socket.AF_INET6, bytes.fromhex(digits)), name, int(number, 16)
-    raise LeftOut("addresses with a zone, for want of one of an interface")
+    raise unittest.SkipTest("no interface has an address with a zone")
 
 
-@test
-def an_address_with_a_zone():
-    address, name, number = linked()
-    for zone in name, str(number):
-        serve = Run(["serve", "--wait", "5", "[%s%%%s]:0" % (address, zone)])
-        line = serve.line()
-        begin = "listening [%s%%%d]:" % (address, number)
-        expect(line[:len(begin)], begin, "where it listens")
-        port = int(line[len(begin):])
-        Run(["connect", "--wait", "1", "[%s%%%s]:%d" % (address, name, port)], b"await\n").end(1, "late\n")
-        serve.end(0, "")
-    # An interface that isn't there.
-    Run(["connect", "[%s%%none]:23" % address]).end(2, "", "no connection: unknown name\n")
-    Run(["serve", "[%s%%none]:0" % address]).end(2, "", "no connection: unknown name\n")
-
-
-@test
-def a_zone_by_its_number():
+def at_ipv6(play, port=0):
     try:
-        host = Host(Side.is_closed, "::1")
+        return Host(play, "::1", port)
     except OSError:
-        raise LeftOut("a zone by its number, for want of IPv6")
-    Run(["connect", "--wait", "5", "[::1%%1]:%d" % host.port]).end(0, "")
-    host.end()
+        raise unittest.SkipTest("there is no IPv6")
 
 
-# Recordings.
+class TestConnections(Test):
+    def connect_to_many(self, addresses, port, seconds, low, high, status=0, error=""):
+        """Runs `connect` at a name that has these addresses, by a library that is loaded before the program's."""
+        compiler = os.environ.get("CC", "cc")
+        if shutil.which(compiler) is None:
+            self.skipTest("there is no C compiler")
+        library = os.path.join(self.folder, "many_addresses.so")
+        source = TOP / "tests/many_addresses.c"
+        subprocess.run([compiler, "-shared", "-fPIC", "-o", library, source, "-ldl"], check=True)
+        words = ["connect", "--wait", str(seconds), "many.test:%d" % port]
+        run = Run(words, "", LD_PRELOAD=library, ADDRESSES=",".join(addresses))
+        run.end(status, "", error)
+        timed(low, high, run.began, "it")
 
-# A field to be typed into, and one whose cells are hidden; then a Read MDT Fields.
-FORM = bytes.fromhex("0440" "04110008" "110502" "1D400020000A" "110602" "1D400027000A" "04520000")
+    def test_addresses_share_the_time(self):
+        # Two that don't answer have a third and then a half of what is left, so that the last one has its part.
+        with swallowed("127.0.0.2", "127.0.0.3") as port:
+            host = Host(Side.take_end, "127.0.0.4", port)
+            self.connect_to_many(["127.0.0.2", "127.0.0.3", "127.0.0.4"], port, 3, 1.8, 2.9)
+            host.end()
+            # Where none answers it is over when the wait is.
+            self.connect_to_many(["127.0.0.2", "127.0.0.3"], port, 1, 0.9, 1.8, 2, "no connection: late\n")
 
+    def test_families_take_turns(self):
+        # Behind the first address of IPv4 that of IPv6 is tried, before the others of IPv4.
+        with swallowed("127.0.0.2", "127.0.0.3", "127.0.0.4") as port:
+            host = at_ipv6(Side.take_end, port)
+            self.connect_to_many(["127.0.0.2", "127.0.0.3", "127.0.0.4", "::1"], port, 4, 0.9, 1.8)
+            host.end()
 
-def read_recording(name):
-    """What each end sent by a recording, whose lines are looked at."""
-    expect(os.stat(name).st_mode & 0o777, 0o600, "who can read it")
-    with open(name, encoding="ascii") as file:
-        lines = file.read().splitlines()
-    sent = {"host": b"", "station": b""}
-    times = []
-    for line in lines:
-        if not re.fullmatch("[0-9]+ (host|station) ([0-9A-F]{2})+", line):
-            raise Failure("a line of the recording: %r" % line)
-        milliseconds, sender, digits = line.split()
-        times.append(int(milliseconds))
-        sent[sender] += bytes.fromhex(digits)
-    expect(times, sorted(times), "its times")
-    return sent["host"], sent["station"], times
+    def test_a_write_in_a_wait_has_the_time_of_the_wait(self):
+        # Each of these asks for a picture of the screen, of which the line is full soon.
+        asks = record("0402", 4) * 2000
+        over = threading.Event()
 
-
-@test
-def a_recording_of_connect():
-    seen = {}
-
-    def play(side):
-        seen["side"] = side
-        side.negotiate_as_host()
-        time.sleep(0.3)
-        side.send(record(3, FORM))
-        while piece := side.stream.recv(4096):
-            side.note(piece)
-    with tempfile.TemporaryDirectory() as folder:
-        name = os.path.join(folder, "session.rec")
-        host = Host(play)
-        words = ["connect", "--wait", "5", "--record", name, "127.0.0.1:%d" % host.port]
-        Run(words, b"await\nfield 2 SECRET\nkey Enter\n").end(0, "")
+        def play(side):
+            negotiate_as_host(side)
+            time.sleep(2.5)
+            side.stream.settimeout(1)
+            with contextlib.suppress(OSError):
+                side.send(asks)
+            over.wait(15)
+        host = Host(play, narrow=True)
+        words = ["connect", "--extended", "--wait", "4", "127.0.0.1:%d" % host.port]
+        run = Run(words, "await text none\n", keep_open=True)
+        run.end(2, "", "cannot write\n")
+        timed(3.9, 5.8, run.began, "the wait")
+        over.set()
         host.end()
-        by_host, by_station, times = read_recording(name)
-        expect(by_host, seen["side"].sent, "what the host sent")
-        expect(by_station, seen["side"].heard, "what the station sent")
+
+    def test_a_second_station_is_refused(self):
+        serve, side = served("await\n", wait=5, keep_open=True)
+        with socket.socket() as second:
+            second.settimeout(5)
+            expect(second.connect_ex(side.stream.getpeername()[:2]), errno.ECONNREFUSED, "a second station")
+        side.close()
+        serve.end(0, READY)
+
+    def test_an_address_with_a_zone(self):
+        address, name, number = linked()
+        for zone in name, str(number):
+            serve = Run(["serve", "--wait", "5", "[%s%%%s]:0" % (address, zone)])
+            line = serve.line()
+            begin = "listening [%s%%%d]:" % (address, number)
+            expect(line[:len(begin)], begin, "where it listens")
+            port = int(line[len(begin):])
+            Run(["connect", "--wait", "1", "[%s%%%s]:%d" % (address, name, port)], "await\n").end(1, "late\n")
+            serve.end(0, "")
+        # An interface that isn't there.
+        Run(["connect", "[%s%%none]:23" % address]).end(2, "", "no connection: unknown name\n")
+        Run(["serve", "[%s%%none]:0" % address]).end(2, "", "no connection: unknown name\n")
+
+    def test_a_zone_by_its_number(self):
+        host = at_ipv6(Side.take_end)
+        Run(["connect", "--wait", "5", "[::1%%1]:%d" % host.port]).end(0, "")
+        host.end()
+
+
+class TestLines(unittest.TestCase):
+    """Lines of standard input."""
+
+    def test_a_return_more_in_an_element_s_line(self):
+        # One CR before the LF belongs to the line's end; a second one is part of the line, which is bad then.
+        for ending in "", "\r", "\r\r":
+            text = "await\nsend 3\r\n  CLEAR-UNIT%s\n\n" % ending
+            serve, side = served(text, wait=5)
+            if ending == "\r\r":
+                side.take_end()
+                side.close()
+                wanted = "script line 3: unknown word `CLEAR-UNIT\\0D`\n"
+                serve.end(2, READY, wanted)
+                Run(["serve", "127.0.0.1:0"], script=text).end(2, "", wanted)
+            else:
+                side.take(CLEAR)
+                side.close()
+                serve.end(0, READY)
+
+    def test_a_line_that_is_not_utf_8_behind_a_good_block(self):
+        for words, ready in KINDS:
+            serve, side = served(b"await\nsend 3\n  CLEAR-UNIT\n\xff\n", *words, wait=5, keep_open=True)
+            side.take(CLEAR)
+            serve.end(2, ready, "script line 4: not UTF-8\n")
+            side.close()
+        # Within the block it is the block's, and nothing is sent.
+        serve, side = served(b"await\nsend 3\n  CLEAR-UNIT\n  TEXT \xff\ncancel\n", wait=5, keep_open=True)
+        side.take_end()
+        serve.end(2, READY, "script line 4: not UTF-8\n")
+        side.close()
+
+    def test_the_end_in_order_behind_a_bad_line(self):
+        def go_on(side):
+            """What comes then is taken for a moment, so that nobody is told of a fault."""
+            side.take_end()
+            until = time.monotonic() + 0.5
+            while time.monotonic() < until:
+                side.send(b"\xff\xf1" * 100)
+                time.sleep(0.01)
+
+        def play(side):
+            negotiate_as_host(side)
+            side.send(record("0440", 2) * 50)
+            go_on(side)
+        fault = "script line 2: unknown word `nonsense`\n"
+        at_host(play, ["--wait", "5"], "await record\nnonsense\n", 2, "", fault, keep_open=True)
+        for words, ready in KINDS:
+            serve, side = served("await\nnonsense\n", *words, wait=5, keep_open=True)
+            go_on(side)
+            side.close()
+            serve.end(2, ready, fault)
+
+
+class TestRecordings(Test):
+    def setUp(self):
+        super().setUp()
+        self.name = os.path.join(self.folder, "session.rec")
+
+    def read_recording(self, name):
+        """What each end sent by a recording, whose lines are looked at."""
+        expect(os.stat(name).st_mode & 0o777, 0o600, "who can read it")
+        with open(name, encoding="ascii") as file:
+            lines = file.read().splitlines()
+        sent, times = {"host": b"", "station": b""}, []
+        for line in lines:
+            self.assertRegex(line, r"\A[0-9]+ (host|station) ([0-9A-F]{2})+\Z")
+            milliseconds, sender, digits = line.split()
+            times.append(int(milliseconds))
+            sent[sender] += bytes.fromhex(digits)
+        expect(times, sorted(times), "its times")
+        return sent["host"], sent["station"], times
+
+    def test_a_recording_of_connect(self):
+        sides = []
+
+        def play(side):
+            sides.append(side)
+            negotiate_as_host(side)
+            time.sleep(0.3)
+            side.send(record(FORM))
+            while side.read():
+                pass
+        words = ["--wait", "5", "--record", self.name]
+        at_host(play, words, "await\nfield 2 SECRET\nkey Enter\n", 0, "", keep_open=True)
+        by_host, by_station, times = self.read_recording(self.name)
+        expect((by_host, by_station), (sides[0].sent, sides[0].heard), "what each sent")
         # Its name in code page 037.
-        if bytes.fromhex("E2C5C3D9C5E3") not in by_station:
-            raise Failure("what was typed isn't there")
-        if not (times[0] < 300 <= times[-1] < 5000):
-            raise Failure("its times: %r" % times)
+        self.assertIn("SECRET".encode("cp037"), by_station)
+        self.assertTrue(times[0] < 300 <= times[-1] < 5000, times)
         # A file that is there stays as it is.
-        with open(name, "rb") as file:
-            first = file.read()
-        host = Host(Side.is_closed)
-        words[-1] = "127.0.0.1:%d" % host.port
-        Run(words).end(0, "")
-        host.end()
-        expect(read_recording(name + "-1")[:2], (b"", b""), "a second recording")
-        with open(name, "rb") as file:
-            expect(file.read(), first, "the first recording")
+        at_host(Side.take_end, words, "", 0, "")
+        expect(self.read_recording(self.name + "-1")[:2], (b"", b""), "a second recording")
+        expect(self.read_recording(self.name), (by_host, by_station, times), "the first recording")
 
-
-@test
-def a_recording_of_serve():
-    for words, told in ([], READY), (["--any"], "terminal IBM-3179-2\n"):
-        with tempfile.TemporaryDirectory() as folder:
-            name = os.path.join(folder, "session.rec")
-            serve, side = served(b"send 2 0440\n", ["--record", name] + words)
-            side.take(record(2, CLEAR))
+    def test_a_recording_of_serve(self):
+        for number, (words, told) in enumerate(KINDS):
+            name = self.name + str(number)
+            serve, side = served("await\nsend 2 0440\n", "--record", name, *words, wait=5)
+            side.take(record("0440", 2))
             side.stream.shutdown(socket.SHUT_WR)
             serve.end(0, told)
-            by_host, by_station, _ = read_recording(name)
-            expect(by_host, side.heard, "what the host sent")
-            expect(by_station, side.sent, "what the station sent")
-            side.stream.close()
+            expect(self.read_recording(name)[:2], (side.heard, side.sent), "what each sent")
+            side.close()
+
+    def test_recordings_that_can_not_be_written(self):
+        # It is told before anything is connected or listened at.
+        Run(["connect", "--record", "/nowhere/at/all", "127.0.0.1:1"]).end(2, "", "cannot write\n")
+        Run(["serve", "--record", "/nowhere/at/all", "127.0.0.1:0"]).end(2, "", "cannot write\n")
+        Run(["connect", "--record", "", "127.0.0.1:1"]).end(2, "", "cannot write\n")
+        if not os.path.exists("/dev/full"):
+            self.skipTest("/dev/full isn't there")
+        words = ["--wait", "5", "--record", "/dev/full"]
+        at_host(negotiate_as_host, words, "await\n", 2, "", "cannot write\n", keep_open=True, host_ends=False)
+        serve = Run(["serve", *words, "127.0.0.1:0"])
+        side = station_at(serve)
+        serve.end(2, "", "cannot write\n")
+        side.close()
+
+    def test_help_tells_what_a_recording_holds(self):
+        for command in "connect", "serve":
+            told = subprocess.run([PROGRAM, "help", command], capture_output=True, text=True, check=True).stdout
+            self.assertRegex(told, "(?s)--record.*hidden")
 
 
-@test
-def recordings_that_can_not_be_written():
-    # It is told before anything is connected or listened at.
-    Run(["connect", "--record", "/nowhere/at/all", "127.0.0.1:1"]).end(2, "", "cannot write\n")
-    Run(["serve", "--record", "/nowhere/at/all", "127.0.0.1:0"]).end(2, "", "cannot write\n")
-    Run(["connect", "--record", "", "127.0.0.1:1"]).end(2, "", "cannot write\n")
-    if not os.path.exists("/dev/full"):
-        raise LeftOut("a recording on a full disk, for want of /dev/full")
-    host = Host(Side.negotiate_as_host)
-    run = Run(["connect", "--wait", "5", "--record", "/dev/full", "127.0.0.1:%d" % host.port], b"await\n")
-    run.end(2, "", "cannot write\n")
-    serve = Run(["serve", "--wait", "5", "--record", "/dev/full", "127.0.0.1:0"], b"await\n")
-    side = station_at(serve)
-    serve.end(2, "", "cannot write\n")
-    side.stream.close()
-
-
-@test
-def help_tells_what_a_recording_holds():
-    for command in "connect", "serve":
-        told = subprocess.run([Run.program, "help", command], capture_output=True, text=True, check=True).stdout
-        if "--record" not in told or "hidden" not in told:
-            raise Failure("help %s" % command)
-
-
-def main():
-    named = [word for word in sys.argv[1:] if word != "-v"]
-    if named:
-        Run.program = os.path.abspath(named[0])
-    return 0 if run_tests("-v" in sys.argv) else 1
-
-
-if __name__ == "__main__":
-    sys.exit(main())
+main()

@@ -14,10 +14,9 @@ import shutil
 import socket
 import subprocess
 import sys
-import tempfile
 
-TOP = pathlib.Path(__file__).resolve().parent.parent
-PROGRAM = os.path.abspath(sys.argv[1]) if len(sys.argv) > 1 else str(TOP / "crates/t5250/out/t5250")
+from counted import PROGRAM, TOP, Test, main
+
 COMMANDS = ["check", "show", "play", "make", "connect", "serve"]
 
 OFFER = """
@@ -127,69 +126,60 @@ class Shell:
         return self.both(other, line.replace(at, f"'{at}'"), at)
 
 
-def of_examples(folder):
-    shell = Shell(folder)
-    for command in COMMANDS:
-        for line in examples(run(PROGRAM, "help", command)):
-            if "[::1]" in line and not has_address("::1"):
-                print(f"left out: {line}, since there is no IPv6 here")
-                continue
-            ends = shell.carry_out(line)
-            yield f"{line} gives {ends}", all(end == (0, "") for end in ends)
+class TestManual(Test):
+    def test_examples(self):
+        shell = Shell(self.folder)
+        for command in COMMANDS:
+            for line in examples(run(PROGRAM, "help", command)):
+                if "[::1]" in line and not has_address("::1"):
+                    print(f"left out: {line}, since there is no IPv6 here")
+                    continue
+                ends = shell.carry_out(line)
+                self.count(f"{line} gives {ends}", all(end == (0, "") for end in ends))
 
-
-def of_page():
-    page = made("page", PROGRAM, "1.2.3")
-    sections = plain(page)
-    whole = run(PROGRAM, "help")
-    everywhere = [line for lines in sections.values() for line in lines]
-    yield "the version", '"ribbonscarp 1.2.3"' in page.splitlines()[0]
-    yield "the commands", COMMANDS == re.findall(r"^  (\w+) ", whole[: whole.index("Options:")], re.M)[:-1]
-    yield "the program's options and lines", page_lacks(whole, everywhere) == []
-    for command in COMMANDS:
-        yield f"what {command} is", any(re.match(f"t5250 {command} ", line) for line in sections["SYNOPSIS"])
-        lacking = page_lacks(run(PROGRAM, "help", command), sections[f"T5250 {command.upper()}"])
-        yield f"the options and lines of {command}: {lacking}", lacking == []
-    if shutil.which("groff"):
+    def test_page(self):
+        page = made("page", PROGRAM, "1.2.3")
+        sections = plain(page)
+        whole = run(PROGRAM, "help")
+        everywhere = [line for lines in sections.values() for line in lines]
+        self.count("the version", '"ribbonscarp 1.2.3"' in page.splitlines()[0])
+        self.count("the commands", COMMANDS == re.findall(r"^  (\w+) ", whole[: whole.index("Options:")], re.M)[:-1])
+        self.count("the program's options and lines", page_lacks(whole, everywhere) == [])
+        for command in COMMANDS:
+            told = any(re.match(f"t5250 {command} ", line) for line in sections["SYNOPSIS"])
+            self.count(f"what {command} is", told)
+            lacking = page_lacks(run(PROGRAM, "help", command), sections[f"T5250 {command.upper()}"])
+            self.count(f"the options and lines of {command}: {lacking}", lacking == [])
+        if shutil.which("groff") is None:
+            self.skipTest("groff isn't here")
         words = ["groff", "-man", "-Tutf8", "-ww", "-z"]
         done = subprocess.run(words, input=page, capture_output=True, text=True, check=False)
-        yield f"groff takes it: {done.stderr}", (done.returncode, done.stderr) == (0, "")
-    else:
-        print("left out: what groff says of the page, since it isn't here")
+        self.count(f"groff takes it: {done.stderr}", (done.returncode, done.stderr) == (0, ""))
+
+    def test_completions(self):
+        file = f"{self.folder}/t5250.bash"
+        pathlib.Path(file).write_text(made("completions", PROGRAM))
+        pathlib.Path(f"{self.folder}/a script").write_text("")
+
+        def offers(what, wanted, *words):
+            self.count(what, offered(file, "t5250", *words) == wanted)
+        offers("the commands", {*COMMANDS, "help", *options(run(PROGRAM, "help"))}, "")
+        offers("a command that is begun", {"connect"}, "co")
+        offers("help of a command", {"show", "serve"}, "help", "s")
+        for command in COMMANDS:
+            wanted = options(run(PROGRAM, "help", command))
+            offers(f"the options of {command}", wanted, command, "-")
+            long = {word for word in wanted if word.startswith("--")}
+            offers(f"{command} again", long, command, "--wait", "5", "--")
+        terminals = {"IBM-3179-2", "IBM-3196-A1"}
+        offers("terminals", terminals, "connect", "--terminal", "IBM-31")
+        offers("terminals behind =", terminals, "connect", "--terminal", "=", "IBM-31")
+        offers("no value of a number", set(), "check", "--cut", "")
+        script = f"{self.folder}/a"
+        for said in "play", "check --cut 2", "connect h", "connect h : 23", "serve --wait = 5 h":
+            offers(f"a file behind {said}", {f"{script} script"}, *said.split(), script)
+        for said in "connect", "serve --any", "play one":
+            offers(f"no file behind {said}", set(), *said.split(), script)
 
 
-def of_completions(folder):
-    file = f"{folder}/t5250.bash"
-    pathlib.Path(file).write_text(made("completions", PROGRAM))
-    pathlib.Path(f"{folder}/a script").write_text("")
-    yield "the commands", offered(file, "t5250", "") == {*COMMANDS, "help", *options(run(PROGRAM, "help"))}
-    yield "a command that is begun", offered(file, "t5250", "co") == {"connect"}
-    yield "help of a command", offered(file, "t5250", "help", "s") == {"show", "serve"}
-    for command in COMMANDS:
-        wanted = options(run(PROGRAM, "help", command))
-        yield f"the options of {command}", offered(file, "t5250", command, "-") == wanted
-        long = {word for word in wanted if word.startswith("--")}
-        yield f"{command} again", offered(file, "t5250", command, "--wait", "5", "--") == long
-    terminals = {"IBM-3179-2", "IBM-3196-A1"}
-    yield "terminals", offered(file, "t5250", "connect", "--terminal", "IBM-31") == terminals
-    yield "terminals behind =", offered(file, "t5250", "connect", "--terminal", "=", "IBM-31") == terminals
-    yield "no value of a number", offered(file, "t5250", "check", "--cut", "") == set()
-    script = f"{folder}/a"
-    for said in "play", "check --cut 2", "connect h", "connect h : 23", "serve --wait = 5 h":
-        yield f"a file behind {said}", offered(file, "t5250", *said.split(), script) == {f"{folder}/a script"}
-    for said in "connect", "serve --any", "play one":
-        yield f"no file behind {said}", offered(file, "t5250", *said.split(), script) == set()
-
-
-def main():
-    with tempfile.TemporaryDirectory() as folder:
-        found = [*of_page(), *of_completions(folder), *of_examples(folder)]
-    wrong = [name for name, is_right in found if not is_right]
-    for name in wrong:
-        print(f"not so: {name}")
-    print(f"{len(found) - len(wrong)} passed, {len(wrong)} failed")
-    return 1 if wrong else 0
-
-
-if __name__ == "__main__":
-    sys.exit(main())
+main()

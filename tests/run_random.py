@@ -21,10 +21,12 @@ import threading
 import time
 import traceback
 
-from live.lines import Host, station_at
-from live.program import BUILT, Failure, Run, script_file
+from counted import PROGRAM
+from live.lines import station_at
+from live.program import Run
 from model.peer import Peer
 from model.sessions import ConnectPlan, ServePlan
+from peers import Host
 
 KINDS = [(ConnectPlan, False), (ServePlan, False), (ConnectPlan, True), (ServePlan, True)]
 AT_A_TIME = 4
@@ -43,24 +45,16 @@ class Session:
         self.printed = ""
 
     def run(self):
-        if self.plan.form != "file":
-            self.begin([])
-            return
-        text = "".join(line + "\n" for line in self.plan.script())
-        with script_file(".script", text) as script:
-            self.begin([script.name])
-
-    def begin(self, script):
         """Starts the program and the other side, and sees to it that both end."""
-        text = {"file": None, "asked": ""}.get(self.plan.form, "".join(line + "\n" for line in self.plan.script()))
-        is_asked = self.plan.form == "asked"
+        lines = "".join(line + "\n" for line in self.plan.script())
+        given = {"file": {"script": lines}, "asked": {"text": "", "keep_open": True}}.get(self.plan.form, {"text": lines})
         if isinstance(self.plan, ConnectPlan):
             host = Host(self.peer.play)
-            run = Run([*self.plan.words(), f"127.0.0.1:{host.port}", *script], text, keep_open=is_asked)
+            run = Run([*self.plan.words(), f"127.0.0.1:{host.port}"], **given)
             self.drive(run)
             host.end()
         else:
-            run = Run([*self.plan.words(), "127.0.0.1:0", *script], text, keep_open=is_asked)
+            run = Run([*self.plan.words(), "127.0.0.1:0"], **given)
             station = threading.Thread(target=self.peer.play, args=(station_at(run),), daemon=True)
             station.start()
             self.drive(run)
@@ -112,7 +106,7 @@ class Session:
         wrong = [f"{what}: got {got!r}\n{' ' * len(what)}  not {wanted!r}"
                  for what, got, wanted in rows if got != wanted]
         if wrong:
-            raise Failure("\n".join(wrong))
+            raise AssertionError("\n".join(wrong))
 
 
 class Sessions:
@@ -135,7 +129,7 @@ class Sessions:
                 session = Session(self.seed, index)
                 session.run()
                 fault = ""
-            except Failure as failure:
+            except AssertionError as failure:
                 fault = str(failure)
             except Exception:
                 fault = traceback.format_exc()
@@ -154,7 +148,7 @@ class Sessions:
 
 def words():
     parser = argparse.ArgumentParser(description="Random live sessions, compared with a model.")
-    parser.add_argument("program", nargs="?", default=BUILT)
+    parser.add_argument("program", nargs="?", default=PROGRAM)
     parser.add_argument("--seed", type=int, default=int(time.time()))
     parser.add_argument("--seconds", type=float)
     parser.add_argument("--sessions", type=int)

@@ -2,8 +2,8 @@
 """Refuses each allocation in turn: of the tests of want of memory, and of the built program.
 
 Build both first (`rt run -- check < stdin` in crates/t5250, `rt test` in crates/rows_program), then call this script
-from anywhere: `python3 tests/run_without_memory.py`. It needs a C compiler (`cc`, or what CC names). It tells of each
-run that went otherwise. Its last line counts the runs, and its own status is 1 where one went otherwise.
+from anywhere: `python3 tests/run_without_memory.py [NAME..]`. It needs a C compiler (`cc`, or what CC names). Its last
+line counts the runs, and its own status is 1 where one went otherwise.
 
 A test or the program is run with its first allocation refused, then with its second, and so on, until a run ends in
 which none was. `rt try --test --fail-alloc N` refuses the same ones, but builds anew for each N.
@@ -11,13 +11,13 @@ which none was. `rt try --test --fail-alloc N` refuses the same ones, but builds
 import os
 import shutil
 import subprocess
-import sys
-import tempfile
+import unittest
 
-TESTS = os.path.dirname(os.path.abspath(__file__))
-CRATES = os.path.join(TESTS, "..", "crates")
-PROGRAM = os.path.abspath(os.path.join(CRATES, "t5250", "out", "t5250"))
-TEST_PROGRAM = os.path.abspath(os.path.join(CRATES, "rows_program", "out", "rows_program_tests"))
+from counted import PROGRAM, TOP, Test, main
+from program.runs import files
+
+TEST_PROGRAM = str(TOP / "crates/rows_program/out/rows_program_tests")
+COMPILER = os.environ.get("CC", "cc")
 
 # Tests of calls that take memory: each holds with any one allocation refused.
 WITHIN_MEMORY = [
@@ -84,96 +84,62 @@ RUNS_TO_A_BAD_LINE = [
 MOST = 20_000
 
 
-class Refusing:
-    """Runs a command with allocations refused."""
+@unittest.skipUnless(shutil.which(COMPILER), "there is no C compiler")
+class TestWithoutMemory(Test):
+    def setUp(self):
+        super().setUp()
+        self.library, self.told = (os.path.join(self.folder, name) for name in ("refuse_allocation.so", "refused"))
+        source = TOP / "tests/refuse_allocation.c"
+        subprocess.run([COMPILER, "-shared", "-fPIC", "-O1", "-o", self.library, source], check=True)
 
-    def __init__(self, folder):
-        self.library = os.path.join(folder, "refuse_allocation.so")
-        self.told = os.path.join(folder, "refused")
-        source = os.path.join(TESTS, "refuse_allocation.c")
-        compiler = os.environ.get("CC", "cc")
-        subprocess.run([compiler, "-shared", "-fPIC", "-O1", "-o", self.library, source], check=True)
-
-    def run(self, words, text, which):
+    def run_refused(self, words, text, which):
+        """A run with allocations refused; None where none was."""
         if os.path.exists(self.told):
             os.remove(self.told)
         more = {"LD_PRELOAD": self.library, "REFUSE": which, "REFUSED": self.told}
-        return subprocess.run(words, input=text, capture_output=True, text=True, timeout=60, env={**os.environ, **more})
+        done = subprocess.run(words, input=text, capture_output=True, text=True, timeout=60, env={**os.environ, **more})
+        return done if which == "0" or os.path.exists(self.told) else None
 
-    def each(self, words, text, behind):
+    def each(self, words, text="", behind=""):
         """Each run in which an allocation was refused, with its number; `behind` is `..` to refuse all from it on."""
         for number in range(1, MOST):
-            done = self.run(words, text, f"{number}{behind}")
-            if not os.path.exists(self.told):
+            done = self.run_refused(words, text, f"{number}{behind}")
+            if done is None:
+                print(f"{' '.join(map(os.path.basename, words))}: {number - 1} allocations refused")
                 return
-            yield number, done
-        raise RuntimeError(f"{words} takes memory {MOST} times")
+            yield f"{words[1:]}, {number} refused: {done.returncode}, {done.stdout!r:.200}, {done.stderr!r:.300}", done
+        self.fail(f"{words} takes memory {MOST} times")
 
+    def test_within_memory(self):
+        for name in WITHIN_MEMORY:
+            for what, done in self.each([TEST_PROGRAM, name]):
+                self.count(what, done.returncode == 0)
 
-def test_runs(refusing, name, behind):
-    for number, done in refusing.each([TEST_PROGRAM, name], "", behind):
-        yield number, done.returncode == 0, done
+    def test_without_memory(self):
+        for name in WITHOUT_MEMORY:
+            for what, done in self.each([TEST_PROGRAM, name], behind=".."):
+                self.count(what, done.returncode == 0)
 
+    def look_at_program(self, words, text):
+        """It ends as it does with memory, or tells of its want after a part of its text; what is told as faults."""
+        words, faults = [PROGRAM, *files(words, self.folder)], []
+        plain = self.run_refused(words, text, "0")
+        for what, done in self.each(words, text):
+            same = (done.returncode, done.stdout, done.stderr) == (plain.returncode, plain.stdout, plain.stderr)
+            wanting = (done.returncode, done.stderr) == (2, "memory\n") and plain.stdout.startswith(done.stdout)
+            self.count(what, same or wanting)
+            faults.append(done.stderr)
+        return faults
 
-def program_runs(refusing, words, text):
-    """The program ends as it does with memory, or tells of its want after a part of its text."""
-    plain = refusing.run([PROGRAM, *words], text, "0")
-    for number, done in refusing.each([PROGRAM, *words], text, ""):
-        same = (done.returncode, done.stdout, done.stderr) == (plain.returncode, plain.stdout, plain.stderr)
-        wanting = (done.returncode, done.stderr) == (2, "memory\n") and plain.stdout.startswith(done.stdout)
-        yield number, same or wanting, done
+    def test_program(self):
+        for words, text in RUNS:
+            self.look_at_program(words, text)
 
-
-def runs_to_a_bad_line(refusing, words, text):
-    """The same; and a growth for good lines that is refused hides no bad line. Behind these runs stand those of the
-    bad line's cause."""
-    *runs, (number, right, done) = program_runs(refusing, words, text)
-    told = any(run.stderr.startswith("script line ") for _, _, run in [*runs, (number, right, done)])
-    yield from runs
-    yield number, right and told, done
-
-
-def files(words, folder):
-    for number, word in enumerate(words):
-        if word.startswith("@"):
-            path = os.path.join(folder, f"text{number}")
-            with open(path, "w") as file:
-                file.write(word[1:])
-            yield path
-        else:
-            yield word
-
-
-def all_runs(refusing, folder):
-    for name in WITHIN_MEMORY:
-        yield name, test_runs(refusing, name, "")
-    for name in WITHOUT_MEMORY:
-        yield name, test_runs(refusing, name, "..")
-    for all_of_a_kind, runs in (RUNS, program_runs), (RUNS_TO_A_BAD_LINE, runs_to_a_bad_line):
-        for words, text in all_of_a_kind:
-            name = " ".join("FILE" if word.startswith("@") else word for word in ["t5250", *words])
-            yield name, runs(refusing, list(files(words, folder)), text)
-
-
-def main():
-    if shutil.which(os.environ.get("CC", "cc")) is None:
-        print("left out: runs without memory, since there is no C compiler\n0 passed, 0 failed")
-        return
-    for program in PROGRAM, TEST_PROGRAM:
-        if not os.path.exists(program):
-            sys.exit(f"there is no {program}: build it first")
-    passed = failed = 0
-    with tempfile.TemporaryDirectory() as folder:
-        for name, runs in all_runs(Refusing(folder), folder):
-            count = 0
-            for number, right, done in runs:
-                count += 1
-                passed, failed = passed + right, failed + (not right)
-                if not right:
-                    print(f"{name}: with {number} refused {done.returncode}, {done.stdout!r:.200}, {done.stderr!r:.300}")
-            print(f"{name}: {count} allocations refused")
-    print(f"{passed} passed, {failed} failed")
-    sys.exit(1 if failed else 0)
+    def test_program_to_a_bad_line(self):
+        """A growth for good lines that is refused hides no bad line: behind these runs stand those of its cause."""
+        for words, text in RUNS_TO_A_BAD_LINE:
+            told = any(fault.startswith("script line ") for fault in self.look_at_program(words, text))
+            self.assertTrue(told, words)
 
 
 main()

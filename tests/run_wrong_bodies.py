@@ -4,17 +4,13 @@
 import contextlib
 import io
 import os
-import shutil
-import sys
-import tempfile
-import unittest
 from pathlib import Path
 
-sys.path.insert(0, str(Path(__file__).resolve().parent))
-
 import wrong_bodies
+from counted import Test, main
 from wrong.edits import Unfit, read_edit, rounds, sources
 
+os.environ["PYTHONDONTWRITEBYTECODE"] = "1"
 SOURCE = """#![tactic(auto)]
 ghost use Rattle.std.specs.Prelude.{◌≡◌, ◌+◌, ◌<◌};
 
@@ -42,12 +38,12 @@ WRONG = "file: src/lib.rt\nold:     count + 1\nnew:     count\n"
 HARMLESS = "file: src/lib.rt\nold:     more(more(count))\nnew:     let first = more(count); more(first)\n"
 
 
-class Tries(unittest.TestCase):
+class TestTries(Test):
     """Edits of a crate, and what is told of them."""
 
     def setUp(self) -> None:
-        self.root = Path(tempfile.mkdtemp(prefix="wrong-bodies-test-"))
-        self.addCleanup(shutil.rmtree, self.root)
+        super().setUp()
+        self.root = Path(self.folder)
         self.crate = self.root / "crates" / "small"
         (self.crate / "src").mkdir(parents=True)
         (self.crate / "wrong-bodies").mkdir()
@@ -110,14 +106,4 @@ class Tries(unittest.TestCase):
         self.assertIn("FAILED unread isn't refused at a contract: open: the text can't be read", out)
 
 
-def main() -> int:
-    runner = unittest.TextTestRunner(stream=sys.stdout, verbosity=0)
-    result = runner.run(unittest.TestLoader().loadTestsFromTestCase(Tries))
-    failed = len(result.failures) + len(result.errors)
-    print(f"{result.testsRun - failed} passed, {failed} failed")
-    return 1 if failed else 0
-
-
-if __name__ == "__main__":
-    os.environ["PYTHONDONTWRITEBYTECODE"] = "1"
-    sys.exit(main())
+main()

@@ -4,18 +4,21 @@ from __future__ import annotations
 import os
 import pathlib
 import subprocess
+import sys
 import tempfile
 import threading
 from collections.abc import Callable
+from concurrent.futures import Future
 
 from ribbonscarp import Host, Station
 
 TOP = pathlib.Path(__file__).resolve().parents[2]
+sys.path.append(str(TOP / "tests"))
+
+from records import ASKED as ASKED, record as record  # noqa: E402
+
 PROGRAM = os.environ.get("T5250", str(TOP / "crates/t5250/out/t5250"))
 EXAMPLES = TOP / "examples"
-
-# What a host sends until records are allowed (RFC 1205, section 2).
-OPENING = bytes.fromhex("FFFD18 FFFA1801FFF0 FFFD19 FFFB19 FFFD00 FFFB00")
 
 # Clear Unit, Write to Display that unlocks, a field of ten cells at 6 53, and Read MDT Fields.
 FORM = bytes.fromhex("0440 04110008 110634 1D400020000A 04520000")
@@ -29,16 +32,10 @@ SIGN_ON = bytes.fromhex(
 PAST_END = bytes.fromhex("04110008 111850 C1C1")
 
 
-def record(body: bytes, opcode: int = 3) -> bytes:
-    """A record as it goes over the line (RFC 1205, section 3; RFC 885)."""
-    head = (10 + len(body)).to_bytes(2, "big") + bytes.fromhex("12A0 0000 04 0000") + bytes([opcode])
-    return (head + body).replace(b"\xff", b"\xff\xff") + b"\xff\xef"
-
-
 def ready_station(*bodies: bytes) -> Station:
     """A station to which records may be sent, and which has taken some."""
     station = Station()
-    station.push(OPENING)
+    station.push(ASKED)
     for body in bodies:
         station.push(record(body))
     return station
@@ -106,24 +103,19 @@ def run_connect(port: int, script: str, *words: str) -> subprocess.Popen[str]:
     return process
 
 
-class Beside(threading.Thread):
+class Beside(Future[None]):
     """Something that runs on a thread of its own; `finish` raises what it raised."""
 
     def __init__(self, work: Callable[[], None]) -> None:
-        super().__init__(daemon=True)
-        self.work = work
-        self.error: BaseException | None = None
-        self.start()
+        super().__init__()
+        threading.Thread(target=self.run, args=(work,), daemon=True).start()
 
-    def run(self) -> None:
+    def run(self, work: Callable[[], None]) -> None:
         try:
-            self.work()
+            work()
+            self.set_result(None)
         except BaseException as error:
-            self.error = error
+            self.set_exception(error)
 
     def finish(self) -> None:
-        self.join(20)
-        if self.is_alive():
-            raise AssertionError("it doesn't end")
-        if self.error is not None:
-            raise self.error
+        self.result(20)

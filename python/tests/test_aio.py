@@ -9,7 +9,7 @@ import unittest
 
 from ribbonscarp import Body, ConnectionEnded, EventKind, Key, KeyRefused, Opcode, Reason, Refused, StatusError
 from ribbonscarp import WaitedTooLong, aio
-from support import EXAMPLES, FORM, OPENING, PAST_END, Serve, record, run_connect
+from support import ASKED, EXAMPLES, FORM, PAST_END, Serve, record, run_connect
 from test_waits import text
 
 INQUIRY = (EXAMPLES / "inquiry.serve").read_text(encoding="utf-8")
@@ -61,16 +61,16 @@ class AioTest(unittest.IsolatedAsyncioTestCase):
 
     async def test_records(self) -> None:
         """Waits look after each record, and those with no time take all that has come."""
-        session, _ = await self.begin(OPENING, text("ONE"), text("TWO"))
+        session, _ = await self.begin(ASKED, text("ONE"), text("TWO"))
         self.assertEqual((await session.wait_text("ONE")).row(1), "ONE")
         self.assertEqual((await session.wait_text("TWO", wait=0)).row(1), "TWO")
         with self.assertRaises(WaitedTooLong):
             await session.wait_record(wait=0)
-        session, _ = await self.begin(OPENING, *[text("A" * 1900)] * 30, text("LAST"))
+        session, _ = await self.begin(ASKED, *[text("A" * 1900)] * 30, text("LAST"))
         self.assertEqual((await session.wait_text("LAST", wait=0)).state.records, 31)
 
     async def test_goals(self) -> None:
-        session, host = await self.begin(OPENING, text("ONE"))
+        session, host = await self.begin(ASKED, text("ONE"))
         self.assertEqual(await session.wait_any("TWO", "ONE"), "ONE")
         begun = time.monotonic()
         await session.wait_quiet(0.2)
@@ -87,13 +87,13 @@ class AioTest(unittest.IsolatedAsyncioTestCase):
             await session.press("Dup")
 
     async def test_ended(self) -> None:
-        session, host = await self.begin(OPENING, record(FORM), record(PAST_END))
+        session, host = await self.begin(ASKED, record(FORM), record(PAST_END))
         for _ in range(2):
             with self.assertRaises(Refused) as caught:
                 await session.wait_text("never")
             self.assertEqual((caught.exception.reason, caught.exception.after), (Reason.PAST_END, b"\xef"))
         self.assertTrue(session.has_ended)
-        session, host = await self.begin(OPENING, record(FORM))
+        session, host = await self.begin(ASKED, record(FORM))
         await session.wait_unlocked()
         host.close()
         with self.assertRaises(ConnectionEnded):
@@ -106,7 +106,7 @@ class AioTest(unittest.IsolatedAsyncioTestCase):
 
     async def test_closed(self) -> None:
         """Also while another task waits."""
-        session, _ = await self.begin(OPENING)
+        session, _ = await self.begin(ASKED)
         waiting = asyncio.ensure_future(session.wait_text("never", wait=20))
         await asyncio.sleep(0.1)
         with self.assertRaisesRegex(RuntimeError, "another task waits at this Session"):
@@ -120,7 +120,7 @@ class AioTest(unittest.IsolatedAsyncioTestCase):
 
     async def test_cancelled_task(self) -> None:
         """A wait that is cancelled loses nothing."""
-        session, host = await self.begin(OPENING)
+        session, host = await self.begin(ASKED)
         with self.assertRaises(asyncio.TimeoutError):
             await asyncio.wait_for(session.wait_text("ONE"), 0.1)
         host.sendall(text("ONE"))
@@ -143,7 +143,7 @@ class AioTest(unittest.IsolatedAsyncioTestCase):
 
     async def test_flood(self) -> None:
         """Bytes that don't end neither lengthen a wait nor fill the memory."""
-        session, host = await self.begin(OPENING)
+        session, host = await self.begin(ASKED)
         host.setblocking(False)
         loop, sent = asyncio.get_running_loop(), 0
 

@@ -16,7 +16,7 @@ from ribbonscarp import (
     StatusError,
     Truncated,
 )
-from support import OPENING, record
+from support import ASKED, record
 
 STREAM = bytes.fromhex("FFF1") + record(bytes.fromhex("0440 04110008 C1"))
 
@@ -56,12 +56,12 @@ class DecoderTest(unittest.TestCase):
                 decoder.push(query), [Header(9, 0, 17, Opcode.PUT_GET), Element(16, query[10:17]), RecordEnd(18)]
             )
         with Decoder(strict=True) as decoder:
-            decoder.push(OPENING)
+            decoder.push(ASKED)
             with self.assertRaises(Refused) as caught:
                 decoder.push(query)
             self.assertEqual(caught.exception.reason, Reason.STRUCTURED_FIELD)
-            self.assertEqual(caught.exception.place, len(OPENING) + 11)
-            self.assertEqual(caught.exception.steps, (Header(len(OPENING) + 9, 0, 17, Opcode.PUT_GET),))
+            self.assertEqual(caught.exception.place, len(ASKED) + 11)
+            self.assertEqual(caught.exception.steps, (Header(len(ASKED) + 9, 0, 17, Opcode.PUT_GET),))
             self.assertEqual(
                 str(caught.exception), "byte 32 is refused: 30: structured fields aren't part of the profile"
             )

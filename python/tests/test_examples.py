@@ -184,11 +184,11 @@ class PytestTest(unittest.TestCase):
         body = "Body().clear().write().text(1, 30, 'Main Menu').text(3, 2, 'Password').field(3, 20, 8, attribute=0x27)"
         test = f"""
 from ribbonscarp import Body, Station
-from support import OPENING, record
+from support import ASKED, record
 
 def test_screen():
     with Station() as station:
-        station.push(OPENING + record(bytes({body})))
+        station.push(ASKED + record(bytes({body})))
         station.fill(1, "SECRET")
         assert "Sign Off" in station.screen
 """

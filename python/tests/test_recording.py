@@ -11,7 +11,7 @@ import tempfile
 import unittest
 
 from ribbonscarp import Header, Key, Opcode, Recording, Session, Truncated, aio, connect, listen
-from support import EXAMPLES, FORM, OPENING, PROGRAM, Beside, Serve, record
+from support import ASKED, EXAMPLES, FORM, PROGRAM, Beside, Serve, record
 
 INQUIRY = (EXAMPLES / "inquiry.serve").read_text(encoding="utf-8")
 
@@ -90,7 +90,7 @@ class RecordingTest(unittest.TestCase):
         """One that begins while a record is on its way leaves that out."""
         line, host = socket.socketpair()
         with Session(sock=line, wait=5) as session, host:
-            host.sendall(OPENING + record(FORM)[:-3])
+            host.sendall(ASKED + record(FORM)[:-3])
             session.wait_for(lambda screen: screen.state.is_ready)
             session.record_to(self.file)
             host.sendall(record(FORM)[-3:] + record(FORM))

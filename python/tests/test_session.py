@@ -11,7 +11,7 @@ import unittest.mock
 from collections.abc import Callable
 
 from ribbonscarp import ConnectionEnded, Key, KeyRefused, Reason, Refused, Session, WaitedTooLong, connect
-from support import EXAMPLES, FORM, OPENING, PAST_END, Beside, Serve, record
+from support import ASKED, EXAMPLES, FORM, PAST_END, Beside, Serve, record
 
 INQUIRY = (EXAMPLES / "inquiry.serve").read_text(encoding="utf-8")
 
@@ -80,7 +80,7 @@ class SocketTest(unittest.TestCase):
         def accept() -> None:
             line, _ = server.accept()
             with line, server:
-                line.sendall(OPENING)
+                line.sendall(ASKED)
                 play(line)
 
         self.host = Beside(accept)
@@ -181,7 +181,7 @@ class SocketTest(unittest.TestCase):
         with self.assertRaises(Refused) as caught:
             session.wait_text("Hi")
         self.assertEqual(caught.exception.reason, Reason.PAST_END)
-        self.assertEqual(caught.exception.place, len(OPENING) + len(bad) - 1)
+        self.assertEqual(caught.exception.place, len(ASKED) + len(bad) - 1)
         self.assertEqual(len(session.station.screen.fields), 1)
         session.close()
         self.host.finish()

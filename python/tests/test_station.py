@@ -7,7 +7,7 @@ import warnings
 from collections.abc import Callable
 
 from ribbonscarp import Key, KeyRefusal, KeyRefused, Read, Reason, Refused, Station, Status, StatusError
-from support import FORM, OPENING, PAST_END, Beside, ready_station, record
+from support import ASKED, FORM, PAST_END, Beside, ready_station, record
 
 
 class StationTest(unittest.TestCase):
@@ -16,10 +16,10 @@ class StationTest(unittest.TestCase):
         wanted = bytes.fromhex("FFFB18 FFFA1800") + b"IBM-5291-1" + bytes.fromhex("FFF0 FFFB19 FFFD19 FFFB00 FFFD00")
         with Station("ibm-5291-1") as station:
             self.assertFalse(station.state.is_ready)
-            self.assertEqual(station.push(OPENING), wanted)
+            self.assertEqual(station.push(ASKED), wanted)
             self.assertTrue(station.state.is_ready)
         with Station("IBM-5291-1") as station:
-            self.assertEqual(b"".join(station.push(bytes([byte])) for byte in OPENING), wanted)
+            self.assertEqual(b"".join(station.push(bytes([byte])) for byte in ASKED), wanted)
             self.assertEqual(station.push(b""), b"")
 
     def test_live_host(self) -> None:
@@ -47,7 +47,7 @@ class StationTest(unittest.TestCase):
             self.assertEqual((station.state.error_row, station.screen.rows[23].strip()), (None, ""))
             self.assertEqual(station.press(Key.ENTER), record(bytes.fromhex("0635F1 110635 C2D6")))
         with Station(strict=True) as station:
-            station.push(OPENING)
+            station.push(ASKED)
             with self.assertRaises(Refused) as refused:
                 station.push(query)
             self.assertIs(refused.exception.reason, Reason.STRUCTURED_FIELD)
@@ -56,7 +56,7 @@ class StationTest(unittest.TestCase):
         """A Write with the bit 04 counts, in each record that isn't refused; nothing else does."""
         for strict in (False, True):
             with Station(strict=strict) as station:
-                station.push(OPENING)
+                station.push(ASKED)
                 self.assertEqual(station.alarms, 0)
                 station.push(record(bytes.fromhex("04110000 0440 04110008 0452 0004")))
                 self.assertEqual(station.alarms, 0)
@@ -128,7 +128,7 @@ class StationTest(unittest.TestCase):
         """The screen is as it was, and what was answered before the byte is there."""
         with ready_station(FORM) as station:
             before = station.screen
-            taken = len(OPENING) + len(record(FORM))
+            taken = len(ASKED) + len(record(FORM))
             bad = bytes.fromhex("FFFD27") + record(PAST_END)
             with self.assertRaises(Refused) as caught:
                 station.push(bad)

@@ -15,7 +15,7 @@ from collections.abc import Callable
 
 from ribbonscarp import Body, ConnectionEnded, HostSession, Key, Listener, Session, StatusError, WaitedTooLong
 from ribbonscarp import aio, connect, listen
-from support import FORM, OPENING, Beside
+from support import ASKED, FORM, Beside
 
 
 class Authority:
@@ -189,7 +189,7 @@ class TlsTest(unittest.TestCase):
             def play() -> None:
                 line, _ = server.accept()
                 with line:
-                    line.sendall(OPENING)
+                    line.sendall(ASKED)
                     line.recv(4096)
 
             beside = Beside(play)

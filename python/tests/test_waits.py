@@ -12,7 +12,7 @@ from collections.abc import Callable
 
 from ribbonscarp import ConnectionEnded, Key, KeyRefusal, KeyRefused, Reason, Refused, Session, StatusError, WaitedTooLong
 from ribbonscarp import connect, listen
-from support import FORM, OPENING, PAST_END, Beside, record
+from support import ASKED, FORM, PAST_END, Beside, record
 
 
 def text(word: str) -> bytes:
@@ -35,27 +35,27 @@ class PairTest(unittest.TestCase):
 
 class RecordsTest(PairTest):
     def test_two_in_one_segment(self) -> None:
-        self.send(OPENING, text("ONE"), text("TWO"))
+        self.send(ASKED, text("ONE"), text("TWO"))
         self.assertEqual(self.session.wait_text("ONE").row(1), "ONE")
         self.assertEqual(self.session.wait_text("TWO").row(1), "TWO")
         with self.assertRaises(WaitedTooLong):
             self.session.wait_text("ONE", wait=0)
 
     def test_record_by_record(self) -> None:
-        self.send(OPENING, text("ONE"), text("TWO"), text("THREE"))
+        self.send(ASKED, text("ONE"), text("TWO"), text("THREE"))
         words = [self.session.wait_record().row(1) for _ in range(3)]
         self.assertEqual(words, ["ONE", "TWO", "THREE"])
         with self.assertRaises(WaitedTooLong):
             self.session.wait_record(wait=0)
 
     def test_screen_takes_all(self) -> None:
-        self.send(OPENING, text("ONE"), text("TWO"))
+        self.send(ASKED, text("ONE"), text("TWO"))
         self.session.wait_text("ONE")
         self.assertEqual(self.session.screen.row(1), "TWO")
 
     def test_no_time_takes_all(self) -> None:
         """More than one read has come."""
-        self.send(OPENING, *[text("A" * 1900)] * 30, text("LAST"))
+        self.send(ASKED, *[text("A" * 1900)] * 30, text("LAST"))
         self.assertEqual(self.session.wait_text("LAST", wait=0).row(1), "LAST")
         self.assertEqual(self.session.screen.state.records, 31)
 
@@ -63,7 +63,7 @@ class RecordsTest(PairTest):
         """Also between IAC and EOR, and where a record has bytes that look like its end."""
         odd = record(bytes.fromhex("0440 04110008 110101 D6D5C5 EF"), 2).replace(b"\xef\xff", b"\xff\xff\xef\xff")
         odd = odd.replace(odd[:2], (int.from_bytes(odd[:2], "big") + 1).to_bytes(2, "big"), 1)
-        self.send(OPENING)
+        self.send(ASKED)
         for at in range(1, len(odd)):
             self.send(odd[:at])
             with self.assertRaises(WaitedTooLong):
@@ -75,7 +75,7 @@ class RecordsTest(PairTest):
 
 class GoalsTest(PairTest):
     def test_any(self) -> None:
-        self.send(OPENING, text("Sign-on refused, code 4711"), text("MAIN MENU"))
+        self.send(ASKED, text("Sign-on refused, code 4711"), text("MAIN MENU"))
         failed = re.compile(r"code (\d+)")
         self.assertIs(self.session.wait_any("MAIN MENU", failed), failed)
         match = self.session.station.screen.search(failed)
@@ -89,7 +89,7 @@ class GoalsTest(PairTest):
             self.session.wait_any()
 
     def test_regular_expression(self) -> None:
-        self.send(OPENING, text("Job 004711"))
+        self.send(ASKED, text("Job 004711"))
         self.assertEqual(self.session.wait_text(re.compile(r"Job \d{6}")).row(1), "Job 004711")
         self.assertEqual(self.session.wait_text(re.compile(r"\d+"), at=(1, 5), wait=0).row(1), "Job 004711")
         with self.assertRaises(WaitedTooLong):
@@ -101,7 +101,7 @@ class GoalsTest(PairTest):
                 self.send(text(word))
                 time.sleep(0.1)
 
-        self.send(OPENING)
+        self.send(ASKED)
         beside, begun = Beside(work), time.monotonic()
         screen = self.session.wait_quiet(0.4)
         self.assertEqual(screen.row(1), "THREE")
@@ -112,7 +112,7 @@ class GoalsTest(PairTest):
 
     def test_strokes(self) -> None:
         body = bytes.fromhex("0440 04110008 110501 1D40002000 05 C1C2C3C4C5 110701 1D40002000 05 04520000")
-        self.send(OPENING, record(body))
+        self.send(ASKED, record(body))
         self.session.wait_unlocked()
         self.session.move_cursor(5, 4)
         self.session.erase_eof()
@@ -131,7 +131,7 @@ class GoalsTest(PairTest):
 class EndedTest(PairTest):
     def test_refused(self) -> None:
         """Every wait from then on ends at once, and says where, why, and with which bytes."""
-        sent = OPENING + record(FORM) + record(PAST_END)
+        sent = ASKED + record(FORM) + record(PAST_END)
         self.send(sent)
         for _ in range(2):
             begun = time.monotonic()
@@ -152,7 +152,7 @@ class EndedTest(PairTest):
             self.session.press(Key.ENTER)
 
     def test_closed_host(self) -> None:
-        self.send(OPENING, record(FORM))
+        self.send(ASKED, record(FORM))
         self.session.wait_unlocked()
         self.assertFalse(self.session.has_ended)
         self.host.close()
@@ -168,7 +168,7 @@ class SaidTest(PairTest):
     """What errors say."""
 
     def test_error_of_the_host(self) -> None:
-        self.send(OPENING, record(FORM), record(bytes.fromhex("0421 22C2C1C4"), 2))
+        self.send(ASKED, record(FORM), record(bytes.fromhex("0421 22C2C1C4"), 2))
         self.session.wait_text("BAD")
         with self.assertRaisesRegex(KeyRefused, "the keyboard is locked, since an error .* row 24: press Key.RESET"):
             self.session.fill(1, "BOB")
@@ -176,7 +176,7 @@ class SaidTest(PairTest):
         self.session.fill(1, "BOB")
 
     def test_closed(self) -> None:
-        self.send(OPENING, record(FORM))
+        self.send(ASKED, record(FORM))
         self.session.close()
         calls: list[Callable[[], object]] = [self.session.wait_unlocked, lambda: self.session.screen]
         calls.append(lambda: self.session.press(Key.ENTER))
@@ -187,7 +187,7 @@ class SaidTest(PairTest):
 
     def test_closed_by_another_thread(self) -> None:
         """A wait ends then."""
-        self.send(OPENING)
+        self.send(ASKED)
         told: list[str] = []
 
         def work() -> None:
@@ -206,7 +206,7 @@ class SaidTest(PairTest):
 
     def test_threads(self) -> None:
         """A session that one thread made is used by others, one at a time."""
-        self.send(OPENING, record(FORM))
+        self.send(ASKED, record(FORM))
         self.session.wait_unlocked()
 
         def work() -> None:
@@ -219,7 +219,7 @@ class SaidTest(PairTest):
 
     def test_closed_while_it_writes(self) -> None:
         """A write that the host doesn't take ends then too."""
-        self.send(OPENING, record(FORM))
+        self.send(ASKED, record(FORM))
         self.session.wait_unlocked()
 
         def work() -> None:
@@ -263,12 +263,12 @@ class SaidTest(PairTest):
     def test_silent_port(self) -> None:
         with self.assertRaisesRegex(WaitedTooLong, "nothing at all has come from the host, as where a port isn't Telnet"):
             self.session.wait_unlocked(wait=0.1)
-        self.send(OPENING)
+        self.send(ASKED)
         with self.assertRaisesRegex(WaitedTooLong, "hasn't come within 0.1 seconds; the screen is empty"):
             self.session.wait_unlocked(wait=0.1)
 
     def test_key(self) -> None:
-        self.send(OPENING, record(FORM))
+        self.send(ASKED, record(FORM))
         self.session.wait_unlocked()
         with self.assertRaisesRegex(ValueError, "no key is 'Entr'; .* the keys are LEFT, .*ENTER"):
             self.session.press("Entr")

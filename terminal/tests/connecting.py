@@ -7,8 +7,9 @@ import tempfile
 import time
 
 from certificates import Authority, Front, context_of, has_tls
-from faults import ROLL, silent_listener
+from faults import ROLL
 from hosts import Host, field, inputs, plain, text, write
+from peers import swallowed
 from window import Terminal, check
 from work import FORM, at_form, shown_of
 
@@ -224,12 +225,11 @@ def mute_by_tls(folder):
 def silences():
     """An address that swallows what it gets has ten seconds, then comes the next; a port that says nothing is told."""
     told = "10 seconds of silence: "
-    with tempfile.TemporaryDirectory() as folder:
-        listening, held = silent_listener()
-        host = Host(where="127.0.0.2", port=listening.getsockname()[1])
+    with tempfile.TemporaryDirectory() as folder, swallowed("127.0.0.1") as port:
+        host = Host(where="127.0.0.2", port=port)
         names = two_addresses(folder)
         begun = time.monotonic()
-        swallowed = Terminal(f"two.example:{host.port}", LD_PRELOAD=names)
+        late = Terminal(f"two.example:{host.port}", LD_PRELOAD=names)
         alone = Terminal(f"127.0.0.1:{host.port}")
         silent = Terminal(f"127.0.0.1:{mute()}")
         more = []
@@ -237,7 +237,7 @@ def silences():
             port, known = mute_by_tls(folder)
             more.append((Terminal("--tls", f"127.0.0.1:{mute()}"), "it may be no port for TLS."))
             more.append((Terminal("--tls", "--ca", known, f"localhost:{port}"), "it may be no 5250 host's port."))
-        swallowed.tells("connecting")
+        late.tells("connecting")
         silent.tells("the session hasn't begun")
         silent.idles("meanwhile")
         silent.until(lambda: "silence" in silent.status(), "silence is told", 15)
@@ -250,12 +250,10 @@ def silences():
         silent.tells("the session hasn't begun")
         silent.idles("behind it")
         alone.ended(2, f"No connection to 127.0.0.1:{host.port}: Connection timed out.")
-        swallowed.until(host.is_ready.is_set, "the next address is tried")
+        late.until(host.is_ready.is_set, "the next address is tried")
         host.send(FORM)
-        swallowed.at("03/020")
-        swallowed.leave()
+        late.at("03/020")
+        late.leave()
         for t, _ in more:
             t.leave()
         host.close()
-        for line in held + [listening]:
-            line.close()

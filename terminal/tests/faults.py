@@ -7,9 +7,10 @@ import tempfile
 import threading
 import time
 
-import hosts
 import work
 from hosts import Host, Host5250, READ, field, inputs, plain, text, write
+from peers import swallowed
+from records import SEND_NAME, record
 from window import Terminal, check
 from work import FORM, at_form, cut, shown_of
 
@@ -71,11 +72,11 @@ def recordings():
         t.tells("Recording in mine-2.")
         host.send(FORM)
         t.at("03/020")
-        host.send_raw(hosts.record(FORM)[:40])  # A recording that begins inside a record.
+        host.send_raw(record(FORM)[:40])  # A recording that begins inside a record.
         t.settle()
         t.type("\x1dr\x1dr")
         t.tells("Recording in mine-3.")
-        host.send_raw(hosts.record(FORM)[40:])
+        host.send_raw(record(FORM)[40:])
         t.type("9\r")
         answer = host.answer()
         check(answer is not None, "the session goes on")
@@ -125,7 +126,7 @@ def cut_behind_iac():
     """A line that is cut behind FF, while it is recorded."""
     with tempfile.TemporaryDirectory() as folder:
         host, t = at_form("--record", "cut", folder=folder)
-        host.send_raw(hosts.record(FORM)[:60] + b"\xff")
+        host.send_raw(record(FORM)[:60] + b"\xff")
         host.close()
         t.tells("The line is lost: the host closed it in mid-record.")
         check("Order" in t.window.text(0), "the screen stays")
@@ -229,7 +230,7 @@ def floods():
     host.ready()
     host.send(FORM)
     t.at("03/020")
-    flood = hosts.SEND_TYPE * 400_000
+    flood = SEND_NAME * 400_000
 
     def send():
         try:
@@ -254,7 +255,7 @@ def floods():
     host.close()
     host, t = at_form()
     before = len(host.raw)
-    host.send_raw(hosts.SEND_TYPE * 3000)
+    host.send_raw(SEND_NAME * 3000)
     host.send(FORM.replace(b"\x04\x52", text(20, 2, "behind") + b"\x04\x52"))
     t.shows(19, "behind", "3,000 SENDs in one piece")
     t.type("1\r")
@@ -264,41 +265,25 @@ def floods():
     host.close()
 
 
-def silent_listener():
-    """A listener whose queue is full: connecting to it takes long."""
-    listening = socket.socket()
-    listening.bind(("127.0.0.1", 0))
-    listening.listen(0)
-    held = []
-    for _ in range(4):
-        line = socket.socket()
-        line.setblocking(False)
-        line.connect_ex(listening.getsockname())
-        held.append(line)
-    return listening, held
-
-
 def while_connecting():
-    listening, held = silent_listener()
-    t = Terminal(f"127.0.0.1:{listening.getsockname()[1]}")
-    t.tells("connecting")
-    t.resize(30, 100)
-    t.tells("connecting")
-    t.rings("^C", lambda: t.type("\x03"))
-    t.tells("^C is no key here")
-    t.type("ab")
-    t.tells(" T ")
-    t.type("\x1d")
-    t.shows(1, "q  leave", "the menu opens while it connects")
-    t.idles("while it connects")
-    t.type("q")
-    t.ended(0, "Left.")
-    t = Terminal(f"127.0.0.1:{listening.getsockname()[1]}")
-    t.tells("connecting")
-    t.child.terminate()
-    t.ended(143, "Ended by signal 15.")
-    for line in held + [listening]:
-        line.close()
+    with swallowed("127.0.0.1") as port:
+        t = Terminal(f"127.0.0.1:{port}")
+        t.tells("connecting")
+        t.resize(30, 100)
+        t.tells("connecting")
+        t.rings("^C", lambda: t.type("\x03"))
+        t.tells("^C is no key here")
+        t.type("ab")
+        t.tells(" T ")
+        t.type("\x1d")
+        t.shows(1, "q  leave", "the menu opens while it connects")
+        t.idles("while it connects")
+        t.type("q")
+        t.ended(0, "Left.")
+        t = Terminal(f"127.0.0.1:{port}")
+        t.tells("connecting")
+        t.child.terminate()
+        t.ended(143, "Ended by signal 15.")
 
 
 def in_the_menu():
@@ -309,7 +294,7 @@ def in_the_menu():
     t.shows(1, "q  leave")
     for _ in range(50):
         host.send(FORM)
-        host.send_raw(hosts.SEND_TYPE)
+        host.send_raw(SEND_NAME)
     t.resize(30, 100)
     t.shows(1, "q  leave", "the menu in another size")
     t.tells("03/020")

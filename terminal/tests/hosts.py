@@ -7,9 +7,8 @@ import subprocess
 import threading
 import time
 
-DO, WILL, SB, SE, IAC, EOR = 0xFD, 0xFB, 0xFA, 0xF0, 0xFF, 0xEF
-BINARY, TYPE, END = 0, 24, 25
-SEND_TYPE = bytes([IAC, SB, TYPE, 1, IAC, SE])
+from records import ASKED, OPTIONS, record
+
 UNLOCK, READ = b"\x04\x11\x00\x08", b"\x04\x52\x00\x00"
 
 
@@ -31,12 +30,6 @@ def text(row, column, words, attribute=None):
 def field(row, column, length, form=0x4000, attribute=0x24):
     order = bytes([0x1D]) + form.to_bytes(2, "big") + bytes([attribute]) + length.to_bytes(2, "big")
     return at(row, column - 1) + order
-
-
-def record(body, opcode=3, flags=0):
-    header = (10 + len(body)).to_bytes(2, "big") + b"\x12\xa0\x00\x00\x04" + flags.to_bytes(2, "big") + bytes([opcode])
-    whole = header + body
-    return whole.replace(b"\xff", b"\xff\xff") + bytes([IAC, EOR])
 
 
 class Host:
@@ -73,17 +66,13 @@ class Host:
         came.put(None)
 
     def negotiate(self):
-        self.line.sendall(bytes([IAC, DO, TYPE]) + SEND_TYPE)
-        self.line.sendall(bytes([IAC, DO, END, IAC, WILL, END, IAC, DO, BINARY, IAC, WILL, BINARY]))
-        wanted = [bytes([IAC, verb, option]) for verb in (WILL, DO) for option in (END, BINARY)]
-        while not all(token in self.raw for token in wanted):
-            data = self.line.recv(4096)
-            if not data:
+        self.line.sendall(ASKED)  # At once, whatever is at the other end.
+        last = OPTIONS[-1][1]
+        while last not in self.raw:
+            if not (data := self.line.recv(4096)):
                 raise OSError
             self.raw += data
-        last = max(self.raw.rfind(token) + 3 for token in wanted)
-        self.began = self.raw[:last]  # The station's side of the negotiation.
-        self.raw = self.raw[last:]
+        self.began, _, self.raw = self.raw.partition(last)  # The station's side of the negotiation, and what is behind it.
 
     def take(self, data):
         self.raw += data

@@ -7,7 +7,7 @@ import subprocess
 import tempfile
 import time
 
-from hosts import Host, READ, inputs, text
+from hosts import Host, inputs, text
 from window import Terminal, check
 from work import FORM
 

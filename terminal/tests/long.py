@@ -6,10 +6,10 @@ import random
 import tempfile
 import time
 
-import hosts
 from certificates import Authority, Front, context_of, has_tls
 import typist
 from hosts import Host, READ, field, plain, text, write
+from records import SEND_NAME, record
 from window import Terminal, check
 
 KEYS = ["\r", "\t", "\x1b[Z", "\x7f", "\x08", "\x1bOA", "\x1bOB", "\x1bOC", "\x1bOD", "\x1bOH", "\x1b[F", "\x1b[2~",
@@ -50,14 +50,14 @@ def something(dice):
     """What a host sends next: mostly forms, and seldom what is refused."""
     kind = dice.random()
     if kind < 0.004:
-        return hosts.record(b"\x04\xf3\x00\x05\xd9\x70\x00")
+        return record(b"\x04\xf3\x00\x05\xd9\x70\x00")
     if kind < 0.75:
-        return hosts.record(form(dice))
+        return record(form(dice))
     if kind < 0.85:
-        return hosts.record(b"\x04\x11\x00" + bytes([dice.choice([0x08, 0x01, 0x02, 0x00])]), 2)
+        return record(b"\x04\x11\x00" + bytes([dice.choice([0x08, 0x01, 0x02, 0x00])]), 2)
     if kind < 0.9:
-        return hosts.record(b"", dice.choice([11, 12, 10, 1, 2]))
-    command = dice.choice([hosts.SEND_TYPE, b"\xff\xf1", b"\xff\xf2", b"\xff\xfd\x03", b"\xff\xfb\x01"])
+        return record(b"", dice.choice([11, 12, 10, 1, 2]))
+    command = dice.choice([SEND_NAME, b"\xff\xf1", b"\xff\xf2", b"\xff\xfd\x03", b"\xff\xfb\x01"])
     return command * dice.randint(1, 30)
 
 
@@ -191,7 +191,7 @@ def garbage(dice):
     elif kind == 3:
         data = bytes(dice.choice([0xFF, 0xFA, 0xFB, 0xFD, 0xF0, 0xEF, 0x18, 0x01, 0x00]) for _ in range(2000))
     elif kind == 4:
-        whole = bytearray(hosts.record(form(dice)))
+        whole = bytearray(record(form(dice)))
         for _ in range(dice.randint(1, 4)):
             whole[dice.randrange(len(whole))] = dice.randrange(256)
         data = bytes(whole)

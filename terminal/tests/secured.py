@@ -8,10 +8,10 @@ import tempfile
 import termios
 import time
 
-import hosts
 from certificates import NEW_KEY, Authority, Front, context_of, has_tls
 from connecting import NEXT, QUIET, box, in_box
 from hosts import Host, READ, field, inputs, plain, text, write
+from records import record
 from window import Terminal, check
 from work import FORM
 
@@ -70,7 +70,7 @@ def carries_much(own, pem):
     host.window = t = Terminal("--tls", "--ca", own.file("ca.pem"), f"localhost:{front.port}")
     t.until(host.is_ready.is_set, "the session begins")
     body = write() + b"\x11\x05\x01" + b"\xc1" * 1500 + b"\x04\x11\x00\x00"
-    host.send_raw(hosts.record(body, 2) * 300 + hosts.record(b"\x04\x02", 4) * 100)
+    host.send_raw(record(body, 2) * 300 + record(b"\x04\x02", 4) * 100)
     answers = [host.answer() for _ in range(100)]
     check(all(answer == answers[0] and answer[0] == 4 for answer in answers), "each of 100 saves is answered")
     host.send(write() + text(2, 2, "behind all") + field(3, 20, 6) + READ)

@@ -4,8 +4,8 @@ import signal
 import subprocess
 import tempfile
 
-import hosts
 from hosts import Host, Host5250, READ, field, inputs, text, write
+from records import record
 from window import Terminal, check
 
 CUT = os.path.join(os.path.dirname(os.path.dirname(os.path.abspath(__file__))), "cut_recording.sh")
@@ -288,7 +288,7 @@ def screens_in_a_row(count):
         if number % 3 == 0:
             host.send(FORM)
         elif number % 3 == 1:
-            for piece in hosts.record(FORM)[:7], hosts.record(FORM)[7:]:
+            for piece in record(FORM)[:7], record(FORM)[7:]:
                 host.send_raw(piece)
         else:  # The screen first, and the keyboard behind it.
             host.send(FORM.replace(b"\x04\x11\x00\x08", b"\x04\x11\x00\x00"), 2)

@@ -1,10 +1,11 @@
 """Bad lines of each kind of script, and why each is bad: in a script, on standard input, and in a session that is driven."""
 import subprocess
+import unittest
 
-from live.lines import at_host, negotiate_as_host, negotiate_as_station, settled_connect, settled_serve, station_at
-from live.program import expect, Run, script_file
-from live.records import hexed, record
-from live.runner import test
+from live.lines import at_host, served, settled_connect, settled_serve
+from live.program import Run, as_bytes
+from peers import Side, expect, negotiate_as_host
+from records import record
 
 NO_LINE = "it isn't a line of this script"
 APART = "two blanks in front, but it belongs to no line"
@@ -118,19 +119,14 @@ ANY = [
 ]
 
 
-def as_bytes(text):
-    return text if isinstance(text, bytes) else text.encode()
-
-
 def number_of(text):
     return as_bytes(text).count(b"\n") + 1
 
 
-def in_scripts(words, rows, suffix):
+def in_scripts(words, rows):
     for text, cause in rows:
-        with script_file(suffix, b"# first\n" + as_bytes(text) + b"\n") as script:
-            wanted = "script line %d: %s\n" % (1 + number_of(text), cause)
-            Run(words + [script.name]).end(2, "", wanted)
+        wanted = "script line %d: %s\n" % (1 + number_of(text), cause)
+        Run(words, script=b"# first\n" + as_bytes(text) + b"\n").end(2, "", wanted)
 
 
 def station_rows(extended=False):
@@ -142,79 +138,10 @@ def host_rows(only):
     return EITHER + BOTH_HOSTS + only + [(b"send 3\n" + as_bytes(text), cause) for text, cause in BLOCKS]
 
 
-@test
-def bad_lines_of_scripts_at_a_station():
-    in_scripts(["connect", "--wait", "1", "127.0.0.1:1"], station_rows(), ".connect")
-    in_scripts(["connect", "--extended", "--wait", "1", "127.0.0.1:1"], station_rows(True), ".connect")
-
-
-@test
-def bad_lines_of_scripts_at_a_host():
-    in_scripts(["serve", "--wait", "1", "127.0.0.1:0"], host_rows(HOST), ".serve")
-    in_scripts(["serve", "--any", "--wait", "1", "127.0.0.1:0"], host_rows(ANY), ".serve")
-
-
-@test
-def bad_lines_of_standard_input():
-    for text, cause in station_rows()[:6]:
-        at_host(negotiate_as_host, ["--wait", "5"], b"\n" + as_bytes(text) + b"\n", 2, "",
-                "script line %d: %s\n" % (1 + number_of(text), cause), host_ends=False)
-    for text, cause in host_rows(HOST)[-8:]:
-        serve = Run(["serve", "--wait", "10", "127.0.0.1:0"], b"await\n" + as_bytes(text) + b"\n")
-        side = station_at(serve)
-        negotiate_as_station(side)
-        serve.end(2, None, "script line %d: %s\n" % (1 + number_of(text), cause))
-        side.close()
-
-
 def told(run, text):
     run.process.stdin.write(as_bytes(text) + b"\n")
     run.process.stdin.flush()
     return run.line() + run.line()
-
-
-@test
-def bad_lines_of_a_driven_station():
-    connect, host = settled_connect(lambda side: side.closed(), ["--wait", "5"])
-    for text, cause in station_rows():
-        expect(told(connect, text), "bad line: %s\nok\n" % cause, repr(text))
-    # The session goes on.
-    expect(connect.asked("show 6 2 4").count("\n"), 1, "show")
-    connect.end(1, "")
-    host.end()
-
-
-@test
-def bad_lines_of_a_driven_host():
-    serve, side = settled_serve(["--wait", "10"])
-    for text, cause in EITHER + host_rows(HOST)[-len(BLOCKS):]:
-        text = as_bytes(text)
-        if text.startswith(b"send 3\n"):
-            text += b"\nend"
-        expect(told(serve, text), "bad line: %s\nok\n" % cause, repr(text))
-    # Nothing was sent, and what is good is.
-    expect(serve.asked("send 3 0440"), "", "send")
-    side.take(record(3, hexed("0440")))
-    side.close()
-    serve.end(1, "")
-
-
-@test
-def the_end_of_a_send():
-    serve, side = settled_serve(["--wait", "10"])
-    # `end` closes it at once, an empty line does, and one that doesn't begin with two blanks.
-    for end in ("end", "", "# none"):
-        serve.tell("send 3")
-        serve.tell("  CLEAR-UNIT")
-        serve.tell(end)
-        expect(serve.line(), "ok\n", "send")
-        side.take(record(3, hexed("0440")))
-    # In any other place it does nothing.
-    serve.tell("end")
-    expect(serve.asked("send 3 0440"), "", "send")
-    side.take(record(3, hexed("0440")))
-    side.close()
-    serve.end(0, "")
 
 
 ITEMS = [
@@ -246,15 +173,68 @@ def made(words, text):
     return run.returncode, run.stdout, run.stderr.decode()
 
 
-@test
-def bad_lines_of_items():
-    for words, rows in (([], ITEMS), (["--answers"], ANSWERS)):
-        for text, cause in rows:
-            wanted = "script line %d: %s\n" % (number_of(text), cause)
-            expect(made(words, text), (2, b"", wanted), repr(text))
+class TestBadLines(unittest.TestCase):
+    def test_bad_lines_of_scripts_at_a_station(self):
+        in_scripts(["connect", "--wait", "1", "127.0.0.1:1"], station_rows())
+        in_scripts(["connect", "--extended", "--wait", "1", "127.0.0.1:1"], station_rows(True))
 
+    def test_bad_lines_of_scripts_at_a_host(self):
+        in_scripts(["serve", "--wait", "1", "127.0.0.1:0"], host_rows(HOST))
+        in_scripts(["serve", "--any", "--wait", "1", "127.0.0.1:0"], host_rows(ANY))
 
-@test
-def bad_lines_of_play():
-    run = subprocess.run([Run.program, "play"], input=b"settle\nwait\n", capture_output=True)
-    expect((run.returncode, run.stdout, run.stderr), (2, b"", b"script line 2\n"), "play")
+    def test_bad_lines_of_standard_input(self):
+        for text, cause in station_rows()[:6]:
+            at_host(negotiate_as_host, ["--wait", "5"], b"\n" + as_bytes(text) + b"\n", 2, "",
+                    "script line %d: %s\n" % (1 + number_of(text), cause), host_ends=False)
+        for text, cause in host_rows(HOST)[-8:]:
+            serve, side = served(b"await\n" + as_bytes(text) + b"\n")
+            serve.end(2, None, "script line %d: %s\n" % (1 + number_of(text), cause))
+            side.close()
+
+    def test_bad_lines_of_a_driven_station(self):
+        connect, host = settled_connect(Side.take_end, 5)
+        for text, cause in station_rows():
+            expect(told(connect, text), "bad line: %s\nok\n" % cause, repr(text))
+        # The session goes on.
+        expect(connect.asked("show 6 2 4").count("\n"), 1, "show")
+        connect.end(1, "")
+        host.end()
+
+    def test_bad_lines_of_a_driven_host(self):
+        serve, side = settled_serve(10)
+        for text, cause in EITHER + host_rows(HOST)[-len(BLOCKS):]:
+            text = as_bytes(text)
+            if text.startswith(b"send 3\n"):
+                text += b"\nend"
+            expect(told(serve, text), "bad line: %s\nok\n" % cause, repr(text))
+        # Nothing was sent, and what is good is.
+        expect(serve.asked("send 3 0440"), "", "send")
+        side.take(record("0440"))
+        side.close()
+        serve.end(1, "")
+
+    def test_the_end_of_a_send(self):
+        serve, side = settled_serve(10)
+        # `end` closes it at once, an empty line does, and one that doesn't begin with two blanks.
+        for end in ("end", "", "# none"):
+            serve.tell("send 3")
+            serve.tell("  CLEAR-UNIT")
+            serve.tell(end)
+            expect(serve.line(), "ok\n", "send")
+            side.take(record("0440"))
+        # In any other place it does nothing.
+        serve.tell("end")
+        expect(serve.asked("send 3 0440"), "", "send")
+        side.take(record("0440"))
+        side.close()
+        serve.end(0, "")
+
+    def test_bad_lines_of_items(self):
+        for words, rows in (([], ITEMS), (["--answers"], ANSWERS)):
+            for text, cause in rows:
+                wanted = "script line %d: %s\n" % (number_of(text), cause)
+                expect(made(words, text), (2, b"", wanted), repr(text))
+
+    def test_bad_lines_of_play(self):
+        run = subprocess.run([Run.program, "play"], input=b"settle\nwait\n", capture_output=True)
+        expect((run.returncode, run.stdout, run.stderr), (2, b"", b"script line 2\n"), "play")

@@ -1,133 +1,71 @@
-"""The other side of a connection: a host or a station in Python."""
+"""Live sessions: `connect` at a host of Python, and `serve` with a station of Python."""
+import contextlib
 import socket
 import struct
-import threading
-import time
 
-from live.program import expect, Failure, Run
-from live.records import (
-    BINARY, DO, END_OF_RECORD, hexed, IAC, IS_NAME, NAME, OPENING, record, SB, SE, SEND_NAME, SIGN_ON, TERMINAL,
-    WILL,
-)
+from live.program import Run
+from live.screens import SIGN_ON
+from peers import Host, Side, expect, negotiate_as_host, negotiate_as_station
+from records import OPENING, record
 
-
-class Side:
-    """A connected socket, with what was read and not yet taken."""
-
-    def __init__(self, stream, seconds=15):
-        self.stream = stream
-        self.stream.settimeout(seconds)
-        self.rest = b""
-
-    def send(self, data, pieces=0):
-        if not pieces:
-            self.stream.sendall(data)
-            return
-        for at in range(0, len(data), pieces):
-            self.stream.sendall(data[at:at + pieces])
-            time.sleep(0.001)
-
-    def get(self, length):
-        """The next bytes, fewer where the other side has closed."""
-        while len(self.rest) < length:
-            piece = self.stream.recv(4096)
-            if not piece:
-                break
-            self.rest += piece
-        got, self.rest = self.rest[:length], self.rest[length:]
-        return got
-
-    def take(self, wanted, what="what came over the line"):
-        expect(self.get(len(wanted)), wanted, what)
-
-    def closed(self):
-        return self.rest == b"" and self.stream.recv(4096) == b""
-
-    def close(self):
-        self.stream.close()
+READY, NAMED = "host ready IBM-3179-2\n", "terminal IBM-3179-2\n"
+# The words of both kinds of a host, and what each tells first.
+KINDS = ([], READY), (["--any"], NAMED)
 
 
-def negotiate_as_host(side, pieces=0):
-    """RFC 1205 and 4777: the terminal's type, end of record and binary both ways."""
-    side.send(OPENING, pieces)
-    side.take(bytes([IAC, WILL, TERMINAL]))
-    side.send(SEND_NAME, pieces)
-    side.take(IS_NAME)
-    for option in (END_OF_RECORD, BINARY):
-        side.send(bytes([IAC, DO, option]), pieces)
-        side.take(bytes([IAC, WILL, option]))
-        side.send(bytes([IAC, WILL, option]), pieces)
-        side.take(bytes([IAC, DO, option]))
+def sending(*bodies, opcode=3, answer=b"", closes=False):
+    """What a host does that sends records, takes what answers them, and then closes, or waits for the station's end."""
+    def play(side):
+        negotiate_as_host(side)
+        side.send(b"".join(record(body, opcode) for body in bodies))
+        side.take(answer)
+        if not closes:
+            side.take_end()
+    return play
 
 
-def negotiate_as_station(side, name=NAME, pieces=0):
-    """Answers each command of the host, up to the last."""
-    side.take(OPENING)
-    side.send(bytes([IAC, WILL, TERMINAL]), pieces)
-    side.take(SEND_NAME)
-    side.send(bytes([IAC, SB, TERMINAL, 0]) + name + bytes([IAC, SE]), pieces)
-    done = set()
-    while len(done) < 4:
-        command = side.get(3)
-        if len(command) < 3:
-            raise Failure("the host has closed")
-        answer = {DO: WILL, WILL: DO}[command[1]]
-        done.add((command[1], command[2]))
-        side.send(bytes([IAC, answer, command[2]]), pieces)
+def trickling(data, seconds, over):
+    """What a host does that sends the same in such steps, until it is over or nobody takes it."""
+    def play(side):
+        negotiate_as_host(side)
+        with contextlib.suppress(OSError):
+            while not over.wait(seconds):
+                side.send(data)
+    return play
 
 
-class Host:
-    """A listening socket, at which a function plays the host in a thread of its own."""
-
-    def __init__(self, play, family=socket.AF_INET, address="127.0.0.1", buffer=None):
-        self.listener = socket.socket(family)
-        self.listener.setsockopt(socket.SOL_SOCKET, socket.SO_REUSEADDR, 1)
-        if buffer:
-            self.listener.setsockopt(socket.SOL_SOCKET, socket.SO_RCVBUF, buffer)
-        self.listener.bind((address, 0))
-        self.listener.listen(5)
-        self.port = self.listener.getsockname()[1]
-        self.fault = None
-        self.thread = threading.Thread(target=self.run, args=(play,), daemon=True)
-        self.thread.start()
-
-    def run(self, play):
-        try:
-            stream, _ = self.listener.accept()
-            side = Side(stream)
-            try:
-                play(side)
-            finally:
-                side.close()
-        except Exception as error:
-            self.fault = error
-
-    def end(self):
-        self.thread.join(timeout=20)
-        self.listener.close()
-        if self.fault is not None:
-            raise Failure("the host met: %r" % self.fault)
-
-
-def at_host(play, words, text, status, printed, error="", family=socket.AF_INET, address="127.0.0.1", form="%s:%d",
-            host_ends=True, **options):
-    """Runs `connect` at a host that a function plays."""
-    host = Host(play, family, address, **options)
-    run = Run(["connect"] + words + [form % (address, host.port)], text)
+def at_host(play, words, text, status, printed, error="", at="127.0.0.1", host_ends=True, **more):
+    """Runs `connect` at a host that a function plays, by its address or name."""
+    host = Host(play, "::1" if at == "[::1]" else "127.0.0.1")
+    run = Run(["connect", *words, "%s:%d" % (at, host.port)], text, **more)
     run.end(status, printed, error)
     if host_ends:
         host.end()
     return run
 
 
-def station_at(run, seconds=20):
-    """Connects to a `serve` that has begun. It reads its script first."""
-    line = run.line(seconds)
+def address_of(serve, seconds=20):
+    """Where a `serve` listens, which has begun. It reads its script first."""
+    line = serve.line(seconds)
     if not line.startswith("listening "):
-        raise Failure("no address: %r" % line)
+        raise AssertionError("no address: %r" % line)
     host, port = line.split()[1].rsplit(":", 1)
-    stream = socket.create_connection((host.strip("[]"), int(port)), timeout=15)
-    return Side(stream)
+    return host.strip("[]"), int(port)
+
+
+def station_at(serve, seconds=20):
+    return Side(socket.create_connection(address_of(serve, seconds), timeout=15))
+
+
+def served(text, *words, wait=10, script=None, keep_open=False, is_ready=True, at="127.0.0.1:0", **negotiated):
+    """A `serve` with some lines or a script, and a station whose records are allowed, or that has its first token."""
+    serve = Run(["serve", "--wait", str(wait), *words, at], text, script, keep_open)
+    side = station_at(serve)
+    if is_ready:
+        negotiate_as_station(side, **negotiated)
+    else:
+        side.take(OPENING)
+    return serve, side
 
 
 def reset(side):
@@ -136,24 +74,20 @@ def reset(side):
     side.close()
 
 
-def settled_serve(words, text=None):
+def settled_serve(wait):
     """A `serve` line by line, which has told its first event, and its station."""
-    serve = Run(["serve", "--ready"] + words + ["127.0.0.1:0"], text, keep_open=True)
-    side = station_at(serve)
-    serve.tell("await")
-    negotiate_as_station(side)
-    expect(serve.line(), "host ready IBM-3179-2\n", "await")
-    expect(serve.line(), "ok\n", "await")
+    serve, side = served("await\n", "--ready", wait=wait, keep_open=True)
+    expect(serve.line() + serve.line(), READY + "ok\n", "await")
     return serve, side
 
 
-def settled_connect(play, words, **options):
+def settled_connect(play, wait):
     """A `connect` line by line at a host that sends the sign-on, and then plays."""
     def begin(side):
         negotiate_as_host(side)
-        side.send(record(3, hexed(SIGN_ON)))
+        side.send(record(SIGN_ON))
         play(side)
-    host = Host(begin, **options)
-    connect = Run(["connect", "--ready"] + words + ["127.0.0.1:%d" % host.port], "", keep_open=True)
+    host = Host(begin)
+    connect = Run(["connect", "--ready", "--wait", str(wait), "127.0.0.1:%d" % host.port], "", keep_open=True)
     expect(connect.asked("await"), "", "await")
     return connect, host

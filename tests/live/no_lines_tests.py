@@ -1,6 +1,7 @@
 """Scripts of each kind that aren't carried out, each with its first bad line."""
-from live.program import Run, script_file
-from live.runner import test
+import unittest
+
+from live.program import Run
 
 # Lines that a station's script hasn't.
 STATION = [
@@ -48,21 +49,17 @@ ANY = [
 ]
 
 
-def refused(words, suffix, text, number):
+class TestNoLines(unittest.TestCase):
     """Nothing is connected, nor listened for."""
-    with script_file(suffix, text) as script:
-        Run(words + [script.name]).end(2, "", "script line %d\n" % number)
 
+    def test_scripts_of_a_station(self):
+        for words in [], ["--extended"]:
+            for line in STATION:
+                run = Run(["connect", "--wait", "1", *words, "127.0.0.1:1"], script="status\n\n%s\n" % line)
+                run.end(2, "", "script line 3\n")
 
-@test
-def scripts_of_a_station():
-    for words in ([], ["--extended"]):
-        for line in STATION:
-            refused(["connect", "--wait", "1"] + words + ["127.0.0.1:1"], ".connect", "status\n\n%s\n" % line, 3)
-
-
-@test
-def scripts_of_a_host():
-    for words, rows in ([], HOST), (["--any"], ANY):
-        for text, number in rows:
-            refused(["serve", "--wait", "1"] + words + ["127.0.0.1:0"], ".serve", text, number)
+    def test_scripts_of_a_host(self):
+        for words, rows in ([], HOST), (["--any"], ANY):
+            for text, number in rows:
+                run = Run(["serve", "--wait", "1", *words, "127.0.0.1:0"], script=text)
+                run.end(2, "", "script line %d\n" % number)

@@ -1,140 +1,98 @@
 """`serve --sessions`: stations one after another at one listener."""
-import socket
-import tempfile
 import os
+import socket
 
-from live.lines import negotiate_as_station, reset, Side, station_at
-from live.program import expect, Failure, Run, script_file
-from live.records import hexed, record
-from live.runner import test
+from counted import Test
+from live.lines import KINDS, READY, address_of, reset
+from live.program import Run
+from peers import Side, expect, negotiate_as_station
+from records import OPENING, record
 
 SCRIPT = "await\nsend 3 0440\n"
-READY = "host ready IBM-3179-2\n"
-CLEAR = record(3, hexed("0440"))
 
 
-def address_of(run):
-    line = run.line()
-    if not line.startswith("listening "):
-        raise Failure("no address: %r" % line)
-    host, port = line.split()[1].rsplit(":", 1)
-    return host, int(port)
-
-
-def station(address):
-    return Side(socket.create_connection(address, timeout=15))
+def begun(count, *words, script=SCRIPT):
+    """A `serve` of so many stations, and what connects the next one to it."""
+    serve = Run(["serve", "--sessions", str(count), "--wait", "10", *words, "127.0.0.1:0"], script=script)
+    address = address_of(serve)
+    return serve, lambda: Side(socket.create_connection(address, timeout=15))
 
 
 def whole(side):
     negotiate_as_station(side)
-    side.take(CLEAR)
+    side.take(record("0440"))
     side.close()
 
 
-@test
-def three_stations():
-    for words in ([], ["--any"]):
-        with script_file(".serve", SCRIPT) as script:
-            serve = Run(["serve", "--sessions", "3", "--wait", "10"] + words + ["127.0.0.1:0", script.name])
-            address = address_of(serve)
-            told = "terminal IBM-3179-2\n" if words else READY
+class TestSessions(Test):
+    def test_three_stations(self):
+        for words, told in KINDS:
+            serve, station = begun(3, *words)
             for number in range(3):
                 if number:
                     expect(serve.line(), "session %d\n" % (number + 1), "between")
-                whole(station(address))
+                whole(station())
                 expect(serve.line(), told, "session")
             serve.end(0, "")
 
-
-@test
-def stations_that_wait():
-    # They are in the queue of the listener, and each is served from the script's first line on.
-    with script_file(".serve", SCRIPT) as script:
-        serve = Run(["serve", "--sessions", "3", "--wait", "10", "127.0.0.1:0", script.name])
-        address = address_of(serve)
-        sides = [station(address) for _ in range(3)]
-        for side in sides:
+    def test_stations_that_wait(self):
+        # They are in the queue of the listener, and each is served from the script's first line on.
+        serve, station = begun(3)
+        for side in [station() for _ in range(3)]:
             whole(side)
         serve.end(0, READY + "session 2\n" + READY + "session 3\n" + READY)
 
-
-@test
-def one_of_three_fails():
-    # The second closes at once, and the third is served all the same: the status is 1.
-    with script_file(".serve", SCRIPT) as script:
-        serve = Run(["serve", "--sessions", "3", "--wait", "10", "127.0.0.1:0", script.name])
-        address = address_of(serve)
-        whole(station(address))
+    def test_one_of_three_fails(self):
+        # The second closes at once, and the third is served all the same: the status is 1.
+        serve, station = begun(3)
+        whole(station())
         # What is unread when a connection is closed would reset it.
-        second = station(address)
-        second.take(bytes.fromhex("FFFD18"))
+        second = station()
+        second.take(OPENING)
         second.close()
-        whole(station(address))
+        whole(station())
         printed = serve.end(1)
-        if not printed.startswith(READY + "session 2\nended\n") or not printed.endswith("session 3\n" + READY):
-            raise Failure("printed %r" % printed)
+        self.assertTrue(printed.startswith(READY + "session 2\nended\n"), printed)
+        self.assertTrue(printed.endswith("session 3\n" + READY), printed)
 
-
-@test
-def the_last_of_two_is_well():
-    # A byte that is refused ends its session alone.
-    with script_file(".serve", "await\n") as script:
-        serve = Run(["serve", "--sessions", "2", "--wait", "10", "127.0.0.1:0", script.name])
-        address = address_of(serve)
-        side = station(address)
+    def test_the_last_of_two_is_well(self):
+        # A byte that is refused ends its session alone.
+        serve, station = begun(2, script="await\n")
+        side = station()
         side.send(b"\xff\x00")
-        side.closed()
+        side.read()
         side.close()
-        side = station(address)
+        side = station()
         negotiate_as_station(side)
         side.close()
         serve.end(1)
 
-
-@test
-def a_session_by_itself():
-    with script_file(".serve", SCRIPT) as script:
-        serve = Run(["serve", "--sessions", "1", "--wait", "10", "127.0.0.1:0", script.name])
-        whole(station_at(serve))
+    def test_a_session_by_itself(self):
+        serve, station = begun(1)
+        whole(station())
         serve.end(0, READY)
 
-
-@test
-def sessions_in_one_recording():
-    with tempfile.TemporaryDirectory() as folder, script_file(".serve", SCRIPT) as script:
-        name = os.path.join(folder, "recording")
-        serve = Run(["serve", "--sessions", "2", "--wait", "10", "--record", name, "127.0.0.1:0", script.name])
-        address = address_of(serve)
+    def test_sessions_in_one_recording(self):
+        name = os.path.join(self.folder, "recording")
+        serve, station = begun(2, "--record", name)
         for _ in range(2):
-            whole(station(address))
+            whole(station())
         serve.end(0)
         with open(name) as file:
             lines = [line.split() for line in file]
-        opening = [at for at, line in enumerate(lines) if line[1:] == ["host", "FFFD18"]]
-        expect(len(opening), 2, "openings")
+        openings = [int(line[0]) for line in lines if line[1:] == ["host", "FFFD18"]]
+        expect(len(openings), 2, "openings")
         # Each connection's time is that since its own beginning.
-        if int(lines[opening[1]][0]) > 1000:
-            raise Failure("the second begins at %s" % lines[opening[1]][0])
+        self.assertLessEqual(openings[1], 1000)
 
-
-@test
-def a_fault_ends_all():
-    with script_file(".serve", SCRIPT) as script:
-        serve = Run(["serve", "--sessions", "3", "--wait", "10", "127.0.0.1:0", script.name])
-        address = address_of(serve)
-        whole(station(address))
-        side = station(address)
-        reset(side)
+    def test_a_fault_ends_all(self):
+        serve, station = begun(3)
+        whole(station())
+        reset(station())
         serve.end(2, None, None)
 
-
-@test
-def wrong_sessions():
-    with script_file(".serve", SCRIPT) as script:
-        rows = [["--sessions", "0", "127.0.0.1:0", script.name], ["--sessions", "1000001", "127.0.0.1:0", script.name],
-                ["--sessions", "x", "127.0.0.1:0", script.name], ["--sessions", "2", "127.0.0.1:0"]]
-        for words in rows:
-            run = Run(["serve"] + words, "")
+    def test_wrong_sessions(self):
+        for count, script in ("0", SCRIPT), ("1000001", SCRIPT), ("x", SCRIPT), ("2", None):
+            run = Run(["serve", "--sessions", count, "127.0.0.1:0"], "", script)
             run.end(2, "", None)
-            if not run.fault.startswith("error: "):
-                raise Failure("%r: %r" % (words, run.fault))
+            self.assertTrue(run.fault.startswith("error: "), run.fault)

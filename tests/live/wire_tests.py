@@ -1,12 +1,11 @@
 """Lines of `serve`, with --any too, that work on the connection itself, and what an answer's fields show."""
 import time
+import unittest
 
-from live.lines import negotiate_as_station, station_at
-from live.program import expect, Run, script_file, timed
-from live.records import BINARY, DO, hexed, IAC, record, SB, SE, SIGN_ON, WILL
-from live.runner import test
-
-KINDS = [([], "host ready IBM-3179-2\n"), (["--any"], "terminal IBM-3179-2\n")]
+from live.lines import KINDS, READY, served
+from live.program import Run, timed
+from live.screens import SIGN_ON
+from records import BINARY, DO, IAC, SB, SE, WILL, record
 
 # Lines, and the bytes that they write (RFC 854, RFC 855).
 WRITTEN = [
@@ -21,95 +20,6 @@ BAD = ["raw", "raw ", "raw 0", "raw 0G", "raw 00 00", "raw  00", "telnet", "teln
        "pause -1", "pause 1 ", "close 1", "close ", "end 1", "End"]
 
 
-def begun(words, text):
-    """A `serve` with a script, which has told its first event."""
-    serve = Run(["serve", "--ready", "--wait", "10"] + words + ["127.0.0.1:0"], "await\n" + text)
-    side = station_at(serve)
-    negotiate_as_station(side)
-    return serve, side
-
-
-@test
-def bytes_as_they_are():
-    for words, told in KINDS:
-        serve, side = begun(words, "".join(line + "\n" for line, _ in WRITTEN))
-        for line, wanted in WRITTEN:
-            side.take(wanted, line)
-        side.close()
-        serve.end(0, told + "ok\n" * (len(WRITTEN) + 1))
-
-
-@test
-def time_goes_by():
-    for words, told in KINDS:
-        began = time.monotonic()
-        serve, side = begun(words, "pause 700\nraw 01\n")
-        side.take(b"\x01")
-        timed(0.65, 3, began, "pause")
-        side.close()
-        serve.end(0, told + "ok\nok\nok\n")
-
-
-@test
-def a_connection_is_closed():
-    """Behind `close` no line is carried out, and nothing is answered on."""
-    for words, told in KINDS:
-        serve, side = begun(words, "raw 0011\nclose\nraw 02\nawait\n")
-        side.take(b"\x00\x11")
-        expect(side.get(1), b"", "what came behind it")
-        # The station closes no earlier than it was told.
-        side.close()
-        serve.end(0, told + "ok\nok\nok\n")
-        # Whatever was refused before it is told by the status.
-        if not words:
-            serve, side = begun(words, "cancel\nclose\n")
-            expect(side.get(1), b"", "what came behind it")
-            side.close()
-            serve.end(1, told + "ok\nsend refused NoReadToCancel\nok\nok\n")
-
-
-@test
-def a_host_that_closes_inside_a_record():
-    sign_on = record(3, hexed(SIGN_ON))
-    for words, told in KINDS:
-        serve = Run(["serve", "--wait", "10"] + words + ["127.0.0.1:0"],
-                    "await\nraw %s\nclose\n" % sign_on[:40].hex())
-        address = serve.line().split()[1]
-        connect = Run(["connect", "--wait", "10", address], "await\n")
-        connect.end(1, "ended\n")
-        serve.end(0, told)
-
-
-@test
-def the_end_of_a_block():
-    for words, told in KINDS:
-        rows = ["send 3\n  CLEAR-UNIT\nend\nraw 01\n", "end\nsend 3\n  CLEAR-UNIT\n\nend\nend\nraw 01\n"]
-        for text in rows:
-            serve, side = begun(words, text)
-            side.take(record(3, hexed("0440")) + b"\x01")
-            side.close()
-            serve.end(0, told + "ok\nok\nok\n")
-        with script_file(".serve", "await\n" + rows[0]) as script:
-            serve = Run(["serve", "--ready", "--wait", "10"] + words + ["127.0.0.1:0", script.name])
-            side = station_at(serve)
-            negotiate_as_station(side)
-            side.take(record(3, hexed("0440")) + b"\x01")
-            side.close()
-            serve.end(0, told + "ok\nok\nok\n")
-
-
-@test
-def lines_that_are_none():
-    for words, _ in KINDS:
-        for line in BAD:
-            with script_file(".serve", "await\n%s\n" % line) as script:
-                Run(["serve", "--wait", "1"] + words + ["127.0.0.1:0", script.name]).end(2, "", None)
-    # And no lines of a station.
-    for line in "raw 00", "telnet NOP", "pause 1", "close", "end":
-        with script_file(".connect", line + "\n") as script:
-            Run(["connect", "--wait", "1", "127.0.0.1:1", script.name]).end(2, "", None)
-
-
 # A field's content, and what is printed of it: as `fields` of connect shows a field.
 CONTENTS = [
     ("", ""), ("C1", " C1 A"), ("4040", " 4040"), ("C14040", " C14040 A"), ("40C1", " 40C1  A"), ("DC", " DC \u00fc"),
@@ -117,12 +27,70 @@ CONTENTS = [
 ]
 
 
-@test
-def what_an_answer_s_fields_show():
-    form = "04400411000811010" "41D400020000A" "04520000"
-    for content, printed in CONTENTS:
-        serve, side = begun([], "send 3 %s\nawait\n" % form)
-        side.take(record(3, hexed(form)))
-        side.send(record(3, hexed("0105F1" "110105" + content)))
-        side.close()
-        serve.end(0, "host ready IBM-3179-2\nok\nok\nanswer 1 5 F1\n  field 1 5%s\nok\n" % printed)
+class TestWire(unittest.TestCase):
+    def test_bytes_as_they_are(self):
+        for words, told in KINDS:
+            serve, side = served("await\n" + "".join(line + "\n" for line, _ in WRITTEN), "--ready", *words)
+            for line, wanted in WRITTEN:
+                side.take(wanted, line)
+            side.close()
+            serve.end(0, told + "ok\n" * (len(WRITTEN) + 1))
+
+    def test_time_goes_by(self):
+        for words, told in KINDS:
+            began = time.monotonic()
+            serve, side = served("await\npause 700\nraw 01\n", "--ready", *words)
+            side.take(b"\x01")
+            timed(0.65, 3, began, "pause")
+            side.close()
+            serve.end(0, told + "ok\nok\nok\n")
+
+    def test_a_connection_is_closed(self):
+        """Behind `close` no line is carried out, and nothing is answered on."""
+        for words, told in KINDS:
+            serve, side = served("await\nraw 0011\nclose\nraw 02\nawait\n", "--ready", *words)
+            side.take(b"\x00\x11")
+            side.take_end()
+            # The station closes no earlier than it was told.
+            side.close()
+            serve.end(0, told + "ok\nok\nok\n")
+            # Whatever was refused before it is told by the status.
+            if not words:
+                serve, side = served("await\ncancel\nclose\n", "--ready")
+                side.take_end()
+                side.close()
+                serve.end(1, told + "ok\nsend refused NoReadToCancel\nok\nok\n")
+
+    def test_a_host_that_closes_inside_a_record(self):
+        text = "await\nraw %s\nclose\n" % record(SIGN_ON)[:40].hex()
+        for words, told in KINDS:
+            serve = Run(["serve", "--wait", "10", *words, "127.0.0.1:0"], text)
+            Run(["connect", "--wait", "10", serve.line().split()[1]], "await\n").end(1, "ended\n")
+            serve.end(0, told)
+
+    def test_the_end_of_a_block(self):
+        blocks = ("await\nsend 3\n  CLEAR-UNIT\nend\nraw 01\n",
+                  "await\nend\nsend 3\n  CLEAR-UNIT\n\nend\nend\nraw 01\n")
+        for words, told in KINDS:
+            for text, script in (blocks[0], None), (blocks[1], None), (None, blocks[0]):
+                serve, side = served(text, "--ready", *words, script=script)
+                side.take(record("0440") + b"\x01")
+                side.close()
+                serve.end(0, told + "ok\nok\nok\n")
+
+    def test_lines_that_are_none(self):
+        for words, _ in KINDS:
+            for line in BAD:
+                Run(["serve", "--wait", "1", *words, "127.0.0.1:0"], script="await\n%s\n" % line).end(2, "", None)
+        # And no lines of a station.
+        for line in "raw 00", "telnet NOP", "pause 1", "close", "end":
+            Run(["connect", "--wait", "1", "127.0.0.1:1"], script=line + "\n").end(2, "", None)
+
+    def test_what_an_answer_s_fields_show(self):
+        form = "04400411000811010" "41D400020000A" "04520000"
+        for content, printed in CONTENTS:
+            serve, side = served("await\nsend 3 %s\nawait\n" % form, "--ready")
+            side.take(record(form))
+            side.send(record("0105F1" "110105" + content))
+            side.close()
+            serve.end(0, READY + "ok\nok\nanswer 1 5 F1\n  field 1 5%s\nok\n" % printed)

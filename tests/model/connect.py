@@ -3,7 +3,7 @@ from model import told_at_once
 from model.keys import AIDS, Keys
 from model.keys import Refused as KeyRefused
 from model.options import Station
-from live.records import record
+from records import record
 from model.screen import COLUMNS, Faulty, Screen
 from model.wire import Record, Refused, Stream, elements, extended_elements
 
@@ -119,7 +119,7 @@ class Connect:
         if asked:
             self.sent += told_at_once.record_of(asked[0][0], self.screen, self.terminal)
         if item.opcode == 10:
-            self.sent += record(10)
+            self.sent += record(opcode=10)
 
     # What is looked at.
 
@@ -151,7 +151,7 @@ class Connect:
         if (name in AIDS or name in SIGNALS) and not self.options.allows_records:
             raise KeyRefused("NotReady")
         if name in SIGNALS:
-            self.sent += record(0, b"", SIGNALS[name])
+            self.sent += record(opcode=0, flags=SIGNALS[name])
         elif name == "Reset":
             if self.screen.covered is not None:
                 self.screen.uncover()
@@ -159,7 +159,7 @@ class Connect:
         else:
             body = self.keys.press(name)
             if body is not None:
-                self.sent += record(3, body)
+                self.sent += record(body)
 
     def cursor(self, place):
         row, column = map(int, place.split(" "))

@@ -6,7 +6,7 @@ all that has come: that stands only where all is taken, and what comes next wait
 """
 import random
 
-from live.records import record
+from records import record
 from model.bodies import Chance
 from model.connect import Over
 
@@ -144,7 +144,7 @@ class Plan:
                 self.step()
         if not self.is_silent and self.chance.one_in(4):
             if self.chance.one_in(3):
-                self.sends(record(3, b"\x04\x40")[:self.random.randrange(1, 14)])
+                self.sends(record(b"\x04\x40")[:self.random.randrange(1, 14)])
             self.closes()
             for _ in self.chance.some(1, 4):
                 self.line(self.any_line())

@@ -1,5 +1,5 @@
 """What `t5250 serve` does: what it prints and sends, its status, by docs/PROFILE.md, "A session", "Live sessions"."""
-from live.records import record
+from records import record
 from model.connect import Over
 from model.options import Host, UnsupportedTerminal
 from model.screen import COLUMNS, character, Faulty, Screen
@@ -170,7 +170,7 @@ class Serve:
                     self.screen.apply(read_body(body), None)
                 except Faulty as fault:
                     raise SendRefused(f"Screen {fault.args[0]}") from None
-            self.sent += record(opcode, body)
+            self.sent += record(body, opcode)
         except SendRefused as refused:
             self.fail(f"send refused {refused.args[0]}\n")
         if self.is_ready:
@@ -182,7 +182,7 @@ class Serve:
         if self.screen.pending is None or self.is_cancelling:
             raise SendRefused("NoReadToCancel")
         self.is_cancelling = True
-        self.sent += record(10)
+        self.sent += record(opcode=10)
 
 
 def read_body(body):

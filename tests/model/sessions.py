@@ -1,5 +1,5 @@
 """Random sessions of a station at a host, and of a host for one station."""
-from live.records import record
+from records import record
 from model.bodies import NAMES, OFTEN, TEXTS, is_body, words_of
 from model.connect import Connect
 from model.keys import AIDS
@@ -30,11 +30,11 @@ class ConnectPlan(Plan):
         return [told(DO, TERMINAL), sub(TERMINAL, b"\x01"), *options]
 
     def ready_form(self):
-        return record(3, self.chance.screen_body())
+        return record(self.chance.screen_body())
 
     def host_record(self):
         body = self.chance.extended_commands() if self.is_other or self.chance.one_in(30) else self.chance.commands()
-        return record(self.random.choice([3, 3, 3, 2, 1, 0, 4, 5, 6, 8, 10, 11, 12]), body)
+        return record(body, self.random.choice([3, 3, 3, 2, 1, 0, 4, 5, 6, 8, 10, 11, 12]))
 
     def any_line(self):
         if self.chance.one_in(3):
@@ -146,15 +146,15 @@ class ServePlan(Plan):
     def station_record(self):
         if self.is_other:
             body = self.random.choice([b"", b"\x04\x12\x04\x40", b"\xff\x00", self.answer()])
-            return record(self.random.choice([0, 1, 3, 3, 4, 10, 12]), body, self.random.choice([0, 0x4000, 0xFFFF]))
+            return record(body, self.random.choice([0, 1, 3, 3, 4, 10, 12]), flags=self.random.choice([0, 0x4000, 0xFFFF]))
         if self.model.is_cancelling and self.chance.one_in(2):
-            return record(10)
+            return record(opcode=10)
         if self.model.screen.pending is not None and not self.chance.one_in(5):
-            return record(3, self.answer())
-        wrong = [record(3, self.answer()), record(10), record(0, b"\x01\x01\xf1"), record(1)]
+            return record(self.answer())
+        wrong = [record(self.answer()), record(opcode=10), record(b"\x01\x01\xf1", 0), record(opcode=1)]
         if self.chance.one_in(15):
             return self.random.choice(wrong)
-        return record(0, b"", self.random.choice([0x4000, 0x0400, 0x0400, 0x4400, 0]))
+        return record(opcode=0, flags=self.random.choice([0x4000, 0x0400, 0x0400, 0x4400, 0]))
 
     # What the host does.
 

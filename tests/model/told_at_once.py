@@ -1,6 +1,6 @@
 """What a station tells a live host at once, by docs/PROFILE.md, "What is sent at once"."""
 from model.keys import answer_data
-from live.records import record
+from records import record
 from model.screen import COLUMNS
 
 ASKED = {"QUERY", "SAVE-SCREEN", "READ-SCREEN", "READ-IMMEDIATE", "READ-IMMEDIATE-ALTERNATE"}
@@ -45,10 +45,10 @@ def record_of(asked, screen, terminal):
         screen.locked = False
     cursor = address(screen.cursor) + b"\0"
     if asked == "QUERY":
-        return record(0, reply(terminal))
+        return record(reply(terminal), 0)
     if asked == "SAVE-SCREEN":
-        return record(4, bytes([4, 0x12]) + image(screen))
+        return record(bytes([4, 0x12]) + image(screen), 4)
     if asked == "READ-SCREEN":
-        return record(3, cursor + bytes(screen.cells))
+        return record(cursor + bytes(screen.cells))
     read = "READ-INPUT" if asked == "READ-IMMEDIATE" else "READ-MDT-ALTERNATE"
-    return record(3, cursor + answer_data(screen, read))
+    return record(cursor + answer_data(screen, read))

@@ -1,5 +1,5 @@
 """What live hosts and their stations send beside the profile: checked, shown and made."""
-from program.runs import run
+from program.runs import Runs, run, spelled
 
 NO_ESCAPE, BAD_ADDRESS, STRUCTURED, SIZE = "20 NoEscape", "24 BadAddress", "30 StructuredField", "31 AlternateSize"
 SAVE, ROLL, ERROR_CODE, READ, AT_ONCE = "32 SaveRestore", "33 Roll", "34 ErrorCode", "35 ReadScreen", "36 ReadImmediate"
@@ -188,14 +188,6 @@ SCREENS = [
 ]
 
 
-def spelled(body, opcode=3, length=None):
-    """A record in hex, without its end where its length is another."""
-    body = bytes.fromhex(body)
-    head = (10 + len(body) if length is None else length).to_bytes(2, "big") + bytes.fromhex("12A0000004 0000")
-    whole = (head + bytes([opcode]) + body).replace(b"\xff", b"\xff\xff")
-    return (whole + (b"\xff\xef" if length is None else b"")).hex().upper()
-
-
 def indented(lines):
     return "".join(f"  {line}\n" for line in lines)
 
@@ -204,60 +196,53 @@ def side(is_station):
     return ["--extended"] + ["--answers"] * is_station
 
 
-def checked_runs(runs):
-    for is_station, rows in (False, BODIES), (True, ANSWERS):
-        for body, reason in rows:
-            count = len(bytes.fromhex(body))
-            stream = spelled(body, length=0x60 + count if reason else None)
-            accepted = f"accepted: 1 records, 0 commands, {12 + count} bytes\n"
-            line = f"refused at {9 + count}: reason {reason}\n" if reason else accepted
-            for words in ["check"], ["check", "--cut", "1"]:
-                words += side(is_station)
-                runs.expect(f"{words} of {body}", run(words, stream), 1 if reason else 0, line, "")
-    for body, is_station in CUT:
-        line = f"refused at {11 + len(bytes.fromhex(body))}: reason {ENDED}\n"
-        runs.expect(f"check of {body}", run(["check", *side(is_station)], spelled(body)), 1, line, "")
+class TestExtended(Runs):
+    def test_bodies(self):
+        for is_station, rows in (False, BODIES), (True, ANSWERS):
+            for body, reason in rows:
+                count = len(bytes.fromhex(body))
+                stream = spelled(body, length=0x60 + count if reason else None)
+                accepted = f"accepted: 1 records, 0 commands, {12 + count} bytes\n"
+                line = f"refused at {9 + count}: reason {reason}\n" if reason else accepted
+                for words in ["check"], ["check", "--cut", "1"]:
+                    words += side(is_station)
+                    self.expect(f"{words} of {body}", run(words, stream), 1 if reason else 0, line, "")
+        for body, is_station in CUT:
+            line = f"refused at {11 + len(bytes.fromhex(body))}: reason {ENDED}\n"
+            self.expect(f"check of {body}", run(["check", *side(is_station)], spelled(body)), 1, line, "")
 
+    def test_lines(self):
+        """What is shown of a record, and made of that again."""
+        for is_station, rows in (False, LINES), (True, TOLD_LINES):
+            for opcode, body, lines in rows:
+                stream = spelled(body, opcode)
+                shown = f"at {len(stream) // 2 - 1} record flags 0000 opcode {opcode}\n" + indented(lines)
+                done = run(["show", *side(is_station)], stream)
+                # Behind a host's items stands the screen.
+                right = done.stdout == shown if is_station else done.stdout.startswith(shown + "screen\n")
+                self.count(f"show of {stream:.80} gave {done.stdout:.400}", right)
+                self.expect(f"make of {stream:.80}", run(["make", *side(is_station)], shown), 0, stream + "\n", "")
+        for is_station, rows in (False, BAD_LINES), (True, BAD_TOLD_LINES):
+            for lines in rows:
+                done = run(["make", *side(is_station)], "record opcode 3\n" + indented(lines))
+                told = done.stderr.startswith(f"script line {len(lines) + 1}: ")
+                self.count(f"make of {lines} gave {done.stderr}", told and (done.returncode, done.stdout) == (2, ""))
+        # What the profile leaves out: the seven commands, and bodies.
+        for _, body, lines in LINES[:7]:
+            done = run(["make"], f"record opcode 3\n  {lines[0]}\n")
+            wanted = f"script line 2: unknown word `{lines[0]}`\n"
+            self.expect(f"make of {lines[0]}", done, 2, "", wanted)
+            self.count(f"check of {body}", run(["check"], spelled(body)).stdout.startswith("refused at 11: "))
 
-def line_runs(runs):
-    """What is shown of a record, and made of that again."""
-    for is_station, rows in (False, LINES), (True, TOLD_LINES):
-        for opcode, body, lines in rows:
-            stream = spelled(body, opcode)
-            shown = f"at {len(stream) // 2 - 1} record flags 0000 opcode {opcode}\n" + indented(lines)
-            done = run(["show", *side(is_station)], stream)
-            # Behind a host's items stands the screen.
-            right = done.stdout == shown if is_station else done.stdout.startswith(shown + "screen\n")
-            runs.count(f"show of {stream:.80} gave {done.stdout:.400}", right)
-            runs.expect(f"make of {stream:.80}", run(["make", *side(is_station)], shown), 0, stream + "\n", "")
-    for is_station, rows in (False, BAD_LINES), (True, BAD_TOLD_LINES):
-        for lines in rows:
-            done = run(["make", *side(is_station)], "record opcode 3\n" + indented(lines))
-            told = done.stderr.startswith(f"script line {len(lines) + 1}: ")
-            runs.count(f"make of {lines} gave {done.stderr}", told and (done.returncode, done.stdout) == (2, ""))
-    # What the profile leaves out: the seven commands, and bodies.
-    for _, body, lines in LINES[:7]:
-        done = run(["make"], f"record opcode 3\n  {lines[0]}\n")
-        wanted = f"script line 2: unknown word `{lines[0]}`\n"
-        runs.expect(f"make of {lines[0]}", done, 2, "", wanted)
-        runs.count(f"check of {body}", run(["check"], spelled(body)).stdout.startswith("refused at 11: "))
-
-
-def screen_runs(runs):
-    for bodies, screen in SCREENS:
-        records = [spelled(*body) if isinstance(body, tuple) else spelled(body) for body in bodies]
-        done = run(["show", "--extended"], "".join(records))
-        found = (done.returncode, done.stdout.partition("screen\n")[2])
-        runs.count(f"show of {bodies} gave {done.stdout}", found == (0, screen))
-    # A second command that asks, and a text of 81 bytes.
-    for body, reason in ("0402 0462", READ), ("0421" + "C1" * 81, "51 PastEnd"):
-        done = run(["show", "--extended"], spelled(body))
-        line = f"refused at {11 + len(bytes.fromhex(body))}: reason {reason}\n"
-        found = (done.returncode, done.stdout.splitlines(True)[-1])
-        runs.count(f"show of {body} gave {done.stdout}", found == (1, line))
-
-
-def run_all(runs, _folder):
-    checked_runs(runs)
-    line_runs(runs)
-    screen_runs(runs)
+    def test_screens(self):
+        for bodies, screen in SCREENS:
+            records = [spelled(*body) if isinstance(body, tuple) else spelled(body) for body in bodies]
+            done = run(["show", "--extended"], "".join(records))
+            found = (done.returncode, done.stdout.partition("screen\n")[2])
+            self.count(f"show of {bodies} gave {done.stdout}", found == (0, screen))
+        # A second command that asks, and a text of 81 bytes.
+        for body, reason in ("0402 0462", READ), ("0421" + "C1" * 81, "51 PastEnd"):
+            done = run(["show", "--extended"], spelled(body))
+            line = f"refused at {11 + len(bytes.fromhex(body))}: reason {reason}\n"
+            found = (done.returncode, done.stdout.splitlines(True)[-1])
+            self.count(f"show of {body} gave {done.stdout}", found == (1, line))

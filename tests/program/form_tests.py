@@ -4,10 +4,11 @@ import resource
 import subprocess
 import time
 
-from program.runs import Program, run
+from counted import PROGRAM
+from program.runs import Runs, run
 from program.texts import (
-    ANSWER, ANSWER_LINE, ANSWER_LINES, ANSWER_MADE, EMPTY_SCREEN, HELLO, HELLO_LINES, HELLO_MADE, HELLO_TEXT, INVITE, INVITE_LINE,
-    QUERY, QUERY_LINE, SHORT, SHORT_LINE, TOLD, TOLD_LINE, TOLD_LINES,
+    ANSWER, ANSWER_LINE, ANSWER_LINES, ANSWER_MADE, EMPTY_SCREEN, HELLO, HELLO_LINES, HELLO_MADE, HELLO_TEXT, INVITE,
+    INVITE_LINE, QUERY, QUERY_LINE, SHORT, SHORT_LINE, TOLD, TOLD_LINE, TOLD_LINES,
 )
 
 # A host's screen in three pieces, between which a station answers.
@@ -101,53 +102,10 @@ LONG = bytes.fromhex("06EA12A0000004000002" + "04110008110101") + b"\xc1" * 1753
 SECONDS = 6
 
 
-def recorded_runs(runs):
-    for words, text, status, out, err in RECORDINGS:
-        runs.expect(words, run(words, text), status, out, err)
-    for text, number in NO_RECORDINGS:
-        for words in ["check", "--of", "host"], ["show", "--of", "host"]:
-            runs.expect(f"{words} of {text!r}", run(words, text), 2, "", f"script line {number}\n")
-
-
-def byte_runs(runs, folder):
-    path = os.path.join(folder, "stream")
-    for words, spelled, status, out, err in BYTES:
-        data = bytes.fromhex(spelled)
-        with open(path, "wb") as file:
-            file.write(data)
-        for given, done in (" a pipe", piped(words, data)), (" a file", piped([*words, path], b"")):
-            runs.expect(f"{words} of{given}", done, status, out, err)
-
-
 def piped(words, data, **more):
     """What a run comes to whose standard input has these bytes; its output as text."""
-    done = subprocess.run([Program.path, *words], input=data, capture_output=True, timeout=60, **more)
+    done = subprocess.run([PROGRAM, *words], input=data, capture_output=True, timeout=60, **more)
     return subprocess.CompletedProcess(words, done.returncode, done.stdout.decode(), done.stderr.decode())
-
-
-def made_runs(runs):
-    for words, text, status, spelled, err in MADE:
-        done = subprocess.run([Program.path, *words], input=text.encode(), capture_output=True, timeout=60)
-        found = subprocess.CompletedProcess(words, done.returncode, done.stdout.hex(), done.stderr.decode())
-        runs.expect(words, found, status, bytes.fromhex(spelled).hex(), err)
-
-
-def unread_runs(runs, folder):
-    """An input that can't be read, before all else or in the middle, and an output that can't be written."""
-    for words in ["check", "--raw"], ["show", "--raw"], ["check", "--of", "host"], ["make", "--raw"]:
-        descriptor = os.open(folder, os.O_RDONLY)
-        runs.expect(f"{words} from a folder", run(words, stdin=descriptor), 2, "", "cannot read\n")
-        os.close(descriptor)
-        for file in folder, "no such file":
-            runs.expect(f"{words} {file}", run([*words, file]), 2, "", "cannot read\n")
-        done = run(words, preexec_fn=lambda: os.close(0))
-        runs.expect(f"{words} without standard input", done, 2, "", "cannot read\n")
-        with open("/dev/full", "w") as full:
-            done = run(words, HELLO_TEXT if words[0] == "make" else "", stdout=full)
-        runs.expect(f"{words} into a full device", done, 2, "", "cannot write\n")
-    for data in b"", b"\0\0", b"\0":
-        done = piped(["check", "--raw"], data, preexec_fn=lambda: os.close(1))
-        runs.expect(f"{data} without standard output", done, 2, "", "cannot write\n")
 
 
 def limit():
@@ -160,47 +118,77 @@ def most_memory(process):
         return next((int(line.split()[1]) for line in file if line.startswith("VmHWM:")), 0)
 
 
-def long_runs(runs):
-    """A pipe of 100 MB, of which nothing is held: accepted, truncated, refused in its last piece, and at once."""
-    count = 100_000_000 // (64 * len(LONG))
-    for name, end in ("accepted", b""), ("truncated", LONG[:7]), ("refused", b"\0\0"):
-        process = subprocess.Popen([Program.path, "check", "--raw"], stdin=subprocess.PIPE, stdout=subprocess.PIPE,
-                                   stderr=subprocess.PIPE, preexec_fn=limit)
-        began, pieces = time.monotonic(), 0
-        while pieces < count and time.monotonic() - began < SECONDS:
-            process.stdin.write(LONG * 64)
-            pieces += 1
-        process.stdin.write(end)
+class TestForm(Runs):
+    def test_recordings(self):
+        for words, text, status, out, err in RECORDINGS:
+            self.expect(words, run(words, text), status, out, err)
+        for text, number in NO_RECORDINGS:
+            for words in ["check", "--of", "host"], ["show", "--of", "host"]:
+                self.expect(f"{words} of {text!r}", run(words, text), 2, "", f"script line {number}\n")
+
+    def test_bytes(self):
+        path = os.path.join(self.folder, "stream")
+        for words, spelled, status, out, err in BYTES:
+            data = bytes.fromhex(spelled)
+            with open(path, "wb") as file:
+                file.write(data)
+            for given, done in (" a pipe", piped(words, data)), (" a file", piped([*words, path], b"")):
+                self.expect(f"{words} of{given}", done, status, out, err)
+
+    def test_made(self):
+        for words, text, status, spelled, err in MADE:
+            done = subprocess.run([PROGRAM, *words], input=text.encode(), capture_output=True, timeout=60)
+            found = subprocess.CompletedProcess(words, done.returncode, done.stdout.hex(), done.stderr.decode())
+            self.expect(words, found, status, bytes.fromhex(spelled).hex(), err)
+
+    def test_unread(self):
+        """An input that can't be read, before all else or in the middle, and an output that can't be written."""
+        for words in ["check", "--raw"], ["show", "--raw"], ["check", "--of", "host"], ["make", "--raw"]:
+            descriptor = os.open(self.folder, os.O_RDONLY)
+            self.expect(f"{words} from a folder", run(words, stdin=descriptor), 2, "", "cannot read\n")
+            os.close(descriptor)
+            for file in self.folder, "no such file":
+                self.expect(f"{words} {file}", run([*words, file]), 2, "", "cannot read\n")
+            done = run(words, preexec_fn=lambda: os.close(0))
+            self.expect(f"{words} without standard input", done, 2, "", "cannot read\n")
+            with open("/dev/full", "w") as full:
+                done = run(words, HELLO_TEXT if words[0] == "make" else "", stdout=full)
+            self.expect(f"{words} into a full device", done, 2, "", "cannot write\n")
+        for data in b"", b"\0\0", b"\0":
+            done = piped(["check", "--raw"], data, preexec_fn=lambda: os.close(1))
+            self.expect(f"{data} without standard output", done, 2, "", "cannot write\n")
+
+    def test_long_streams(self):
+        """A pipe of 100 MB, of which nothing is held: accepted, truncated, refused in its last piece, and at once."""
+        count = 100_000_000 // (64 * len(LONG))
+        for name, end in ("accepted", b""), ("truncated", LONG[:7]), ("refused", b"\0\0"):
+            process = subprocess.Popen([PROGRAM, "check", "--raw"], stdin=subprocess.PIPE, stdout=subprocess.PIPE,
+                                       stderr=subprocess.PIPE, preexec_fn=limit)
+            began, pieces = time.monotonic(), 0
+            while pieces < count and time.monotonic() - began < SECONDS:
+                process.stdin.write(LONG * 64)
+                pieces += 1
+            process.stdin.write(end)
+            process.stdin.flush()
+            memory = most_memory(process)
+            out, err = process.communicate(timeout=60)
+            length = pieces * 64 * len(LONG)
+            wanted = {
+                "accepted": (0, f"accepted: {pieces * 64} records, 0 commands, {length} bytes\n"),
+                "truncated": (1, f"truncated at {length + 7}\n"),
+                "refused": (1, f"refused at {length + 1}: reason 10 LengthBelowHeader\n"),
+            }[name]
+            found = (process.returncode, out.decode())
+            self.count(f"{length} bytes of a pipe, {name}: {found} {err}", (*found, err) == (*wanted, b""))
+            self.count(f"{length} bytes of a pipe, {name}: {memory} KiB", memory < 8 << 10)
+
+    def test_refused_early(self):
+        """A refused byte is told though the pipe stays open."""
+        process = subprocess.Popen([PROGRAM, "check", "--raw"], stdin=subprocess.PIPE, stdout=subprocess.PIPE)
+        process.stdin.write(bytes.fromhex(INVITE) + b"\0\0")
         process.stdin.flush()
-        memory = most_memory(process)
-        out, err = process.communicate(timeout=60)
-        length = pieces * 64 * len(LONG)
-        wanted = {
-            "accepted": (0, f"accepted: {pieces * 64} records, 0 commands, {length} bytes\n"),
-            "truncated": (1, f"truncated at {length + 7}\n"),
-            "refused": (1, f"refused at {length + 1}: reason 10 LengthBelowHeader\n"),
-        }[name]
-        found = (process.returncode, out.decode())
-        runs.count(f"{length} bytes of a pipe, {name}: {found} {err}", (*found, err) == (*wanted, b""))
-        runs.count(f"{length} bytes of a pipe, {name}: {memory} KiB", memory < 8 << 10)
-
-
-def early_runs(runs):
-    """A refused byte is told though the pipe stays open."""
-    process = subprocess.Popen([Program.path, "check", "--raw"], stdin=subprocess.PIPE, stdout=subprocess.PIPE)
-    process.stdin.write(bytes.fromhex(INVITE) + b"\0\0")
-    process.stdin.flush()
-    line = process.stdout.readline().decode()
-    runs.count(f"an open pipe: {line}", line == "refused at 13: reason 10 LengthBelowHeader\n")
-    process.stdin.close()
-    runs.count("an open pipe", process.wait(timeout=60) == 1)
-    process.stdout.close()
-
-
-def run_all(runs, folder):
-    recorded_runs(runs)
-    byte_runs(runs, folder)
-    made_runs(runs)
-    unread_runs(runs, folder)
-    long_runs(runs)
-    early_runs(runs)
+        line = process.stdout.readline().decode()
+        self.count(f"an open pipe: {line}", line == "refused at 13: reason 10 LengthBelowHeader\n")
+        process.stdin.close()
+        self.count("an open pipe", process.wait(timeout=60) == 1)
+        process.stdout.close()

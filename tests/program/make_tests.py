@@ -1,5 +1,5 @@
 """Items as text, made into streams: lines of hex, an item each, or the number of the first bad line."""
-from program.runs import run
+from program.runs import Runs, run
 
 # A text, and what is written.
 STREAMS = [
@@ -84,12 +84,16 @@ BAD_LINES_OF_ANSWERS = [
 ]
 
 
-def run_all(runs, _folder):
-    for words, rows in ([], STREAMS), (["--answers"], ANSWERS):
-        for text, written in rows:
-            runs.expect(f"make {words} of {text!r}", run(["make", *words], text), 0, written, "")
-    for words, rows in ([], BAD_LINES_OF_TEXT), (["--answers"], BAD_LINES_OF_ANSWERS):
-        for text, number in rows:
-            done = run(["make", *words], text)
-            right = done.stderr.startswith(f"script line {number}: ") and (done.returncode, done.stdout) == (2, "")
-            runs.count(f"make {words} of {text!r} gave {done.stderr!r}", right)
+class TestMake(Runs):
+    def test_streams(self):
+        for words, rows in ([], STREAMS), (["--answers"], ANSWERS):
+            for text, written in rows:
+                self.expect(f"make {words} of {text!r}", run(["make", *words], text), 0, written, "")
+
+    def test_bad_lines(self):
+        for words, rows in ([], BAD_LINES_OF_TEXT), (["--answers"], BAD_LINES_OF_ANSWERS):
+            for text, number in rows:
+                done = run(["make", *words], text)
+                right = done.stderr.startswith(f"script line {number}: ") and (done.returncode, done.stdout) == (2, "")
+                self.count(f"make {words} of {text!r} gave {done.stderr!r}", right)
+

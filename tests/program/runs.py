@@ -2,27 +2,12 @@
 import os
 import subprocess
 
-TOP = os.path.join(os.path.dirname(os.path.abspath(__file__)), "..", "..")
-BUILT = os.path.abspath(os.path.join(TOP, "crates", "t5250", "out", "t5250"))
+from counted import PROGRAM, Test
+from records import record
 
 
-class Program:
-    """The program that is run. Another one than the built one is set first."""
-
-    path = BUILT
-
-
-class Runs:
-    """Counts runs of the program, and tells of each that went otherwise than wanted."""
-
-    def __init__(self):
-        self.passed = self.failed = 0
-
-    def count(self, text, right):
-        """Counts a run, and tells of it where it went otherwise."""
-        self.passed, self.failed = self.passed + right, self.failed + (not right)
-        if not right:
-            print(text)
+class Runs(Test):
+    """Runs of the program, each of which counts by itself."""
 
     def expect(self, name, done, status, out, err):
         """Holds a run to a status and two texts. None stands for any text of some length."""
@@ -37,7 +22,7 @@ def is_as(found, wanted):
 def run(words, text="", **more):
     pipes = {} if "stdin" in more else {"input": text}
     more = {"stdout": subprocess.PIPE, "stderr": subprocess.PIPE, "text": True, "timeout": 60, **pipes, **more}
-    return subprocess.run([Program.path, *words], **more)
+    return subprocess.run([PROGRAM, *words], **more)
 
 
 def files(words, folder):
@@ -49,3 +34,9 @@ def files(words, folder):
             yield path
         else:
             yield word
+
+
+def spelled(body, opcode=3, length=None):
+    """A record in hex, without its end where its length is another."""
+    whole = record(body, opcode)
+    return (whole if length is None else length.to_bytes(2, "big") + whole[2:-2]).hex().upper()

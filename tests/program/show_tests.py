@@ -1,8 +1,7 @@
 """What `show` prints of a stream that isn't accepted, and of a screen in colour."""
 import re
 
-from program.extended_tests import spelled
-from program.runs import run
+from program.runs import Runs, run, spelled
 
 HI_HEX = "0015 12A0 0000 04 0000 02 0440 0411 0008 110102 C8C9 FFEF"
 HI = """at 22 record flags 0000 opcode 2
@@ -75,26 +74,21 @@ COLORED = [
 STATE = "cursor 1 1, locked, message off, blink off, fields 0\n"
 
 
-def stopped_runs(runs):
-    for words, text, status, written in STOPPED:
-        runs.expect(f"show {words} of {text}", run(["show", *words], text), status, written, "")
+class TestShow(Runs):
+    def test_stopped(self):
+        for words, text, status, written in STOPPED:
+            self.expect(f"show {words} of {text}", run(["show", *words], text), status, written, "")
 
-
-def colored_runs(runs):
-    """In colour, and the same without its sequences as without colours."""
-    rows = list(COLORED)
-    for byte, codes in CODES.items():
-        # Between two characters, the second of which is green again.
-        shown = " " if byte in HIDDEN else "X"
-        rows.append((f"110101{byte:02X}E720E8", f" 1 \x1b[0;32m \x1b[0;{codes}m{shown}\x1b[0;32m Y\x1b[0m\n"))
-    for body, wanted in rows:
-        stream = spelled("04110000" + body)
-        done, plain = run(["show", "--color"], stream), run(["show"], stream)
-        colored = done.stdout.partition("screen\n")[2]
-        runs.count(f"show --color of {body} gave {colored!r}", colored == wanted + STATE)
-        runs.count(f"show of {body}", re.sub("\x1b.*?m", "", done.stdout) == plain.stdout)
-
-
-def run_all(runs, _folder):
-    stopped_runs(runs)
-    colored_runs(runs)
+    def test_colors(self):
+        """In colour, and the same without its sequences as without colours."""
+        rows = list(COLORED)
+        for byte, codes in CODES.items():
+            # Between two characters, the second of which is green again.
+            shown = " " if byte in HIDDEN else "X"
+            rows.append((f"110101{byte:02X}E720E8", f" 1 \x1b[0;32m \x1b[0;{codes}m{shown}\x1b[0;32m Y\x1b[0m\n"))
+        for body, wanted in rows:
+            stream = spelled("04110000" + body)
+            done, plain = run(["show", "--color"], stream), run(["show"], stream)
+            colored = done.stdout.partition("screen\n")[2]
+            self.count(f"show --color of {body} gave {colored!r}", colored == wanted + STATE)
+            self.count(f"show of {body}", re.sub("\x1b.*?m", "", done.stdout) == plain.stdout)

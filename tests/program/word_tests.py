@@ -1,7 +1,7 @@
 """Each word of a command line, with a status, standard output and standard error."""
 import os
 
-from program.runs import files, run
+from program.runs import Runs, files, run
 from program.texts import (
     ANSWER, ANSWER_LINE, ANSWER_LINES, ANSWER_MADE, BOB, BOB_COLORED, BOB_LINES, BOB_SCREEN, COLORS, COLORS_COLORED,
     COLORS_PLAIN, EMPTY_SCREEN, HELLO, HELLO_LINES, HELLO_MADE, HELLO_TEXT, INVITE, INVITE_LINE, MANY,
@@ -130,32 +130,25 @@ RUNS = [
 ]
 
 
-def plain_runs(runs, folder):
-    for words, text, status, out, err in RUNS:
-        done = run(list(files(words, folder)), text)
-        runs.expect([word[:20] for word in words], done, status, out, err)
+class TestWord(Runs):
+    def test_words(self):
+        for words, text, status, out, err in RUNS:
+            done = run(list(files(words, self.folder)), text)
+            self.expect([word[:20] for word in words], done, status, out, err)
 
+    def test_names_with_blanks(self):
+        """The file that is opened is the one that the word names, with its blanks."""
+        for name, text, line in (" a b ", INVITE, INVITE_LINE), ("a b", QUERY, QUERY_LINE), (" a b", SHORT, SHORT_LINE):
+            with open(os.path.join(self.folder, name), "w") as file:
+                file.write(text)
+            self.expect(f"a file {name!r}", run(["check", name], cwd=self.folder), 0 if text == INVITE else 1, line, "")
+        for name in "a b ", "a", "b":
+            self.expect(f"no file {name!r}", run(["check", name], cwd=self.folder), 2, "", "cannot read\n")
 
-def blank_runs(runs, folder):
-    """The file that is opened is the one that the word names, with its blanks."""
-    for name, text, line in (" a b ", INVITE, INVITE_LINE), ("a b", QUERY, QUERY_LINE), (" a b", SHORT, SHORT_LINE):
-        with open(os.path.join(folder, name), "w") as file:
-            file.write(text)
-        runs.expect(f"a file {name!r}", run(["check", name], cwd=folder), 0 if text == INVITE else 1, line, "")
-    for name in "a b ", "a", "b":
-        runs.expect(f"no file {name!r}", run(["check", name], cwd=folder), 2, "", "cannot read\n")
-
-
-def named_runs(runs, folder):
-    """A file's name that isn't UTF-8 is a wrong word, also where there is such a file."""
-    path = os.path.join(os.fsencode(folder), b"\xff.hex")
-    with open(path, "w") as file:
-        file.write(INVITE)
-    for words in [b"check", path], [b"show", path], [b"play", path], [b"check", b"--cut", b"\xff"], [b"\xff"]:
-        runs.expect(words, run(words, INVITE), 2, "", None)
-
-
-def run_all(runs, folder):
-    plain_runs(runs, folder)
-    blank_runs(runs, folder)
-    named_runs(runs, folder)
+    def test_names_not_utf_8(self):
+        """A file's name that isn't UTF-8 is a wrong word, also where there is such a file."""
+        path = os.path.join(os.fsencode(self.folder), b"\xff.hex")
+        with open(path, "w") as file:
+            file.write(INVITE)
+        for words in [b"check", path], [b"show", path], [b"play", path], [b"check", b"--cut", b"\xff"], [b"\xff"]:
+            self.expect(words, run(words, INVITE), 2, "", None)

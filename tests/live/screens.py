@@ -1,25 +1,4 @@
-"""Records and options as they go over the line (RFC 854, 885, 1091, 1205), and three screens."""
-import struct
-
-IAC, EOR, SB, SE = 0xFF, 0xEF, 0xFA, 0xF0
-WILL, DO = 0xFB, 0xFD
-BINARY, TERMINAL, END_OF_RECORD = 0, 24, 25
-NAME = b"IBM-3179-2"
-OPENING = bytes([IAC, DO, TERMINAL])
-SEND_NAME = bytes([IAC, SB, TERMINAL, 1, IAC, SE])
-IS_NAME = bytes([IAC, SB, TERMINAL, 0]) + NAME + bytes([IAC, SE])
-
-
-def record(opcode, body=b"", flags=0):
-    """A record as it goes over the line (RFC 1205, section 3; RFC 885)."""
-    head = struct.pack(">HHHBHB", 10 + len(body), 0x12A0, 0, 4, flags, opcode)
-    return (head + body).replace(b"\xff", b"\xff\xff") + bytes([IAC, EOR])
-
-
-def hexed(text):
-    return bytes.fromhex(text)
-
-
+"""Bodies of records in hex, and the screens that they make."""
 # A sign-on, an inquiry and its price, as in examples/.
 SIGN_ON = (
     "044004110008110125E289879540D695110611E4A2859940404B404B404B404B404B404B404B404B404B404B404B404B404B"

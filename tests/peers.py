@@ -1,0 +1,113 @@
+"""The other side of a connection: a host or a station in Python."""
+import contextlib
+import socket
+import threading
+import time
+
+from records import negotiation
+
+
+def expect(got, wanted, what):
+    if got != wanted:
+        raise AssertionError(f"{what}: got {got!r}, and not {wanted!r}")
+
+
+class Side:
+    """A connected socket: what it has sent and heard, and what of that isn't taken yet."""
+
+    def __init__(self, stream, seconds=15):
+        self.stream = stream
+        self.stream.settimeout(seconds)
+        # Each send by itself.
+        self.stream.setsockopt(socket.IPPROTO_TCP, socket.TCP_NODELAY, 1)
+        self.sent = self.heard = self.rest = b""
+
+    def send(self, data, pieces=0):
+        """Sends all at once, or in pieces of this length."""
+        self.sent += data
+        pieces = pieces or max(len(data), 1)
+        for at in range(0, len(data), pieces):
+            self.stream.sendall(data[at:at + pieces])
+            time.sleep(0.001)
+
+    def read(self):
+        """What comes next; nothing where the other side has closed."""
+        piece = self.stream.recv(4096)
+        self.heard, self.rest = self.heard + piece, self.rest + piece
+        return piece
+
+    def get(self, length):
+        """The next bytes, fewer where the other side has closed."""
+        while len(self.rest) < length and self.read():
+            pass
+        got, self.rest = self.rest[:length], self.rest[length:]
+        return got
+
+    def take(self, wanted, what="what came over the line"):
+        expect(self.get(len(wanted)), wanted, what)
+
+    def take_end(self):
+        """The other side closes its half, and nothing came before."""
+        expect(self.get(1), b"", "what came over the line before its end")
+
+    def close(self):
+        self.stream.close()
+
+
+def negotiate_as_host(side, pieces=0, name=b"IBM-3179-2"):
+    for asked, answer in negotiation(name):
+        side.send(asked, pieces)
+        side.take(answer)
+
+
+def negotiate_as_station(side, name=b"IBM-3179-2", pieces=0):
+    for asked, answer in negotiation(name):
+        side.take(asked)
+        side.send(answer, pieces)
+
+
+@contextlib.contextmanager
+def swallowed(*addresses):
+    """A port at which these addresses answer to no connection: their queues are full."""
+    with contextlib.ExitStack() as kept:
+        port = 0
+        for address in addresses:
+            listener = kept.enter_context(socket.socket())
+            listener.bind((address, port))
+            listener.listen(0)
+            port = listener.getsockname()[1]
+            for _ in range(4):
+                filler = kept.enter_context(socket.socket())
+                filler.setblocking(False)
+                filler.connect_ex((address, port))
+        time.sleep(0.1)
+        yield port
+
+
+class Host:
+    """A listening socket, at which a function plays the host in a thread of its own."""
+
+    def __init__(self, play, address="127.0.0.1", port=0, narrow=False):
+        family = socket.AF_INET6 if ":" in address else socket.AF_INET
+        self.listener = socket.create_server((address, port), family=family)
+        if narrow:
+            # Little is under way then before a write has to wait.
+            self.listener.setsockopt(socket.SOL_SOCKET, socket.SO_RCVBUF, 4096)
+            self.listener.setsockopt(socket.IPPROTO_TCP, socket.TCP_MAXSEG, 536)
+        self.port = self.listener.getsockname()[1]
+        self.fault = None
+        self.thread = threading.Thread(target=self.run, args=(play,), daemon=True)
+        self.thread.start()
+
+    def run(self, play):
+        try:
+            with self.listener.accept()[0] as stream:
+                play(Side(stream))
+        except Exception as error:
+            self.fault = error
+
+    def end(self):
+        self.thread.join(timeout=20)
+        self.listener.close()
+        if self.fault is not None:
+            raise AssertionError(f"the host met: {self.fault!r}")
