@@ -306,8 +306,6 @@ ribbon_status ribbon_attribute_look(uint8_t attribute, bool is_color, ribbon_loo
  * brings 17, and each further at most 3. */
 size_t ribbon_reply_room(size_t count)
 {
-    if (count == 0)
-        return 0;
     if (count > (SIZE_MAX - 2 * RIBBON_REPLY_ROOM) / 3)
         return SIZE_MAX;
     return 3 * count + 2 * RIBBON_REPLY_ROOM;

@@ -98,11 +98,28 @@
  * station and a decoder ask for no more. A host does in ribbon_host_push for what an answer holds, and in
  * ribbon_host_send for the elements that it reads and the record that it keeps.
  *
- * Stack, in bytes, as measured on x86-64 (`make bench`): of the profile ribbon_station_new 27,300, _push 1,600 and _key
- * 27,800; of the extended kind ribbon_station_new_extended 58,400, _push 40,700 and _key 44,100; of both _move_cursor,
- * _new_line and _erase_eof 14,500, _cells and _field 3,200, _field_text 7,100, _changed 8,400, _state 6,400;
- * ribbon_host_new 12,500, _push 8,000, _send 15,500, _state 6,400, _cells and _field 3,200; ribbon_decoder_new 3,800;
- * all others less than 1,500. */
+ * Stack, in bytes, as measured on x86-64 (`make bench`): of the profile, and of the extended kind, whose stations are made
+ * by ribbon_station_new_extended. All others take less than 1,500.
+ *
+ *     ribbon_station_new          27,300  58,400
+ *     ribbon_station_push          1,600  40,700
+ *     ribbon_station_key          33,600  50,000
+ *     ribbon_station_move_cursor  14,500  14,500
+ *     ribbon_station_new_line     14,500  14,500
+ *     ribbon_station_erase_eof    14,500  14,500
+ *     ribbon_station_cells         3,200   3,200
+ *     ribbon_station_changed       8,400   8,400
+ *     ribbon_station_field         3,200   3,200
+ *     ribbon_station_field_text    7,100   7,100
+ *     ribbon_station_state         6,400   6,400
+ *     ribbon_host_new             12,500  12,500
+ *     ribbon_host_push             8,000   8,000
+ *     ribbon_host_send            15,500  15,500
+ *     ribbon_host_state            6,400   6,400
+ *     ribbon_host_cells            3,200   3,200
+ *     ribbon_host_field            3,200   3,200
+ *     ribbon_decoder_new           3,800   3,800
+ */
 #ifndef RIBBONSCARP_H
 #define RIBBONSCARP_H
 
@@ -150,7 +167,8 @@ enum {
 
 /* How much room a buffer needs. */
 enum {
-    RIBBON_REPLY_ROOM = 17,    /* bytes: to be left of a reply before each byte; what a host writes at first */
+    RIBBON_REPLY_ROOM = 17,    /* bytes: the least reply buffer, and to be left of it before each byte; what a host
+                                * writes at first */
     RIBBON_ANSWER_ROOM = 5404, /* bytes: what a key sends */
     RIBBON_ROW_ROOM = 160,     /* bytes: a row of 80 characters in UTF-8 */
     RIBBON_FIELD_ROOM = 3838,  /* bytes: the longest field's characters in UTF-8 */
@@ -554,8 +572,10 @@ RIBBON_API size_t ribbon_body_size(void);
  * 20 to 3F. */
 RIBBON_API ribbon_status ribbon_attribute_look(uint8_t attribute, bool is_color, ribbon_look *look);
 
-/* The most that `count` bytes can bring in answer at a station of the profile or a host, with the room that a call asks
- * for before a byte: there a reply buffer of so many bytes never ends in RIBBON_NO_ROOM. SIZE_MAX where it is no size. */
+/* The room of a reply buffer for a push of `count` bytes, at least RIBBON_REPLY_ROOM. It is the most that so many bytes
+ * can bring in answer at a station of the profile and at a host, with the room that a call asks for before a byte, so that
+ * there RIBBON_NO_ROOM never comes where none of an answer waits. At a station of the extended kind a record brings as much
+ * as it asks for, so there it can come, with a full buffer, and the next call goes on. SIZE_MAX where it is no size. */
 RIBBON_API size_t ribbon_reply_room(size_t count);
 
 /* Makes a station with the terminal type of a name (RFC 1091; letters in either case): IBM-5251-11, IBM-5291-1,
@@ -580,13 +600,14 @@ RIBBON_API void ribbon_station_free(ribbon_station *station);
  * RIBBON_REFUSED at the first byte after which the bytes begin no stream, or the last byte of a record that comes
  * before records are allowed (reason 60) or that the screen refuses (50 to 55): `taken` counts the bytes before it. The
  * screen is then as it was, can still be looked at, and each further byte or key is answered by RIBBON_FAILED.
- * RIBBON_NO_ROOM where fewer than RIBBON_REPLY_ROOM bytes of `reply` are left before a byte: what was taken was taken,
- * and the rest can be pushed with an empty buffer. RIBBON_NOTHING_HELD where the handle holds no station.
+ * RIBBON_BAD_ARGUMENT where `room` is less than RIBBON_REPLY_ROOM, whatever the handle holds: nothing is done.
+ * RIBBON_NO_ROOM where fewer bytes of `reply` are left before a byte: what was taken was taken, and a further call goes on
+ * with the rest. RIBBON_NOTHING_HELD where the handle holds no station.
  *
- * What a station of the extended kind writes at a record may be as long as 9,000 bytes, and is written in pieces where
- * `reply` has no room for all: RIBBON_NO_ROOM then comes with a full buffer, also where all bytes were taken. The next
- * call begins with the rest, also one of no bytes, and takes no byte before all of the rest has gone out. So the bytes
- * that the calls give, one after another, are what the station writes. */
+ * What the station writes goes out in pieces where `reply` has no room for all of it: RIBBON_NO_ROOM then comes with a full
+ * buffer, also where all bytes were taken. The next call begins with the rest, also one of no bytes, and takes no byte
+ * before all of the rest has gone out. So the bytes that the calls give, one after another, are what the station writes.
+ * Only a station of the extended kind writes so much: up to 9,000 bytes at a record. */
 RIBBON_API ribbon_status ribbon_station_push(ribbon_station *station, const uint8_t *bytes, size_t count,
                                              uint8_t *reply, size_t room, ribbon_pushed *pushed);
 
@@ -681,8 +702,9 @@ RIBBON_API void ribbon_host_free(ribbon_host *host);
  * RIBBON_REFUSED at the first byte after which the bytes begin no stream, or the last byte of an item that the host
  * refuses (reasons 60 to 63): `taken` counts the bytes before it. RIBBON_NO_MEMORY where memory is wanting. Each further
  * byte, send and cancel is then answered by RIBBON_FAILED; the last record and the last answer can still be fetched.
- * RIBBON_NO_ROOM where fewer than RIBBON_REPLY_ROOM bytes of `reply` are left before a byte: what was taken was taken,
- * and the rest can be pushed with an empty buffer. RIBBON_NOTHING_HELD where the handle holds no host. */
+ * RIBBON_BAD_ARGUMENT where `room` is less than RIBBON_REPLY_ROOM, whatever the handle holds: nothing is done.
+ * RIBBON_NO_ROOM where fewer bytes of `reply` are left before a byte: what was taken was taken, and a further call goes on
+ * with the rest. RIBBON_NOTHING_HELD where the handle holds no host. */
 RIBBON_API ribbon_status ribbon_host_push(ribbon_host *host, const uint8_t *bytes, size_t count, uint8_t *reply,
                                           size_t room, ribbon_pushed *pushed, ribbon_event *event);
 

@@ -1,5 +1,6 @@
 #!/usr/bin/env bash
-# Stack by call, and instructions by call and by byte (valgrind): `make bench` calls this with BUILD and CC.
+# Stack by call, and instructions by call and by byte (valgrind): `make bench` calls this with BUILD and CC. Then whether
+# the figures of the header and of bench/README.md are these; the last line is 'N passed, N failed'.
 set -euo pipefail
 here=$(cd "$(dirname "$0")/.." && pwd)
 folder=$(mktemp -d)
@@ -7,12 +8,6 @@ trap 'rm -rf "$folder"' EXIT
 for name in stack cost; do
     "$CC" -std=c11 -O2 -Wall -Wextra -Werror -I "$here" -o "$folder/$name" "$here/bench/$name.c" "$BUILD/libribbonscarp.a"
 done
-echo "stack, in bytes"
-"$folder/stack" || echo "(more than 32,768)"
-echo "stack of the extended kind, in bytes"
-"$folder/stack" extended || echo "(more than 32,768)"
-command -v valgrind >/dev/null || { echo "left out: instructions, since valgrind isn't here"; exit 0; }
-
 # Instructions of so many times, without those of none.
 instructions() {
     local all none
@@ -22,11 +17,23 @@ instructions() {
     awk "BEGIN {printf \"%.1f\n\", ($all - $none) / ($3)}"
 }
 
-echo "instructions"
-echo "a byte pushed, small records  $(instructions push 1 155648)"
-echo "a byte pushed, text           $(instructions text 100 159800)"
-echo "one cell                      $(instructions cell 10000 10000)"
-echo "a cell of 24 rows             $(instructions sheet 100 192000)"
-echo "the state                     $(instructions State 10000 10000)"
-echo "a field                       $(instructions field 10000 10000)"
-echo "the changed rows              $(instructions hanged 1000 1000)"
+measure() {
+    echo "stack, in bytes"
+    "$folder/stack" || echo "(more than 32,768)"
+    echo "stack of the extended kind, in bytes"
+    "$folder/stack" extended || echo "(more than 32,768)"
+    command -v valgrind >/dev/null || { echo "left out: instructions, since valgrind isn't here"; return; }
+    echo "instructions"
+    echo "a byte pushed, small records  $(instructions push 1 155648)"
+    echo "a byte pushed, text           $(instructions text 100 159800)"
+    echo "one cell                      $(instructions cell 10000 10000)"
+    echo "a cell of 24 rows             $(instructions sheet 100 192000)"
+    echo "the state                     $(instructions State 10000 10000)"
+    echo "a field                       $(instructions field 10000 10000)"
+    echo "the changed rows              $(instructions hanged 1000 1000)"
+}
+measure | tee "$folder/measured"
+case $BUILD in
+*/unproved*) echo "left out: the figures told, which are of the proved library" ;;
+*) python3 "$here/bench/figures.py" <"$folder/measured" ;;
+esac

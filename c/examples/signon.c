@@ -105,7 +105,7 @@ static int check_statuses(ribbon_station *station)
     return ribbon_station_new(station, "IBM-3179-2") == RIBBON_IN_USE && ribbon_station_new(NULL, "IBM-3179-2") == RIBBON_NULL
            && ribbon_station_push(NULL, &byte, 1, small, sizeof small, &pushed) == RIBBON_NULL
            && ribbon_station_push(station, NULL, 1, small, sizeof small, &pushed) == RIBBON_NULL
-           && ribbon_station_push(station, &byte, 1, small, sizeof small, &pushed) == RIBBON_NO_ROOM && pushed.taken == 0
+           && ribbon_station_push(station, &byte, 1, small, sizeof small, &pushed) == RIBBON_BAD_ARGUMENT && pushed.taken == 0
            && ribbon_station_key(station, RIBBON_KEY_TAB, 0, small, sizeof small, &told) == RIBBON_NO_ROOM
            && ribbon_station_row(station, 0, row, sizeof row, &told) == RIBBON_BAD_ARGUMENT
            && ribbon_station_row(station, 25, row, sizeof row, &told) == RIBBON_BAD_ARGUMENT

@@ -92,12 +92,17 @@ static void test_station_push(void)
     ribbon_decoder_free(&decoder);
     FILL(pushed);
     FILL(small);
-    CHECK(ribbon_station_push(&station, opening, 1, small, sizeof small, &pushed) == RIBBON_NO_ROOM
+    CHECK(ribbon_station_push(&station, opening, 1, small, sizeof small, &pushed) == RIBBON_BAD_ARGUMENT
           && is_pushed(&pushed, 0, 0, 0, 0) && IS_FILLED(small) && IS_FILLED(reply));
-
-    /* No bytes: done, also without a pointer and without room. */
     FILL(pushed);
-    CHECK(ribbon_station_push(&station, NULL, 0, small, 0, &pushed) == RIBBON_DONE && is_pushed(&pushed, 0, 0, 0, 0));
+    CHECK(ribbon_station_push(&none, opening, 1, small, sizeof small, &pushed) == RIBBON_BAD_ARGUMENT
+          && is_pushed(&pushed, 0, 0, 0, 0));
+    CHECK(ribbon_station_push(&station, NULL, 0, small, 0, &pushed) == RIBBON_BAD_ARGUMENT);
+
+    /* No bytes: done, also without a pointer. */
+    FILL(pushed);
+    CHECK(ribbon_station_push(&station, NULL, 0, reply, RIBBON_REPLY_ROOM, &pushed) == RIBBON_DONE
+          && is_pushed(&pushed, 0, 0, 0, 0) && IS_FILLED(reply));
 
     /* What was written before the room is wanting is there, and the rest goes on. */
     CHECK(ribbon_station_push(&station, opening, sizeof opening, reply, 19, &pushed) == RIBBON_NO_ROOM);
@@ -294,7 +299,7 @@ static void test_texts(void)
     for (unsigned number = 0x40; number < 0xff; number++)
         CHECK(ribbon_from_037((uint8_t)number, &character) == RIBBON_DONE
               && ribbon_to_037(character, &byte) == RIBBON_DONE && byte == number);
-    CHECK(ribbon_reply_room(0) == 0 && ribbon_reply_room(1) >= RIBBON_REPLY_ROOM);
+    CHECK(ribbon_reply_room(0) >= RIBBON_REPLY_ROOM && ribbon_reply_room(1) >= ribbon_reply_room(0));
     CHECK(ribbon_reply_room(SIZE_MAX) == SIZE_MAX);
 }
 

@@ -140,10 +140,11 @@ static void test_rest(void)
     CHECK(ribbon_station_erase_eof(&station, &told) == RIBBON_NO_ROOM && told.reason == 0);
     CHECK(ribbon_station_state(&station, &state) == RIBBON_DONE && state.records == 2 && state.cursor_row == 6);
     FILL(reply);
-    CHECK(ribbon_station_push(&station, more, sizeof more, reply, 8, &pushed) == RIBBON_NO_ROOM);
-    CHECK(pushed.taken == 0 && pushed.replied == 8 && all_are(reply + 8, sizeof reply - 8, 0xa5));
-    CHECK(ribbon_station_push(&station, NULL, 0, reply, sizeof reply, &pushed) == RIBBON_DONE);
-    CHECK(pushed.taken == 0 && pushed.replied == 1 && reply[0] == 0xef);
+    CHECK(ribbon_station_push(&station, more, sizeof more, reply, 8, &pushed) == RIBBON_BAD_ARGUMENT
+          && pushed.taken == 0 && pushed.replied == 0 && IS_FILLED(reply));
+    CHECK(ribbon_station_push(&station, NULL, 0, reply, RIBBON_REPLY_ROOM, &pushed) == RIBBON_DONE);
+    CHECK(pushed.taken == 0 && pushed.replied == 9 && memcmp(reply + 7, "\xff\xef", 2) == 0
+          && all_are(reply + 9, sizeof reply - 9, 0xa5));
     CHECK(ribbon_station_push(&station, more, sizeof more, reply, sizeof reply, &pushed) == RIBBON_DONE);
     CHECK(pushed.taken == 3 && pushed.replied == 3 && memcmp(reply, "\xff\xfc\x27", 3) == 0);
     CHECK(ribbon_station_key(&station, RIBBON_KEY_ATTENTION, 0, answer, sizeof answer, &told) == RIBBON_DONE
@@ -288,8 +289,8 @@ static void test_new(void)
     ribbon_decoder_free((ribbon_decoder *)(void *)&station); /* of another kind: left alone */
     ribbon_host_free((ribbon_host *)(void *)&station);
     CHECK(station.handle.is_open);
-    CHECK(ribbon_station_push(&station, NULL, 0, reply, 0, &pushed) == RIBBON_DONE && pushed.replied == 0);
-    CHECK(ribbon_station_push(&station, opening, 1, reply, 16, &pushed) == RIBBON_NO_ROOM && pushed.taken == 0);
+    CHECK(ribbon_station_push(&station, NULL, 0, reply, 17, &pushed) == RIBBON_DONE && pushed.replied == 0);
+    CHECK(ribbon_station_push(&station, opening, 1, reply, 16, &pushed) == RIBBON_BAD_ARGUMENT && pushed.taken == 0);
     ribbon_station_free(&station);
     ribbon_station_free(&station);
     CHECK(ribbon_decoder_new_extended(NULL) == RIBBON_NULL);

@@ -130,7 +130,7 @@ static void test_opening(ribbon_host *host)
     CHECK(event.kind == RIBBON_EVENT_READY && event.terminal == RIBBON_TERMINAL_IBM_3179_2);
     CHECK(pushed.taken == 31 && pushed.replied == 6 + 12 && all_are(reply + 18, sizeof reply - 18, 0xa5));
     CHECK(memcmp(reply, "\xff\xfa\x18\x01\xff\xf0\xff\xfd\x19\xff\xfb\x19\xff\xfd\0\xff\xfb\0", 18) == 0);
-    CHECK(ribbon_host_push(host, up + 31, sizeof up - 1 - 31, reply, 5, &pushed, &event) == RIBBON_NO_ROOM
+    CHECK(ribbon_host_push(host, up + 31, sizeof up - 1 - 31, reply, 5, &pushed, &event) == RIBBON_BAD_ARGUMENT
           && is_pushed(&pushed, 0, 0, 0, 0) && event.kind == 0);
     CHECK(ribbon_host_push(host, up + 31, sizeof up - 1 - 31, reply, sizeof reply, &pushed, &event) == RIBBON_DONE
           && event.kind == RIBBON_EVENT_ATTENTION && event.terminal == 0 && pushed.taken == 12 && pushed.replied == 0);

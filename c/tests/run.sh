@@ -111,6 +111,10 @@ if has python3 "the client in Python and the examples"; then
     try_counted "a client in Python" python3 "$tests/client.py" "$BUILD/libribbonscarp.so" "$top/crates/ws_code/src/reason.rt"
     try_counted "the examples" "$tests/examples.sh" "$BUILD" "$T5250"
 fi
+case $BUILD in
+*/unproved*) echo "left out: the figures of the header and of bench/README.md, which are of the proved library" ;;
+*) ! has python3 "the header's figures" || try_counted "the header's figures" env BUILD="$BUILD" CC="$CC" "$here/bench/run.sh" ;;
+esac
 if has "$CXX" "the header in C++"; then
     try "the header in C++" "$CXX" -std=c++11 -Wall -Wextra -Wpedantic -Werror -I "$here" -x c++ -o "$folder/cxx" \
         "$tests/installed.c" -x none "$BUILD/libribbonscarp.a"

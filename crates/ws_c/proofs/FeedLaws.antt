@@ -1,10 +1,12 @@
 -- What feeds of a driver come to, one after another
 
-use Rattle.std.proofs.Common.{◌≡◌, ℕ, ◌+◌, ◌<◌, ◌≤◌, inl, inr, List, [], ◌++◌, Ok, Err, Result, length, take, drop, refl, ap, subst}
-use Rattle.std.proofs.Common.{sym, ◌∙◌, arith, length-append}
+use Rattle.std.specs.Prelude.{◌&&◌, is_some}
+use Rattle.std.proofs.Common.{◌≡◌, ℕ, ◌+◌, ◌<◌, ◌≤◌, inl, inr, List, [], ◌++◌, Bool, true, false, Option, Some, None, IsSome}
+use Rattle.std.proofs.Common.{Ok}
+use Rattle.std.proofs.Common.{Err, Result, length, take, drop, refl, ap, subst, sym, ◌∙◌, arith, length-append}
 use Rattle.std.proofs.Math.Seq.{take-add}
 use Rattle.std.proofs.lemmas.Bool.{cases_lt}
-use Rattle.std.proofs.lemmas.List.{length-drop, length-take-le, take-take}
+use Rattle.std.proofs.lemmas.List.{append-nil, length-drop, length-take-le, take-take}
 use Rattle.ws_record.specs.declared.record.Item.{Item}
 use Rattle.ws_session.specs.ActLaws.{came_append, gone_on}
 use Rattle.ws_session.specs.Acts.{Act, HasGone, all_came, as_list, ways}
@@ -14,16 +16,13 @@ use Rattle.ws_session.specs.driver.Driven.{AreSilent, AtDriver, Come, Driven, Dr
 use Rattle.ws_session.specs.driver.Driven.{manner_of}
 use Rattle.ws_session.specs.declared.refusal.Refusal.{Refusal}
 use Rattle.ws_session.proofs.Feedings.{none_come}
-use Rattle.ws_c.specs.Hosts.{HostTakes}
-use Rattle.ws_c.specs.Pushes.{BringsAtMost, FrontTaken, first_bytes, refused_step}
-use Rattle.ws_c.specs.declared.host.HeldHost.{HeldHost}
+use Rattle.ws_c.specs.Pushes.{BringsAtMost, FrontTaken, HasToldAlone, first_bytes, refused_step}
 
-module _ {R K Place U Deed Event Reply : Type 0} (d : Driving R K Place U Deed Event Reply)
-    (IsTold : List Event → Type 0) where
+module _ {R K Place U Deed Event Reply : Type 0} (d : Driving R K Place U Deed Event Reply) where
   -- none of the bytes was taken
-  pub takes_none : IsTold [] → (end : Driven R K Place) (bytes : List ℕ)
+  pub takes_none : (IsTold : List Event → Type 0) → IsTold [] → (end : Driven R K Place) (bytes : List ℕ)
       → FrontTaken d IsTold end (first_bytes bytes 0) [] end
-  takes_none untold end bytes = record {
+  takes_none IsTold untold end bytes = record {
     taken = λ before items side l. (
       [],
       untold,
@@ -48,14 +47,15 @@ module _ {R K Place U Deed Event Reply : Type 0} (d : Driving R K Place U Deed E
       (all_came (take k (drop n bytes))) written reply told more gone (λ b its s m size. next b its s m))
 
   -- what bytes bring after these that bring nothing
-  pub brings_at_most : (old now : Driven R K Place) (bytes : List ℕ) (n j : ℕ) (written : List ℕ) (most : ℕ)
-      → FrontTaken d IsTold old (first_bytes bytes n) written now
+  pub brings_at_most : (IsTold : List Event → Type 0) (old now : Driven R K Place) (bytes : List ℕ) (n j : ℕ)
+      (written : List ℕ) (most : ℕ) → FrontTaken d IsTold old (first_bytes bytes n) written now
       → AtDriver d now (λ b its s. AreSilent d b its s (take j (drop n bytes))) → length written ≤ most
-      → BringsAtMost d old (first_bytes bytes (n + j)) most
-  brings_at_most old now bytes n j written most t silent few = λ before items side l.
+      → BringsAtMost d IsTold old (first_bytes bytes (n + j)) most
+  brings_at_most IsTold old now bytes n j written most t silent few = λ before items side l.
       (let p = t.taken before items side l in (
         written ++ [],
         p.0 ++ [],
+        subst IsTold (sym (append-nil p.0)) p.1,
         come_after (λ b its s. Unit {0}) now bytes n j before items side written [] p.0 [] p.2 silent,
         omega (arith, few, length-append written []),
       ))
@@ -71,10 +71,11 @@ module _ {R K Place U Deed Event Reply : Type 0} (d : Driving R K Place U Deed E
     some_fed = f.some (omega (arith, length-drop n bytes, inside)) (λ e. cc (is, e))
 
     -- more of them are
-    pub takes_on : (written : List ℕ) → ((told : List Event) → IsTold told → IsTold (told ++ as_list step.event))
-        → FrontTaken d IsTold old (first_bytes bytes n) written now → FrontTaken d IsTold old
+    pub takes_on : (IsTold IsToldNow : List Event → Type 0) (written : List ℕ)
+        → ((told : List Event) → IsTold told → IsToldNow (told ++ as_list step.event))
+        → FrontTaken d IsTold old (first_bytes bytes n) written now → FrontTaken d IsToldNow old
         (first_bytes bytes (n + fed.used)) (written ++ d.does.written new.reacts step.reply) new
-    takes_on written more t =
+    takes_on IsTold IsToldNow written more t =
         let k : ℕ = fed.used in
         let g = f.takes works in
         record {
@@ -103,7 +104,24 @@ pub refused_fed : {Event Reply : Type 0} (fed : EndFed Event Reply) (why : Refus
 refused_fed {Event} {Reply} fed why is = ap (λ (z : Result (EndStep Event Reply) Refusal).
     let f : EndFed Event Reply = record { used = fed.used; step = z } in f) is
 
--- and keeps what C fetches
-abbrev pub HeldTakes : HeldHost → List ℕ → ℕ → List ℕ → HeldHost → Type 0
-HeldTakes old bytes n written new = HostTakes old.end (first_bytes bytes n) written new.end × (new.sent ≡ old.sent)
-    × (new.answer ≡ old.answer)
+-- where an end doesn't stop at what is told, it has told nothing at which it stops
+pub goes_on_untold : {Event : Type 0} (stops : Bool) (event : Option Event) → (stops && is_some event) ≡ false
+    → (told : List Event) → HasToldAlone stops None told → HasToldAlone stops None (told ++ as_list event)
+goes_on_untold true None e told t s = append-nil told ∙ t s
+goes_on_untold true (Some event) e told t s = absurd (cc)
+goes_on_untold false event e told t s = absurd (cc)
+
+-- where it does, it has told this alone
+pub stops_told : {Event : Type 0} (stops : Bool) (event : Option Event) → (stops && is_some event) ≡ true
+    → (told : List Event) → HasToldAlone stops None told → HasToldAlone stops event (told ++ as_list event)
+stops_told {Event} stops event e told t s = ap (λ (l : List Event). l ++ as_list event) (t s)
+
+pub stops_plain : {Event : Type 0} (stops : Bool) (event : Option Event) → (stops && is_some event) ≡ true
+    → stops ≡ false → event ≡ None
+stops_plain true event e h = absurd (cc)
+stops_plain false event e h = absurd (cc)
+
+pub stops_some : {Event : Type 0} (stops : Bool) (event : Option Event) → (stops && is_some event) ≡ true → IsSome event
+stops_some true None e = absurd (cc)
+stops_some true (Some event) e = refl
+stops_some false event e = absurd (cc)

@@ -7,8 +7,6 @@ use Rattle.std.specs.Str.{encode_utf8_all}
 use Rattle.ws_code.specs.Reason.{number_of as reason_number}
 use Rattle.ws_code.specs.declared.reason.Reason.{Reason}
 use Rattle.ws_nego.specs.Station.{station_allows_records}
-use Rattle.ws_nego.specs.Terminal.{terminal_named}
-use Rattle.ws_nego.specs.declared.terminal.TerminalType.{TerminalType}
 use Rattle.ws_screen.specs.Lines.{row_chars}
 use Rattle.ws_screen.specs.ScreenParts.{ScreenParts, holds}
 use Rattle.ws_screen.specs.declared.field.Field.{Field}
@@ -16,18 +14,14 @@ use Rattle.ws_screen.specs.declared.read_kind.ReadKind.{ReadKind}
 use Rattle.ws_screen.specs.declared.read_kind.ReadKind.TheVariants.{Input, Mdt, MdtAlternate}
 use Rattle.ws_session.specs.station.AnswerSpelling.{answer_spelling}
 use Rattle.ws_session.specs.Ends.{refused_byte}
-use Rattle.ws_session.specs.station.StationLeads.{StationParts, StationLeads}
-use Rattle.ws_session.specs.station.StationSide.{new_station_side}
+use Rattle.ws_session.specs.station.StationLeads.{StationParts}
 use Rattle.ws_session.specs.station.Stations.{IsKeyedOn}
 use Rattle.ws_session.specs.declared.station.key_fault.KeyFault.{KeyFault}
 use Rattle.ws_session.specs.declared.station.key_fault.KeyFault.TheVariants.{Failed as KeyFailed, NotReady as KeyNotReady}
 use Rattle.ws_session.specs.declared.station.key_fault.KeyFault.TheVariants.{Key as Refuses}
 use Rattle.ws_keys.specs.declared.answer.Answer.{Answer}
-use Rattle.ws_keys.specs.declared.key.Key.{Key}
 use Rattle.ws_c.specs.Keys.{refusal_number}
 use Rattle.ws_c.specs.declared.field_told.FieldTold.{FieldTold}
-use Rattle.ws_c.specs.declared.machine.Machine.{Machine}
-use Rattle.ws_c.specs.declared.machine.Machine.TheVariants.{Station}
 use Rattle.ws_c.specs.declared.state_told.StateTold.{StateTold}
 use Rattle.ws_c.specs.declared.state_told.TheConstants.{NO_FIELD}
 use Rattle.ws_c.specs.declared.status.Status.{Status}
@@ -36,7 +30,6 @@ use Rattle.ws_c.specs.declared.status.Status.TheVariants.{BadArgument, NotReady,
 use Rattle.ws_c.specs.declared.status.Status.TheVariants.{ReadOutstanding, NoReadToCancel, TooBig, NoAnswer}
 use Rattle.ws_c.specs.declared.told.Told.{Told}
 use Rattle.ws_session.specs.station.Displays.{OnDisplay}
-use Rattle.ws_session.specs.station.StationSide.{on_profile}
 use Rattle.ws_session.specs.station.Stations.{StationOf, ItemsOf, SideOf, LeadsOn}
 
 -- the number of a status
@@ -99,16 +92,6 @@ abbrev pub GivesBytes : Crossed Told → List ℕ → Type 0
 GivesBytes call bytes = (call.status ≡ Done) × (call.told ≡ told_length (length bytes))
     × (call.after ≡ holds_front bytes call.buffer)
 
--- what a new station crosses as: it is made for the terminal of the name, or the handle stays as it is
-abbrev pub IsStationNew : List ℕ → Option Machine → Option Machine → Status → Type 0
-IsStationNew name (Some held) now status = (status ≡ InUse) × (now ≡ Some held)
-IsStationNew name None now Done = (terminal : TerminalType) × (station : StationParts)
-    × (terminal_named name ≡ Some terminal) × (now ≡ Some (Station station))
-    × StationLeads station [] [] (new_station_side terminal)
-IsStationNew name None now BadArgument = (terminal_named name ≡ None) × (now ≡ None)
-IsStationNew name None now NoMemory = (terminal : TerminalType) × (terminal_named name ≡ Some terminal) × (now ≡ None)
-IsStationNew name None now status = ⊥
-
 -- a station of any kind at a key
 pub record StationKeyedOn (kind : OnDisplay) (old new : StationOf kind) (key : kind.Pressed)
     (result : Result (Option Answer) KeyFault) : Type 0 where
@@ -118,10 +101,6 @@ pub record StationKeyedOn (kind : OnDisplay) (old new : StationOf kind) (key : k
   pub full : old.live.taken + 1 ≡ 2 ^ 64 → result ≡ Err KeyFailed
   pub failed : IsSome old.ended → result ≡ Err KeyFailed
   pub same : OnErr result (new ≡ old)
-
--- a station of the profile at a key
-abbrev pub StationKeyed : StationParts → StationParts → Key → Result (Option Answer) KeyFault → Type 0
-StationKeyed = StationKeyedOn on_profile
 
 -- what a key's fault crosses as
 abbrev pub IsKeyFaultTold : KeyFault → Status → Told → Type 0
@@ -135,11 +114,6 @@ abbrev pub IsKeyTold : Result (Option Answer) KeyFault → Crossed Told → Type
 IsKeyTold (Ok None) call = TellsOnly call Done (told_length 0)
 IsKeyTold (Ok (Some answer)) call = GivesBytes call (answer_spelling answer)
 IsKeyTold (Err fault) call = IsKeyFaultTold fault call.status call.told × (call.after ≡ call.buffer)
-
--- what a key crosses as that is pressed at a station
-abbrev pub IsPress : Key → Crossed Told → StationParts → StationParts → Type 0
-IsPress key call old new = (result : Result (Option Answer) KeyFault) × StationKeyed old new key result
-    × IsKeyTold result call
 
 -- the number of a pending read; 0 where there is none
 abbrev pub read_number : Option ReadKind → ℕ

@@ -3,10 +3,11 @@
 use Rattle.std.specs.Prelude.{◌≡◌, Option, Some, None}
 use Rattle.ws_record.specs.Live.{Watching}
 use Rattle.ws_screen.specs.ScreenParts.{ScreenParts}
-use Rattle.ws_session.specs.station.StationLeads.{StationParts}
+use Rattle.ws_session.specs.station.StationSide.{on_profile}
 use Rattle.ws_stream.specs.declared.place.Place.{Place}
 use Rattle.ws_extended.specs.declared.extended_place.ExtendedPlace.{ExtendedPlace}
-use Rattle.ws_c.specs.declared.held_station.HeldStation.{HeldStation}
+use Rattle.ws_extended_station.specs.ExtendedDisplays.{on_extended}
+use Rattle.ws_c.specs.HeldEnds.{HeldOn}
 use Rattle.ws_c.specs.declared.host.HeldHost.{HeldHost}
 use Rattle.ws_c.specs.declared.machine.Machine.{Machine}
 use Rattle.ws_c.specs.declared.machine.Machine.TheVariants.{Decoder, ExtendedDecoder, ExtendedStation, Host}
@@ -20,25 +21,18 @@ HoldsNone status untold = (status ≡ NothingHeld) × untold
 
 -- What a call does with the station that a handle holds: this with one of the profile, that with one as live hosts use
 -- it. Where it holds none the handle stays as it was, and this is said of what crosses.
-abbrev pub OnStations : Option Machine → Option Machine → (StationParts → StationParts → Type 0)
-    → (HeldStation → HeldStation → Type 0) → Type 0 → Type 0
-OnStations (Some (Station old)) now does also otherwise = (new : StationParts) × (now ≡ Some (Station new))
+abbrev pub OnStations : Option Machine → Option Machine → (HeldOn on_profile → HeldOn on_profile → Type 0)
+    → (HeldOn on_extended → HeldOn on_extended → Type 0) → Type 0 → Type 0
+OnStations (Some (Station old)) now does also otherwise = (new : HeldOn on_profile) × (now ≡ Some (Station new))
     × does old new
-OnStations (Some (ExtendedStation old)) now does also otherwise = (new : HeldStation)
+OnStations (Some (ExtendedStation old)) now does also otherwise = (new : HeldOn on_extended)
     × (now ≡ Some (ExtendedStation new)) × also old new
 OnStations held now does also otherwise = (now ≡ held) × otherwise
 
 -- What a call tells of the screen of a station of either kind, which stays as it was.
 abbrev pub OnScreen : Option Machine → Option Machine → (ScreenParts → Type 0) → Type 0 → Type 0
-OnScreen held now tells otherwise = OnStations held now (λ old new. (new ≡ old) × tells old.reacts.screen.screen)
-    (λ old new. (new ≡ old) × tells old.station.reacts.screen.display.screen) otherwise
-
--- What a call does with the station as live hosts use it that a handle holds. Where it holds none the handle stays as
--- it was, and this is said of what crosses.
-abbrev pub OnExtended : Option Machine → Option Machine → (HeldStation → HeldStation → Type 0) → Type 0 → Type 0
-OnExtended (Some (ExtendedStation old)) now does otherwise = (new : HeldStation)
-    × (now ≡ Some (ExtendedStation new)) × does old new
-OnExtended held now does otherwise = (now ≡ held) × otherwise
+OnScreen held now tells otherwise = OnStations held now (λ old new. (new ≡ old) × tells old.end.reacts.screen.screen)
+    (λ old new. (new ≡ old) × tells old.end.reacts.screen.display.screen) otherwise
 
 -- What a call does with the host's end that a handle holds. Where it holds none the handle stays as it was, and this is
 -- said of what crosses.

@@ -4,6 +4,7 @@ pub mod Cells
 pub mod CodePage
 pub mod Decoding
 pub mod Held
+pub mod HeldEnds
 pub mod HeldStations
 pub mod HostScreens
 pub mod Hosts

@@ -1,20 +1,20 @@
 -- What a push of bytes comes to: they are taken one after another, and what they bring is put into a buffer
 
-use Rattle.std.specs.Prelude.{◌≡◌, ℕ, ◌+◌, ◌-◌, ◌<◌, ◌≤◌, List, [], ◌∷◌, ◌++◌, Err, length, take, drop}
+use Rattle.std.specs.Prelude.{◌≡◌, ◌≢◌, ℕ, ◌+◌, ◌-◌, ◌<◌, ◌≤◌, Bool, true, false, List, [], ◌∷◌, ◌++◌, Option, None, IsSome}
+use Rattle.std.specs.Prelude.{Err, length, take, drop}
 use Rattle.ws_code.specs.Reason.{number_of as reason_number}
-use Rattle.ws_session.specs.station.StationLeads.{StationParts}
+use Rattle.ws_session.specs.Acts.{as_list}
 use Rattle.ws_session.specs.declared.end_step.EndFed.{EndFed}
 use Rattle.ws_session.specs.driver.Driven.{AtDriver, Come, Driven, DriverFeeds, Driving, LeadsTo, TakesNoMore}
 use Rattle.ws_session.specs.declared.refusal.Refusal.{Refusal}
 use Rattle.ws_session.specs.declared.refusal.Refusal.TheVariants.{At, Failed as HasFailed, Memory}
+use Rattle.ws_c.specs.declared.held_end.HeldEnd.{HeldEnd}
 use Rattle.ws_c.specs.declared.status.Status.{Status}
 use Rattle.ws_c.specs.declared.status.Status.TheVariants.{Done, Refused, Failed, NoMemory, NoRoom}
 use Rattle.ws_c.specs.declared.told.PushedTold.{PushedTold}
 use Rattle.ws_c.specs.declared.told.TheConstants.{REPLY_ROOM}
 use Rattle.ws_c.specs.Calls.{Crossed, holds_front}
-use Rattle.ws_session.specs.station.Displays.{OnDisplay}
-use Rattle.ws_session.specs.station.StationSide.{on_profile}
-use Rattle.ws_session.specs.station.Stations.{StationOf, station_driving}
+use Rattle.ws_c.specs.HeldEnds.{waiting}
 
 -- what a push tells where nothing was done
 abbrev pub nothing_pushed : PushedTold
@@ -55,11 +55,11 @@ module _ {R K Place U Deed Event Reply : Type 0} (d : Driving R K Place U Deed E
     pub works : 0 < front.count → TakesNoMore old → ⊥
     pub none : front.count ≡ 0 → (new ≡ old) × (written ≡ [])
 
-  -- What a front of bytes brings is at most so long.
-  abbrev pub BringsAtMost : Driven R K Place → Front → ℕ → Type 0
-  BringsAtMost old front most = AtDriver d old (λ bytes items side. (written : List ℕ) × (told : List Event)
-      × Come d (λ bytes' items' side'. Unit {0}) bytes items side (take front.count front.bytes) written told
-      × (length written ≤ most))
+  -- What a front of bytes brings is at most so long, and what is told at it is such.
+  abbrev pub BringsAtMost : (List Event → Type 0) → Driven R K Place → Front → ℕ → Type 0
+  BringsAtMost IsTold old front most = AtDriver d old (λ bytes items side. (written : List ℕ) × (told : List Event)
+      × IsTold told × Come d (λ bytes' items' side'. Unit {0}) bytes items side (take front.count front.bytes) written
+      told × (length written ≤ most))
 
 -- a push tells that so many bytes were taken, how many were written, and no refusal
 abbrev pub TellsCounts : ℕ → PushedTold → Type 0
@@ -76,42 +76,47 @@ module _ {S : Type 0} (Takes : S → ℕ → List ℕ → S → Type 0) where
 abbrev pub refused_step : {Event Reply : Type 0} → ℕ → Refusal → EndFed Event Reply
 refused_step used refusal = record { used = used; step = Err refusal }
 
-module _ (kind : OnDisplay) where
-  -- a front of bytes leads a station to another, which wrote this and counts them
-  abbrev pub StationTakesOn : StationOf kind → Front → List ℕ → StationOf kind → Type 0
-  StationTakesOn = FrontTaken (station_driving kind) (λ told. Unit {0})
+-- an end that stops where it tells something has told this alone
+abbrev pub HasToldAlone : {Event : Type 0} → Bool → Option Event → List Event → Type 0
+HasToldAlone stops event told = stops ≡ true → told ≡ as_list event
 
-  -- What a front of bytes brings is at most so long.
-  abbrev pub BringsAtMostOn : StationOf kind → Front → ℕ → Type 0
-  BringsAtMostOn = BringsAtMost (station_driving kind)
-
-  -- Where a push of bytes ends that has fed this front of them: with the last, before one without room for what it may
-  -- bring, or at a refused one.
-  pub record IsEndOn (fed : Front) (call : Crossed PushedTold) (old new : StationOf kind) : Type 0 where
+module _ {R K Place U Deed Event Reply : Type 0} (d : Driving R K Place U Deed Event Reply) where
+  -- Where a push of bytes ends that has fed this front of them, and of which nothing waits: with the last, at what is
+  -- told, before one without room for what it may bring, or at a refused one.
+  pub record IsPushEnd (fed : Front) (event : Option Event) (call : Crossed PushedTold)
+      (old new : HeldEnd (Driven R K Place) Reply) : Type 0 where
     pub all : length fed.bytes ≤ fed.count → (call.status ≡ Done) × TellsCounts fed.count call.told × (new ≡ old)
-    pub crowded : fed.count < length fed.bytes → length call.buffer - call.told.replied < REPLY_ROOM
+    pub tells : IsSome event → (call.status ≡ Done) × TellsCounts fed.count call.told × (new ≡ old)
+    pub crowded : fed.count < length fed.bytes → event ≡ None → length call.buffer - call.told.replied < REPLY_ROOM
         → (call.status ≡ NoRoom) × TellsCounts fed.count call.told × (new ≡ old)
-    pub refused : fed.count < length fed.bytes → REPLY_ROOM ≤ length call.buffer - call.told.replied
+    pub refused : fed.count < length fed.bytes → event ≡ None → REPLY_ROOM ≤ length call.buffer - call.told.replied
         → (refusal : Refusal) × (used : ℕ)
-        × DriverFeeds (station_driving kind) old (left_behind fed) new (refused_step used refusal)
+        × DriverFeeds d old.end (left_behind fed) new.end (refused_step used refusal)
         × (call.told.taken ≡ fed.count + (used - 1)) × IsPushRefused refusal call.status call.told
 
--- a front of bytes leads a station of the profile to another, which wrote this and counts them
-abbrev pub StationTakes : StationParts → Front → List ℕ → StationParts → Type 0
-StationTakes = StationTakesOn on_profile
-
--- where a push of bytes into a station of the profile ends
-abbrev pub IsStationEnd : Front → Crossed PushedTold → StationParts → StationParts → Type 0
-IsStationEnd = IsEndOn on_profile
-
--- what a push of bytes into a station of the profile crosses as: what it writes is put at the buffer's front
-pub record IsStationPush (bytes : List ℕ) (call : Crossed PushedTold) (old new : StationParts) : Type 0 where
-  pub counted : call.told.taken ≤ length bytes
-  pub fed : ℕ
-  pub written : List ℕ
-  pub before : StationParts
-  pub takes : StationTakes old (first_bytes bytes fed) written before
-  pub replied : call.told.replied ≡ length written
-  pub fits : call.told.replied ≤ length call.buffer
-  pub put : call.after ≡ holds_front written call.buffer
-  pub ends : IsStationEnd (first_bytes bytes fed) call before new
+  -- A push of bytes into an end, which tells this event, if one: what waited and what the end writes goes out in order,
+  -- and the rest of it waits. No byte is taken before all that waited, and all that the bytes before it brought, has gone
+  -- out. Where something waits at the end the buffer is full, and the call says so; of a reply of which a part waits at
+  -- least 17 bytes have gone out. An end that stops where it tells something takes no byte behind that, and tells nothing
+  -- before.
+  pub record IsPush (stops : Bool) (event : Option Event) (bytes : List ℕ) (call : Crossed PushedTold)
+      (old new : HeldEnd (Driven R K Place) Reply) : Type 0 where
+    pub counted : call.told.taken ≤ length bytes
+    pub fed : ℕ
+    pub written : List ℕ
+    pub out : List ℕ
+    pub before : HeldEnd (Driven R K Place) Reply
+    pub takes : FrontTaken d (HasToldAlone stops event) old.end (first_bytes bytes fed) written before.end
+    pub plain : stops ≡ false → event ≡ None
+    pub some : IsSome event → 0 < fed
+    pub whole : waiting d old ++ written ≡ out ++ waiting d before
+    pub first : length out < length (waiting d old) → fed ≡ 0
+    pub in_time : (n : ℕ) → n < fed → BringsAtMost d (HasToldAlone stops None) old.end (first_bytes bytes n)
+        (length out - length (waiting d old))
+    pub roomy : 0 < fed → waiting d before ≢ [] → REPLY_ROOM ≤ before.sent
+    pub replied : call.told.replied ≡ length out
+    pub fits : call.told.replied ≤ length call.buffer
+    pub put : call.after ≡ holds_front out call.buffer
+    pub waits : waiting d before ≢ []
+        → (call.status ≡ NoRoom) × (call.told ≡ pushed_told fed (length call.buffer)) × (new ≡ before)
+    pub ends : waiting d before ≡ [] → (waiting d new ≡ []) × IsPushEnd (first_bytes bytes fed) event call before new

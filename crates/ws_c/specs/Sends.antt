@@ -92,8 +92,9 @@ IsSentTold (Err fault) status told last sent = IsSendFaultTold fault status told
 
 -- what a send of a host's end crosses as
 abbrev pub IsSend : Opcode → List Element → Returned Told → HeldHost → HeldHost → Type 0
-IsSend opcode body gave old new = (result : Result (List ℕ) SendFault) × HostSent old.end new.end opcode body result
-    × IsSentTold result gave.status gave.told old.sent new.sent × (new.answer ≡ old.answer)
+IsSend opcode body gave old new = (result : Result (List ℕ) SendFault) × HostSent old.held.end new.held.end opcode body result
+    × IsSentTold result gave.status gave.told old.sent new.sent
+    × (new ≡ record old { held = record old.held { end = new.held.end }; sent = new.sent })
 
 -- nothing is sent: the call has this status, tells nothing, and the handle stays as it was
 abbrev pub IsUnsent : Option Machine → Option Machine → Returned Told → Status → Type 0
@@ -120,8 +121,8 @@ IsCancelTold (Err fault) call = IsSendFaultTold fault call.status call.told × (
 
 -- what a cancel of a host's end crosses as
 abbrev pub IsCancel : Crossed Told → HeldHost → HeldHost → Type 0
-IsCancel call old new = (result : Result (List ℕ) SendFault) × HostCancelled old.end new.end result
-    × IsCancelTold result call × (new.sent ≡ old.sent) × (new.answer ≡ old.answer)
+IsCancel call old new = (result : Result (List ℕ) SendFault) × HostCancelled old.held.end new.held.end result
+    × IsCancelTold result call × (new ≡ record old { held = record old.held { end = new.held.end } })
 
 -- what is told where bytes are put into a buffer, if it has room for them
 pub record IsFetched (bytes : List ℕ) (call : Crossed Told) : Type 0 where

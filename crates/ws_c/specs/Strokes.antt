@@ -7,18 +7,18 @@ use Rattle.ws_keys.specs.declared.answer.Answer.{Answer}
 use Rattle.ws_keys.specs.declared.key.Key.{Key}
 use Rattle.ws_keys.specs.declared.key_run.KeyRun.{KeyRun}
 use Rattle.ws_screen.specs.ScreenParts.{ScreenParts}
-use Rattle.ws_session.specs.station.StationLeads.{StationParts}
+use Rattle.ws_session.specs.station.Displays.{OnDisplay}
+use Rattle.ws_session.specs.station.StationSide.{on_profile}
 use Rattle.ws_session.specs.declared.station.key_fault.KeyFault.{KeyFault}
-use Rattle.ws_c.specs.declared.held_station.HeldStation.{HeldStation}
 use Rattle.ws_c.specs.declared.status.Status.{Status}
 use Rattle.ws_c.specs.declared.status.Status.TheVariants.{Done, NoRoom}
 use Rattle.ws_c.specs.declared.stroke.Stroke.{Stroke}
 use Rattle.ws_c.specs.declared.stroke.Stroke.TheVariants.{MoveTo, NewLine, EraseEof}
 use Rattle.ws_c.specs.declared.told.Told.{Told}
-use Rattle.ws_c.specs.Calls.{IsKeyFaultTold, Returned, StationKeyed, StationKeyedOn, returned, told_length}
-use Rattle.ws_c.specs.HeldStations.{waiting}
+use Rattle.ws_c.specs.Calls.{IsKeyFaultTold, Returned, StationKeyedOn, told_length}
+use Rattle.ws_c.specs.HeldEnds.{HeldOn, waiting}
 use Rattle.ws_extended_station.specs.ExtendedDisplays.{on_extended}
-use Rattle.ws_session.specs.station.Stations.{StationOf}
+use Rattle.ws_session.specs.station.Stations.{StationOf, station_driving}
 
 -- the keys of a stroke at a screen, in runs
 abbrev pub stroke_key_runs : Stroke → ScreenParts → List KeyRun
@@ -54,20 +54,23 @@ module _ {S : Type 0} (takes : S → S → Key → Result (Option Answer) KeyFau
   AreStruck keys gave old new = (result : Result (Unit {0}) KeyFault) × AreKeyed keys old new result
       × IsStrokeTold result gave.status gave.told
 
+module _ (kind : OnDisplay) (among : Key → kind.Pressed) where
+  -- a key of the profile at a station of the kind, which is this of its own
+  abbrev pub keyed_among : StationOf kind → StationOf kind → Key → Result (Option Answer) KeyFault → Type 0
+  keyed_among old new key result = StationKeyedOn kind old new (among key) result
+
+  -- what a stroke at a station of the kind crosses as; where something waits no key is pressed
+  pub record IsStroke (stroke : Stroke) (gave : Returned Told) (old new : HeldOn kind) : Type 0 where
+    pub waits : waiting (station_driving kind) old ≢ []
+        → (gave.status ≡ NoRoom) × (new ≡ old) × (gave.told ≡ told_length 0)
+    pub pressed : waiting (station_driving kind) old ≡ []
+        → AreStruck keyed_among (keys_of_stroke stroke (kind.does.shown old.end.reacts.screen)) gave old.end new.end
+        × (waiting (station_driving kind) new ≡ [])
+
 -- what a stroke at a station of the profile crosses as
-abbrev pub IsStroke : Stroke → Status → Told → StationParts → StationParts → Type 0
-IsStroke stroke status told old new =
-    AreStruck StationKeyed (keys_of_stroke stroke old.reacts.screen.screen) (returned status told) old new
+abbrev pub IsProfileStroke : Stroke → Returned Told → HeldOn on_profile → HeldOn on_profile → Type 0
+IsProfileStroke = IsStroke on_profile (λ key. key)
 
--- a key of the profile at a station as live hosts use it
-abbrev pub ExtendedKeyed : StationOf on_extended → StationOf on_extended → Key → Result (Option Answer) KeyFault
-    → Type 0
-ExtendedKeyed old new key result = StationKeyedOn on_extended old new (Profile key) result
-
--- what a stroke at a station as live hosts use it crosses as; where something waits no key is pressed
-pub record IsHeldStroke (stroke : Stroke) (status : Status) (told : Told) (old new : HeldStation) : Type 0 where
-  pub waits : waiting old ≢ [] → (status ≡ NoRoom) × (new ≡ old) × (told ≡ told_length 0)
-  pub pressed : waiting old ≡ []
-      → AreStruck ExtendedKeyed (keys_of_stroke stroke old.station.reacts.screen.display.screen) (returned status told)
-      old.station new.station
-      × (waiting new ≡ [])
+-- what a stroke at a station as live hosts use it crosses as
+abbrev pub IsExtendedStroke : Stroke → Returned Told → HeldOn on_extended → HeldOn on_extended → Type 0
+IsExtendedStroke = IsStroke on_extended Profile

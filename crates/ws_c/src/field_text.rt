@@ -9,7 +9,7 @@ ghost use Rattle.ws_c.specs.Held.{OnScreen};
 ghost use Rattle.ws_c.specs.Texts.{IsFieldTextTold, IsTextTold, field_text};
 
 use crate::held::{on_screen, on_stations, on_two};
-use crate::station::put_front;
+use crate::push::put_front;
 use crate::{Handle, Machine, Status, Told};
 use arrayvec::ArrayString;
 use std::alloc::Global;

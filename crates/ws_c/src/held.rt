@@ -23,9 +23,9 @@ macro_rules! on_held {
     };
 }
 
-// Does this with what a handle holds, where it is of either kind.
+// Does this with what a handle holds, where it is of either kind. Else this is the status.
 macro_rules! on_two {
-    ($alloc:expr, $handle:expr, $kind:ident($held:ident), $does:expr, $other:ident($too:ident), $also:expr, $third:ident, $fourth:ident, $fifth:ident) => {
+    ($alloc:expr, $handle:expr, $kind:ident($held:ident), $does:expr, $other:ident($too:ident), $also:expr, $third:ident, $fourth:ident, $fifth:ident, $none:expr) => {
         match $handle.take($alloc) {
             Some(mut owned) => match &mut *owned {
                 Machine::$kind($held) => {
@@ -40,10 +40,10 @@ macro_rules! on_two {
                 }
                 Machine::$third(_) | Machine::$fourth(_) | Machine::$fifth(_) => {
                     $handle.put(owned);
-                    Status::NothingHeld
+                    $none
                 }
             },
-            None => Status::NothingHeld,
+            None => $none,
         }
     };
 }
@@ -60,7 +60,8 @@ macro_rules! on_stations {
             $also,
             Decoder,
             ExtendedDecoder,
-            Host
+            Host,
+            Status::NothingHeld
         )
     };
 }
@@ -71,12 +72,12 @@ macro_rules! on_screen {
         on_stations!(
             $alloc,
             $handle,
-            |station| {
-                let $screen = station.screen();
+            |held| {
+                let $screen = held.end.screen();
                 $does
             },
             |held| {
-                let $screen = held.station.screen();
+                let $screen = held.end.screen();
                 $does
             }
         )
@@ -111,7 +112,8 @@ macro_rules! on_decoders {
             $does,
             Station,
             ExtendedStation,
-            Host
+            Host,
+            Status::NothingHeld
         )
     };
 }

@@ -6,17 +6,18 @@ ghost use Rattle.ws_c.specs.Hosts.{IsHostNew, IsHostPush, IsNewHost, answer_afte
 ghost use Rattle.ws_c.specs.Pushes.{nothing_pushed};
 
 use crate::held::{on_held, on_host};
-use crate::station::{put_behind, put_front, tell_push_refusal};
-use crate::{Handle, Machine, PushedTold, REPLY_ROOM, Status, Told};
+use crate::held_end::holding;
+use crate::push::{push_all, put_front};
+use crate::{Handle, HeldEnd, Machine, PushedTold, REPLY_ROOM, Status, Told};
 use std::alloc::Global;
 use ws_code::List;
 use ws_nego::{Reply, TerminalType};
-use ws_session::{EndFed, HostAnswer, HostEnd, HostEvent};
+use ws_session::{HostAnswer, HostEnd, HostEvent};
 
 /// A host's end, with what C fetches by calls of their own.
 #[derive(Drop)]
 pub struct HeldHost {
-    pub end: HostEnd,
+    pub held: HeldEnd<HostEnd, Reply>,
     /// The bytes of the record that was sent last; none before the first.
     pub sent: List<u8>,
     /// The answer that came last.
@@ -40,9 +41,10 @@ fn opened_host(alloc: Global) -> (HeldHost, Reply)
 {
     let mut end = HostEnd::new(alloc);
     let opening = end.open();
+    let held = holding(end);
     let sent = List::of(Vec::new(alloc));
     let host = HeldHost {
-        end,
+        held,
         sent,
         answer: None,
     };
@@ -155,42 +157,22 @@ fn tell_event(event: Option<HostEvent>, answer: &mut Option<HostAnswer>) -> Even
     }
 }
 
-// Feeds bytes to a host's end, up to the first that tells something. There is room as in the station's `push_all`.
-fn push_all(
+// Pushes bytes into a host's end, up to the first that tells something. Its replies are short: none waits.
+fn push_host(
     host: &mut HeldHost,
     bytes: &[u8],
     buffer: &mut [u8],
     told: &mut PushedTold,
     event: &mut EventTold,
 ) -> Status
-    requires told { told.old ≡ nothing_pushed }
-    requires event { event.old ≡ event_told None }
+    requires { told.old ≡ nothing_pushed }
     ensures { IsHostPush bytes.now
         (crossed buffer.old buffer.new result (host_told told.new event.new)) host.old host.new }
 {
-    while told.taken < bytes.len() {
-        if buffer.len() - told.replied < REPLY_ROOM {
-            return Status::NoRoom;
-        }
-        let EndFed { used, step } = host.end.feed(&bytes[told.taken..]);
-        match step {
-            Ok(step) => {
-                let text = step.reply.as_slice();
-                put_behind(buffer, told.replied, text);
-                told.taken += used;
-                told.replied += text.len();
-                if step.event.is_some() {
-                    *event = tell_event(step.event, &mut host.answer);
-                    return Status::Done;
-                }
-            }
-            Err(refusal) => {
-                told.taken += used.saturating_sub(1);
-                return tell_push_refusal(refusal, told);
-            }
-        }
-    }
-    Status::Done
+    let (status, came) = push_all(&mut host.held, bytes, buffer, told, true);
+    let _brief = host.held.reply.as_slice();
+    *event = tell_event(came, &mut host.answer);
+    status
 }
 
 // Pushes bytes into the host's end that a handle holds.
@@ -202,16 +184,16 @@ fn push(
     told: &mut PushedTold,
     event: &mut EventTold,
 ) -> Status
+    requires told { told.old ≡ nothing_pushed }
+    requires event { event.old ≡ event_told None }
     ensures { let call = crossed buffer.old buffer.new result (host_told told.new event.new) in
         OnHost handle.old.owned.value handle.new.owned.value (IsHostPush bytes.now call)
         (TellsOnly call Status.NothingHeld (host_told nothing_pushed (event_told None))) }
 {
-    *told = PushedTold::nothing();
-    *event = EventTold::plain(0);
     on_host!(
         alloc,
         handle,
-        |host| push_all(host, bytes, buffer, told, event)
+        |host| push_host(host, bytes, buffer, told, event)
     )
 }
 
@@ -220,8 +202,8 @@ fn push(
 /// byte tells. An answer is kept until the next comes.
 ///
 /// `Refused` at a byte that the host's end refuses, `NoMemory` where a growth was refused, `Failed` from then on;
-/// `NothingHeld` where the handle holds no host; `NoRoom` where fewer than 17 bytes of the buffer are left before a
-/// byte: what was taken was taken.
+/// `NothingHeld` where the handle holds no host; `BadArgument` where the buffer has fewer than 17 bytes, whatever the
+/// handle holds; `NoRoom` where fewer are left of it before a byte: what was taken was taken.
 #[unsafe(no_mangle)]
 pub extern "C" fn ws_c_host_push(
     alloc: Global,
@@ -231,10 +213,18 @@ pub extern "C" fn ws_c_host_push(
     told: &mut PushedTold,
     event: &mut EventTold,
 ) -> u32
-    ensures { HasStatus result (λ status.
+    ensures room { length buffer.old < REPLY_ROOM → (result ≡ status_number Status.BadArgument)
+        × (handle.new ≡ handle.old) × (buffer.new ≡ buffer.old)
+        × (told.new ≡ nothing_pushed) × (event.new ≡ event_told None) }
+    ensures pushed { REPLY_ROOM ≤ length buffer.old → HasStatus result (λ status.
         let call = crossed buffer.old buffer.new status (host_told told.new event.new) in
         OnHost handle.old.owned.value handle.new.owned.value (IsHostPush bytes.now call)
         (TellsOnly call Status.NothingHeld (host_told nothing_pushed (event_told None)))) }
 {
+    *told = PushedTold::nothing();
+    *event = EventTold::plain(0);
+    if buffer.len() < REPLY_ROOM {
+        return Status::BadArgument.number();
+    }
     push(alloc, handle, bytes, buffer, told, event).number()
 }

@@ -30,11 +30,11 @@ fn tell_state(host: &HostEnd, state: &mut StateTold) -> Status
 
 fn look_at_state(alloc: Global, handle: &mut Handle, state: &mut StateTold) -> Status
     ensures { OnHost handle.old.owned.value handle.new.owned.value
-        (λ old new. (new ≡ old) × (result ≡ Status.Done) × (state.new ≡ host_state_told old.end))
+        (λ old new. (new ≡ old) × (result ≡ Status.Done) × (state.new ≡ host_state_told old.held.end))
         (HoldsNone result (state.new ≡ no_state)) }
 {
     *state = StateTold::nothing();
-    on_host!(alloc, handle, |host| tell_state(&host.end, state))
+    on_host!(alloc, handle, |host| tell_state(&host.held.end, state))
 }
 
 /// Tells whether records are allowed, a refused byte, and of the kept screen the cursor and its field, the keyboard's
@@ -44,7 +44,7 @@ fn look_at_state(alloc: Global, handle: &mut Handle, state: &mut StateTold) -> S
 #[unsafe(no_mangle)]
 pub extern "C" fn ws_c_host_state(alloc: Global, handle: &mut Handle, state: &mut StateTold) -> u32
     ensures { HasStatus result (λ status. OnHost handle.old.owned.value handle.new.owned.value
-        (λ old new. (new ≡ old) × (status ≡ Status.Done) × (state.new ≡ host_state_told old.end))
+        (λ old new. (new ≡ old) × (status ≡ Status.Done) × (state.new ≡ host_state_told old.held.end))
         (HoldsNone status (state.new ≡ no_state))) }
 {
     look_at_state(alloc, handle, state).number()
@@ -61,14 +61,14 @@ fn look_at_cells(
     requires room { cells_in first_row last_row ≤ length cells.old }
     ensures { OnHost handle.old.owned.value handle.new.owned.value
         (λ old new. (new ≡ old) × (result ≡ Status.Done)
-        × (cells.new ≡ rows_told old.end.reacts.screen first_row last_row
+        × (cells.new ≡ rows_told old.held.end.reacts.screen first_row last_row
         ++ drop (cells_in first_row last_row) cells.old))
         (HoldsNone result (cells.new ≡ cells.old)) }
 {
     on_host!(
         alloc,
         handle,
-        |host| tell_rows(host.end.screen(), first_row, last_row, cells)
+        |host| tell_rows(host.held.end.screen(), first_row, last_row, cells)
     )
 }
 
@@ -88,7 +88,7 @@ pub extern "C" fn ws_c_host_cells(
         → cells_in first_row last_row ≤ length cells.old → HasStatus result (λ status.
         OnHost handle.old.owned.value handle.new.owned.value
         (λ old new. (new ≡ old) × (status ≡ Status.Done)
-        × (cells.new ≡ rows_told old.end.reacts.screen first_row last_row
+        × (cells.new ≡ rows_told old.held.end.reacts.screen first_row last_row
         ++ drop (cells_in first_row last_row) cells.old))
         (HoldsNone status (cells.new ≡ cells.old))) }
     ensures off { ¬ AreRowNumbers first_row last_row
@@ -110,14 +110,14 @@ pub extern "C" fn ws_c_host_cells(
 fn look_at_field(alloc: Global, handle: &mut Handle, index: usize, field: &mut FieldTold) -> Status
     ensures { OnHost handle.old.owned.value handle.new.owned.value
         (λ old new. (new ≡ old)
-        × IsFieldTold (slice_get old.end.reacts.screen.fields index) result field.new)
+        × IsFieldTold (slice_get old.held.end.reacts.screen.fields index) result field.new)
         (HoldsNone result (field.new ≡ no_field)) }
 {
     *field = FieldTold::nothing();
     on_host!(
         alloc,
         handle,
-        |host| tell_field(host.end.screen(), index, field)
+        |host| tell_field(host.held.end.screen(), index, field)
     )
 }
 
@@ -133,7 +133,7 @@ pub extern "C" fn ws_c_host_field(
 ) -> u32
     ensures { HasStatus result (λ status. OnHost handle.old.owned.value handle.new.owned.value
         (λ old new. (new ≡ old)
-        × IsFieldTold (slice_get old.end.reacts.screen.fields index) status field.new)
+        × IsFieldTold (slice_get old.held.end.reacts.screen.fields index) status field.new)
         (HoldsNone status (field.new ≡ no_field))) }
 {
     look_at_field(alloc, handle, index, field).number()

@@ -11,7 +11,7 @@ ghost use Rattle.ws_c.specs.Held.{HoldsNone, OnHost};
 ghost use Rattle.ws_c.specs.Sends.{HostCancelled, HostSent, IsCancel, IsCancelTold, IsFetched, IsOpcodeFrom, IsReadFrom, IsSend, IsSendFaultTold, IsSendFrom, IsSendGiven, IsSentTold};
 
 use crate::held::{on_held, on_host};
-use crate::station::put_front;
+use crate::push::put_front;
 use crate::{Handle, HeldHost, Machine, Status, Told};
 use std::alloc::Global;
 use ws_code::{ByteList, List};
@@ -78,11 +78,14 @@ fn tell_sent(sent: Result<List<u8>, SendFault>, kept: &mut List<u8>, told: &mut 
 fn send_host(host: &mut HeldHost, opcode: Opcode, body: &[Element], told: &mut Told) -> Status
     requires other { opcode ≢ Opcode.CancelInvite }
     ensures sent { (sent : Result (Seq ℕ) AFault)
-        × HostSent host.old.end host.new.end opcode body.now sent
+        × HostSent host.old.held.end host.new.held.end opcode body.now sent
         × IsSentTold sent result told.new host.old.sent host.new.sent }
-    ensures answer { host.new.answer ≡ host.old.answer }
+    ensures same { host.new ≡ record host.old {
+      held = record host.old.held { end = host.new.held.end };
+      sent = host.new.sent;
+    } }
 {
-    let sent = send_record(&mut host.end, opcode, body);
+    let sent = send_record(&mut host.held.end, opcode, body);
     tell_sent(sent, &mut host.sent, told)
 }
 
@@ -252,12 +255,11 @@ fn tell_cancel(sent: Result<ByteList<12>, SendFault>, buffer: &mut [u8], told: &
 // Cancels the asked read of a host's end.
 fn cancel_host(host: &mut HeldHost, buffer: &mut [u8], told: &mut Told) -> Status
     requires { 12 ≤ length buffer.old }
-    ensures sent { (sent : Result (Seq ℕ) AFault) × HostCancelled host.old.end host.new.end sent
+    ensures sent { (sent : Result (Seq ℕ) AFault) × HostCancelled host.old.held.end host.new.held.end sent
         × IsCancelTold sent (crossed buffer.old buffer.new result told.new) }
-    ensures kept { host.new.sent ≡ host.old.sent }
-    ensures answer { host.new.answer ≡ host.old.answer }
+    ensures same { host.new ≡ record host.old { held = record host.old.held { end = host.new.held.end } } }
 {
-    let sent = cancel_read(&mut host.end);
+    let sent = cancel_read(&mut host.held.end);
     tell_cancel(sent, buffer, told)
 }
 

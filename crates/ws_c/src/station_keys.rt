@@ -1,22 +1,23 @@
 //! Keys of a station.
-ghost use Rattle.std.specs.Prelude.{◌≡◌, ◌≤◌, ◌<◌, Option, Result, length};
-ghost use Rattle.ws_keys.specs.declared.answer.Answer.{Answer as AnAnswer};
+ghost use Rattle.std.specs.Prelude.{◌≡◌, ◌≤◌, ◌<◌, Option, length};
+ghost use Rattle.ws_extended_station.specs.ExtendedDisplays.{on_extended};
 ghost use Rattle.ws_extended_station.specs.declared.extended_key.ExtendedKey.{ExtendedKey as AnyKey};
-ghost use Rattle.ws_session.specs.declared.station.key_fault.KeyFault.{KeyFault as AFault};
-ghost use Rattle.ws_c.specs.Calls.{HasStatus, IsKeyFaultTold, IsKeyTold, IsPress, StationKeyed, TellsOnly, crossed, status_number, told_length};
-ghost use Rattle.ws_c.specs.Held.{OnExtended, OnStations};
-ghost use Rattle.ws_c.specs.HeldStations.{IsAnyKeyFrom, IsAnyPressFrom, IsHeldPress};
+ghost use Rattle.ws_session.specs.station.Displays.{on_display as on};
+ghost use Rattle.ws_c.specs.Calls.{HasStatus, IsKeyFaultTold, IsKeyTold, TellsOnly, crossed, status_number, told_length};
+ghost use Rattle.ws_c.specs.Held.{OnStations};
+ghost use Rattle.ws_c.specs.HeldStations.{IsAnyKeyFrom, IsPress, IsPressFrom, IsProfilePress, status_without};
 ghost use Rattle.ws_c.specs.Keys.{IsKeyFrom, IsKeyOfKind};
 
-use crate::held::{on_held, on_stations, on_two};
+use crate::held::on_two;
+use crate::held_end::{keep_nothing, rest};
 use crate::key_kind::{KeyKind, RESET_KIND, refusal_number};
-use crate::station::put_front;
+use crate::push::put_front;
 use crate::wire::answer_bytes;
-use crate::{Handle, HeldStation, Machine, Status, Told};
+use crate::{Handle, HeldEnd, Machine, Status, Told};
 use std::alloc::Global;
 use ws_extended_station::ExtendedKey;
 use ws_keys::{Answer, Key};
-use ws_session::{KeyFault, Station};
+use ws_session::{KeyFault, Reply, Station, StationDisplay, StationOn};
 
 /// The status of a key's fault, and what is told of it.
 pub(crate) fn tell_fault(fault: KeyFault, told: &mut Told) -> Status
@@ -57,17 +58,6 @@ pub(crate) fn tell_key(
     }
 }
 
-// Presses a key of a station.
-fn press_station(station: &mut Station, key: Key, buffer: &mut [u8], told: &mut Told) -> Status
-    requires { 5404 ≤ length buffer.old }
-    ensures { (keyed : Result (Option AnAnswer) AFault)
-        × StationKeyed station.old station.new key keyed
-        × IsKeyTold keyed (crossed buffer.old buffer.new result told.new) }
-{
-    let keyed = station.key(key);
-    tell_key(keyed, buffer, told)
-}
-
 // The key of a kind, where there is one, and a value.
 fn key_of(named: Option<KeyKind>, value: u32) -> Option<Key>
     ensures { IsKeyOfKind named value result }
@@ -99,70 +89,82 @@ fn any_key_from(kind: u32, value: u32) -> Option<ExtendedKey>
     }
 }
 
-// Presses a key of the profile at a station as live hosts use it, unless something waits. It has a
-// frame of its own, for the stack's sake.
+// Presses a key of a station, unless something waits: its record could get between the bytes of another. It has a frame
+// of its own, for the stack's sake.
 #[inline(never)]
-fn press_held(held: &mut HeldStation, key: Key, buffer: &mut [u8], told: &mut Told) -> Status
+fn press_key<D: StationDisplay>(
+    held: &mut HeldEnd<StationOn<D>, D::Reply>,
+    key: D::Key,
+    buffer: &mut [u8],
+    told: &mut Told,
+) -> Status
     requires room { 5404 ≤ length buffer.old }
     requires untold { told.old ≡ told_length 0 }
-    ensures { IsHeldPress (AnyKey.Profile key)
+    ensures { IsPress (on D.Commands.rules D.does) key
         (crossed buffer.old buffer.new result told.new) held.old held.new }
 {
-    if !held.rest().is_empty() {
+    if !rest(held).is_empty() {
         return Status::NoRoom;
     }
-    held.press(Some(key), buffer, told)
+    let keyed = held.end.key(key);
+    keep_nothing(held);
+    tell_key(keyed, buffer, told)
 }
 
-// Presses Reset at one, unless something waits.
-#[inline(never)]
-fn reset_held(held: &mut HeldStation, buffer: &mut [u8], told: &mut Told) -> Status
+// Presses a key at a station of the profile, which has no Reset.
+fn press_at_profile(
+    held: &mut HeldEnd<Station, Reply>,
+    key: ExtendedKey,
+    buffer: &mut [u8],
+    told: &mut Told,
+) -> Status
     requires room { 5404 ≤ length buffer.old }
     requires untold { told.old ≡ told_length 0 }
-    ensures { IsHeldPress AnyKey.Reset
-        (crossed buffer.old buffer.new result told.new) held.old held.new }
+    ensures { IsProfilePress key (crossed buffer.old buffer.new result told.new) held.old held.new }
 {
-    if held.rest().is_empty() {
-        return held.press(None, buffer, told);
+    let ExtendedKey::Profile(key) = key else {
+        return Status::BadArgument;
+    };
+    press_key(held, key, buffer, told)
+}
+
+// The status of a key where a handle holds no station.
+fn absent_status(key: ExtendedKey) -> Status
+    ensures { result ≡ status_without key }
+{
+    match key {
+        ExtendedKey::Profile(_) => Status::NothingHeld,
+        ExtendedKey::Reset => Status::BadArgument,
     }
-    Status::NoRoom
 }
 
-// Presses a key of the profile at the station that a handle holds.
-fn press(alloc: Global, handle: &mut Handle, key: Key, buffer: &mut [u8], told: &mut Told) -> Status
+// Presses a key at the station that a handle holds.
+fn press(
+    alloc: Global,
+    handle: &mut Handle,
+    key: ExtendedKey,
+    buffer: &mut [u8],
+    told: &mut Told,
+) -> Status
     requires room { 5404 ≤ length buffer.old }
     requires untold { told.old ≡ told_length 0 }
     ensures { let call = crossed buffer.old buffer.new result told.new in
-        OnStations handle.old.owned.value handle.new.owned.value (IsPress key call)
-        (IsHeldPress (AnyKey.Profile key) call)
-        (TellsOnly call Status.NothingHeld (told_length 0)) }
+        OnStations handle.old.owned.value handle.new.owned.value (IsProfilePress key call)
+        (IsPress on_extended key call)
+        (TellsOnly call (status_without key) (told_length 0)) }
 {
-    on_stations!(
+    let absent = absent_status(key);
+    on_two!(
         alloc,
         handle,
-        |station| press_station(station, key, buffer, told),
-        |held| press_held(held, key, buffer, told)
-    )
-}
-
-// Presses Reset.
-fn press_reset(alloc: Global, handle: &mut Handle, buffer: &mut [u8], told: &mut Told) -> Status
-    requires room { 5404 ≤ length buffer.old }
-    requires untold { told.old ≡ told_length 0 }
-    ensures { let call = crossed buffer.old buffer.new result told.new in
-        OnExtended handle.old.owned.value handle.new.owned.value (IsHeldPress AnyKey.Reset call)
-        (TellsOnly call Status.BadArgument (told_length 0)) }
-{
-    on_held!(
-        alloc,
-        handle,
+        Station(held),
+        press_at_profile(held, key, buffer, told),
         ExtendedStation(held),
-        Station,
+        press_key(held, key, buffer, told),
         Decoder,
         ExtendedDecoder,
         Host,
-        BadArgument,
-        reset_held(held, buffer, told)
+        absent
     )
 }
 
@@ -176,12 +178,11 @@ fn press_from(
 ) -> Status
     requires room { 5404 ≤ length buffer.old }
     requires untold { told.old ≡ told_length 0 }
-    ensures { IsAnyPressFrom key handle.old.owned.value handle.new.owned.value
+    ensures { IsPressFrom key handle.old.owned.value handle.new.owned.value
         (crossed buffer.old buffer.new result told.new) }
 {
     match key {
-        Some(ExtendedKey::Profile(key)) => press(alloc, handle, key, buffer, told),
-        Some(ExtendedKey::Reset) => press_reset(alloc, handle, buffer, told),
+        Some(key) => press(alloc, handle, key, buffer, told),
         None => Status::BadArgument,
     }
 }
@@ -207,7 +208,7 @@ pub extern "C" fn ws_c_station_key(
         × (handle.new ≡ handle.old) × (buffer.new ≡ buffer.old) × (told.new ≡ told_length 0) }
     ensures pressed { 5404 ≤ length buffer.old → (key : Option AnyKey) × IsAnyKeyFrom kind value key
         × HasStatus result (λ status.
-        IsAnyPressFrom key handle.old.owned.value handle.new.owned.value
+        IsPressFrom key handle.old.owned.value handle.new.owned.value
         (crossed buffer.old buffer.new status told.new)) }
 {
     *told = Told::length(0);

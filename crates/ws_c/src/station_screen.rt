@@ -8,7 +8,7 @@ ghost use Rattle.ws_c.specs.HeldStations.{extended_state_told};
 ghost use Rattle.ws_c.specs.Held.{HoldsNone, OnScreen, OnStations};
 
 use crate::held::{on_screen, on_stations, on_two};
-use crate::station::put_front;
+use crate::push::put_front;
 use crate::{FieldTold, Handle, Machine, NO_FIELD, StateTold, Status, Told};
 use std::alloc::Global;
 use ws_code::{Address, Reason};
@@ -137,16 +137,16 @@ fn tell_extended_state(station: &ExtendedStation, state: &mut StateTold) -> Stat
 
 fn look_at_state(alloc: Global, handle: &mut Handle, state: &mut StateTold) -> Status
     ensures { OnStations handle.old.owned.value handle.new.owned.value
-        (λ old new. (new ≡ old) × (result ≡ Status.Done) × (state.new ≡ state_told old))
+        (λ old new. (new ≡ old) × (result ≡ Status.Done) × (state.new ≡ state_told old.end))
         (λ old new. (new ≡ old) × (result ≡ Status.Done)
-        × (state.new ≡ extended_state_told old.station)) (HoldsNone result (state.new ≡ no_state)) }
+        × (state.new ≡ extended_state_told old.end)) (HoldsNone result (state.new ≡ no_state)) }
 {
     *state = StateTold::nothing();
     on_stations!(
         alloc,
         handle,
-        |station| tell_state(station, state),
-        |held| tell_extended_state(&held.station, state)
+        |station| tell_state(&station.end, state),
+        |held| tell_extended_state(&held.end, state)
     )
 }
 
@@ -161,9 +161,9 @@ pub extern "C" fn ws_c_station_state(
     state: &mut StateTold,
 ) -> u32
     ensures { HasStatus result (λ status. OnStations handle.old.owned.value handle.new.owned.value
-        (λ old new. (new ≡ old) × (status ≡ Status.Done) × (state.new ≡ state_told old))
+        (λ old new. (new ≡ old) × (status ≡ Status.Done) × (state.new ≡ state_told old.end))
         (λ old new. (new ≡ old) × (status ≡ Status.Done)
-        × (state.new ≡ extended_state_told old.station))
+        × (state.new ≡ extended_state_told old.end))
         (HoldsNone status (state.new ≡ no_state))) }
 {
     look_at_state(alloc, handle, state).number()

@@ -5,32 +5,35 @@ ghost use Rattle.ws_keys.specs.Strokes.{keys_of};
 ghost use Rattle.ws_c.specs.declared.stroke.Stroke.TheVariants as Struck;
 ghost use Rattle.ws_c.specs.Calls.{HasStatus, returned, status_number, told_length};
 ghost use Rattle.ws_c.specs.Held.{HoldsNone, OnStations};
-ghost use Rattle.ws_c.specs.Strokes.{AreKeyed, AreStruck, IsHeldStroke, IsStroke, IsStrokeTold, keys_of_stroke};
+ghost use Rattle.ws_session.specs.station.Displays.{on_display as on};
+ghost use Rattle.ws_c.specs.Strokes.{AreKeyed, AreStruck, IsExtendedStroke, IsProfileStroke, IsStroke, IsStrokeTold, keyed_among, keys_of_stroke};
 
 use crate::held::{on_stations, on_two};
+use crate::held_end::{keep_nothing, rest};
 use crate::station_keys::tell_fault;
+use crate::station_kind::TakesKeys;
 use crate::stroke::Stroke;
-use crate::takes_keys::TakesKeys;
-use crate::{Handle, HeldStation, Machine, Status, Told};
+use crate::{Handle, HeldEnd, Machine, Status, Told};
 use std::alloc::Global;
 use ws_code::Address;
 use ws_keys::{Key, KeyRun};
-use ws_session::KeyFault;
+use ws_session::{KeyFault, StationOn};
 
 // Presses a key of a station, and forgets what it sends: the keys of a stroke send nothing.
-fn press_once<S: TakesKeys>(station: &mut S, key: Key) -> Result<(), KeyFault>
-    ensures { AreKeyed S.takes (key ∷ []) station.old station.new result }
+fn press_once<D: TakesKeys>(station: &mut StationOn<D>, key: Key) -> Result<(), KeyFault>
+    ensures { AreKeyed (keyed_among (on D.Commands.rules D.does) D.among) (key ∷ [])
+        station.old station.new result }
 {
-    match station.press(key) {
+    match station.key(D::key_of(key)) {
         Ok(_) => Ok(()),
         Err(fault) => Err(fault),
     }
 }
 
 // Presses a key so often, up to the first time that it is refused.
-fn press_run<S: TakesKeys>(station: &mut S, run: &KeyRun) -> Result<(), KeyFault>
-    ensures { AreKeyed S.takes (replicate run.now.times run.now.key) station.old station.new
-        result }
+fn press_run<D: TakesKeys>(station: &mut StationOn<D>, run: &KeyRun) -> Result<(), KeyFault>
+    ensures { AreKeyed (keyed_among (on D.Commands.rules D.does) D.among)
+        (replicate run.now.times run.now.key) station.old station.new result }
 {
     for _ in 0..run.times {
         press_once(station, run.key)?;
@@ -39,8 +42,9 @@ fn press_run<S: TakesKeys>(station: &mut S, run: &KeyRun) -> Result<(), KeyFault
 }
 
 // Presses keys one after another, up to the first that is refused.
-fn press_all<S: TakesKeys>(station: &mut S, runs: &[KeyRun]) -> Result<(), KeyFault>
-    ensures { AreKeyed S.takes (keys_of runs.now) station.old station.new result }
+fn press_all<D: TakesKeys>(station: &mut StationOn<D>, runs: &[KeyRun]) -> Result<(), KeyFault>
+    ensures { AreKeyed (keyed_among (on D.Commands.rules D.does) D.among)
+        (keys_of runs.now) station.old station.new result }
 {
     for run in runs {
         press_run(station, run)?;
@@ -61,23 +65,31 @@ fn tell_stroke(pressed: Result<(), KeyFault>, told: &mut Told) -> Status
     }
 }
 
-/// Presses the keys of a stroke at a station.
-pub(crate) fn press_stroke<S: TakesKeys>(station: &mut S, stroke: Stroke, told: &mut Told) -> Status
-    ensures { AreStruck S.takes (keys_of_stroke stroke (S.shows station.old))
+// Presses the keys of a stroke at a station.
+fn press_stroke<D: TakesKeys>(station: &mut StationOn<D>, stroke: Stroke, told: &mut Told) -> Status
+    ensures { AreStruck (keyed_among (on D.Commands.rules D.does) D.among)
+        (keys_of_stroke stroke (D.does.shown station.old.reacts.screen))
         (returned result told.new) station.old station.new }
 {
-    let keys = stroke.keys(station.shown());
+    let keys = stroke.keys(station.screen());
     let pressed = press_all(station, keys.as_slice());
     tell_stroke(pressed, told)
 }
 
-// Presses them at a station as live hosts use it, unless something waits.
-fn press_held(held: &mut HeldStation, stroke: Stroke, told: &mut Told) -> Status
+// Presses them at one that C holds, unless something waits.
+fn press_held<D: TakesKeys>(
+    held: &mut HeldEnd<StationOn<D>, D::Reply>,
+    stroke: Stroke,
+    told: &mut Told,
+) -> Status
     requires { told.old ≡ told_length 0 }
-    ensures { IsHeldStroke stroke result told.new held.old held.new }
+    ensures { IsStroke (on D.Commands.rules D.does) D.among stroke
+        (returned result told.new) held.old held.new }
 {
-    if held.rest().is_empty() {
-        return held.strike(stroke, told);
+    if rest(held).is_empty() {
+        let status = press_stroke(&mut held.end, stroke, told);
+        keep_nothing(held);
+        return status;
     }
     Status::NoRoom
 }
@@ -86,13 +98,14 @@ fn press_held(held: &mut HeldStation, stroke: Stroke, told: &mut Told) -> Status
 fn press(alloc: Global, handle: &mut Handle, stroke: Stroke, told: &mut Told) -> Status
     requires { told.old ≡ told_length 0 }
     ensures { OnStations handle.old.owned.value handle.new.owned.value
-        (IsStroke stroke result told.new) (IsHeldStroke stroke result told.new)
+        (IsProfileStroke stroke (returned result told.new))
+        (IsExtendedStroke stroke (returned result told.new))
         (HoldsNone result (told.new ≡ told_length 0)) }
 {
     on_stations!(
         alloc,
         handle,
-        |station| press_stroke(station, stroke, told),
+        |held| press_held(held, stroke, told),
         |held| press_held(held, stroke, told)
     )
 }
@@ -114,8 +127,8 @@ pub extern "C" fn ws_c_station_move_cursor(
 ) -> u32
     ensures moved { IsRowAndColumn row column → HasStatus result (λ status.
         OnStations handle.old.owned.value handle.new.owned.value
-        (IsStroke (Struck.MoveTo (place_of row column)) status told.new)
-        (IsHeldStroke (Struck.MoveTo (place_of row column)) status told.new)
+        (IsProfileStroke (Struck.MoveTo (place_of row column)) (returned status told.new))
+        (IsExtendedStroke (Struck.MoveTo (place_of row column)) (returned status told.new))
         (HoldsNone status (told.new ≡ told_length 0))) }
     ensures off { ¬ IsRowAndColumn row column → (result ≡ status_number Status.BadArgument)
         × (handle.new ≡ handle.old) × (told.new ≡ told_length 0) }
@@ -134,7 +147,8 @@ pub extern "C" fn ws_c_station_move_cursor(
 #[unsafe(no_mangle)]
 pub extern "C" fn ws_c_station_new_line(alloc: Global, handle: &mut Handle, told: &mut Told) -> u32
     ensures { HasStatus result (λ status. OnStations handle.old.owned.value handle.new.owned.value
-        (IsStroke Struck.NewLine status told.new) (IsHeldStroke Struck.NewLine status told.new)
+        (IsProfileStroke Struck.NewLine (returned status told.new))
+        (IsExtendedStroke Struck.NewLine (returned status told.new))
         (HoldsNone status (told.new ≡ told_length 0))) }
 {
     *told = Told::length(0);
@@ -148,7 +162,8 @@ pub extern "C" fn ws_c_station_new_line(alloc: Global, handle: &mut Handle, told
 #[unsafe(no_mangle)]
 pub extern "C" fn ws_c_station_erase_eof(alloc: Global, handle: &mut Handle, told: &mut Told) -> u32
     ensures { HasStatus result (λ status. OnStations handle.old.owned.value handle.new.owned.value
-        (IsStroke Struck.EraseEof status told.new) (IsHeldStroke Struck.EraseEof status told.new)
+        (IsProfileStroke Struck.EraseEof (returned status told.new))
+        (IsExtendedStroke Struck.EraseEof (returned status told.new))
         (HoldsNone status (told.new ≡ told_length 0))) }
 {
     *told = Told::length(0);

@@ -1,9 +1,27 @@
 use Rattle.std.specs.Prelude.{Ok, Err}
-use Rattle.std.proofs.Common.{refl}
+use Rattle.std.proofs.Common.{refl, subst}
+use Rattle.ws_session.specs.station.Displays.{on_display}
+use Rattle.ws_c.specs.Calls.{StationKeyedOn}
 use Rattle.ws_c.proofs.station_strokes.press_once.Goals as goal
 
 pub returns-in-Ok : goal.returns-in-Ok
-returns-in-Ok g c = (c.press.new.self, Ok c.in-Ok.field-0, c.in-Ok.ensures.pressed, (refl, refl))
+returns-in-Ok g c =
+    let kind = on_display g.D.Commands.Code.rules g.D.StationDisplay.does in
+    let k = c.key.ensures in (
+      c.key.new.self,
+      c.key.result,
+      subst (λ key. StationKeyedOn kind c.args.station.now c.key.new.self key c.key.result)
+          c.key_of.ensures (record { keyed = k.keyed; full = k.full; failed = k.failed; same = k.same }),
+      rw c.in-Ok.is (refl, refl),
+    )
 
 pub returns-in-Err : goal.returns-in-Err
-returns-in-Err g c = (c.press.new.self, Err c.in-Err.fault, c.in-Err.ensures.pressed, (refl, refl))
+returns-in-Err g c =
+    let kind = on_display g.D.Commands.Code.rules g.D.StationDisplay.does in
+    let k = c.key.ensures in (
+      c.key.new.self,
+      c.key.result,
+      subst (λ key. StationKeyedOn kind c.args.station.now c.key.new.self key c.key.result)
+          c.key_of.ensures (record { keyed = k.keyed; full = k.full; failed = k.failed; same = k.same }),
+      rw c.in-Err.is (refl, refl),
+    )

@@ -1,0 +1,14 @@
+use Rattle.std.proofs.Common.{false, Option, refl, subst}
+use Rattle.ws_session.specs.declared.end_step.Applied.{Applied}
+use Rattle.ws_session.specs.station.Stations.{station_driving}
+use Rattle.ws_extended_station.specs.ExtendedDisplays.{on_extended}
+use Rattle.ws_c.specs.Calls.{crossed}
+use Rattle.ws_c.specs.Pushes.{IsPush}
+use Rattle.ws_c.proofs.station.push_extended.Goals as goal
+
+pub returns : goal.returns
+returns c =
+    let p = c.push_all in
+    subst (λ (e : Option Applied). IsPush (station_driving on_extended) false e c.args.bytes.now
+    (crossed c.args.buffer.now p.new.buffer p.result.0 p.new.told) c.args.held.now p.new.held) (p.ensures.plain refl)
+    p.ensures
