@@ -8,7 +8,7 @@ use Rattle.ws_session.specs.declared.world.Move.{Move}
 use Rattle.ws_session.specs.station.StationSide.{screen_at}
 use Rattle.ws_session.specs.declared.world.Report.{Report}
 use Rattle.ws_session.specs.world.Reports.{IsReport}
-use Rattle.ws_session.specs.world.World.{World, new_world, after_moves}
+use Rattle.ws_session.specs.world.Session.{Session, new_session, after_moves}
 use Rattle.ws_live.specs.asked.RunFaults.{script_run_fault}
 use Rattle.ws_live.specs.declared.printing.paint.Paint.{Paint}
 use Rattle.ws_live.specs.declared.script.ScriptFault.{ScriptFault}
@@ -33,21 +33,21 @@ carried_err {S} {A} {E} writer from to action result given fault is same h =
 -- What is told of a session is its report's.
 
 pub session_text : (moves given : List Move) (report : Report) (paint : Paint) (screen : Bool) (text : List ℕ)
-    → given ≡ moves → IsReport report (after_moves (new_world Ibm3179Model2) given)
+    → given ≡ moves → IsReport report (after_moves (new_session Ibm3179Model2) given)
     → IsPaintedPlayText paint report.events report.station.reacts.screen.screen screen text → IsSessionText paint
-    (after_moves (new_world Ibm3179Model2) moves) screen text
+    (after_moves (new_session Ibm3179Model2) moves) screen text
 session_text moves given report paint screen text same r t =
-    let w : World = after_moves (new_world Ibm3179Model2) given in
+    let w : Session = after_moves (new_session Ibm3179Model2) given in
     let told : IsPaintedPlayText paint w.events (screen_at w.station) screen text = subst
     (λ (s : ScreenParts). IsPaintedPlayText paint w.events s screen text) r.screen
     (subst (λ (es : List Event). IsPaintedPlayText paint es report.station.reacts.screen.screen screen text) r.events t) in
-    subst (λ (ms : List Move). IsSessionText paint (after_moves (new_world Ibm3179Model2) ms) screen text) same told
+    subst (λ (ms : List Move). IsSessionText paint (after_moves (new_session Ibm3179Model2) ms) screen text) same told
 
 pub session_well : (moves given : List Move) (report : Report) → given ≡ moves
-    → IsReport report (after_moves (new_world Ibm3179Model2) given) → no_end_refuses report.events
-    ≡ no_end_refuses (after_moves (new_world Ibm3179Model2) moves).events
+    → IsReport report (after_moves (new_session Ibm3179Model2) given) → no_end_refuses report.events
+    ≡ no_end_refuses (after_moves (new_session Ibm3179Model2) moves).events
 session_well moves given report same r = ap no_end_refuses r.events
-    ∙ ap (λ (ms : List Move). no_end_refuses (after_moves (new_world Ibm3179Model2) ms).events) same
+    ∙ ap (λ (ms : List Move). no_end_refuses (after_moves (new_session Ibm3179Model2) ms).events) same
 
 -- where a script isn't read
 pub unread_script : (script : List ℕ) (fault : ScriptFault) → IsScriptFault script fault

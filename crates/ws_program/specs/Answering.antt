@@ -41,14 +41,14 @@ use Rattle.ws_live.specs.declared.asked.fault.RunFault.TheVariants.{Read, Line, 
 use Rattle.ws_nego.specs.declared.terminal.TerminalType.TheVariants.{Ibm3179Model2}
 use Rattle.ws_session.specs.declared.world.Event.{Event}
 use Rattle.ws_session.specs.declared.world.Move.{Move}
-use Rattle.ws_session.specs.world.World.{World, new_world, after_moves}
+use Rattle.ws_session.specs.world.Session.{Session, new_session, after_moves}
 use Rattle.ws_session.specs.station.StationSide.{screen_at}
 use Rattle.ws_live.specs.script.Script.{IsScript, IsFirstBad}
 use Rattle.ws_live.specs.script.ScriptFaults.{IsReadSoFar}
 use Rattle.ws_live.specs.printing.PlayLines.{IsPaintedPlayText, no_end_refuses}
 
 -- what is told of a session, and its screen in a paint where it is asked for
-abbrev pub IsSessionText : Paint → World → Bool → List ℕ → Type 0
+abbrev pub IsSessionText : Paint → Session → Bool → List ℕ → Type 0
 IsSessionText paint w screen text = IsPaintedPlayText paint w.events (screen_at w.station) screen text
 
 -- a script is good as far as it was read, or as a whole
@@ -79,8 +79,8 @@ abbrev pub play_action : Paint → Bool → List ℕ → Action Bool RunFault
 play_action paint screen script = record {
   Refuses = IsUnplayed script;
   prints = in_whole Write (λ text outcome. (moves : List Move) × IsScript script moves
-      × IsSessionText paint (after_moves (new_world Ibm3179Model2) moves) screen text
-      × (outcome ≡ Ok (no_end_refuses (after_moves (new_world Ibm3179Model2) moves).events)));
+      × IsSessionText paint (after_moves (new_session Ibm3179Model2) moves) screen text
+      × (outcome ≡ Ok (no_end_refuses (after_moves (new_session Ibm3179Model2) moves).events)));
 }
 
 -- A script is played over a connection, and what is told of a session is printed. What a connection does isn't known, so

@@ -164,7 +164,7 @@ pub use Rattle.ws_session.specs.world.Runs.{AreWritable, WorldParts, RunsWith, R
 pub use Rattle.ws_session.specs.world.Runs.{at_station_end, at_host_end}
 pub use Rattle.ws_session.specs.world.Through.{HasRefusedIn, Through}
 pub use Rattle.ws_session.specs.world.Wires.{WireParts, reported, HasMemory, Comes, AtEnd, at_end, AreDelivered}
-pub use Rattle.ws_session.specs.world.World.{World, new_world, after_moves, IsQuiet, after_move, down_bytes}
-pub use Rattle.ws_session.specs.world.World.{station_did, station_gets, byte_to_station, up_bytes, host_did, host_gets}
-pub use Rattle.ws_session.specs.world.World.{byte_to_host, events_with, bytes_to_station, bytes_to_host}
-pub use Rattle.ws_session.specs.world.World.{station_pressed, host_sent, after_press, after_send}
+pub use Rattle.ws_session.specs.world.Session.{Session, new_session, after_moves, IsQuiet, after_move, down_bytes}
+pub use Rattle.ws_session.specs.world.Session.{station_did, station_gets, byte_to_station, up_bytes, host_did, host_gets}
+pub use Rattle.ws_session.specs.world.Session.{byte_to_host, events_with, bytes_to_station, bytes_to_host}
+pub use Rattle.ws_session.specs.world.Session.{station_pressed, host_sent, after_press, after_send}

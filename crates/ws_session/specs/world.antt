@@ -5,6 +5,6 @@ pub mod Deliveries
 pub mod Refusals
 pub mod Reports
 pub mod Runs
+pub mod Session
 pub mod Through
 pub mod Wires
-pub mod World

@@ -7,7 +7,7 @@ use C.{element_rules, AnswerPart, Element, after_elements, after_end, body_fault
 use C.{History, ended, fields, AreApart, pending_read, open_write, Field, ReadKind, Alike, layout_alike, elements_alike}
 use C.{end_alike, body_fault_alike, layout_same, by_host-append, read_answer, HostAnswer, same_apart, empty_record}
 use C.{telnets, HostEvent, AttentionCame, RequestCame, Event, Host, HostSide, sent_record, ready_event, signal}
-use C.{ready_by_terminal, answers_in, answer_in, host_answers, StationSide, opcode_events, after_record, World}
+use C.{ready_by_terminal, answers_in, answer_in, host_answers, StationSide, opcode_events, after_record, Session}
 use C.{events_with}
 use Rattle.ws_nego.proofs.Exchanges.{Exchanges}
 use Rattle.ws_record.proofs.Flights.{InFlight}
@@ -191,7 +191,7 @@ within_record h r ok w n =
 
 -- Every session: what is in flight stands between both ends.
 
-pub record Sound (t : TerminalType) (w : World) : Type 0 where
+pub record Sound (t : TerminalType) (w : Session) : Type 0 where
   pub ts : List Telnet
   pub us : List Telnet
   pub ds : List Posted
@@ -206,7 +206,7 @@ pub record Sound (t : TerminalType) (w : World) : Type 0 where
   pub station_going : w.station_refused ≡ false
   pub host_going : w.host_refused ≡ false
 
-abbrev pub sounds : {t : TerminalType} {w : World} (ts us : List Telnet) (ds : List Posted) (es : List Sent)
+abbrev pub sounds : {t : TerminalType} {w : Session} (ts us : List Telnet) (ds : List Posted) (es : List Sent)
     (later : List HostAnswer) (ex : Exchange) → Between t ex w.station w.host ts us ds es later
     → InFlight element_rules w.down w.at_station (tokens ts ++ posted ds)
     → InFlight answer_rules w.up w.at_host (tokens us ++ sents es) → w.answered ≡ answers_in w.events ++ later
@@ -228,26 +228,26 @@ sounds ts us ds es later ex b d u a n s h = record {
 }
 
 -- A byte more at the station: a token is the first of a full delivery's moves, all else none of them.
-pub record Down (t : TerminalType) (ex : Exchange) (down : List (Item Element)) (n : ℕ) (w : World) : Type 0 where
+pub record Down (t : TerminalType) (ex : Exchange) (down : List (Item Element)) (n : ℕ) (w : Session) : Type 0 where
   pub sound : Sound t w
   pub same_ex : after_all_to_station sound.ex ≡ after_all_to_station ex
   pub same_down : w.down ≡ down
   pub at : w.at_station ≡ n
 
 pub record Up (t : TerminalType) (ex : Exchange) (up : List (Item AnswerPart)) (n : ℕ) (ds : List Posted)
-    (w : World) : Type 0 where
+    (w : Session) : Type 0 where
   pub sound : Sound t w
   pub same_ex : after_all_to_host sound.ex ≡ after_all_to_host ex
   pub same_up : w.up ≡ up
   pub at : w.at_host ≡ n
   pub same_ds : sound.ds ≡ ds
 
-abbrev pub downs : {t : TerminalType} {ex : Exchange} {down : List (Item Element)} {n : ℕ} {w : World}
+abbrev pub downs : {t : TerminalType} {ex : Exchange} {down : List (Item Element)} {n : ℕ} {w : Session}
     → w.down ≡ down → w.at_station ≡ n
     → (sound : Sound t w) → after_all_to_station sound.ex ≡ after_all_to_station ex → Down t ex down n w
 downs d n s e = record { sound = s; same_ex = e; same_down = d; at = n }
 
-abbrev pub ups : {t : TerminalType} {ex : Exchange} {up : List (Item AnswerPart)} {n : ℕ} {ds : List Posted} {w : World}
+abbrev pub ups : {t : TerminalType} {ex : Exchange} {up : List (Item AnswerPart)} {n : ℕ} {ds : List Posted} {w : Session}
     → w.up ≡ up → w.at_host ≡ n → (sound : Sound t w) → sound.ds ≡ ds
     → after_all_to_host sound.ex ≡ after_all_to_host ex → Up t ex up n ds w
 ups u n s d e = record { sound = s; same_ex = e; same_up = u; at = n; same_ds = d }

@@ -7,7 +7,7 @@ use C.{HoldsItems, station_at_item, StationRefuses, station_manner, host_manner}
 use C.{HostRefuses, HostStands, at_reaction, host_driving, TakesNoMore, IsWhy, goes_on, Refuses, GoesOn, Reaction, Applied, HostEvent, Refusal, At, Failed, Memory, Event, Host}
 use C.{StationRefused, HostRefused, ToStation, ToHost, HostLeads, HostParts, HostSide, host_takes}
 use C.{HostOutput, StationParts, StationLeads, StationSide, station_takes, AreWritable, WorldParts, RunsWith}
-use C.{Runs, WireParts, HasMemory, AreDelivered, at_end, at_station_end, at_host_end, World, down_bytes, station_did}
+use C.{Runs, WireParts, HasMemory, AreDelivered, at_end, at_station_end, at_host_end, Session, down_bytes, station_did}
 use C.{station_gets, byte_to_station}
 use C.{up_bytes, host_did, host_gets, byte_to_host, events_with, bytes_to_station, bytes_to_host}
 use Rattle.ws_record.proofs.Flights.{byte_more, ByteMore}
@@ -27,12 +27,12 @@ use Rattle.ws_session.specs.station.StationSide.{on_profile}
 
 -- A byte comes to the station of a running session.
 
-module _ {S : OfStation} {H : OfHost} {t : TerminalType} {w : World} {old : WorldParts} (r : RunsWith S H t old w) where
+module _ {S : OfStation} {H : OfHost} {t : TerminalType} {w : Session} {old : WorldParts} (r : RunsWith S H t old w) where
   module _ (more : old.at_station < length old.down) (byte : ℕ) (is : byte ≡ get_or old.down old.at_station byte) where
     more_in : w.at_station < length (down_bytes w)
     more_in = omega (arith, more, r.at_station, ap length r.down)
 
-    abbrev byte_on : World
+    abbrev byte_on : Session
     byte_on = record w { at_station = w.at_station + 1 }
 
     abbrev ends : Option (Item Element)
@@ -94,7 +94,7 @@ module _ {S : OfStation} {H : OfHost} {t : TerminalType} {w : World} {old : Worl
     station_never (At at reason) p = elim p.1 [
       | inl refused ↦ came.none_refused at reason refused
       | inr item ↦ (let o = came.one_ends item.item item.holds in
-          let e : true ≡ false = ap (λ (z : World). z.station_refused) (sym (steps (Some item.item) o.0
+          let e : true ≡ false = ap (λ (z : Session). z.station_refused) (sym (steps (Some item.item) o.0
           ∙ ap (station_did byte_on) item.so)) ∙ (byte_down t w (is_sound r)).station_going in cc)
     ]
 
@@ -135,7 +135,7 @@ none_told (a ∷ told) = none_told told
 abbrev StationLater : OfStation → List ℕ → List ℕ → List Applied → OfStation
 StationLater = Later element_rules answer_rules station_manner
 
-station_next : {H : OfHost} {t : TerminalType} {w : World} {old : WorldParts} (Then : OfStation) (x : ℕ)
+station_next : {H : OfHost} {t : TerminalType} {w : Session} {old : WorldParts} (Then : OfStation) (x : ℕ)
     (xs v : List ℕ) (told : List Applied) (r : RunsWith (StationLater Then (x ∷ xs) v told) H t old w)
     → old.at_station < length old.down → x ≡ get_or old.down old.at_station x
     → (v' : List ℕ) × (later : List ℕ) × (told' : List Applied) × (more : List Applied) × (v ≡ v' ++ later)
@@ -171,16 +171,16 @@ station_next {H} {t} {w} {old} Then x xs v told r more is = elim (gone_first ele
     ]
 
 -- once nothing is in flight, more bytes make no difference
-pub stops : (n m : ℕ) → n ≤ m → (w : World) → byte_to_station (bytes_to_station n w) ≡ bytes_to_station n w
+pub stops : (n m : ℕ) → n ≤ m → (w : Session) → byte_to_station (bytes_to_station n w) ≡ bytes_to_station n w
     → bytes_to_station m w ≡ bytes_to_station n w
 stops = stop _ _ (λ w. refl) (λ n w. refl)
 
 -- so many bytes, and then so many more
-pub bytes_on : (m n : ℕ) (w : World) → bytes_to_station n (bytes_to_station m w) ≡ bytes_to_station (m + n) w
+pub bytes_on : (m n : ℕ) (w : Session) → bytes_to_station n (bytes_to_station m w) ≡ bytes_to_station (m + n) w
 bytes_on = many_on byte_to_station bytes_to_station (λ w. refl) (λ n w. refl)
 
 -- so many of the bytes in flight, or all that are
-pub station_delivered : {t : TerminalType} {w : World} {old : WorldParts}
+pub station_delivered : {t : TerminalType} {w : Session} {old : WorldParts}
     → Runs t old w → {station : StationParts} {from to : WireParts} {events : List Event} {count : ℕ}
     → AreDelivered profile_conduct station_telling (at_station_end old) count (at_end station from to events) → Runs t
     (record old {
@@ -192,7 +192,7 @@ pub station_delivered : {t : TerminalType} {w : World} {old : WorldParts}
       events = events;
     }) (bytes_to_station count w)
 station_delivered {t} {w} {old} r {station} {from} {to} {events} {count} d =
-    let Now : OfStation → ℕ → List ℕ → List Event → World → Type 0 = λ S n up told w'. RunsWith S (HostLeads old.host) t
+    let Now : OfStation → ℕ → List ℕ → List Event → Session → Type 0 = λ S n up told w'. RunsWith S (HostLeads old.host) t
     (record old { station = station; at_station = n; up = up; events = told }) w' in
     rw (d.from_is, d.to_is, d.told_is) (delivered byte_to_station bytes_to_station (λ w. refl) (λ n w. refl)
     element_rules answer_rules station_manner (λ (a : Applied). let z : List Event = [] in z) old.down Now
@@ -218,12 +218,12 @@ one_told : (events : List Event) (event : Option HostEvent) → events ++ flat_m
 one_told events None = append-nil events
 one_told events (Some event) = refl
 
-module _ {S : OfStation} {H : OfHost} {t : TerminalType} {w : World} {old : WorldParts} (r : RunsWith S H t old w) where
+module _ {S : OfStation} {H : OfHost} {t : TerminalType} {w : Session} {old : WorldParts} (r : RunsWith S H t old w) where
   module _ (more : old.at_host < length old.up) (byte : ℕ) (is : byte ≡ get_or old.up old.at_host byte) where
     more_up : w.at_host < length (up_bytes w)
     more_up = omega (arith, more, r.at_host, ap length r.up)
 
-    abbrev byte_off : World
+    abbrev byte_off : Session
     byte_off = record w { at_host = w.at_host + 1 }
 
     abbrev ends_up : Option (Item AnswerPart)
@@ -293,7 +293,7 @@ module _ {S : OfStation} {H : OfHost} {t : TerminalType} {w : World} {old : Worl
     host_never (At at reason) p m = elim p.1 [
       | inl refused ↦ came_up.none_refused at reason refused
       | inr item ↦ (let o = came_up.one_ends item.item item.holds in
-          let e : true ≡ false = ap (λ (z : World). z.host_refused) (sym (steps_up (Some item.item) o.0
+          let e : true ≡ false = ap (λ (z : Session). z.host_refused) (sym (steps_up (Some item.item) o.0
           ∙ ap (host_did byte_off) item.so)) ∙ (byte_up t w (is_sound r)).host_going in cc)
     ]
 
@@ -327,7 +327,7 @@ module _ {S : OfStation} {H : OfHost} {t : TerminalType} {w : World} {old : Worl
 abbrev HostLater : OfHost → List ℕ → List ℕ → List HostEvent → OfHost
 HostLater = Later answer_rules element_rules host_manner
 
-host_next : {S : OfStation} {t : TerminalType} {w : World} {old : WorldParts} (Then : OfHost) (x : ℕ) (xs v : List ℕ)
+host_next : {S : OfStation} {t : TerminalType} {w : Session} {old : WorldParts} (Then : OfHost) (x : ℕ) (xs v : List ℕ)
     (told : List HostEvent) (r : RunsWith S (HostLater Then (x ∷ xs) v told) t old w)
     → old.at_host < length old.up → x ≡ get_or old.up old.at_host x
     → (v' : List ℕ) × (later : List ℕ) × (told' : List HostEvent) × (more : List HostEvent) × (v ≡ v' ++ later)
@@ -360,12 +360,12 @@ host_next {S} {t} {w} {old} Then x xs v told r more is = elim (gone_first answer
       )
     ]
 
-pub host_stops : (n m : ℕ) → n ≤ m → (w : World) → byte_to_host (bytes_to_host n w) ≡ bytes_to_host n w
+pub host_stops : (n m : ℕ) → n ≤ m → (w : Session) → byte_to_host (bytes_to_host n w) ≡ bytes_to_host n w
     → bytes_to_host m w ≡ bytes_to_host n w
 host_stops = stop _ _ (λ w. refl) (λ n w. refl)
 
 -- so many of the bytes in flight, or all that are
-pub host_delivered : {t : TerminalType} {w : World} {old : WorldParts}
+pub host_delivered : {t : TerminalType} {w : Session} {old : WorldParts}
     → Runs t old w → {host : HostParts} {from to : WireParts} {events : List Event} {count : ℕ}
     → AreDelivered host_conduct host_telling (at_host_end old) count (at_end host from to events) → Runs t (record old {
       host = host;
@@ -376,7 +376,7 @@ pub host_delivered : {t : TerminalType} {w : World} {old : WorldParts}
       events = events;
     }) (bytes_to_host count w)
 host_delivered {t} {w} {old} r {host} {from} {to} {events} {count} d =
-    let Now : OfHost → ℕ → List ℕ → List Event → World → Type 0 = λ H n down told w'. RunsWith
+    let Now : OfHost → ℕ → List ℕ → List Event → Session → Type 0 = λ H n down told w'. RunsWith
     (StationLeads old.station) H t (record old { host = host; at_host = n; down = down; events = told }) w' in
     rw (d.from_is, d.to_is, d.told_is) (delivered byte_to_host bytes_to_host (λ w. refl) (λ n w. refl)
     answer_rules element_rules host_manner host_tells old.up Now

@@ -7,7 +7,7 @@ use C.{CancelInvite, NoOperation, PutGet, Item, RecordItem, TelnetItem, answer_r
 use C.{Element, body_fault, HostAnswer, Refuses, GoesOn, telnets, Answered, Cancelled, Host, HostSide, after_read}
 use C.{event_output, ready_event, host_negotiates, host_reads, host_reads_by, host_ends_cancel, signal}
 use C.{host_takes_record, host_takes, answers_in, answer_in, StationSide, after_record, opcode_answer, station_applies}
-use C.{station_takes, World, down_bytes, station_did, station_gets, byte_to_station, up_bytes, host_did, host_gets}
+use C.{station_takes, Session, down_bytes, station_did, station_gets, byte_to_station, up_bytes, host_did, host_gets}
 use C.{byte_to_host}
 use Rattle.std.proofs.lemmas.Bool.{cases_Bool}
 use Rattle.ws_nego.proofs.Exchanges.{up_next, x_none, full_station, full_host}
@@ -29,8 +29,8 @@ module _ (t : TerminalType) where
   takes_record s d allows none = ap (λ (b : Bool). if b then station_applies s (record_of d) (body_fault s.happened
       (record_of d).body) else Refuses RecordBeforeNegotiation) allows ∙ ap (station_applies s (record_of d)) none
 
-  module _ (w : World) where
-    abbrev byte_on : World
+  module _ (w : Session) where
+    abbrev byte_on : Session
     byte_on = record w { at_station = w.at_station + 1 }
 
     station_arrives : (ex : Exchange) → ex.count ≡ telnets w.down + telnets w.up → (ts us : List Telnet)
@@ -94,8 +94,8 @@ module _ (t : TerminalType) where
   takes_by h flags o parts allows =
       ap (λ (b : Bool). if b then host_takes_record h flags o parts else Refuses RecordBeforeNegotiation) allows
 
-  module _ (w : World) where
-    abbrev byte_off : World
+  module _ (w : Session) where
+    abbrev byte_off : Session
     byte_off = record w { at_host = w.at_host + 1 }
 
     same_down : (ts : List Telnet) (ds : List Posted) → InFlight element_rules w.down w.at_station

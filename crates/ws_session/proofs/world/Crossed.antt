@@ -1,7 +1,7 @@
 use Rattle.ws_session.proofs.Common.{◌≡◌, List, [], ◌∷◌, ◌++◌, ◌∙◌, ℕ, zero, suc, take, drop, take-append-drop, ap, refl}
 use Rattle.ws_session.proofs.Common.{sym, length, append_assoc, append-nil, drop-drop, ap₂, Fault, Move, Crossing}
 use Rattle.ws_session.proofs.Common.{with_piece_at, AreFaithful, HaveCrossed, IsStopped, all_sent, all_read, WireParts}
-use Rattle.ws_session.proofs.Common.{World, after_move, after_moves, arith, min, cases_lt, take_all, inl, inr}
+use Rattle.ws_session.proofs.Common.{Session, after_move, after_moves, arith, min, cases_lt, take_all, inl, inr}
 use Rattle.ws_code.specs.Device.{Devices}
 use Rattle.ws_session.specs.declared.world.line.Line.{Line}
 use Rattle.ws_session.specs.world.Carried.{all_brought}
@@ -67,7 +67,7 @@ least_taken xs count n is = elim (cases_lt count (length xs)) [
 ]
 
 -- what a move more delivers
-pub brought_more : (brought : World → Move → List ℕ) (w : World) (moves : List Move) (move : Move)
+pub brought_more : (brought : Session → Move → List ℕ) (w : Session) (moves : List Move) (move : Move)
     → all_brought brought w (moves ++ move ∷ []) ≡ all_brought brought w moves ++ brought (after_moves w moves) move
 brought_more brought w [] move = append-nil (brought w move)
 brought_more brought w (m ∷ moves) move =

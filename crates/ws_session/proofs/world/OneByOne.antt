@@ -4,7 +4,7 @@ use C.{sym, arith, take-append-drop, ◌^◌, min, inl, inr, length, get_or, app
 use C.{length-drop, drop-cons, length-take, ◌⊎◌, true, add-suc, subst₂, drop-append_seam, cases_lt, flat_map-append}
 use C.{append-nil, drop-drop, Rules, Reason, plain_spelling, item_spelling, Item, bytes_came, all_came, Happening}
 use C.{doing, items_of, HasGone, Arrives, Manner, AllTaken, Happen, HoldsItems, Goes, Refusal, Event, HasRefusedIn}
-use C.{Through, WireParts, reported, HasMemory, AreDelivered, at_end, World}
+use C.{Through, WireParts, reported, HasMemory, AreDelivered, at_end, Session}
 use Rattle.ws_session.specs.Acts.{bytes_of}
 use Rattle.ws_session.specs.Conduct.{Conduct}
 use Rattle.ws_session.specs.world.Wires.{Telling}
@@ -93,25 +93,25 @@ module _ {Place PlaceV Side U V Deed Told : Type 0} (rules : Rules Place U) (out
 
 -- Bytes that come to an end of a session one by one, by what one of them makes of it.
 
-module _ (one : World → World) (many : ℕ → World → World) (none : (w : World) → many zero w ≡ w)
-    (next : (n : ℕ) (w : World) → many (suc n) w ≡ many n (one w)) where
-  many_more : (n : ℕ) (w : World) → many (suc n) w ≡ one (many n w)
+module _ (one : Session → Session) (many : ℕ → Session → Session) (none : (w : Session) → many zero w ≡ w)
+    (next : (n : ℕ) (w : Session) → many (suc n) w ≡ many n (one w)) where
+  many_more : (n : ℕ) (w : Session) → many (suc n) w ≡ one (many n w)
   many_more zero w = next zero w ∙ none _ ∙ ap one (sym (none w))
   many_more (suc n) w = next _ w ∙ many_more n _ ∙ ap one (sym (next n w))
 
-  idle : (n : ℕ) (w : World) → one w ≡ w → many n w ≡ w
+  idle : (n : ℕ) (w : Session) → one w ≡ w → many n w ≡ w
   idle zero w e = none w
   idle (suc n) w e = next n w ∙ ap (many n) e ∙ idle n w e
 
   -- once nothing is in flight, more bytes make no difference
-  pub stop : (n m : ℕ) → n ≤ m → (w : World) → one (many n w) ≡ many n w → many m w ≡ many n w
+  pub stop : (n m : ℕ) → n ≤ m → (w : Session) → one (many n w) ≡ many n w → many m w ≡ many n w
   stop zero m h w e = idle m w (ap one (sym (none w)) ∙ e ∙ none w) ∙ sym (none w)
   stop (suc n) zero h w e = absurd (omega (arith, h))
   stop (suc n) (suc m) h w e =
       next m w ∙ stop n m (omega (arith, h)) _ (ap one (sym (next n w)) ∙ e ∙ next n w) ∙ sym (next n w)
 
   -- so many bytes, and then so many more
-  pub many_on : (m n : ℕ) (w : World) → many n (many m w) ≡ many (m + n) w
+  pub many_on : (m n : ℕ) (w : Session) → many n (many m w) ≡ many (m + n) w
   many_on m zero w = none _ ∙ ap (λ k. many k w) (sym (add-zero m))
   many_on m (suc n) w = many_more n _ ∙ ap one (many_on m n w) ∙ sym (many_more _ w)
       ∙ ap (λ k. many k w) (sym (add-suc m n))
@@ -120,25 +120,25 @@ module _ (one : World → World) (many : ℕ → World → World) (none : (w : W
   -- and what was told.
   module _ {Place PlaceV Side U V Deed Told : Type 0} (rules : Rules Place U) (out : Rules PlaceV V)
       (manner : Manner Side U V Deed Told) (tells : Told → List Event) (bytes : List ℕ)
-      (Stands : (List ℕ → List (Item U) → Side → Type 0) → ℕ → List ℕ → List Event → World → Type 0)
-      (with : (A B : List ℕ → List (Item U) → Side → Type 0) (at : ℕ) (wrote : List ℕ) (said : List Event) (w : World)
+      (Stands : (List ℕ → List (Item U) → Side → Type 0) → ℕ → List ℕ → List Event → Session → Type 0)
+      (with : (A B : List ℕ → List (Item U) → Side → Type 0) (at : ℕ) (wrote : List ℕ) (said : List Event) (w : Session)
       → Stands A at wrote said w
       → ((b : List ℕ) (i : List (Item U)) (s : Side) → length b ≤ min at (length bytes) → A b i s
       → B b i s)
       → Stands B at wrote said w)
-      (known : (A : List ℕ → List (Item U) → Side → Type 0) (at : ℕ) (wrote : List ℕ) (said : List Event) (w : World)
+      (known : (A : List ℕ → List (Item U) → Side → Type 0) (at : ℕ) (wrote : List ℕ) (said : List Event) (w : Session)
       → Stands A at wrote said w → (b : List ℕ) × (i : List (Item U)) × (s : Side) × A b i s)
       (comes : (Then : List ℕ → List (Item U) → Side → Type 0) (x : ℕ) (xs v : List ℕ) (t : List Told) (at : ℕ)
-      (wrote : List ℕ) (said : List Event) (w : World)
+      (wrote : List ℕ) (said : List Event) (w : Session)
       → Stands (Later rules out manner Then (x ∷ xs) v t) at wrote said w
       → at < length bytes → x ≡ get_or bytes at x
       → (v' : List ℕ) × (later : List ℕ) × (t' : List Told) × (more : List Told) × (v ≡ v' ++ later) × (t ≡ t' ++ more)
       × Stands (Later rules out manner Then xs later more) (at + 1) (wrote ++ v') (said ++ flat_map tells t') (one w))
-      (stays : (A : List ℕ → List (Item U) → Side → Type 0) (at : ℕ) (wrote : List ℕ) (said : List Event) (w : World)
+      (stays : (A : List ℕ → List (Item U) → Side → Type 0) (at : ℕ) (wrote : List ℕ) (said : List Event) (w : Session)
       → Stands A at wrote said w → length bytes ≤ at → one w ≡ w) where
     one_by_one : (xs rest : List ℕ) (Then : List ℕ → List (Item U) → Side
         → Type 0) (v : List ℕ) (t : List Told) (at : ℕ)
-        (wrote : List ℕ) (said : List Event) (w : World) → Stands (Later rules out manner Then xs v t) at wrote said w
+        (wrote : List ℕ) (said : List Event) (w : Session) → Stands (Later rules out manner Then xs v t) at wrote said w
         → drop at bytes ≡ xs ++ rest → Stands Then (at + length xs) (wrote ++ v) (said ++ flat_map tells t)
         (many (length xs) w)
     one_by_one [] rest Then v t at wrote said w h split =
@@ -157,7 +157,7 @@ module _ (one : World → World) (many : ℕ → World → World) (none : (w : W
         let says : (said ++ flat_map tells c.2) ++ flat_map tells c.3 ≡ said ++ flat_map tells t =
         append_assoc said (flat_map tells c.2) (flat_map tells c.3) ∙ ap (λ z. said ++ z)
         (sym (flat_map-append tells c.2 c.3)) ∙ ap (λ z. said ++ flat_map tells z) (sym c.5) in
-        subst (λ (u : World). Stands Then (at + length (x ∷ xs)) (wrote ++ v) (said ++ flat_map tells t) u)
+        subst (λ (u : Session). Stands Then (at + length (x ∷ xs)) (wrote ++ v) (said ++ flat_map tells t) u)
         (sym (next (length xs) w))
         (subst (λ (k : ℕ). Stands Then k (wrote ++ v) (said ++ flat_map tells t) (many (length xs) (one w))) n
         (subst₂ (λ (y : List ℕ) (z : List Event). Stands Then ((at + 1) + length xs) y z (many (length xs) (one w))) out
@@ -170,7 +170,7 @@ module _ (one : World → World) (many : ℕ → World → World) (none : (w : W
         (stops : (e : E) (front : List ℕ) (byte : ℕ) (why : Refusal) (e' : E) → refuses e front byte why e'
         → (b : List ℕ) (i : List (Item U)) (s : Side) → leads e b i s → length b + length front + 1 < 2 ^ 64
         → Later rules out manner (AtLast e byte why e') front [] [] b i s)
-        (never : (e : E) (byte : ℕ) (why : Refusal) (e' : E) (at : ℕ) (wrote : List ℕ) (said : List Event) (w : World)
+        (never : (e : E) (byte : ℕ) (why : Refusal) (e' : E) (at : ℕ) (wrote : List ℕ) (said : List Event) (w : Session)
         → Stands (AtLast e byte why e') at wrote said w → at < length bytes → byte ≡ get_or bytes at byte
         → HasMemory (Some why) → ⊥) where
       abbrev conduct : Conduct E Deed Told
@@ -186,7 +186,7 @@ module _ (one : World → World) (many : ℕ → World → World) (none : (w : W
       telling = record { tells = tells; refusal = refusal }
 
       -- the bytes that came, as acts that led on
-      led_by : (e e' : E) (xs rest v : List ℕ) (t : List Told) (at : ℕ) (wrote : List ℕ) (said : List Event) (w : World)
+      led_by : (e e' : E) (xs rest v : List ℕ) (t : List Told) (at : ℕ) (wrote : List ℕ) (said : List Event) (w : Session)
           → length bytes + 1 < 2 ^ 64 → Stands (leads e) at wrote said w → drop at bytes ≡ xs ++ rest
           → Goes (ways rules out manner) leads is_shut e (all_came xs) v t e'
           → Stands (leads e') (at + length xs) (wrote ++ v) (said ++ flat_map tells t) (many (length xs) w)
@@ -205,7 +205,7 @@ module _ (one : World → World) (many : ℕ → World → World) (none : (w : W
 
       -- none is refused
       none_refused : (e e' : E) (xs rest v : List ℕ) (t : List Told) (why : Refusal) (at : ℕ) (wrote : List ℕ)
-          (said : List Event) (w : World) → length bytes + 1 < 2 ^ 64 → Stands (leads e) at wrote said w
+          (said : List Event) (w : Session) → length bytes + 1 < 2 ^ 64 → Stands (leads e) at wrote said w
           → drop at bytes ≡ xs ++ rest → HasMemory (Some why)
           → HasRefusedIn conduct e xs v t why e' → ⊥
       none_refused e e' xs rest v t why at wrote said w few h split memory r =
@@ -229,7 +229,7 @@ module _ (one : World → World) (many : ℕ → World → World) (none : (w : W
           never r.last r.byte why e' there _ _ _ end room (some_first bytes there r.byte _ last room) memory
 
       -- so many of the bytes in flight, or all that are
-      pub delivered : (e : E) (at : ℕ) (wrote : List ℕ) (said : List Event) (w : World)
+      pub delivered : (e : E) (at : ℕ) (wrote : List ℕ) (said : List Event) (w : Session)
           → Stands (leads e) at wrote said w
           → (e' : E) (from to : WireParts) (k : ℕ) (said' : List Event) (count : ℕ)
           → (d : AreDelivered conduct telling
@@ -240,7 +240,7 @@ module _ (one : World → World) (many : ℕ → World → World) (none : (w : W
           let waiting : List ℕ = drop at bytes in
           let split : waiting ≡ d.bytes ++ drop count waiting = sym (take-append-drop count waiting)
           ∙ ap (λ z. z ++ drop count waiting) (sym d.first) in
-          let Now : World → Type 0 = Stands (leads e') (at + length d.bytes) (wrote ++ d.written) (said ++ d.events) in
+          let Now : Session → Type 0 = Stands (leads e') (at + length d.bytes) (wrote ++ d.written) (said ++ d.events) in
           let now : Now (many (length d.bytes) w) = by d.come.why d.come.through d.come.reports d.come.has_memory split
           in
           let size : length d.bytes ≡ min count (length waiting) = ap (λ z. length z) d.first

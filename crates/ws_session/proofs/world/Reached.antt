@@ -9,7 +9,7 @@ use C.{SendFailed, NoMemory, ATN, SRQ, KeyFault, KeyFailed, NotReady, Event, Key
 use C.{AtHost, HostLeads, HostParts, IsSent, IsSendFault, HostSide, SendReaction, RefusesSend, host_send}
 use C.{answer_spelling, AtStation, StationParts, StationLeads, StationSide, screen_at, KeyReaction, RefusesKey}
 use C.{Silent, Answers, Signals, station_key, answers_read, key_by_refusal, presses, answer_record, AreWritable}
-use C.{WorldParts, RunsWith, Runs, IsGiven, IsKey, World, new_world, after_moves, after_move, down_bytes, up_bytes}
+use C.{WorldParts, RunsWith, Runs, IsGiven, IsKey, Session, new_session, after_moves, after_move, down_bytes, up_bytes}
 use C.{station_pressed, host_sent, after_press, after_send}
 use Rattle.ws_code.specs.Aid.{IsAid}
 use Rattle.ws_record.proofs.Flights.{writable_append, still_led, not_more}
@@ -27,7 +27,7 @@ use Rattle.ws_session.specs.station.StationSide.{on_profile}
 
 -- A running session is a world that its moves lead to.
 
-pub more_moves : (moves : List Move) (move : Move) (w : World) → after_moves w (moves ++ move ∷ []) ≡ after_move
+pub more_moves : (moves : List Move) (move : Move) (w : Session) → after_moves w (moves ++ move ∷ []) ≡ after_move
     (after_moves w moves) move
 more_moves [] move w = refl
 more_moves (m ∷ moves) move w = more_moves moves move _
@@ -39,22 +39,22 @@ OfStation = List ℕ → List (Item Element) → StationSide → Type 0
 abbrev pub OfHost : Type 1
 OfHost = List ℕ → List (Item AnswerPart) → HostSide → Type 0
 
-module _ {S : OfStation} {H : OfHost} {t : TerminalType} {w : World} {old : WorldParts} (r : RunsWith S H t old w) where
+module _ {S : OfStation} {H : OfHost} {t : TerminalType} {w : Session} {old : WorldParts} (r : RunsWith S H t old w) where
   pub is_sound : Sound t w
   is_sound = subst (Sound t) (sym r.reached) (sound t r.moves)
 
   pub going_station : w.station_refused ≡ false
   going_station = is_sound.station_going
 
-  pub reached_by : (move : Move) → after_move w move ≡ after_moves (new_world t) (r.moves ++ move ∷ [])
-  reached_by move = ap (λ z. after_move z move) r.reached ∙ sym (more_moves r.moves move (new_world t))
+  pub reached_by : (move : Move) → after_move w move ≡ after_moves (new_session t) (r.moves ++ move ∷ [])
+  reached_by move = ap (λ z. after_move z move) r.reached ∙ sym (more_moves r.moves move (new_session t))
 
   pub going_host : w.host_refused ≡ false
   going_host = is_sound.host_going
 
   -- a move more, by the world behind it and by what a session keeps then
   module _ (move : Move) where
-    runs_with : (S' : OfStation) (H' : OfHost) (next : World) (new : WorldParts) → after_move w move ≡ next
+    runs_with : (S' : OfStation) (H' : OfHost) (next : Session) (new : WorldParts) → after_move w move ≡ next
         → new.down ≡ down_bytes next → new.up ≡ up_bytes next → new.at_station ≡ next.at_station
         → new.at_host ≡ next.at_host → AreWritable element_rules next.down → AreWritable answer_rules next.up
         → S' (take next.at_station (down_bytes next)) (arrived element_rules next.down next.at_station) next.station
@@ -75,7 +75,7 @@ module _ {S : OfStation} {H : OfHost} {t : TerminalType} {w : World} {old : Worl
           events = events;
         })
 
-    pub runs_on : (next : World) (new : WorldParts) → after_move w move ≡ next → new.down ≡ down_bytes next
+    pub runs_on : (next : Session) (new : WorldParts) → after_move w move ≡ next → new.down ≡ down_bytes next
         → new.up ≡ up_bytes next → new.at_station ≡ next.at_station → new.at_host ≡ next.at_host
         → AreWritable element_rules next.down → AreWritable answer_rules next.up → StationLeads new.station
         (take next.at_station (down_bytes next)) (arrived element_rules next.down next.at_station) next.station
@@ -116,15 +116,15 @@ module _ {S : OfStation} {H : OfHost} {t : TerminalType} {w : World} {old : Worl
 
 -- The host end of a running session sends or cancels.
 
-by_going : (w : World) (reaction : SendReaction) → w.host_refused ≡ false → after_send w reaction ≡ host_sent w reaction
+by_going : (w : Session) (reaction : SendReaction) → w.host_refused ≡ false → after_send w reaction ≡ host_sent w reaction
 by_going w reaction e = ap (λ (b : Bool). host_sent w (if b then RefusesSend SendFailed else reaction)) e
 
 -- what has arrived can be counted
-pub few_down : {t : TerminalType} {w : World} {old : WorldParts} → Runs t old w → length old.down + 1 < 2 ^ 64
+pub few_down : {t : TerminalType} {w : Session} {old : WorldParts} → Runs t old w → length old.down + 1 < 2 ^ 64
     → length (take w.at_station (down_bytes w)) + 1 < 2 ^ 64
 few_down {w = w} r few = omega (arith, few, ap (λ z. length z) r.down, length-take w.at_station (down_bytes w))
 
-pub few_up : {t : TerminalType} {w : World} {old : WorldParts} → Runs t old w → length old.up + 1 < 2 ^ 64
+pub few_up : {t : TerminalType} {w : Session} {old : WorldParts} → Runs t old w → length old.up + 1 < 2 ^ 64
     → length (take w.at_host (up_bytes w)) + 1 < 2 ^ 64
 few_up {w = w} r few = omega (arith, few, ap (λ z. length z) r.up, length-take w.at_host (up_bytes w))
 
@@ -135,7 +135,7 @@ refrains reaction SendFailed ne f = absurd f
 refrains reaction NoMemory ne f = absurd (ne refl)
 refrains reaction fault ne f = f
 
-module _ {t : TerminalType} {w : World} {old : WorldParts} (r : Runs t old w) (move : Move)
+module _ {t : TerminalType} {w : Session} {old : WorldParts} (r : Runs t old w) (move : Move)
     (order : Order) (moves_by : after_move w move ≡ after_send w (host_orders w.host order)) where
   host_wrote : length old.up + 1 < 2 ^ 64 → (host : HostParts) (text : List ℕ)
       → AtHost old.host (λ bytes items side. length bytes + 1 < 2 ^ 64 → IsSent host bytes items
@@ -202,7 +202,7 @@ aid_is s key h = by_ready _ where
   by_ready true = tt
   by_ready false = by_refusal _
 
-module _ {t : TerminalType} {w : World} {old : WorldParts} (r : Runs t old w) (key : Key) where
+module _ {t : TerminalType} {w : Session} {old : WorldParts} (r : Runs t old w) (key : Key) where
   by_key : (reaction : KeyReaction) → station_key w.station key ≡ reaction → after_press w key
       ≡ station_pressed w reaction
   by_key reaction e = ap (λ (b : Bool). station_pressed w

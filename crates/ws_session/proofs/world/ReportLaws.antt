@@ -6,7 +6,7 @@ use C.{after_all_to_station, after_all_to_host, after_three_deliveries, host_all
 use C.{TerminalType, agrees, settled_quiet, settled_station, settled_host, plain_spelling, Item, answer_rules}
 use C.{element_rules, AnswerPart, Field, ReadKind, HostAnswer, Refuses, GoesOn, Reaction, telnets, Move}
 use C.{HostSide, HostOutput, answers_in, items_coming, is_answer, answers_coming, StationSide}
-use C.{delivery, three_deliveries, refusals_in, Report, IsReport, IsOpened, World, new_world, after_moves, IsQuiet, down_bytes}
+use C.{delivery, three_deliveries, refusals_in, Report, IsReport, IsOpened, Session, new_session, after_moves, IsQuiet, down_bytes}
 use C.{station_did, byte_to_station, up_bytes, host_did, byte_to_host, bytes_to_station, bytes_to_host}
 use Rattle.ws_nego.proofs.Exchanges.{x_few}
 use Rattle.ws_record.proofs.Flights.{total_append, all_arrived, total_cons, InFlight, IsInside, not_more, total, quiet}
@@ -27,7 +27,7 @@ no_tokens [] e = refl
 no_tokens (token ∷ ts) e = cc
 
 module _ (t : TerminalType) where
-  quiet_agrees : (w : World) → Sound t w → IsQuiet w → TablesAgree w.station.options w.host.options
+  quiet_agrees : (w : Session) → Sound t w → IsQuiet w → TablesAgree w.station.options w.host.options
   quiet_agrees w s q =
       let x = s.between.exchanges in
       let ts : s.ts ≡ [] = no_tokens s.ts (front_empty _ _
@@ -38,12 +38,12 @@ module _ (t : TerminalType) where
       subst (λ z. TablesAgree z w.host.options) x.station (subst (λ z. TablesAgree s.ex.station z) x.host
       (subst P x.is (agrees t x.moves) (record { to_station = x.to_station ∙ ts; to_host = x.to_host ∙ us })))
 
-  pub agree_when_quiet : (ms : List Move) → IsQuiet (after_moves (new_world t) ms)
-      → TablesAgree (after_moves (new_world t) ms).station.options (after_moves (new_world t) ms).host.options
+  pub agree_when_quiet : (ms : List Move) → IsQuiet (after_moves (new_session t) ms)
+      → TablesAgree (after_moves (new_session t) ms).station.options (after_moves (new_session t) ms).host.options
   agree_when_quiet ms = quiet_agrees _ (sound t ms)
 
-  pub few_messages : (ms : List Move) → telnets (after_moves (new_world t) ms).down + telnets
-      (after_moves (new_world t) ms).up ≤ 12
+  pub few_messages : (ms : List Move) → telnets (after_moves (new_session t) ms).down + telnets
+      (after_moves (new_session t) ms).up ≤ 12
   few_messages ms =
       let s = sound t ms in
       subst (λ n. n ≤ 12) s.count (x_few s.between.exchanges)
@@ -87,39 +87,39 @@ as_many places asked (Replies parts ∷ es) later (kind, fs, x, rest, a, b, c, d
     ∙ ap suc (as_many _ asked es rest w)
 as_many places asked (e ∷ es) later w = as_many _ asked es later w
 
-pub rest_on_its_way : (t : TerminalType) (w : World) (s : Sound t w) → length s.later ≡ length (answers_coming w)
+pub rest_on_its_way : (t : TerminalType) (w : Session) (s : Sound t w) → length s.later ≡ length (answers_coming w)
 rest_on_its_way t w s = as_many _ _ s.es s.later s.between.waits ∙ ap length (sym (no_answers s.us (sents s.es))) ∙ ap
     (λ z. length (filter is_answer z)) (sym (coming_is answer_rules w.up w.at_host (tokens s.us ++ sents s.es) s.up))
 
 -- Three full deliveries each way open a session.
 
 -- what was written stays
-abbrev Grows : World → World → Type 0
+abbrev Grows : Session → Session → Type 0
 Grows w v = (length (down_bytes w) ≤ length (down_bytes v)) × (length (up_bytes w) ≤ length (up_bytes v))
 
-grows_on : (u v w : World) → Grows u v → Grows v w → Grows u w
+grows_on : (u v w : Session) → Grows u v → Grows v w → Grows u w
 grows_on u v w a b = (omega (arith, a.0, b.0), omega (arith, a.1, b.1))
 
-still : (w : World) → Grows w w
+still : (w : Session) → Grows w w
 still w = (omega arith, omega arith)
 
-station_item : (w : World) (r : Reaction StationSide (List (Item AnswerPart))) → Grows w (station_did w r)
+station_item : (w : Session) (r : Reaction StationSide (List (Item AnswerPart))) → Grows w (station_did w r)
 station_item w (Refuses reason) = still w
 station_item w (GoesOn station items) = (omega arith, omega (arith, total_append answer_rules w.up items))
 
-host_item : (w : World) (r : Reaction HostSide HostOutput) → Grows w (host_did w r)
+host_item : (w : Session) (r : Reaction HostSide HostOutput) → Grows w (host_did w r)
 host_item w (Refuses reason) = still w
 host_item w (GoesOn host told) = (omega (arith, total_append element_rules w.down told.items), omega arith)
 
-grown_down : (n : ℕ) (w : World) → Grows w (bytes_to_station n w)
+grown_down : (n : ℕ) (w : Session) → Grows w (bytes_to_station n w)
 grown_down n w = bytes_down (Grows w) (λ v g. g) (λ v r g. grows_on w v (station_did v r) g (station_item v r)) n w
     (still w)
 
-grown_up : (n : ℕ) (w : World) → Grows w (bytes_to_host n w)
+grown_up : (n : ℕ) (w : Session) → Grows w (bytes_to_host n w)
 grown_up n w = bytes_up (Grows w) (λ v g. g) (λ v r g. grows_on w v (host_did v r) g (host_item v r)) n w (still w)
 
 module _ (t : TerminalType) where
-  record AllDown (ex : Exchange) (w : World) : Type 0 where
+  record AllDown (ex : Exchange) (w : Session) : Type 0 where
     sound_is : Sound t w
     leads : sound_is.ex ≡ after_all_to_station ex
     none : sound_is.ds ≡ []
@@ -128,7 +128,7 @@ module _ (t : TerminalType) where
   no_records [] [] e = refl
   no_records ts ds e = cc
 
-  down_done : (w : World) (s : Sound t w) (ex : Exchange) → after_all_to_station s.ex ≡ after_all_to_station ex
+  down_done : (w : Session) (s : Sound t w) (ex : Exchange) → after_all_to_station s.ex ≡ after_all_to_station ex
       → w.at_station ≡ length (down_bytes w) → AllDown ex w
   down_done w s ex e at =
       let rest : tokens s.ts ++ posted s.ds ≡ [] = quiet element_rules w.down (tokens s.ts ++ posted s.ds)
@@ -138,7 +138,7 @@ module _ (t : TerminalType) where
       (replicate (length l) MoveDown) s.ex) (s.between.exchanges.to_station ∙ ts) in
       record { sound_is = s; leads = sym same ∙ e; none = no_records s.ts s.ds rest }
 
-  full_down : (n : ℕ) (w : World) (s : Sound t w) (ex : Exchange) → after_all_to_station s.ex ≡ after_all_to_station ex
+  full_down : (n : ℕ) (w : Session) (s : Sound t w) (ex : Exchange) → after_all_to_station s.ex ≡ after_all_to_station ex
       → length (down_bytes w) ≤ w.at_station + n → AllDown ex (bytes_to_station n w)
   full_down zero w s ex e less = down_done w s ex e
       (omega (arith, less, not_more element_rules w.down w.at_station (tokens s.ts ++ posted s.ds) s.down))
@@ -148,13 +148,13 @@ module _ (t : TerminalType) where
     | inr q ↦ rw q.0 (full_down n w s ex e (omega (arith, q.1)))
   ]
 
-  record AllUp (ex : Exchange) (ds : List Posted) (w : World) : Type 0 where
+  record AllUp (ex : Exchange) (ds : List Posted) (w : Session) : Type 0 where
     sound_is : Sound t w
     leads : sound_is.ex ≡ after_all_to_host ex
     same : sound_is.ds ≡ ds
     arrived_is : w.at_host ≡ length (up_bytes w)
 
-  up_done : (w : World) (s : Sound t w) (ex : Exchange) (ds : List Posted) → after_all_to_host s.ex
+  up_done : (w : Session) (s : Sound t w) (ex : Exchange) (ds : List Posted) → after_all_to_host s.ex
       ≡ after_all_to_host ex → s.ds ≡ ds → w.at_host ≡ length (up_bytes w) → AllUp ex ds w
   up_done w s ex ds e same at =
       let rest : tokens s.us ++ sents s.es ≡ [] = quiet answer_rules w.up (tokens s.us ++ sents s.es)
@@ -164,7 +164,7 @@ module _ (t : TerminalType) where
       (replicate (length l) MoveUp) s.ex) (s.between.exchanges.to_host ∙ us) in
       record { sound_is = s; leads = sym fixed ∙ e; same = same; arrived_is = at }
 
-  full_up : (n : ℕ) (w : World) (s : Sound t w) (ex : Exchange) (ds : List Posted) → after_all_to_host s.ex
+  full_up : (n : ℕ) (w : Session) (s : Sound t w) (ex : Exchange) (ds : List Posted) → after_all_to_host s.ex
       ≡ after_all_to_host ex → s.ds ≡ ds → length (up_bytes w) ≤ w.at_host + n → AllUp ex ds (bytes_to_host n w)
   full_up zero w s ex ds e f less = up_done w s ex ds e f
       (omega (arith, less, not_more answer_rules w.up w.at_host (tokens s.us ++ sents s.es) s.up))
@@ -175,15 +175,15 @@ module _ (t : TerminalType) where
   ]
 
   -- so many bytes are all that was written
-  record Covers (all : ℕ) (w : World) : Type 0 where
+  record Covers (all : ℕ) (w : Session) : Type 0 where
     down : length (down_bytes w) ≤ all
     up : length (up_bytes w) ≤ all
 
-  covers_less : (all : ℕ) (w v : World) → Grows w v → Covers all v → Covers all w
+  covers_less : (all : ℕ) (w v : Session) → Grows w v → Covers all v → Covers all w
   covers_less all w v g c = record { down = omega (arith, g.0, c.down); up = omega (arith, g.1, c.up) }
 
   -- one delivery each way
-  delivered : (all : ℕ) (w : World) (s : Sound t w) → Covers all (after_moves w (delivery all))
+  delivered : (all : ℕ) (w : Session) (s : Sound t w) → Covers all (after_moves w (delivery all))
       → AllUp (after_all_to_station s.ex) [] (after_moves w (delivery all))
   delivered all w s c =
       let v = bytes_to_station all w in
@@ -193,16 +193,16 @@ module _ (t : TerminalType) where
       full_up all v d.sound_is (after_all_to_station s.ex) [] (ap after_all_to_host d.leads) d.none
       (omega (arith, h.1, c.up))
 
-  one_grows : (all : ℕ) (w : World) → Grows w (after_moves w (delivery all))
+  one_grows : (all : ℕ) (w : Session) → Grows w (after_moves w (delivery all))
   one_grows all w = let v = bytes_to_station all w in grows_on w v (bytes_to_host all v) (grown_down all w)
       (grown_up all v)
 
-  pub record Opened (w : World) : Type 0 where
+  pub record Opened (w : Session) : Type 0 where
     pub nothing : IsQuiet w
     pub station : station_allows_records w.station.options ≡ true
     pub host : host_allows_records w.host.options ≡ true
 
-  pub opens : (all : ℕ) (w : World) → Sound t w → length (down_bytes (after_moves w (three_deliveries all))) ≤ all
+  pub opens : (all : ℕ) (w : Session) → Sound t w → length (down_bytes (after_moves w (three_deliveries all))) ≤ all
       → length (up_bytes (after_moves w (three_deliveries all))) ≤ all → Opened (after_moves w (three_deliveries all))
   opens all w s downs ups =
       let x1 = after_moves w (delivery all) in
@@ -241,14 +241,14 @@ all_gone bytes n few e = omega (arith, few, length-drop n bytes, ap length e)
 none_left : (bytes : List ℕ) (n : ℕ) → n ≡ length bytes → drop n bytes ≡ []
 none_left bytes n e = drop_all n bytes (omega (arith, e))
 
-after_both : (xs ys : List Move) (w : World) → after_moves w (xs ++ ys) ≡ after_moves (after_moves w xs) ys
+after_both : (xs ys : List Move) (w : Session) → after_moves w (xs ++ ys) ≡ after_moves (after_moves w xs) ys
 after_both [] ys w = refl
 after_both (x ∷ xs) ys w = after_both xs ys _
 
-module _ (t : TerminalType) (ms : List Move) (report : Report) (r : IsReport report (after_moves (new_world t) ms))
+module _ (t : TerminalType) (ms : List Move) (report : Report) (r : IsReport report (after_moves (new_session t) ms))
   where
-    abbrev now : World
-    now = after_moves (new_world t) ms
+    abbrev now : Session
+    now = after_moves (new_session t) ms
 
     pub unrefused : refusals_in report.events ≡ []
     unrefused = ap refusals_in r.events ∙ none_refused t ms
@@ -272,19 +272,19 @@ module _ (t : TerminalType) (ms : List Move) (report : Report) (r : IsReport rep
     pub opened : length (down_bytes now) < 2 ^ 64 → length (up_bytes now) < 2 ^ 64 → (before : List Move) (all : ℕ)
         → 2 ^ 64 ≤ all + 1 → ms ≡ before ++ three_deliveries all → IsOpened report
     opened few_down few_up before all enough e =
-        let w = after_moves (new_world t) before in
-        let is : now ≡ after_moves w (three_deliveries all) = ap (after_moves (new_world t)) e ∙ after_both before
-        (three_deliveries all) (new_world t) in
+        let w = after_moves (new_session t) before in
+        let is : now ≡ after_moves w (three_deliveries all) = ap (after_moves (new_session t)) e ∙ after_both before
+        (three_deliveries all) (new_session t) in
         let downs : length (down_bytes (after_moves w (three_deliveries all))) ≤ all = rw (← is) (omega
         (arith, few_down, enough)) in
         let ups : length (up_bytes (after_moves w (three_deliveries all))) ≤ all = rw (← is) (omega
         (arith, few_up, enough)) in
         let o = opens t all w (sound t before) downs ups in
         record {
-          to_station = r.to_station ∙ ap (λ (z : World). drop z.at_station (down_bytes z)) is
+          to_station = r.to_station ∙ ap (λ (z : Session). drop z.at_station (down_bytes z)) is
               ∙ none_left _ _ o.nothing.to_station;
-          to_host = r.to_host ∙ ap (λ (z : World). drop z.at_host (up_bytes z)) is ∙ none_left _ _ o.nothing.to_host;
-          at_station = ap station_allows_records (r.station_options ∙ ap (λ (z : World). z.station.options) is)
+          to_host = r.to_host ∙ ap (λ (z : Session). drop z.at_host (up_bytes z)) is ∙ none_left _ _ o.nothing.to_host;
+          at_station = ap station_allows_records (r.station_options ∙ ap (λ (z : Session). z.station.options) is)
               ∙ o.station;
-          at_host = ap host_allows_records (r.host_options ∙ ap (λ (z : World). z.host.options) is) ∙ o.host;
+          at_host = ap host_allows_records (r.host_options ∙ ap (λ (z : Session). z.host.options) is) ∙ o.host;
         }

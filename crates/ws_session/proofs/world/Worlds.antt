@@ -8,7 +8,7 @@ use C.{aids_answer, empty_record, SendFailed, NotAllowed, ReadOutstanding, NoRea
 use C.{RefusedByScreen, ATN, SRQ, KeyFailed, NotReady, Event, KeyRefused, SendRefused, Move, ToStation, ToHost, Cancel}
 use C.{Press, SendMove, sent_record, is_outstanding, SendReaction, RefusesSend, Sends, host_cancel, host_send}
 use C.{host_sends_body, is_too_big, answers_in, answer_in, after_key, screen_at, RefusesKey, station_key, sends}
-use C.{answers_read, key_by_refusal, presses, World, new_world, after_moves, after_move, byte_to_station, byte_to_host}
+use C.{answers_read, key_by_refusal, presses, Session, new_session, after_moves, after_move, byte_to_station, byte_to_host}
 use C.{bytes_to_station, bytes_to_host, station_pressed, host_sent, after_press, after_send}
 use Rattle.ws_session.specs.declared.end_step.Order.TheVariants.{Send as Sending}
 use Rattle.ws_session.specs.host_end.HostSide.{host_orders}
@@ -28,7 +28,7 @@ use Rattle.ws_session.proofs.world.Turns.{Free, at}
 -- A key, a send or a cancel in a session.
 
 module _ (t : TerminalType) where
-  untold : (w : World) (e : Event) → answer_in e ≡ [] → Sound t w → Sound t (record w { events = w.events ++ e ∷ [] })
+  untold : (w : Session) (e : Event) → answer_in e ≡ [] → Sound t w → Sound t (record w { events = w.events ++ e ∷ [] })
   untold w e quiet s = sounds s.ts s.us s.ds s.es s.later s.ex s.between s.down s.up
       (s.answered ∙ ap (λ l. l ++ s.later) (sym (quiet_event w.events e quiet))) s.count s.station_going s.host_going
 
@@ -36,7 +36,7 @@ module _ (t : TerminalType) where
   must_allow true e = refl
   must_allow false e = cc
 
-  module _ (w : World) (s : Sound t w) where
+  module _ (w : Session) (s : Sound t w) where
     silent : (key : Key) → pending_read (events_by (edit_of (screen_at w.station) key) ++ w.station.happened)
         ≡ pending_read w.station.happened → Sound t (record w { station = after_key w.station key })
     silent key same = sounds s.ts s.us s.ds s.es s.later s.ex (key_silent s.between
@@ -148,26 +148,26 @@ module _ (t : TerminalType) where
 -- Every list of moves leads to a session that is sound.
 
 module _ (t : TerminalType) where
-  bytes_down : (n : ℕ) (w : World) → Sound t w → Sound t (bytes_to_station n w)
+  bytes_down : (n : ℕ) (w : Session) → Sound t w → Sound t (bytes_to_station n w)
   bytes_down zero w s = s
   bytes_down (suc n) w s = bytes_down n (byte_to_station w) (byte_down t w s)
 
-  bytes_up : (n : ℕ) (w : World) → Sound t w → Sound t (bytes_to_host n w)
+  bytes_up : (n : ℕ) (w : Session) → Sound t w → Sound t (bytes_to_host n w)
   bytes_up zero w s = s
   bytes_up (suc n) w s = bytes_up n (byte_to_host w) (byte_up t w s)
 
-  move : (w : World) (m : Move) → Sound t w → Sound t (after_move w m)
+  move : (w : Session) (m : Move) → Sound t w → Sound t (after_move w m)
   move w (SendMove o body) s = going t w s (host_orders w.host (Sending o body)) (by_opcode t w s o body)
   move w Cancel s = going t w s (host_cancel w.host) (cancel t w s)
   move w (ToStation n) s = bytes_down n w s
   move w (ToHost n) s = bytes_up n w s
   move w (Press key) s = press t w s key
 
-  pub all_moves : (ms : List Move) (w : World) → Sound t w → Sound t (after_moves w ms)
+  pub all_moves : (ms : List Move) (w : Session) → Sound t w → Sound t (after_moves w ms)
   all_moves [] w s = s
   all_moves (m ∷ ms) w s = all_moves ms (after_move w m) (move w m s)
 
-  pub begins : Sound t (new_world t)
+  pub begins : Sound t (new_session t)
   begins =
       let sent = start_inside element_rules (TelnetItem opening ∷ []) in
       let exchanges : Exchanges t (new_exchange t) _ _ (opening ∷ [])
@@ -177,5 +177,5 @@ module _ (t : TerminalType) where
       (record { gone = []; part = 0; split = refl; count = refl; inside = sent })
       (record { gone = []; part = 0; split = refl; count = refl; inside = refl }) refl refl refl refl
 
-  pub sound : (ms : List Move) → Sound t (after_moves (new_world t) ms)
-  sound ms = all_moves ms (new_world t) begins
+  pub sound : (ms : List Move) → Sound t (after_moves (new_session t) ms)
+  sound ms = all_moves ms (new_session t) begins

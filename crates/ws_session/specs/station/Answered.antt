@@ -15,7 +15,7 @@ use Rattle.ws_session.specs.declared.host_end.host_event.HostEvent.{HostEvent}
 use Rattle.ws_session.specs.declared.host_end.host_event.HostEvent.TheVariants.{Answer as Answered}
 use Rattle.ws_session.specs.declared.world.Event.{Event}
 use Rattle.ws_session.specs.declared.world.Event.TheVariants.{Host}
-use Rattle.ws_session.specs.world.World.{World}
+use Rattle.ws_session.specs.world.Session.{Session}
 
 -- the answers that the host end has told
 abbrev pub host_answers : HostEvent → List HostAnswer
@@ -50,5 +50,5 @@ is_answer (RecordItem r) = answers_by r.opcode
 is_answer (TelnetItem token) = false
 
 -- the answers to reads that are on their way to the host end
-abbrev pub answers_coming : World → List (Item AnswerPart)
+abbrev pub answers_coming : Session → List (Item AnswerPart)
 answers_coming w = filter is_answer (items_coming answer_rules w.up w.at_host)

@@ -13,11 +13,11 @@ use Rattle.ws_session.specs.host_end.HostLeads.{HostLeads}
 use Rattle.ws_session.specs.host_end.HostSide.{asked_read}
 use Rattle.ws_session.specs.station.StationLeads.{StationLeads}
 use Rattle.ws_session.specs.station.StationSide.{screen_at}
-use Rattle.ws_session.specs.world.World.{World, down_bytes, up_bytes, to_station, to_host}
+use Rattle.ws_session.specs.world.Session.{Session, down_bytes, up_bytes, to_station, to_host}
 
 -- What is reported of a session, its events, both ends, and the bytes in flight to the station and to the host end: it
 -- is that of this world of whole items.
-pub record IsReport (r : Report) (w : World) : Type 0 where
+pub record IsReport (r : Report) (w : Session) : Type 0 where
   pub events : r.events ≡ w.events
   pub screen : r.station.reacts.screen.screen ≡ screen_at w.station
   pub alarms : r.station.reacts.screen.alarms ≡ alarm_count (alarms_of w.station.happened)

@@ -25,7 +25,7 @@ use Rattle.ws_session.specs.station.StationSide.{StationSide}
 use Rattle.ws_session.specs.station.StationLeads.{StationParts, StationLeads}
 use Rattle.ws_record.specs.Arrived.{arrived}
 use Rattle.ws_session.specs.world.Wires.{AtEnd, at_end}
-use Rattle.ws_session.specs.world.World.{World, new_world, after_moves, down_bytes, up_bytes}
+use Rattle.ws_session.specs.world.Session.{Session, new_session, after_moves, down_bytes, up_bytes}
 
 -- What a running session keeps: both ends, all bytes that each has written, how many of them have arrived, and what
 -- was told.
@@ -61,9 +61,9 @@ AreWritable rules items = CanAllBeEncoded rules items × AllByRecursion IsInRang
 -- The running session is this world of whole items: some moves lead to it; what each end has taken is what has arrived
 -- of the other's spelling, and this holds of that, of its items and of the end's side.
 pub record RunsWith (AtStation : List ℕ → List (Item Element) → StationSide → Type 0) (AtHost : List ℕ
-    → List (Item AnswerPart) → HostSide → Type 0) (t : TerminalType) (now : WorldParts) (w : World) : Type 0 where
+    → List (Item AnswerPart) → HostSide → Type 0) (t : TerminalType) (now : WorldParts) (w : Session) : Type 0 where
   pub moves : List Move
-  pub reached : w ≡ after_moves (new_world t) moves
+  pub reached : w ≡ after_moves (new_session t) moves
   pub down : now.down ≡ down_bytes w
   pub up : now.up ≡ up_bytes w
   pub at_station : now.at_station ≡ w.at_station
@@ -75,7 +75,7 @@ pub record RunsWith (AtStation : List ℕ → List (Item Element) → StationSid
   pub events : now.events ≡ w.events
 
 -- the running session is this world, and what has arrived leads to both ends
-abbrev pub Runs : TerminalType → WorldParts → World → Type 0
+abbrev pub Runs : TerminalType → WorldParts → Session → Type 0
 Runs t now w = RunsWith (StationLeads now.station) (HostLeads now.host) t now w
 
 -- a key's AID is one

@@ -1,5 +1,5 @@
 use Rattle.ws_session.proofs.Common.{[], ◌++◌, refl, subst, ◌∙◌, take, drop, ap₂, sym, inl, inr, take_all, longer_by}
-use Rattle.ws_session.proofs.Common.{flat_map-append, err_from_is_err_and, Crossing, Runs, WorldParts, new_world}
+use Rattle.ws_session.proofs.Common.{flat_map-append, err_from_is_err_and, Crossing, Runs, WorldParts, new_session}
 use Rattle.ws_session.proofs.Common.{after_moves}
 use Rattle.ws_session.specs.world.Carried.{brought_down, brought_up}
 use Rattle.ws_session.proofs.world.Crossed.{brought_more, crossed_on, faithful_back, faithful_front, stop_behind}
@@ -18,7 +18,7 @@ loop-step-init g c = record {
 pub loop-step-preserved : goal.loop-step-preserved
 loop-step-preserved g c =
     let t = c.args.terminal in
-    let start = new_world t in
+    let start = new_session t in
     let moves = c.args.moves.now in
     let n = c.loop-step.step-index in
     let step = c.step-item.result in
@@ -58,7 +58,7 @@ returns-clause-done g c =
       i.went_up,
       λ f h.
           let p = rw all at (i.runs f h) in
-          record { report = q t (after_moves (new_world t) moves) p.0; down = p.1; up = p.2 },
+          record { report = q t (after_moves (new_session t) moves) p.0; down = p.1; up = p.2 },
     )) c.report.ensures.reported
 
 pub returns-in_err-cross-clause-fault : goal.returns-in_err-cross-clause-fault

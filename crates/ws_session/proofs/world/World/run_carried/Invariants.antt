@@ -1,13 +1,13 @@
-use Rattle.ws_session.proofs.Common.{◌≡◌, List, take, Crossing, AreFaithful, HaveCrossed, Runs, all_sent, new_world, after_moves}
+use Rattle.ws_session.proofs.Common.{◌≡◌, List, take, Crossing, AreFaithful, HaveCrossed, Runs, all_sent, new_session, after_moves}
 use Rattle.ws_code.specs.Device.{on_devices}
 use Rattle.ws_session.specs.world.Carried.{all_brought, brought_down, brought_up}
-use Rattle.ws_session.specs.world.World.{to_station, to_host}
+use Rattle.ws_session.specs.world.Session.{to_station, to_host}
 use Rattle.ws_session.proofs.world.World.run_carried.Given as goal
 
 -- these pieces have crossed, and where they are faithful the moves so far have led here and delivered them
 abbrev pub invariant-loop-step : goal.invariant-loop-step
 invariant-loop-step g l =
-    let start = new_world l.fn.terminal in
+    let start = new_session l.fn.terminal in
     let moves = take l.step-index l.moves in
     record {
       downs : List Crossing;

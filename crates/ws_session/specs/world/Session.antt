@@ -33,7 +33,7 @@ use Rattle.ws_session.specs.host_end.HostSide.{host_orders}
 
 -- a session in whole items: both ends, all items that each has written, how many of their bytes have arrived, and what
 -- was told
-pub record World : Type 0 where
+pub record Session : Type 0 where
   pub station : StationSide
   pub host : HostSide
   pub down : List (Item Element)  -- all that the host end has written
@@ -46,8 +46,8 @@ pub record World : Type 0 where
   pub answered : List HostAnswer  -- what the station has answered to reads, each by its screen at the key
 
 -- a session at its start: the host end's first token is in flight
-abbrev pub new_world : TerminalType → World
-new_world terminal = record {
+abbrev pub new_session : TerminalType → Session
+new_session terminal = record {
   station = new_station_side terminal;
   host = new_host_side;
   down = TelnetItem opening ∷ [];
@@ -61,30 +61,30 @@ new_world terminal = record {
 }
 
 -- all bytes that the host end has written
-abbrev pub down_bytes : World → List ℕ
+abbrev pub down_bytes : Session → List ℕ
 down_bytes w = plain_spelling element_rules w.down
 
 -- all bytes that the station has written
-abbrev pub up_bytes : World → List ℕ
+abbrev pub up_bytes : Session → List ℕ
 up_bytes w = plain_spelling answer_rules w.up
 
 -- the bytes in flight to the station
-abbrev pub to_station : World → List ℕ
+abbrev pub to_station : Session → List ℕ
 to_station w = drop w.at_station (down_bytes w)
 
 -- the bytes in flight to the host end
-abbrev pub to_host : World → List ℕ
+abbrev pub to_host : Session → List ℕ
 to_host w = drop w.at_host (up_bytes w)
 
 -- the session behind what the station made of an item: it goes on and writes, or its refusal is told
-abbrev pub station_did : World → Reaction StationSide (List (Item AnswerPart)) → World
+abbrev pub station_did : Session → Reaction StationSide (List (Item AnswerPart)) → Session
 station_did w (Refuses reason) =
     record w { station_refused = true; events = w.events ++ StationRefused (w.at_station - 1) reason ∷ [] }
 station_did w (GoesOn station items) = record w { station = station; up = w.up ++ items }
 
 -- the session behind a byte that arrived at the station, and completed this item or none; a station that has refused
 -- takes none
-abbrev pub station_gets : World → Bool → Option (Item Element) → World
+abbrev pub station_gets : Session → Bool → Option (Item Element) → Session
 station_gets w true item = w
 station_gets w false None = w
 station_gets w false (Some item) = station_did w (station_takes w.station item)
@@ -95,7 +95,7 @@ events_with events None = events
 events_with events (Some event) = events ++ Host event ∷ []
 
 -- the session behind what the host end made of an item: it goes on, writes and tells, or its refusal is told
-abbrev pub host_did : World → Reaction HostSide HostOutput → World
+abbrev pub host_did : Session → Reaction HostSide HostOutput → Session
 host_did w (Refuses reason) =
     record w { host_refused = true; events = w.events ++ HostRefused (w.at_host - 1) reason ∷ [] }
 host_did w (GoesOn host told) =
@@ -103,14 +103,14 @@ host_did w (GoesOn host told) =
 
 -- the session behind a byte that arrived at the host end, and completed this item or none; a host end that has refused
 -- takes none
-abbrev pub host_gets : World → Bool → Option (Item AnswerPart) → World
+abbrev pub host_gets : Session → Bool → Option (Item AnswerPart) → Session
 host_gets w true item = w
 host_gets w false None = w
 host_gets w false (Some item) = host_did w (host_takes w.host item)
 
 -- the session once the next byte in flight has arrived at the station, if there is one; an item arrives with its last
 -- byte
-abbrev pub byte_to_station : World → World
+abbrev pub byte_to_station : Session → Session
 byte_to_station w =
     if nat_lt w.at_station (length (down_bytes w))
     then station_gets (record w { at_station = w.at_station + 1 }) w.station_refused
@@ -119,7 +119,7 @@ byte_to_station w =
 
 -- the session once the next byte in flight has arrived at the host end, if there is one; an item arrives with its last
 -- byte
-abbrev pub byte_to_host : World → World
+abbrev pub byte_to_host : Session → Session
 byte_to_host w =
     if nat_lt w.at_host (length (up_bytes w))
     then host_gets (record w { at_host = w.at_host + 1 }) w.host_refused
@@ -127,18 +127,18 @@ byte_to_host w =
     else w
 
 -- the session once so many bytes have arrived at the station, or all that are in flight
-abbrev pub bytes_to_station : ℕ → World → World
+abbrev pub bytes_to_station : ℕ → Session → Session
 bytes_to_station zero w = w
 bytes_to_station (suc n) w = bytes_to_station n (byte_to_station w)
 
 -- the session once so many bytes have arrived at the host end, or all that are in flight
-abbrev pub bytes_to_host : ℕ → World → World
+abbrev pub bytes_to_host : ℕ → Session → Session
 bytes_to_host zero w = w
 bytes_to_host (suc n) w = bytes_to_host n (byte_to_host w)
 
 -- the session behind what the station made of a key: what it sends is written, an answer to a read is kept as one, and
 -- a refusal is told
-abbrev pub station_pressed : World → KeyReaction → World
+abbrev pub station_pressed : Session → KeyReaction → Session
 station_pressed w (RefusesKey fault) = record w { events = w.events ++ KeyRefused fault ∷ [] }
 station_pressed w (Silent station) = record w { station = station }
 station_pressed w (Answers station kind aid) = record w {
@@ -149,21 +149,21 @@ station_pressed w (Answers station kind aid) = record w {
 station_pressed w (Signals opcode flags) = record w { up = w.up ++ empty_record flags opcode ∷ [] }
 
 -- the session behind a key; a station that has refused a byte takes none
-abbrev pub after_press : World → Key → World
+abbrev pub after_press : Session → Key → Session
 after_press w key =
     station_pressed w (if w.station_refused then RefusesKey KeyFailed else station_key w.station key)
 
 -- the session behind what the host end made of a send or a cancel: its record is written, or its refusal is told
-abbrev pub host_sent : World → SendReaction → World
+abbrev pub host_sent : Session → SendReaction → Session
 host_sent w (RefusesSend fault) = record w { events = w.events ++ SendRefused fault ∷ [] }
 host_sent w (Sends host item) = record w { host = host; down = w.down ++ item ∷ [] }
 
 -- the session behind a send or a cancel; a host end that has refused a byte sends nothing
-abbrev pub after_send : World → SendReaction → World
+abbrev pub after_send : Session → SendReaction → Session
 after_send w sends = host_sent w (if w.host_refused then RefusesSend SendFailed else sends)
 
 -- the session behind a move
-abbrev pub after_move : World → Move → World
+abbrev pub after_move : Session → Move → Session
 after_move w (Send opcode body) = after_send w (host_orders w.host (Sending opcode body))
 after_move w Cancel = after_send w (host_orders w.host Cancelling)
 after_move w (ToStation n) = bytes_to_station n w
@@ -171,11 +171,11 @@ after_move w (ToHost n) = bytes_to_host n w
 after_move w (Press key) = after_press w key
 
 -- the session behind moves, in order
-abbrev pub after_moves : World → List Move → World
+abbrev pub after_moves : Session → List Move → Session
 after_moves w [] = w
 after_moves w (move ∷ moves) = after_moves (after_move w move) moves
 
 -- nothing is in flight
-pub record IsQuiet (w : World) : Type 0 where
+pub record IsQuiet (w : Session) : Type 0 where
   pub to_station : w.at_station ≡ length (down_bytes w)
   pub to_host : w.at_host ≡ length (up_bytes w)
