@@ -101,22 +101,22 @@
  * Stack, in bytes, as measured on x86-64 (`make bench`): of the profile, and of the extended kind, whose stations are made
  * by ribbon_station_new_extended. All others take less than 1,500.
  *
- *     ribbon_station_new          27,300  58,400
- *     ribbon_station_push          1,600  40,700
- *     ribbon_station_key          33,600  50,000
- *     ribbon_station_move_cursor  14,500  14,500
- *     ribbon_station_new_line     14,500  14,500
- *     ribbon_station_erase_eof    14,500  14,500
- *     ribbon_station_cells         3,200   3,200
- *     ribbon_station_changed       8,400   8,400
+ *     ribbon_station_new          27,300  42,800
+ *     ribbon_station_push          4,100  36,700
+ *     ribbon_station_key          33,700  33,700
+ *     ribbon_station_move_cursor  12,900  12,900
+ *     ribbon_station_new_line     12,900  12,900
+ *     ribbon_station_erase_eof    13,000  13,000
+ *     ribbon_station_cells         3,300   3,300
+ *     ribbon_station_changed       8,500   8,500
  *     ribbon_station_field         3,200   3,200
  *     ribbon_station_field_text    7,100   7,100
- *     ribbon_station_state         6,400   6,400
+ *     ribbon_station_state         6,500   6,500
  *     ribbon_host_new             12,500  12,500
- *     ribbon_host_push             8,000   8,000
+ *     ribbon_host_push             7,500   7,500
  *     ribbon_host_send            15,500  15,500
- *     ribbon_host_state            6,400   6,400
- *     ribbon_host_cells            3,200   3,200
+ *     ribbon_host_state            6,500   6,500
+ *     ribbon_host_cells            3,300   3,300
  *     ribbon_host_field            3,200   3,200
  *     ribbon_decoder_new           3,800   3,800
  */

@@ -129,8 +129,8 @@ fn press_at_profile(
 }
 
 // The status of a key where a handle holds no station.
-fn absent_status(key: ExtendedKey) -> Status
-    ensures { result ≡ status_without key }
+fn absent_status(key: &ExtendedKey) -> Status
+    ensures { result ≡ status_without key.now }
 {
     match key {
         ExtendedKey::Profile(_) => Status::NothingHeld,
@@ -153,7 +153,7 @@ fn press(
         (IsPress on_extended key call)
         (TellsOnly call (status_without key) (told_length 0)) }
 {
-    let absent = absent_status(key);
+    let absent = absent_status(&key);
     on_two!(
         alloc,
         handle,
