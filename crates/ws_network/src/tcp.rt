@@ -58,7 +58,7 @@ impl From<TcpFault> for RunFault {
 /// Plays a session whose bytes go over one TCP connection on 127.0.0.1: the host end listens and accepts, and the
 /// station connects. Bytes wait in memory until a move delivers them. Then they go in pieces of at most 4,096, each of
 /// which is written at the one end and read at the other before the next, so that one thread plays both ends. What a
-/// connection does can't be proved: `World::run_carried` says what a session over two lines is, whatever devices they have.
+/// connection does can't be proved. `World::run_carried` says what a session over two lines comes to.
 ///
 /// # Errors
 ///

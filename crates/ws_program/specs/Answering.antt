@@ -83,8 +83,8 @@ play_action paint screen script = record {
       × (outcome ≡ Ok (no_end_refuses (after_moves (new_session Ibm3179Model2) moves).events)));
 }
 
--- A script is played over a connection, and what is told of a session is printed. What a connection does isn't known, so
--- the session isn't either.
+-- A script is played over a connection, and what is told of a session is printed. What a connection does isn't known,
+-- so the session isn't either.
 abbrev pub play_tcp_action : Paint → Bool → List ℕ → Action Bool RunFault
 play_tcp_action paint screen script = record {
   Refuses = IsUnplayedByTcp script;

@@ -12,7 +12,7 @@ use ws_code::{Fault, Sink, Source};
 use ws_nego::TerminalType;
 
 impl World {
-    /// Runs a session as `run` does, but what a move delivers goes over two lines first, in pieces of at most 4,096 bytes,
+    /// Runs a session as `run` does, but what a move delivers goes over a line first, in pieces of at most 4,096 bytes,
     /// each of which is written and read before the next. Bytes in flight wait in memory until then. An end takes what
     /// was read, whatever was written, and may refuse it.
     ///

@@ -17,8 +17,8 @@ pub struct Line<S, R> {
 }
 
 impl<S: Sink, R: Source> Line<S, R> {
-    // Bytes go over the line, in pieces of at most 4,096, each of which is written and read before the next. What is read
-    // takes their place.
+    // Bytes go over the line, in pieces of at most 4,096, each of which is written and read before the next. What is
+    // read takes their place.
     pub(crate) fn cross(&mut self, bytes: &mut [u8]) -> Result<(), Fault>
         ensures crossed { OnOk result ((crossings : Seq Crossing)
             × HaveCrossed (on_devices S.writer R.reader) self.old crossings self.new

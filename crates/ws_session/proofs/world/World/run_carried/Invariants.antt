@@ -1,4 +1,5 @@
-use Rattle.ws_session.proofs.Common.{◌≡◌, List, take, Crossing, AreFaithful, HaveCrossed, Runs, all_sent, new_session, after_moves}
+use Rattle.ws_session.proofs.Common.{◌≡◌, List, take, Crossing, AreFaithful, HaveCrossed, Runs, all_sent, new_session}
+use Rattle.ws_session.proofs.Common.{after_moves}
 use Rattle.ws_code.specs.Device.{on_devices}
 use Rattle.ws_session.specs.world.Carried.{all_brought, brought_down, brought_up}
 use Rattle.ws_session.specs.world.Session.{to_station, to_host}

@@ -1,13 +1,14 @@
-use Rattle.ws_session.proofs.Common.{◌≡◌, ◌≤◌, ◌+◌, ◌-◌, List, [], ◌∷◌, ◌++◌, refl, ◌∙◌, ℕ, take, drop, ap, ap₂, sym, arith, length}
-use Rattle.ws_session.proofs.Common.{length-append, length-drop, length-take-le, append-nil, take_all, take-add, drop-drop}
-use Rattle.ws_session.proofs.Common.{flat_map-append, err_from_is_err_and, Crossing}
+use Rattle.ws_session.proofs.Common.{◌≡◌, ◌≤◌, ◌+◌, ◌-◌, List, [], ◌∷◌, ◌++◌, refl, ◌∙◌, ℕ, take, drop, ap, ap₂, sym}
+use Rattle.ws_session.proofs.Common.{length-append, length-drop, length-take-le, append-nil, take_all, take-add}
+use Rattle.ws_session.proofs.Common.{arith, length, drop-drop, flat_map-append, err_from_is_err_and, Crossing}
 use borrow.Rule.Slice.PartMut.{post_of, put_mid}
 use Rattle.std.proofs.lemmas.Slice.{drop-put_mid, take-put_mid}
 use Rattle.ws_session.proofs.world.Crossed.{crossed_on}
 use Rattle.ws_session.proofs.world.line.Line.cross.Goals as goal
 
 pub loop-at-init : goal.loop-at-init
-loop-at-init g c = record { within = omega arith; crossings = []; crossed = refl; sent = refl; read = refl; left = refl }
+loop-at-init g c =
+    record { within = omega arith; crossings = []; crossed = refl; sent = refl; read = refl; left = refl }
 
 put_within : (a k : ℕ) (xs ys : List ℕ) → a ≤ length xs → a + length ys ≤ length (put_mid a k xs ys)
 put_within a k xs ys h = omega (
