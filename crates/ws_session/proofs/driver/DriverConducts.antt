@@ -110,14 +110,14 @@ module _ {R K Place U Deed Event Reply : Type 0} (d : Driving R K Place U Deed E
           after = tt;
         })
     by (Err why) is = rw is (record {
-          within = f.within;
-          some = tt;
-          fed = tt;
-          first = tt;
-          refused = stops fed.used why (rw is at f);
-          over = λ over. (rw is at (f.stopped (inl over)).0, omega (arith, (f.stopped (inl over)).1), f.failed over);
-          after = ended old.ended refl;
-        }) where
-          ended : (o : Option Refusal) → old.ended ≡ o → IsSome new.ended
-          ended None none = rw ((rw is at f.after) none) refl
-          ended (Some w) e = rw (f.failed (rw e refl), e) refl
+      within = f.within;
+      some = tt;
+      fed = tt;
+      first = tt;
+      refused = stops fed.used why (rw is at f);
+      over = λ over. (rw is at (f.stopped (inl over)).0, omega (arith, (f.stopped (inl over)).1), f.failed over);
+      after = ended old.ended refl;
+    }) where
+      ended : (o : Option Refusal) → old.ended ≡ o → IsSome new.ended
+      ended None none = rw ((rw is at f.after) none) refl
+      ended (Some w) e = rw (f.failed (rw e refl), e) refl
