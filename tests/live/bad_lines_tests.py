@@ -6,7 +6,7 @@ from live.program import expect, Run, script_file
 from live.records import hexed, record
 from live.runner import test
 
-NO_LINE = "it isn't a line of this script"
+REFUSED = "refused at byte %d by reason %s `%s`"
 APART = "two blanks in front, but it belongs to no line"
 EARLY = "too early, before what it belongs to, `%s`"
 
@@ -106,7 +106,9 @@ BLOCKS = [
 
 HOST = [
     ("send 10", "unexpected word `10`"),
-    ("send 3 0440F3", NO_LINE),
+    ("send 3 0440F3", REFUSED % (3, "20: a command must begin here, but the byte isn't its escape (04)", "0440F3")),
+    ("send 3 0400", REFUSED % (2, "21: the command after the escape (04) isn't known", "0400")),
+    ("send 3 04400411", REFUSED % (4, "44: a record ends in the middle of a command or an order", "04400411")),
     ("cancel ", "a blank at the end"),
     ("show 1 1 1", "one word too many `1`"),
 ]

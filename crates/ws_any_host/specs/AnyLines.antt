@@ -1,6 +1,6 @@
 -- The lines of a script for a host that takes any record.
 
-use Rattle.std.specs.Prelude.{◌≡◌, ◌≢◌, ◌⊎◌, ℕ, ◌+◌, ◌-◌, ◌^◌, List, [], ◌++◌, codes, min, Some}
+use Rattle.std.specs.Prelude.{◌≡◌, ◌≢◌, ◌⊎◌, ℕ, ◌+◌, ◌-◌, ◌^◌, List, [], ◌∷◌, ◌++◌, codes, min, Some}
 use Rattle.std.specs.Str.{IsUtf8}
 use Rattle.ws_code.specs.Code.{spelling_of}
 use Rattle.ws_record.specs.Grammar.{opcode_byte}
@@ -17,8 +17,11 @@ use Rattle.ws_live.specs.script.KeyNames.{aid_named}
 use Rattle.ws_live.specs.live.LiveScript.{LineLanguage}
 use Rattle.ws_live.specs.live.ServeLines.{IsIdle}
 use Rattle.ws_live.specs.live.WireLines.{IsWireBegun, MeansWire}
-use Rattle.ws_live.specs.declared.script.ScriptFault.{ScriptFault}
-use Rattle.ws_live.specs.declared.script.ScriptFault.TheVariants.{Line, Memory}
+use Rattle.ws_live.specs.LineCauses.{IsCauseAt, IsCauseOf, LineNames, line_names}
+use Rattle.ws_live.specs.cause.Causes.{IsCause}
+use Rattle.ws_live.specs.declared.asked.sender.Sender.TheVariants as sender
+use Rattle.ws_live.specs.declared.cause.vocabulary.Vocabulary.TheVariants.{Elements}
+use Rattle.std.specs.Option.{is_some}
 use Rattle.ws_any_host.specs.declared.any_line.AnyLine.{AnyLine}
 use Rattle.ws_any_host.specs.declared.any_line.AnyLine.TheVariants.{Nothing, Send, Await, AwaitKey, Wire, Bad}
 
@@ -106,11 +109,10 @@ IsBadAnyLineAt line elements at = ((at ≡ 1) × ((elements ≡ []) ⊎ (OpensAn
     ⊎ ((number : List ℕ) × (opcode : Opcode) × SendsAnyOpcodeAlone line number opcode
     × AreExtendedBadAt opcode elements at)
 
--- why a line, or its words, isn't read: it is the bad one, and means nothing; or a growth was refused, and it is good
--- up to there
-abbrev pub IsAnyLineFault : {X : Type 0} → (X → Type 0) → Type 0 → ScriptFault → Type 0
-IsAnyLineFault {X} IsRead IsGood (Line at) = (at ≡ 1) × ((x : X) → IsRead x → ⊥)
-IsAnyLineFault IsRead IsGood Memory = IsGood
+-- the words and keys that lines name
+abbrev pub any_names : LineNames
+any_names = line_names (codes "send" ∷ codes "raw" ∷ codes "telnet" ∷ codes "pause" ∷ codes "await" ∷ codes "close"
+    ∷ codes "end" ∷ []) (λ name. is_some (aid_named name))
 
 -- the lines of such scripts
 abbrev pub any_language : LineLanguage AnyLine
@@ -119,5 +121,6 @@ any_language = record {
   begins = BeginsAnyLine;
   opener = OpensAnyBlock;
   bad_at = IsBadAnyLineAt;
+  tells = IsCauseAt (λ line cause. IsCauseOf any_names line cause ⊎ IsCause (Elements sender.ExtendedHost) line cause);
   bad_line = λ cause. Bad cause;
 }

@@ -2,19 +2,22 @@ ghost use Rattle.std.specs.Prelude.{◌≡◌, ◌++◌, [], ◌<◌, ℕ, List 
 ghost use Rattle.ws_code.specs.Code.{spelling_of};
 ghost use Rattle.ws_extended.specs.ExtendedElements.{extended_rules};
 ghost use Rattle.ws_live.specs.live.LiveScript.{IsBlockFault};
-ghost use Rattle.ws_live.specs.script.ScriptFaults.{IsNoComment, has_no_blank};
-ghost use Rattle.ws_text.specs.Words.{IsHex};
+ghost use Rattle.ws_live.specs.LineCauses.{IsCauseOf, IsFaultOfWords, IsNoneOf, KeyedBehind};
+ghost use Rattle.ws_live.specs.LineCauses.{TrueBehind};
+ghost use Rattle.ws_live.specs.script.ScriptFaults.{IsNoComment};
 ghost use Rattle.std.specs.Str.Lines.{lines};
 ghost use Rattle.ws_any_host.specs.AnyLines.{IsAnyLine, OpensAnyBlock, any_language};
 ghost use Rattle.ws_any_host.specs.AnyLines as Spec;
 
 use arrayvec::ArrayVec;
-use hex::FromHexError;
 use std::alloc::{AllocError, Global};
 use std::str;
 use ws_code::{Aid, Body, List};
 use ws_extended::{ExtendedCommands, ExtendedElement};
-use ws_live::{LineFault, LiveLine, ScriptFault, WireLine, aid_named, read_wire};
+use ws_live::{
+    Cause, First, Kind, LiveFault, LiveLine, Sender, WireLine, WordFault, aid_named,
+    cause_in_block, first_word, line_fault, misplaced, read_hex, read_wire, unlike, wrong_name,
+};
 use ws_record::{Opcode, Record};
 use ws_text::{TextFault, read_extended_elements, read_number};
 
@@ -42,17 +45,21 @@ impl LiveLine for AnyLine {
         sent_alone(line).is_some()
     }
 
-    fn read(alloc: Global, line: &[u8], inside: &[u8]) -> Result<Self, ScriptFault> {
+    fn read<'a>(alloc: Global, line: &'a [u8], inside: &'a [u8]) -> Result<Self, LiveFault<'a>> {
         if inside.is_empty() {
             return read_alone(alloc, line);
         }
         match sent_alone(line) {
             Some(opcode) => match read_words(alloc, opcode, inside) {
-                Ok(body) => Ok(AnyLine::Send(sent(opcode, body))),
-                Err(TextFault::Line(at)) => Err(ScriptFault::Line(at.saturating_add(1))),
-                Err(TextFault::Memory) => Err(ScriptFault::Memory),
+                Ok(body) => Ok(AnyLine::Send(sent(opcode, List::of(body)))),
+                Err(TextFault::Line(at)) => {
+                    let told = at.saturating_add(1);
+                    let cause = cause_in_block(line, inside, told, Sender::ExtendedHost);
+                    Err(LiveFault::Line(told, cause))
+                }
+                Err(TextFault::Memory) => Err(LiveFault::Memory),
             },
-            None => Err(ScriptFault::Line(1)),
+            None => Err(LiveFault::Line(1, Cause::Other)),
         }
     }
 
@@ -62,13 +69,13 @@ impl LiveLine for AnyLine {
 }
 
 // A record with its flags off.
-fn sent(opcode: Opcode, body: Vec<u8>) -> Record<u8>
-    ensures { result ≡ Spec.sent opcode body.items }
+fn sent(opcode: Opcode, body: List<u8>) -> Record<u8>
+    ensures { result ≡ Spec.sent opcode body }
 {
     Record {
         flags: 0,
         opcode,
-        body: List::of(body),
+        body,
     }
 }
 
@@ -102,21 +109,25 @@ fn spelled(alloc: Global, elements: &[ExtendedElement]) -> Result<Vec<u8>, Alloc
 }
 
 // A line that no other belongs to.
-fn read_alone(alloc: Global, line: &[u8]) -> Result<AnyLine, ScriptFault>
+#[tactic(auto, using(crate::proofs::AnyWords::no_text))]
+fn read_alone<'a>(alloc: Global, line: &'a [u8]) -> Result<AnyLine, LiveFault<'a>>
     ensures line { IfOk result (IsAnyLine line.now []) }
     ensures fault { IfErr result (IsBlockFault any_language line.now []) }
 {
     let Ok(text) = str::from_utf8(line) else {
-        return Err(ScriptFault::Line(1));
+        return Err(LiveFault::Line(1, Cause::NotUtf8));
     };
-    read_text(alloc, text)
+    match read_text(alloc, text) {
+        Ok(read) => Ok(read),
+        Err(fault) => Err(line_fault(fault)),
+    }
 }
 
 // A line as a text.
-fn read_text(alloc: Global, text: &str) -> Result<AnyLine, ScriptFault>
+fn read_text<'a>(alloc: Global, text: &'a str) -> Result<AnyLine, WordFault<'a>>
     ensures line { IfOk result (Spec.MeansAnyLine text.now) }
-    ensures fault { IfErr result (Spec.IsAnyLineFault (Spec.MeansAnyLine text.now)
-        (Spec.IsLineBegun text.now)) }
+    ensures fault { IfErr result (IsFaultOfWords (Spec.MeansAnyLine text.now)
+        (Spec.IsLineBegun text.now) (IsCauseOf Spec.any_names text.now)) }
 {
     if text.is_empty() {
         return Ok(AnyLine::Nothing);
@@ -142,15 +153,15 @@ fn sent_words(text: &str) -> Option<&str>
 }
 
 // A line that sends nothing.
-fn read_word(alloc: Global, line: &str) -> Result<AnyLine, ScriptFault>
+fn read_word<'a>(alloc: Global, line: &'a str) -> Result<AnyLine, WordFault<'a>>
     // A line that isn't empty, a comment or a send.
     requires some { 0 < length line.now }
     requires no_comment { IsNoComment line.now }
     requires no_send { (words : Seq ℕ) → line.now ≡ codes "send " ++ words → ⊥ }
     // What it means, or that it means nothing.
     ensures line { IfOk result (Spec.MeansAnyLine line.now) }
-    ensures fault { IfErr result (Spec.IsAnyLineFault (Spec.MeansAnyLine line.now)
-        (Spec.IsLineBegun line.now)) }
+    ensures fault { IfErr result (IsFaultOfWords (Spec.MeansAnyLine line.now)
+        (Spec.IsLineBegun line.now) (IsCauseOf Spec.any_names line.now)) }
 {
     if line == "await" {
         return Ok(AnyLine::Await);
@@ -161,14 +172,35 @@ fn read_word(alloc: Global, line: &str) -> Result<AnyLine, ScriptFault>
     match key_words(line) {
         Some(name) => match aid_named(name) {
             Some(aid) => Ok(AnyLine::AwaitKey(aid)),
-            None => Err(ScriptFault::Line(1)),
+            None => Err(WordFault::Bad(unnamed(name))),
         },
-        None => match read_wire(alloc, line) {
-            Ok(wire) => Ok(AnyLine::Wire(wire)),
-            Err(LineFault::Bad) => Err(ScriptFault::Line(1)),
-            Err(LineFault::Memory) => Err(ScriptFault::Memory),
-        },
+        None => {
+            let (word, rest) = first_word(line);
+            match read_wire(alloc, line, misplaced(kind_of(word), word, rest)) {
+                Ok(wire) => Ok(AnyLine::Wire(wire)),
+                Err(fault) => Err(fault),
+            }
+        }
     }
+}
+
+// What may stand behind the first word of a line.
+fn kind_of(word: &str) -> First
+    ensures { result ≡ First.Unknown → IsNoneOf Spec.any_names.words word.now }
+{
+    match word {
+        "send" | "raw" | "telnet" | "pause" => First::Words,
+        "await" | "close" | "end" => First::Alone,
+        _ => First::Unknown,
+    }
+}
+
+// What is wrong with words that are no key's name.
+fn unnamed<'a>(words: &'a str) -> Cause<'a>
+    ensures { KeyedBehind Spec.any_names.keys words.now result }
+{
+    let (word, behind) = first_word(words);
+    wrong_name(word, behind, aid_named(word).is_some())
 }
 
 // What stands behind `await `.
@@ -180,47 +212,21 @@ fn key_words(text: &str) -> Option<&str>
 }
 
 // A record to be sent: its opcode, and its body in hex where it has one.
-fn read_sent(alloc: Global, words: &str) -> Result<Record<u8>, ScriptFault>
+fn read_sent<'a>(alloc: Global, words: &'a str) -> Result<Record<u8>, WordFault<'a>>
     ensures record_ { IfOk result (Spec.IsSendText words.now) }
-    ensures fault { IfErr result
-        (Spec.IsAnyLineFault (Spec.IsSendText words.now) (Spec.IsAnySendBegun words.now)) }
+    ensures fault { IfErr result (IsFaultOfWords (Spec.IsSendText words.now)
+        (Spec.IsAnySendBegun words.now) (TrueBehind words.now)) }
 {
-    match split_word(words) {
-        None => match read_opcode(words) {
-            Some(opcode) => Ok(sent(opcode, Vec::new(alloc))),
-            None => Err(ScriptFault::Line(1)),
-        },
-        Some((number, hex)) => match read_opcode(number) {
-            Some(opcode) => match read_hex(alloc, hex) {
+    let (number, behind) = first_word(words);
+    match read_opcode(number) {
+        Some(opcode) => match behind {
+            None => Ok(sent(opcode, List::of(Vec::new(alloc)))),
+            Some(hex) => match read_hex(alloc, hex) {
                 Ok(body) => Ok(sent(opcode, body)),
                 Err(fault) => Err(fault),
             },
-            None => Err(ScriptFault::Line(1)),
         },
-    }
-}
-
-// The word before the first blank, and what stands behind the blank.
-fn split_word(text: &str) -> Option<(&str, &str)>
-    ensures { MatchOption result (has_no_blank text.now ≡ true)
-        (λ parts. (text.now ≡ (parts.0.now ++ codes " ") ++ parts.1.now)
-        × (has_no_blank parts.0.now ≡ true)) }
-{
-    text.split_once(' ')
-}
-
-// Bytes in hex, at least one.
-fn read_hex(alloc: Global, hex: &str) -> Result<Vec<u8>, ScriptFault>
-    ensures body { IfOk result (λ body. IsHex hex.now body.items) }
-    ensures fault { IfErr result (Spec.IsAnyLineFault (IsHex hex.now) (Unit {0})) }
-{
-    if hex.is_empty() {
-        return Err(ScriptFault::Line(1));
-    }
-    match hex::decode(alloc, hex) {
-        Ok(body) => Ok(body),
-        Err(FromHexError::OutOfMemory) => Err(ScriptFault::Memory),
-        Err(_) => Err(ScriptFault::Line(1)),
+        None => Err(WordFault::Bad(unlike(words, &[Kind::Opcode]))),
     }
 }
 

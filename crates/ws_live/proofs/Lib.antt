@@ -2,10 +2,10 @@ pub mod AddressTexts
 pub mod AwaitedWords
 pub mod Buffers
 pub mod CarryOns
-pub mod CauseTexts
 pub mod ColoredCells
 pub mod ConnectRuns
 pub mod FieldTexts
+pub mod LineCauses
 pub mod LineFronts
 pub mod LiveDisplays
 pub mod LiveLines

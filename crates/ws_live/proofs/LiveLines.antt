@@ -1,19 +1,25 @@
 use Rattle.std.specs.Prelude.{codes}
 use Rattle.std.specs.Str.{IsUtf8, bytes_eq}
-use Rattle.std.proofs.Common.{◌≡◌, ℕ, ◌<◌, List, ◌++◌, true, false, length, inl, inr, refl, sym, ap, ◌∙◌, subst, arith}
+use Rattle.std.proofs.Common.{◌≡◌, ℕ, ◌<◌, List, [], ◌++◌, true, false, length, inl, inr, refl, sym, ap, ◌∙◌, subst, arith}
 use Rattle.std.proofs.lemmas.Bool.{false≢true}
 use Rattle.ws_session.specs.declared.end_step.Order.TheVariants.{Send, Cancel}
-use Rattle.ws_session.specs.declared.world.Move.{Move}
-use Rattle.ws_session.specs.declared.world.Move.TheVariants as moves
+use Rattle.ws_record.specs.declared.opcode.Opcode.{Opcode}
+use Rattle.ws_stream.specs.declared.element.Element.{Element}
 use Rattle.ws_live.specs.declared.live.serve_line.AnswerAwaited.{AnswerAwaited}
 use Rattle.ws_live.specs.declared.live.serve_line.HostLine.{HostLine}
 use Rattle.ws_live.specs.declared.live.serve_line.HostLine.TheVariants as host
 use Rattle.ws_live.specs.declared.live.wire_line.WireLine.{WireLine}
 use Rattle.ws_live.specs.declared.live.wire_line.WireLine.TheVariants as wire
+use Rattle.ws_live.specs.LineCauses.{IsCauseOf, IsFaultOfWords}
+use Rattle.ws_live.specs.declared.line_words.WordFault.{WordFault}
+use Rattle.ws_live.specs.declared.line_words.WordFault.TheVariants.{Bad as WordBad, Memory as WordMemory}
 use Rattle.ws_live.specs.live.ConnectLines.{IsNothing}
+use Rattle.ws_live.specs.live.LiveScript.{IsBlockFault, line_fault}
+use Rattle.ws_live.proofs.LineCauses.{bad_on}
 use Rattle.ws_live.specs.live.ServeLines.{IsAnswerAwaited, IsHostBegun, IsIdle, MeansHostLine as HostMeans, IsOneSoFar}
+use Rattle.ws_live.specs.live.ServeLines.{IsOneLine, host_language, host_names}
 use Rattle.ws_live.specs.live.WireLines.{MeansWire}
-use Rattle.ws_live.specs.script.Script.{IsMove}
+use Rattle.ws_live.specs.script.Script.{IsRecordText}
 use Rattle.ws_live.specs.script.ScriptFaults.{IsNoComment, has_no_blank}
 use Rattle.ws_live.proofs.ScriptWords.{blank_inside, differ, split_unique}
 
@@ -100,12 +106,14 @@ no_awaited_answer command words free plain is none_is (host.Wire line) m = no_wi
     (differs command (codes "await") (codes "telnet") is refl) (differs command (codes "await") (codes "pause") is refl) line m
 no_awaited_answer command words free plain is none_is (host.Bad cause) m = m
 
--- a line that sends is a move that sends
+-- a line that sends has a record's words
 pub no_send_line : (command words : List ℕ) → has_no_blank command ≡ true → IsNoComment ((command ++ codes " ")
-    ++ words) → command ≡ codes "send" → ((step : Move) → IsMove ((command ++ codes " ") ++ words) step → ⊥)
+    ++ words) → command ≡ codes "send" → ((opcode : Opcode) (body : List Element) → IsRecordText words opcode body → ⊥)
     → (line : HostLine) → HostMeans ((command ++ codes " ") ++ words) line → ⊥
 no_send_line command words free plain is none_is host.Nothing m = no_idle command words plain m
-no_send_line command words free plain is none_is (host.Give (Send opcode body)) m = none_is (moves.Send opcode body) m
+no_send_line command words free plain is none_is (host.Give (Send opcode body)) m = none_is opcode body
+    (subst (λ (z : List ℕ). IsRecordText z opcode body)
+    (sym (split_unique command (codes "send") words m.0 free refl m.1).1) m.2)
 no_send_line command words free plain is none_is (host.Give Cancel) m = blank_inside command words (ap has_no_blank m)
 no_send_line command words free plain is none_is host.Await m = blank_inside command words (ap has_no_blank m)
 no_send_line command words free plain is none_is (host.AwaitAnswer awaited) m =
@@ -118,3 +126,23 @@ no_send_line command words free plain is none_is (host.Bad cause) m = m
 -- what was read when a growth was refused
 pub host_so_far : (line text : List ℕ) → text ≡ line → IsUtf8 line → IsHostBegun text → IsOneSoFar line
 host_so_far line text e utf8 s = inr (utf8, subst IsHostBegun e s)
+
+-- the fault of a text is that of its line
+pub text_fault : (A : Type 0) (line text : List ℕ) (fault : WordFault) → text ≡ line → (A → IsOneSoFar line)
+    → IsFaultOfWords (HostMeans text) A (IsCauseOf host_names text) fault
+    → IsFaultOfWords (IsOneLine line) (IsOneSoFar line) (IsCauseOf host_names line) fault
+text_fault A line text fault same good h = bad_on (HostMeans text) (IsOneLine line)
+    (IsCauseOf host_names text) (IsCauseOf host_names line) fault
+    (λ none read l. none read (subst (λ (z : List ℕ). HostMeans z read) (sym same) l.1)) good
+    (λ cause t. subst (λ (z : List ℕ). IsCauseOf host_names z cause) same t) h
+
+-- and that of a line by itself
+pub line_alone : (line : List ℕ) (fault : WordFault) → IsFaultOfWords (IsOneLine line) (IsOneSoFar line)
+    (IsCauseOf host_names line) fault → IsBlockFault host_language line [] (line_fault fault)
+line_alone line (WordBad cause) h = (
+  (λ read m. elim m [ inl p ↦ h.0 read p.1 | inr p ↦ p.0 refl ]),
+  inl (refl, inl refl),
+  inr (line, [], refl, inl h.1),
+)
+line_alone line WordMemory (inl m) = inl (m.0, inl (refl, m.1))
+line_alone line WordMemory (inr b) = inr (refl, inl b)

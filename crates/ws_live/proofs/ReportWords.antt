@@ -1,22 +1,18 @@
-use Rattle.std.specs.Prelude.{codes}
-use Rattle.std.proofs.Common.{◌≡◌, ℕ, List, ◌++◌, true, refl, sym, ap, ◌∙◌, subst}
+use Rattle.std.specs.Borrow.{Bor}
+use Rattle.std.specs.Prelude.{codes, Option, None, Some, MatchOption}
+use Rattle.std.proofs.Common.{◌≡◌, ℕ, List, ◌++◌, Bool, true, sym, ap, ◌∙◌, subst, append_assoc}
 use Rattle.ws_code.specs.Address.{IsRowAndColumn}
 use Rattle.ws_text.specs.Words.{IsSmall, IsCell}
 use Rattle.ws_live.specs.declared.live.report.Span.{Span}
-use Rattle.ws_live.specs.declared.script.script_line.LineFault.{LineFault}
-use Rattle.ws_live.specs.declared.script.script_line.LineFault.TheVariants.{Bad, Memory}
 use Rattle.ws_live.specs.live.ConnectLines.{IsBehindRow, IsCellCount, IsPlaced, IsRowText, IsSpanText}
-use Rattle.ws_live.specs.script.ScriptFaults.{IsLineFault, has_no_blank}
+use Rattle.ws_live.specs.LineCauses.{KeyedBehind}
+use Rattle.ws_live.specs.declared.line_cause.Cause.{Cause}
+use Rattle.ws_live.specs.script.ScriptFaults.{has_no_blank}
+use Rattle.ws_live.proofs.LineCauses.{deeper}
 use Rattle.ws_live.proofs.ScriptWords.{blank_inside, digits_have_no_blank, split_unique}
 use Rattle.ws_live.proofs.StrokeWords.{same_number}
 
 -- The words of a line that prints what it asks for.
-
--- where no memory is asked for, a fault is a bad word
-pub only_bad : {X : Type 0} (P : X → Type 0) (fault : LineFault) → IsLineFault P ⊥ fault
-    → (fault ≡ Bad) × ((x : X) → P x → ⊥)
-only_bad P Bad h = (refl, h)
-only_bad P Memory h = absurd h
 
 pub no_row_word : (word : List ℕ) → ((n : ℕ) → IsSmall word n → ⊥) → (cell : ℕ) → IsRowText word cell → ⊥
 no_row_word word none_is cell m = none_is m.0 m.1
@@ -44,6 +40,15 @@ no_behind_row words row behind e free none_is cell rest m =
     let first : IsBehindRow row m.1 cell rest = subst (λ (z : List ℕ). IsBehindRow z m.1 cell rest) (sym u.0) m.3 in
     none_is cell rest (subst (λ (z : List ℕ). IsBehindRow row z cell rest) (sym u.1) first)
 
+pub placed_answer : (words row behind : List ℕ) → words ≡ (row ++ codes " ") ++ behind → has_no_blank row ≡ true
+    → (read : Option (ℕ × Bor (List ℕ)))
+    → MatchOption read ((cell : ℕ) (rest : List ℕ) → IsBehindRow row behind cell rest → ⊥)
+    (λ placed. IsBehindRow row behind placed.0 placed.1.now)
+    → MatchOption read ((cell : ℕ) (rest : List ℕ) → IsPlaced words cell rest → ⊥)
+    (λ placed. IsPlaced words placed.0 placed.1.now)
+placed_answer words row behind e free None none = no_behind_row words row behind e free none
+placed_answer words row behind e free (Some placed) is = (row, behind, e, is)
+
 pub no_column : (row words column rest : List ℕ) → words ≡ (column ++ codes " ") ++ rest → has_no_blank column ≡ true
     → ((cell : ℕ) → IsCell row column cell → ⊥) → (cell : ℕ) (last : List ℕ) → IsBehindRow row words cell last → ⊥
 no_column row words column rest e free none_is cell last m =
@@ -63,3 +68,9 @@ pub no_span_count : (words : List ℕ) (at : ℕ) (word : List ℕ) → IsPlaced
 no_span_count words at word placed none_is span m =
     none_is span.count (subst (λ (z : List ℕ). IsCellCount z span.count)
     (one_rest words span.at at m.0 word m.1 placed) m.2)
+
+-- what is told of what stands behind a cell is told of the words
+pub behind_placed : (keys : List ℕ → Bool) (words : List ℕ) (cell : ℕ) (rest : List ℕ) (cause : Cause)
+    → IsPlaced words cell rest → KeyedBehind keys rest cause → KeyedBehind keys words cause
+behind_placed keys words cell rest cause m t = deeper keys m.0 words m.1 cause (m.2 ∙ append_assoc m.0 (codes " ") m.1)
+    (deeper keys m.3.0 m.1 rest cause (m.3.1 ∙ append_assoc m.3.0 (codes " ") rest) t)

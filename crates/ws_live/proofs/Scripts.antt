@@ -1,4 +1,5 @@
-use Rattle.std.specs.Prelude.{codes, map, Some, None}
+use Rattle.std.specs.Borrow.{Bor}
+use Rattle.std.specs.Prelude.{codes, map, Option, Some, None}
 use Rattle.std.specs.Str.{IsUtf8, chars}
 use Rattle.std.specs.Str.Lines.{lines}
 use Rattle.std.proofs.Common.{◌≡◌, ◌≢◌, ℕ, ◌+◌, ◌<◌, ◌≤◌, List, [], ◌∷◌, ◌++◌, Bool, true, length, inl, inr, refl, sym}
@@ -16,6 +17,7 @@ use Rattle.ws_live.specs.script.KeyNames.{key_named}
 use Rattle.ws_live.specs.script.Script.{AreTypedMoves, typed_key, IsCount, IsSendOpcode, IsBodyText, IsRecordText}
 use Rattle.ws_live.specs.script.Script.{IsMove, MeansMoves, IsScriptLine, IsBad, AreLines, IsScript, IsFirstBad}
 use Rattle.ws_live.specs.script.Script.MeansMoves.{empty, comment, one, settle, typed, inserted}
+use Rattle.ws_live.specs.LineCauses.{IsFirstWord}
 use Rattle.ws_live.specs.script.ScriptFaults.{IsNoComment, IsLineFault, IsGoodSoFar, IsReadSoFar, has_no_blank}
 use Rattle.ws_live.proofs.ScriptWords.{differ, blank_inside, split_unique, digits_have_no_blank}
 
@@ -237,22 +239,25 @@ record_parts number hex free opcode body r = elim r.rest [
       ))
 ]
 
-pub no_send : (words number hex : List ℕ) → words ≡ (number ++ codes " ") ++ hex → has_no_blank number ≡ true
-    → ((opcode : Opcode) (body : List Element) → IsSendOpcode number opcode → hex ≢ [] → IsBodyText hex body → ⊥)
+pub no_send : (words : List ℕ) → ((opcode : Opcode) (body : List Element) → IsRecordText words opcode body → ⊥)
     → (step : Move) → IsMove (codes "send " ++ words) step → ⊥
-no_send words number hex e free none_is step m = send_says words (λ opcode body r.
-    let parts = record_parts number hex free opcode body (subst (λ (z : List ℕ). IsRecordText z opcode body) e r) in
-    none_is opcode body parts.0 parts.1 parts.2) step (says (codes "send") words refl step m)
+no_send words none_is step m = send_says words none_is step (says (codes "send") words refl step m)
 
--- and such words are a record
-pub sends : (words number hex : List ℕ) (opcode : Opcode) (body : List Element) → words ≡ (number ++ codes " ") ++ hex
-    → IsSendOpcode number opcode → hex ≢ [] → IsBodyText hex body → IsMove (codes "send " ++ words) (Send opcode body)
-sends words number hex opcode body e sent some text = (
-  words,
-  refl,
-  record {
-    number = number;
-    sent = sent;
-    rest = inr (hex, e, some, text);
-  },
-)
+-- the first word of a record's text is its opcode
+pub first_opcode : (words number : List ℕ) (behind : Option (Bor (List ℕ))) (opcode : Opcode) (body : List Element)
+    → has_no_blank number ≡ true → IsFirstWord words number behind → IsRecordText words opcode body
+    → IsSendOpcode number opcode
+first_opcode words number None opcode body free is r = elim r.rest [
+  | inl p ↦ subst (λ (z : List ℕ). IsSendOpcode z opcode) (sym p.0 ∙ is) r.sent
+  | inr p ↦ absurd (blank_inside r.number p.0 (ap has_no_blank (sym p.1 ∙ is) ∙ free))
+]
+first_opcode words number (Some b) opcode body free is r = (record_parts number b.now free opcode body
+    (subst (λ (z : List ℕ). IsRecordText z opcode body) (is ∙ sym (append_assoc number (codes " ") b.now)) r)).0
+
+-- and the rest its body
+pub behind_opcode : (words number hex : List ℕ) (opcode : Opcode) (body : List Element)
+    → has_no_blank number ≡ true → words ≡ number ++ (32 ∷ hex) → IsRecordText words opcode body
+    → (hex ≢ []) × IsBodyText hex body
+behind_opcode words number hex opcode body free is r = let parts = record_parts number hex free opcode body
+    (subst (λ (z : List ℕ). IsRecordText z opcode body) (is ∙ sym (append_assoc number (codes " ") hex)) r) in
+    (parts.1, parts.2)

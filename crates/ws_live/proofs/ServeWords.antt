@@ -13,7 +13,13 @@ use Rattle.ws_text.specs.BodyLines.{AddUnits, IsAddFault, new_record}
 use Rattle.ws_text.specs.ElementWords.{element_wording}
 use Rattle.ws_text.specs.declared.items.TextFault.TheVariants as items
 use Rattle.ws_text.proofs.LineEnds.{some_lines}
-use Rattle.ws_live.specs.declared.script.ScriptFault.TheVariants.{Line}
+use Rattle.ws_live.specs.LineCauses.{IsCauseAt}
+use Rattle.ws_live.specs.cause.Causes.{IsCause}
+use Rattle.ws_live.specs.declared.asked.sender.Sender.TheVariants as sender
+use Rattle.ws_live.specs.declared.cause.vocabulary.Vocabulary.TheVariants.{Elements}
+use Rattle.ws_live.specs.declared.line_cause.Cause.{Cause}
+use Rattle.ws_live.specs.declared.line_cause.Cause.TheVariants.{Other}
+use Rattle.ws_live.specs.declared.live.live_line.LiveFault.TheVariants.{Line}
 use Rattle.ws_live.specs.live.LiveScript.{IsBlockFault}
 use Rattle.ws_live.specs.live.ServeLines.{AreBadAt, OpensHostBlock, SendsAlone, host_language}
 
@@ -38,8 +44,9 @@ pub bad_words : (line number : List ℕ) (elements : List (List ℕ)) (opcode : 
     → IsAddFault element_rules element_wording elements (new_record opcode) (items.Line at)
     → ((r : Record Element) → AddUnits element_rules element_wording elements (new_record opcode) r
     → items.Line at ≡ items.Memory) → AreBadAt opcode elements told
-    → IsBlockFault host_language line elements (Line told)
-bad_words line number elements opcode at told alone some bad only place = (
+    → (cause : Cause) → IsCauseAt (IsCause (Elements sender.Host)) (line ∷ elements) told cause
+    → IsBlockFault host_language line elements (Line told cause)
+bad_words line number elements opcode at told alone some bad only place cause is = (
   (λ read m. elim m [
     | inl p ↦ some p.0
     | inr p ↦
@@ -49,12 +56,14 @@ bad_words line number elements opcode at told alone some bad only place = (
         cc
   ]),
   inr (number, opcode, alone, place),
+  elim is [ inl e ↦ inl e | inr m ↦ inr (m.0, m.1, m.2, inr m.3) ],
 )
 
 -- no elements may stand behind a line
 pub no_words : (line : List ℕ) (elements : List (List ℕ)) → elements ≢ [] → (OpensHostBlock line → ⊥)
-    → IsBlockFault host_language line elements (Line 1)
+    → IsBlockFault host_language line elements (Line 1 Other)
 no_words line elements some other = (
   (λ read m. elim m [ inl p ↦ some p.0 | inr p ↦ other (p.1.0, p.1.1, p.1.3) ]),
   inl (refl, inr other),
+  inl refl,
 )

@@ -18,9 +18,16 @@ use Rattle.ws_live.specs.live.ConnectLines.{AreKeysOf, AreNamed, MeansKeys, Mean
 use Rattle.ws_live.specs.live.ConnectLines.{IsRowText, IsSpanText, MeansReport, IsCellText, IsFilling, IsTextAwaited}
 use Rattle.ws_live.specs.live.ConnectLines.{IsTextWait, IsCommandSoFar, IsStationSoFar, MeansStationLine}
 use Rattle.ws_live.specs.live.ConnectLines.MeansKeys.{typed, inserted, named}
+use Rattle.std.specs.Option.{is_some}
+use Rattle.ws_live.specs.LineCauses.{IsCauseOf, IsFaultOfWords, TrueBehind}
+use Rattle.ws_live.specs.declared.line_words.WordFault.{WordFault}
+use Rattle.ws_live.specs.declared.line_words.WordFault.TheVariants.{Bad as WordBad, Memory as WordMemory}
+use Rattle.ws_live.specs.live.ConnectLines.{IsStationLine, station_language, station_names}
+use Rattle.ws_live.specs.live.LiveScript.{IsBlockFault, line_fault}
 use Rattle.ws_live.specs.script.KeyWords.{KeyWords}
 use Rattle.ws_live.specs.script.Script.{typed_key}
 use Rattle.ws_live.specs.script.ScriptFaults.{IsNoComment, has_no_blank}
+use Rattle.ws_live.proofs.LineCauses.{bad_on, of_words}
 use Rattle.ws_live.proofs.LiveLines.{is_something}
 use Rattle.ws_live.proofs.ScriptWords.{blank_inside, differ, split_unique}
 
@@ -312,6 +319,33 @@ module _ {Q : Type 0} (w : KeyWords Q) where
       → MeansStationLine w ((command ++ codes " ") ++ words) line → ⊥
   no_span_line command words free plain e none_is =
       none_by command words (codes "show") free plain e (span_says words none_is)
+
+  -- the fault of a command's words is the line's
+  pub command_fault : {X A : Type 0} (P : X → Type 0) (command words : List ℕ) (fault : WordFault)
+      → (((x : X) → P x → ⊥) → (line : StationLine Q) → MeansStationLine w ((command ++ codes " ") ++ words) line → ⊥)
+      → (A → IsCommandSoFar w ((command ++ codes " ") ++ words)) → IsFaultOfWords P A (TrueBehind words) fault
+      → IsFaultOfWords (MeansStationLine w ((command ++ codes " ") ++ words)) (IsCommandSoFar w ((command ++ codes " ") ++ words))
+      (IsCauseOf (station_names w) ((command ++ codes " ") ++ words)) fault
+  command_fault P command words fault none good h = bad_on P (MeansStationLine w ((command ++ codes " ") ++ words))
+      (TrueBehind words) (IsCauseOf (station_names w) ((command ++ codes " ") ++ words)) fault none good
+      (λ cause t. of_words (station_names w) command words cause (t (λ word. is_some (w.named word)))) h
+
+  -- and the fault of a text is that of its line
+  pub text_fault : (A : Type 0) (line text : List ℕ) (fault : WordFault) → text ≡ line → (A → IsStationSoFar w line)
+      → IsFaultOfWords (MeansStationLine w text) A (IsCauseOf (station_names w) text) fault
+      → IsFaultOfWords (IsStationLine w line) (IsStationSoFar w line) (IsCauseOf (station_names w) line) fault
+  text_fault A line text fault same good h = bad_on (MeansStationLine w text) (IsStationLine w line)
+      (IsCauseOf (station_names w) text) (IsCauseOf (station_names w) line) fault
+      (λ none read l. none read (subst (λ (z : List ℕ). MeansStationLine w z read) (sym same) l.1)) good
+      (λ cause t. subst (λ (z : List ℕ). IsCauseOf (station_names w) z cause) same t) h
+
+  -- and that of a line the one of its block
+  pub block_fault : (line : List ℕ) (inside : List (List ℕ)) (fault : WordFault) → inside ≡ []
+      → IsFaultOfWords (IsStationLine w line) (IsStationSoFar w line) (IsCauseOf (station_names w) line) fault
+      → IsBlockFault (station_language w) line inside (line_fault fault)
+  block_fault line inside (WordBad cause) e h = ((λ read m. h.0 read m.1), refl, inr (line, inside, refl, h.1))
+  block_fault line inside WordMemory e (inl m) = inl (m.0, e, m.1)
+  block_fault line inside WordMemory e (inr b) = inr (e, b)
 
   -- WHAT WAS READ WHEN A GROWTH WAS REFUSED
 

@@ -1,10 +1,8 @@
-use Rattle.std.specs.Prelude.{codes}
+use Rattle.std.specs.Prelude.{codes, Option, None, Some, MatchOption}
 use Rattle.std.proofs.Common.{◌≡◌, ℕ, List, ◌++◌, true, sym, ap, ◌∙◌, subst}
 use Rattle.ws_code.specs.Address.{IsRowAndColumn}
 use Rattle.ws_text.specs.Words.{IsNumber, IsSmall, IsCell}
-use Rattle.ws_live.specs.declared.live.stroke.Filling.{Filling}
-use Rattle.ws_live.specs.live.ConnectLines.{IsCellText, IsFieldText, IsFilling}
-use Rattle.ws_live.specs.script.KeyWords.{KeyWords}
+use Rattle.ws_live.specs.live.ConnectLines.{IsCellText, IsField, IsFieldNumber}
 use Rattle.ws_live.specs.script.ScriptFaults.{has_no_blank}
 use Rattle.ws_live.proofs.ScriptWords.{blank_inside, digits_have_no_blank, split_unique}
 
@@ -26,6 +24,12 @@ cell_words words row column e free cell m =
     let first : IsCell row m.1 cell = subst (λ (z : List ℕ). IsCell z m.1 cell) (sym u.0) m.3 in
     subst (λ (z : List ℕ). IsCell row z cell) (sym u.1) first
 
+pub cell_answer : (words row column : List ℕ) → words ≡ (row ++ codes " ") ++ column → has_no_blank row ≡ true
+    → (read : Option ℕ) → MatchOption read ((cell : ℕ) → IsCell row column cell → ⊥) (IsCell row column)
+    → MatchOption read ((cell : ℕ) → IsCellText words cell → ⊥) (IsCellText words)
+cell_answer words row column e free None none = λ cell m. none cell (cell_words words row column e free cell m)
+cell_answer words row column e free (Some cell) is = (row, column, e, is)
+
 pub no_row : (row column : List ℕ) → ((n : ℕ) → IsSmall row n → ⊥) → (cell : ℕ) → IsCell row column cell → ⊥
 no_row row column none_is cell m = none_is m.0 m.2
 
@@ -40,11 +44,14 @@ off_screen row column r c is_r is_c off cell m =
     let first : IsRowAndColumn r m.1 = subst (λ z. IsRowAndColumn z m.1) same_row m.4 in
     off (subst (λ z. IsRowAndColumn r z) same_column first)
 
-module _ {Q : Type 0} (w : KeyWords Q) where
-  -- two are its number and its text
-  pub no_field_text : (words word text : List ℕ) → words ≡ (word ++ codes " ") ++ text → has_no_blank word ≡ true
-      → ((f : Filling Q) → IsFieldText w word text f → ⊥) → (f : Filling Q) → IsFilling w words f → ⊥
-  no_field_text words word text e free none_is f m =
-      let u = split_unique word m.0 text m.1 free (digits_have_no_blank m.0 m.3.0.0.0.1) (sym e ∙ m.2) in
-      let first : IsFieldText w word m.1 f = subst (λ (z : List ℕ). IsFieldText w z m.1 f) (sym u.0) m.3 in
-      none_is f (subst (λ (z : List ℕ). IsFieldText w word z f) (sym u.1) first)
+-- two are the number of a field and a text
+pub field_words : (words word text : List ℕ) → words ≡ (word ++ codes " ") ++ text → has_no_blank word ≡ true
+    → (number : ℕ) (last : List ℕ) → IsField words number last → IsFieldNumber word number × (last ≡ text)
+field_words words word text e free number last m =
+    let u = split_unique word m.0 text last free (digits_have_no_blank m.0 m.2.0.0.1) (sym e ∙ m.1) in
+    (subst (λ (z : List ℕ). IsFieldNumber z number) (sym u.0) m.2, sym u.1)
+
+-- one word is none
+pub no_field_word : (words : List ℕ) → has_no_blank words ≡ true → (number : ℕ) (text : List ℕ)
+    → IsField words number text → ⊥
+no_field_word words free number text m = blank_inside m.0 text (ap has_no_blank (sym m.1) ∙ free)

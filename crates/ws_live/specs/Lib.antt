@@ -1,3 +1,4 @@
+pub mod LineCauses
 pub mod printing
 pub mod script
 pub mod live

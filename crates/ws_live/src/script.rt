@@ -8,6 +8,7 @@ pub(crate) mod key_name;
 pub(crate) mod named_key;
 pub(crate) mod script_line;
 pub(crate) mod script_move;
+pub(crate) mod send_words;
 
 use crate::script::script_line::{LineFault, read_line};
 use std::alloc::Global;

@@ -2,16 +2,15 @@
 
 use Rattle.std.specs.Prelude.{◌≡◌, ℕ, List}
 use Rattle.std.specs.Str.Lines.{lines}
-use Rattle.ws_live.specs.cause.ToldCauses.{IsLineTold}
+use Rattle.ws_live.specs.cause.Causes.{IsItemsTold}
 use Rattle.ws_live.specs.declared.asked.fault.RunFault.{RunFault}
 use Rattle.ws_live.specs.declared.asked.fault.RunFault.TheVariants as run
 use Rattle.ws_live.specs.declared.asked.fault.ToldFault.{ToldFault}
 use Rattle.ws_live.specs.declared.asked.fault.ToldFault.TheVariants.{Run}
-use Rattle.ws_live.specs.declared.cause.vocabulary.Vocabulary.TheVariants.{Items}
 use Rattle.ws_program.specs.declared.words.command_line.Asked.{Asked}
 use Rattle.ws_program.specs.declared.words.command_line.Asked.TheVariants.{Make}
 
 -- a fault of a command with its cause, where items as text have a bad line, and as it is otherwise
 abbrev pub IsToldOf : Asked → List ℕ → ToldFault → RunFault → Type 0
-IsToldOf (Make file sent raw) text told (run.Line number) = IsLineTold (Items sent) (lines text) number told
+IsToldOf (Make file sent raw) text told (run.Line number) = IsItemsTold sent (lines text) number told
 IsToldOf asked text told fault = told ≡ Run fault

@@ -4,7 +4,7 @@ ghost use Rattle.ws_program.specs.ToldFaults.{IsToldOf};
 
 use crate::words::Asked;
 use std::alloc::Global;
-use ws_live::{RunFault, ToldFault, Vocabulary, bad_line};
+use ws_live::{RunFault, ToldFault, bad_line};
 
 /// What a command came to with this input, with its cause where items as text have a bad line.
 pub fn with_cause(
@@ -27,7 +27,7 @@ fn told_fault(alloc: Global, asked: Asked<'_>, text: &[u8], fault: RunFault) -> 
 {
     match (asked, fault) {
         (Asked::Make { from, .. }, RunFault::Line(number)) => {
-            bad_line(alloc, text, number, Vocabulary::Items(from))
+            bad_line(alloc, text, number, from)
         }
         _ => ToldFault::Run(fault),
     }

@@ -1,13 +1,10 @@
--- The words that lines of a script and of items as text begin with, and of what kind the words behind each are.
+-- The words that lines of items and of elements as text begin with, and of what kind the words behind each are.
 
 use Rattle.std.specs.Prelude.{ℕ, List, [], ◌∷◌, codes}
 use Rattle.ws_live.specs.declared.cause.vocabulary.Shape.{Shape}
-use Rattle.ws_live.specs.declared.cause.vocabulary.Shape.TheVariants.{Alone, AnyText, AKey, Cell, Filling, Row, Shown, Awaited}
-use Rattle.ws_live.specs.declared.cause.vocabulary.Shape.TheVariants.{Sent, SentAny, AnswerAwaited, KeyAwaited, Bytes, Command}
-use Rattle.ws_live.specs.declared.cause.vocabulary.Shape.TheVariants.{Pause, Controls, Header, Repeat, Erased, Field, Coded}
-use Rattle.ws_live.specs.declared.cause.vocabulary.Shape.TheVariants.{Head, Placed}
+use Rattle.ws_live.specs.declared.cause.vocabulary.Shape.TheVariants.{Alone, Cell, Bytes, Command, Controls, Header}
+use Rattle.ws_live.specs.declared.cause.vocabulary.Shape.TheVariants.{Repeat, Erased, Field, Coded, Head, Placed}
 use Rattle.ws_live.specs.declared.cause.vocabulary.Vocabulary.{Vocabulary}
-use Rattle.ws_live.specs.declared.cause.vocabulary.Vocabulary.TheVariants.{Station, ExtendedStation, Host, AnyHost}
 use Rattle.ws_live.specs.declared.cause.vocabulary.Vocabulary.TheVariants.{Items, Elements}
 use Rattle.ws_live.specs.declared.asked.sender.Sender.{Sender}
 use Rattle.ws_live.specs.declared.asked.sender.Sender.TheVariants as sender
@@ -15,27 +12,6 @@ use Rattle.ws_live.specs.declared.asked.sender.Sender.TheVariants as sender
 -- first words, with the kind of the words behind each
 abbrev pub Words : Type 0
 Words = List (List ℕ × Shape)
-
--- the words that a line of `connect` begins with
-abbrev pub station_words : Words
-station_words = (codes "type", AnyText) ∷ (codes "insert", AnyText) ∷ (codes "key", AKey) ∷ (codes "cursor", Cell)
-    ∷ (codes "field", Filling) ∷ (codes "erase", Alone) ∷ (codes "newline", Alone) ∷ (codes "await", Awaited)
-    ∷ (codes "show", Shown) ∷ (codes "fields", Alone) ∷ (codes "cells", Row) ∷ (codes "status", Alone)
-    ∷ (codes "note", AnyText) ∷ []
-
--- the words that lines of both hosts begin with
-abbrev pub both_hosts : Words
-both_hosts = (codes "raw", Bytes) ∷ (codes "telnet", Command) ∷ (codes "pause", Pause) ∷ (codes "close", Alone)
-    ∷ (codes "end", Alone) ∷ []
-
--- the words that a line of `serve` begins with
-abbrev pub host_words : Words
-host_words = (codes "send", Sent) ∷ (codes "cancel", Alone) ∷ (codes "await", AnswerAwaited) ∷ (codes "show", Alone)
-    ∷ both_hosts
-
--- the words that a line of `serve --any` begins with
-abbrev pub any_words : Words
-any_words = (codes "send", SentAny) ∷ (codes "await", KeyAwaited) ∷ both_hosts
 
 -- the words that items as text begin with, where they are no elements
 abbrev pub item_words : Words
@@ -72,9 +48,5 @@ unit_words sender.ExtendedStation = parts_before (elements_before (commands_befo
 
 -- the words that a line of this kind begins with; those of elements stand behind two blanks
 abbrev pub vocabulary_words : Vocabulary → Words
-vocabulary_words Station = station_words
-vocabulary_words ExtendedStation = station_words
-vocabulary_words Host = host_words
-vocabulary_words AnyHost = any_words
 vocabulary_words (Items sent) = item_words
 vocabulary_words (Elements sent) = unit_words sent

@@ -7,6 +7,8 @@ use Rattle.ws_code.specs.Address.{IsRowAndColumn, place_of}
 use Rattle.ws_code.specs.declared.address.TheConstants.{CELLS}
 use Rattle.ws_screen.specs.declared.format_table.TheConstants.{MAX_FIELDS}
 use Rattle.ws_text.specs.Words.{IsCell, IsNumber, IsSmall}
+use Rattle.std.specs.Option.{is_some}
+use Rattle.ws_live.specs.LineCauses.{IsCauseAt, IsCauseOf, LineNames, line_names}
 use Rattle.ws_live.specs.live.LiveScript.{LineLanguage}
 use Rattle.ws_live.specs.script.KeyWords.{KeyWords}
 use Rattle.ws_live.specs.script.Script.{typed_key}
@@ -121,11 +123,24 @@ MeansReport line (Cells cell) = (word : List ℕ) × (line ≡ codes "cells " ++
 MeansReport line (ShownText span) = (words : List ℕ) × (line ≡ codes "show " ++ words) × IsSpanText words span
 MeansReport line (Note note) = line ≡ codes "note " ++ note
 
+-- the words that a line begins with
+abbrev pub station_words : List (List ℕ)
+station_words = codes "type" ∷ codes "insert" ∷ codes "key" ∷ codes "cursor" ∷ codes "field" ∷ codes "cells" ∷ codes "note"
+    ∷ codes "await" ∷ codes "show" ∷ codes "erase" ∷ codes "newline" ∷ codes "fields" ∷ codes "status" ∷ []
+
 -- the number of a field that a screen may have
 abbrev pub IsFieldNumber : List ℕ → ℕ → Type 0
 IsFieldNumber word number = IsNumber word number × (1 ≤ number) × (number ≤ MAX_FIELDS)
 
+-- the same, and a text behind it
+abbrev pub IsField : List ℕ → ℕ → List ℕ → Type 0
+IsField words number text = (word : List ℕ) × (words ≡ word ++ codes " " ++ text) × IsFieldNumber word number
+
 module _ {Q : Type 0} (w : KeyWords Q) where
+  -- the words and keys that lines name
+  abbrev pub station_names : LineNames
+  station_names = line_names station_words (λ word. is_some (w.named word))
+
   -- a key for each character of a text in UTF-8
   pub record AreKeysOf (inserts : Bool) (text : List ℕ) (keys : List Q) : Type 0 where
     pub characters : List ℕ
@@ -143,14 +158,9 @@ module _ {Q : Type 0} (w : KeyWords Q) where
     inserted : (text : List ℕ) → line ≡ codes "insert " ++ text → AreKeysOf true text keys → MeansKeys line keys
     named : (name : List ℕ) → line ≡ codes "key " ++ name → AreNamed name keys → MeansKeys line keys
 
-  -- the field of a number, and keys for the characters of a text
-  abbrev pub IsFieldText : List ℕ → List ℕ → Filling Q → Type 0
-  IsFieldText word text filling = IsFieldNumber word filling.number × AreKeysOf false text filling.keys
-
-  -- the same, the text behind the number
+  -- the field of a number, and keys for the characters of the text behind it
   abbrev pub IsFilling : List ℕ → Filling Q → Type 0
-  IsFilling words filling = (word : List ℕ) × (text : List ℕ) × (words ≡ word ++ codes " " ++ text)
-      × IsFieldText word text filling
+  IsFilling words filling = (text : List ℕ) × IsField words filling.number text × AreKeysOf false text filling.keys
 
   -- the lines that press keys by the screen
   abbrev pub MeansStroke : List ℕ → Stroke Q → Type 0
@@ -189,5 +199,6 @@ module _ {Q : Type 0} (w : KeyWords Q) where
     begins = BeginsStationLine;
     opener = λ line. ⊥;
     bad_at = λ line inside at. at ≡ 1;
+    tells = IsCauseAt (IsCauseOf station_names);
     bad_line = λ cause. Bad cause;
   }

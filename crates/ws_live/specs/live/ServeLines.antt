@@ -1,6 +1,6 @@
 -- The lines of a script for a host of one station.
 
-use Rattle.std.specs.Prelude.{◌≡◌, ◌≢◌, ◌⊎◌, ℕ, ◌+◌, ◌-◌, ◌^◌, List, [], ◌++◌, codes, min, Some}
+use Rattle.std.specs.Prelude.{◌≡◌, ◌≢◌, ◌⊎◌, ℕ, ◌+◌, ◌-◌, ◌^◌, List, [], ◌∷◌, ◌++◌, codes, min, Some}
 use Rattle.std.specs.Str.{IsUtf8}
 use Rattle.ws_record.specs.declared.opcode.Opcode.{Opcode}
 use Rattle.ws_record.specs.declared.record.Record.{Record}
@@ -10,6 +10,11 @@ use Rattle.ws_stream.specs.Elements.{element_rules}
 use Rattle.ws_text.specs.ElementWords.{element_wording}
 use Rattle.ws_text.specs.BodyLines.{AddUnits, IsAddFault, new_record}
 use Rattle.ws_text.specs.declared.items.TextFault.TheVariants as items
+use Rattle.std.specs.Option.{is_some}
+use Rattle.ws_live.specs.LineCauses.{IsCauseAt, IsCauseOf, LineNames, line_names}
+use Rattle.ws_live.specs.cause.Causes.{IsCause}
+use Rattle.ws_live.specs.declared.asked.sender.Sender.TheVariants as sender
+use Rattle.ws_live.specs.declared.cause.vocabulary.Vocabulary.TheVariants.{Elements}
 use Rattle.ws_live.specs.live.ConnectLines.{IsNothing}
 use Rattle.ws_live.specs.live.LiveScript.{LineLanguage}
 use Rattle.ws_live.specs.script.KeyNames.{aid_named}
@@ -20,6 +25,11 @@ use Rattle.ws_live.specs.declared.live.serve_line.AnswerAwaited.{AnswerAwaited}
 use Rattle.ws_live.specs.declared.live.serve_line.AnswerAwaited.TheVariants.{Any, By}
 use Rattle.ws_live.specs.declared.live.serve_line.HostLine.{HostLine}
 use Rattle.ws_live.specs.declared.live.serve_line.HostLine.TheVariants.{Nothing, Give, Await, AwaitAnswer, Show, Wire, Bad}
+
+-- the words and keys that lines name
+abbrev pub host_names : LineNames
+host_names = line_names (codes "send" ∷ codes "raw" ∷ codes "telnet" ∷ codes "pause" ∷ codes "await" ∷ codes "cancel"
+    ∷ codes "close" ∷ codes "end" ∷ codes "show" ∷ []) (λ name. is_some (aid_named name))
 
 -- the answer that the words behind `await` are for: any, or one by the key of a name
 abbrev pub IsAnswerAwaited : List ℕ → AnswerAwaited → Type 0
@@ -97,5 +107,6 @@ host_language = record {
   begins = BeginsHostLine;
   opener = OpensHostBlock;
   bad_at = IsBadHostLineAt;
+  tells = IsCauseAt (λ line cause. IsCauseOf host_names line cause ⊎ IsCause (Elements sender.Host) line cause);
   bad_line = λ cause. Bad cause;
 }

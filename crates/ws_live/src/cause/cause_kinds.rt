@@ -1,6 +1,6 @@
 //! Which words may stand behind a line's first.
-use crate::cause::cause_words::first_word;
 use crate::cause::vocabulary::Shape;
+use crate::line_words::first_word;
 
 /// The words that may stand at a place of a line.
 #[derive(Clone, Copy)]
@@ -15,35 +15,28 @@ pub enum Kind {
     Digits(u32),
     /// Bytes in hex.
     Hex,
-    /// The name of a key.
-    Key,
-    /// An opcode, not that of Cancel Invite.
+    /// An opcode.
     Opcode,
-    /// Any opcode.
-    AnyOpcode,
     /// The word `opcode`.
     OpcodeWord,
     /// The line may end here.
     End,
     /// All that stands there.
     AnyText,
-    /// The same, but not nothing.
-    SomeText,
     /// The same, of characters that code page 037 has.
     Coded,
 }
 
-const ROW: Kind = Kind::Number(1, 24);
+/// A row of the screen, and a column.
+pub const ROW: Kind = Kind::Number(1, 24);
 
-const COLUMN: Kind = Kind::Number(1, 80);
+pub const COLUMN: Kind = Kind::Number(1, 80);
 
 const BYTE: Kind = Kind::Digits(2);
 
 const PAIR: Kind = Kind::Digits(4);
 
 const SMALL: Kind = Kind::Number(0, 255);
-
-const HOUR: Kind = Kind::Number(1, 3_600_000);
 
 // The words of a Start of Field that has most.
 static FIELD: [Kind; 11] = [
@@ -63,9 +56,6 @@ static FIELD: [Kind; 11] = [
 /// The words that may stand behind the first, of which some may settle what stands behind them.
 pub fn kinds_of(shape: Shape, rest: Option<&str>) -> &'static [Kind] {
     match shape {
-        Shape::Awaited => awaited(next_of(rest)),
-        Shape::AnswerAwaited => answer_awaited(next_of(rest)),
-        Shape::KeyAwaited => &[Kind::End, Kind::Key],
         Shape::Command => command(next_of(rest)),
         Shape::Head => head(next_of(rest)),
         Shape::Field => field(rest),
@@ -76,16 +66,8 @@ pub fn kinds_of(shape: Shape, rest: Option<&str>) -> &'static [Kind] {
 // The same where none settles anything.
 fn plain(shape: Shape) -> &'static [Kind] {
     match shape {
-        Shape::AnyText => &[Kind::AnyText],
-        Shape::AKey => &[Kind::Key],
         Shape::Cell => &[ROW, COLUMN],
-        Shape::Filling => &[Kind::Number(1, 256), Kind::AnyText],
-        Shape::Row => &[ROW],
-        Shape::Shown => &[Kind::End, ROW, COLUMN, Kind::Number(1, 1_920)],
-        Shape::Sent => &[Kind::Opcode, Kind::End, Kind::Hex],
-        Shape::SentAny => &[Kind::AnyOpcode, Kind::End, Kind::Hex],
         Shape::Bytes => &[Kind::Hex],
-        Shape::Pause => &[HOUR],
         Shape::Controls => &[BYTE, BYTE],
         Shape::Header => &[Kind::End, Kind::Hex],
         Shape::Repeat => &[ROW, COLUMN, BYTE],
@@ -101,25 +83,6 @@ fn next_of<'a>(rest: Option<&'a str>) -> Option<&'a str> {
     match rest {
         Some(words) => Some(first_word(words).0),
         None => None,
-    }
-}
-
-fn awaited(next: Option<&str>) -> &'static [Kind] {
-    match next {
-        None => &[],
-        Some("record") => &[Kind::Any],
-        Some("text") => &[Kind::Any, Kind::SomeText],
-        Some("at") => &[Kind::Any, ROW, COLUMN, Kind::SomeText],
-        Some("quiet") => &[Kind::Any, HOUR],
-        Some(_) => &[Kind::Unknown],
-    }
-}
-
-fn answer_awaited(next: Option<&str>) -> &'static [Kind] {
-    match next {
-        None => &[],
-        Some("answer") => &[Kind::Any],
-        Some(_) => &[Kind::Key],
     }
 }
 
@@ -143,8 +106,8 @@ fn command(next: Option<&str>) -> &'static [Kind] {
 
 fn head(next: Option<&str>) -> &'static [Kind] {
     match next {
-        Some("opcode") | None => &[Kind::Any, Kind::AnyOpcode],
-        Some("flags") => &[Kind::Any, PAIR, Kind::OpcodeWord, Kind::AnyOpcode],
+        Some("opcode") | None => &[Kind::Any, Kind::Opcode],
+        Some("flags") => &[Kind::Any, PAIR, Kind::OpcodeWord, Kind::Opcode],
         Some(_) => &[Kind::Unknown],
     }
 }

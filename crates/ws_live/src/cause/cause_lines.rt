@@ -1,64 +1,54 @@
-//! Why a line of a text is bad, by its number.
-ghost use Rattle.std.specs.Prelude.{◌≡◌, ◌∷◌, ◌-◌, List, ℕ, drop, MatchOption, [], IfSome, Some};
+//! Why a line of items or of elements as text is bad, by its number.
+ghost use Rattle.std.specs.Prelude.{◌≡◌, ◌∷◌, ◌-◌, List, ℕ, drop, IfSome};
 ghost use Rattle.std.specs.Str.Lines.{lines};
-ghost use Rattle.ws_live.specs.cause.Causes.{IsCauseAt};
-ghost use Rattle.ws_live.specs.cause.Causes as Spec;
+ghost use Rattle.ws_live.specs.LineCauses.{IsCauseAt};
+ghost use Rattle.ws_live.specs.cause.Causes.{IsCause, IsItemsCause};
+ghost use Rattle.ws_live.specs.declared.cause.vocabulary.Vocabulary.{Vocabulary as AVocabulary};
 
 use crate::asked::sender::Sender;
-use crate::cause::Cause;
-use crate::cause::cause_words::first_word;
 use crate::cause::causes::cause_of;
 use crate::cause::vocabulary::Vocabulary;
+use crate::line_cause::Cause;
+use crate::line_words::first_word;
 use crate::live::live_line::is_indented;
 use std::str;
 use ws_text::first_line;
 
-/// Why the line of this number, counted from 1, of a text is bad: of a line of this kind, or of a unit of a record.
-pub fn cause_at<'a>(text: &'a [u8], number: u64, vocabulary: Vocabulary) -> Cause<'a>
-    ensures { IsCauseAt vocabulary (lines text.now) number result }
+/// Why the line of this number, counted from 1, of items as text is bad.
+pub fn cause_at<'a>(text: &'a [u8], number: u64, sender: Sender) -> Cause<'a>
+    ensures { IsCauseAt (IsItemsCause sender) (lines text.now) number result }
 {
     let Some(line) = line_at(text, number) else {
         return Cause::Other;
     };
     if !is_indented(line) {
-        return cause_of(line, vocabulary, false);
+        return cause_of(line, Vocabulary::Items(sender), false);
     }
     let before = Standing {
         is_inside: false,
         has_command: false,
     };
-    let standing = standing_at(before, text, number, vocabulary);
-    match units_of(vocabulary) {
-        Some(units) if standing.is_inside || is_items(vocabulary) => {
-            cause_of(line, units, is_early(standing, line))
-        }
-        _ => cause_of(line, vocabulary, false),
-    }
+    let standing = standing_at(before, text, number);
+    cause_of(line, Vocabulary::Elements(sender), is_early(standing, line))
 }
 
-/// The same where these lines belong to this one, which begins a record or stands alone. Its number is 1.
-pub fn cause_in_block<'a>(
-    line: &'a [u8],
-    inside: &'a [u8],
-    number: u64,
-    vocabulary: Vocabulary,
-) -> Cause<'a>
-    ensures { IsCauseAt vocabulary (line.now ∷ lines inside.now) number result }
+/// Why the line of this number, counted from 1, is bad of a line that sends a record and the elements behind it.
+pub fn cause_in_block<'a>(line: &[u8], inside: &'a [u8], number: u64, sender: Sender) -> Cause<'a>
+    ensures { IsCauseAt (IsCause (AVocabulary.Elements sender)) (line.now ∷ lines inside.now) number
+        result }
 {
     if number < 2 {
-        return cause_of(line, vocabulary, false);
+        return Cause::Other;
     }
-    match (units_of(vocabulary), line_at(inside, number - 1)) {
-        (Some(units), Some(unit)) => {
-            let before = Standing {
-                is_inside: true,
-                has_command: false,
-            };
-            let standing = standing_at(before, inside, number - 1, vocabulary);
-            cause_of(unit, units, is_early(standing, unit))
-        }
-        _ => Cause::Other,
-    }
+    let Some(unit) = line_at(inside, number - 1) else {
+        return Cause::Other;
+    };
+    let before = Standing {
+        is_inside: true,
+        has_command: false,
+    };
+    let standing = standing_at(before, inside, number - 1);
+    cause_of(unit, Vocabulary::Elements(sender), is_early(standing, unit))
 }
 
 // The line of this number.
@@ -88,7 +78,7 @@ struct Standing {
 }
 
 // What stands before the line of this number of a text, behind this.
-fn standing_at(before: Standing, text: &[u8], number: u64, vocabulary: Vocabulary) -> Standing {
+fn standing_at(before: Standing, text: &[u8], number: u64) -> Standing {
     let mut standing = before;
     let mut rest = text;
     for _ in 1..number {
@@ -96,39 +86,33 @@ fn standing_at(before: Standing, text: &[u8], number: u64, vocabulary: Vocabular
             return standing;
         }
         let (line, behind) = first_line(rest);
-        standing = behind_line(standing, line, vocabulary);
+        standing = behind_line(standing, line);
         rest = behind;
     }
     standing
 }
 
-fn behind_line(standing: Standing, line: &[u8], vocabulary: Vocabulary) -> Standing {
+fn behind_line(standing: Standing, line: &[u8]) -> Standing {
     if is_indented(line) {
         return Standing {
             is_inside: standing.is_inside,
             has_command: standing.has_command || is_command(unit_name(line)),
         };
     }
-    if is_items(vocabulary) && matches!(line, [] | [b'#', ..]) {
+    if matches!(line, [] | [b'#', ..]) {
         return standing;
     }
     Standing {
-        is_inside: has_units(line, vocabulary),
+        is_inside: begins_record(line),
         has_command: false,
     }
 }
 
-// Whether units may belong to the line.
-fn has_units(line: &[u8], vocabulary: Vocabulary) -> bool {
-    let Ok(text) = str::from_utf8(line) else {
-        return false;
-    };
-    if is_items(vocabulary) {
-        return behind_place(text).starts_with("record ");
-    }
-    match text.strip_prefix("send ") {
-        Some(words) => !words.contains(' '),
-        None => false,
+// Whether the line begins a record.
+fn begins_record(line: &[u8]) -> bool {
+    match str::from_utf8(line) {
+        Ok(text) => behind_place(text).starts_with("record "),
+        Err(_) => false,
     }
 }
 
@@ -176,20 +160,4 @@ fn is_command(name: &str) -> bool {
             | "IMMEDIATE"
             | "QUERY-REPLY"
     )
-}
-
-fn is_items(vocabulary: Vocabulary) -> bool {
-    matches!(vocabulary, Vocabulary::Items(_))
-}
-
-// The units of a record in lines of this kind.
-fn units_of(vocabulary: Vocabulary) -> Option<Vocabulary>
-    ensures { result ≡ Spec.units_of vocabulary }
-{
-    match vocabulary {
-        Vocabulary::Host => Some(Vocabulary::Elements(Sender::Host)),
-        Vocabulary::AnyHost => Some(Vocabulary::Elements(Sender::ExtendedHost)),
-        Vocabulary::Items(sender) => Some(Vocabulary::Elements(sender)),
-        Vocabulary::Station | Vocabulary::ExtendedStation | Vocabulary::Elements(_) => None,
-    }
 }

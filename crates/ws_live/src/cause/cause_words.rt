@@ -1,58 +1,37 @@
-//! What is wrong with the words of a line.
-ghost use Rattle.std.specs.Prelude.{◌≡◌, ◌++◌, ◌∷◌, [], List, ℕ, true, None};
-ghost use Rattle.std.specs.Prelude.{IfSome, MatchOption, MatchResult};
-ghost use Rattle.std.specs.List.{list_all};
-ghost use Rattle.std.specs.Char.{is_ascii_hexdigit};
+//! What is wrong with the words of an item's or a unit's line.
+ghost use Rattle.std.specs.Prelude.{◌≡◌, ◌∷◌, List, ℕ, Bool, None};
+ghost use Rattle.std.specs.Prelude.{IfErr, IfOk, IfSome};
 ghost use Rattle.ws_code.specs.Ebcdic.{byte_of};
-ghost use Rattle.ws_live.specs.script.ScriptFaults.{has_no_blank};
-ghost use Rattle.ws_live.specs.cause.Causes.{EndsWith, IsLeft, IsTrueOf, StandsIn, has_key, is_hex_text};
-ghost use Rattle.ws_live.specs.declared.cause.vocabulary.Vocabulary.{Vocabulary as AVocabulary};
+ghost use Rattle.ws_live.specs.LineCauses.{EndsWith, IsLeft, IsTrueOf, TrueBehind, TrueOfWord};
 
-use crate::cause::Cause;
 use crate::cause::cause_kinds::Kind;
-use crate::cause::vocabulary::Vocabulary;
-use crate::script::key_name::aid_named;
-use crate::script::named_key::NamedKey;
+use crate::line_cause::Cause;
+use crate::line_words::{
+    first_word, has_digits_alone, is_hex, left_over, no_word, wrong_number, wrong_word,
+};
 use ws_code::ebcdic;
-use ws_extended_station::ExtendedKey;
-use ws_keys::Key;
 use ws_record::Opcode;
 use ws_text::read_number;
 
-/// The word before the first blank, and what stands behind it, where there is one.
-pub fn first_word(text: &str) -> (&str, Option<&str>)
-    ensures no_blank { has_no_blank result.0.now ≡ true }
-    ensures split { MatchOption result.1 (text.now ≡ result.0.now)
-        (λ behind. text.now ≡ result.0.now ++ (32 ∷ behind.now)) }
+/// What is wrong with words that are to be of these kinds.
+pub fn unlike<'a>(words: &'a str, kinds: &[Kind]) -> Cause<'a>
+    ensures { TrueBehind words.now result }
 {
-    match split_word(text) {
-        Some((word, behind)) => (word, Some(behind)),
-        None => (text, None),
+    match wrong_words(kinds, "", Some(words)) {
+        Some(cause) => cause,
+        None => Cause::Other,
     }
 }
 
-fn split_word(text: &str) -> Option<(&str, &str)>
-    ensures { MatchOption result (has_no_blank text.now ≡ true)
-        (λ parts. (text.now ≡ parts.0.now ++ (32 ∷ parts.1.now))
-        × (has_no_blank parts.0.now ≡ true)) }
-{
-    text.split_once(' ')
-}
-
 /// What is wrong with the words behind this one, where something is: they are to be of these kinds.
-pub fn wrong_words<'a>(
-    vocabulary: Vocabulary,
-    kinds: &[Kind],
-    first: &'a str,
-    behind: Option<&'a str>,
-) -> Option<Cause<'a>>
-    ensures { (line : List ℕ) → IsLeft line first.now behind.entry
-        → IfSome result (IsTrueOf vocabulary line) }
+pub fn wrong_words<'a>(kinds: &[Kind], first: &'a str, behind: Option<&'a str>) -> Option<Cause<'a>>
+    ensures { (keys : List ℕ → Bool) (line : List ℕ) → IsLeft line first.now behind.entry
+        → IfSome result (IsTrueOf keys line) }
 {
     let mut last = first;
     let mut rest = behind;
     for kind in kinds {
-        match wrong_next(vocabulary, *kind, last, rest) {
+        match wrong_next(*kind, last, rest) {
             Ok((word, more)) => {
                 last = word;
                 rest = more;
@@ -60,20 +39,23 @@ pub fn wrong_words<'a>(
             Err(found) => return found,
         }
     }
-    left_over(rest)
+    match rest {
+        Some(words) => Some(left_over(words)),
+        None => None,
+    }
 }
 
 // The next word where it is of this kind, and what stands behind it; otherwise what is wrong with it, or nothing where
 // no more words are to be looked at.
 fn wrong_next<'a>(
-    vocabulary: Vocabulary,
     kind: Kind,
     last: &'a str,
     rest: Option<&'a str>,
 ) -> Result<(&'a str, Option<&'a str>), Option<Cause<'a>>>
-    ensures { (line : List ℕ) → IsLeft line last.now rest.entry
-        → MatchResult result (λ next. IsLeft line next.0.now next.1)
-        (λ found. IfSome found (IsTrueOf vocabulary line)) }
+    ensures next { IfOk result (λ next. (line : List ℕ) → IsLeft line last.now rest.entry
+        → IsLeft line next.0.now next.1) }
+    ensures found { IfErr result (λ found. (keys : List ℕ → Bool) (line : List ℕ)
+        → IsLeft line last.now rest.entry → IfSome found (IsTrueOf keys line)) }
 {
     let Some(words) = rest else {
         return Err(at_end(kind, last));
@@ -81,8 +63,8 @@ fn wrong_next<'a>(
     match kind {
         Kind::End => Ok((last, rest)),
         Kind::AnyText => Err(None),
-        Kind::SomeText | Kind::Coded => Err(wrong_text(kind, words)),
-        _ => word_at(vocabulary, kind, words),
+        Kind::Coded => Err(wrong_text(words)),
+        _ => word_at(kind, words),
     }
 }
 
@@ -96,22 +78,16 @@ fn at_end<'a>(kind: Kind, last: &'a str) -> Option<Cause<'a>>
     }
 }
 
-// What is wrong with a text.
-fn wrong_text<'a>(kind: Kind, text: &str) -> Option<Cause<'a>>
-    ensures { (vocabulary : AVocabulary) (line : List ℕ) → EndsWith line (32 ∷ text.now)
-        → IfSome result (IsTrueOf vocabulary line) }
+// What is wrong with a text: its first character that code page 037 has no byte for.
+fn wrong_text<'a>(text: &str) -> Option<Cause<'a>>
+    ensures { (keys : List ℕ → Bool) (line : List ℕ) → IfSome result (IsTrueOf keys line) }
 {
-    match kind {
-        Kind::Coded => match uncoded(text) {
-            Some(character) => Some(Cause::NoByte(character)),
-            None => None,
-        },
-        _ if text.is_empty() => Some(Cause::BlankAtEnd),
-        _ => None,
+    match uncoded(text) {
+        Some(character) => Some(Cause::NoByte(character)),
+        None => None,
     }
 }
 
-// The first character that code page 037 has no byte for.
 fn uncoded(text: &str) -> Option<char>
     ensures { IfSome result (λ character. byte_of character ≡ None) }
 {
@@ -124,165 +100,61 @@ fn uncoded(text: &str) -> Option<char>
 }
 
 // The first word of these.
-fn word_at<'a>(
-    vocabulary: Vocabulary,
-    kind: Kind,
-    words: &'a str,
-) -> Result<(&'a str, Option<&'a str>), Option<Cause<'a>>>
-    ensures { (line : List ℕ) → EndsWith line (32 ∷ words.now)
-        → MatchResult result (λ next. IsLeft line next.0.now next.1)
-        (λ found. IfSome found (IsTrueOf vocabulary line)) }
+fn word_at<'a>(kind: Kind, words: &'a str) -> Result<(&'a str, Option<&'a str>), Option<Cause<'a>>>
+    ensures next { IfOk result (λ next. (line : List ℕ) → EndsWith line (32 ∷ words.now)
+        → IsLeft line next.0.now next.1) }
+    ensures found { IfErr result (λ found. IfSome found (TrueBehind words.now)) }
 {
     let (word, behind) = first_word(words);
     if word.is_empty() {
         return Err(Some(no_word(behind)));
     }
-    match wrong_word(vocabulary, kind, word) {
-        Some(cause) => Err(Some(or_tab(word, cause))),
+    match misfit(kind, word) {
+        Some(cause) => Err(Some(wrong_word(word, behind, cause))),
         None => Ok((word, behind)),
     }
 }
 
-// A tab in a word, or otherwise this cause.
-fn or_tab<'a>(word: &str, cause: Cause<'a>) -> Cause<'a>
-    ensures { (vocabulary : AVocabulary) (line : List ℕ) → StandsIn line word.now
-        → IsTrueOf vocabulary line cause.entry → IsTrueOf vocabulary line result }
-{
-    if has_tab(word) { Cause::Tab } else { cause }
-}
-
-/// Whether a tab stands in a word.
-pub fn has_tab(word: &str) -> bool
-    ensures { result ≡ true → StandsIn word.now (9 ∷ []) }
-{
-    match word.split_once('\t') {
-        Some(_) => true,
-        None => false,
-    }
-}
-
-// What is wrong where no word stands before this.
-fn no_word<'a>(behind: Option<&str>) -> Cause<'a>
-    ensures { (vocabulary : AVocabulary) (line words : List ℕ) → EndsWith line (32 ∷ words)
-        → MatchOption behind.entry (words ≡ []) (λ rest. words ≡ 32 ∷ rest.now)
-        → IsTrueOf vocabulary line result }
-{
-    match behind {
-        Some(_) => Cause::TwoBlanks,
-        None => Cause::BlankAtEnd,
-    }
-}
-
-// What is wrong where words are left.
-fn left_over<'a>(rest: Option<&'a str>) -> Option<Cause<'a>>
-    ensures { (vocabulary : AVocabulary) (line : List ℕ)
-        → IfSome rest.entry (λ words. EndsWith line (32 ∷ words.now))
-        → IfSome result (IsTrueOf vocabulary line) }
-{
-    let Some(words) = rest else {
-        return None;
-    };
-    let (word, behind) = first_word(words);
-    if word.is_empty() {
-        return Some(no_word(behind));
-    }
-    Some(Cause::TooMany(word))
-}
-
 // What is wrong with a word that is to be of this kind.
-fn wrong_word<'a>(vocabulary: Vocabulary, kind: Kind, word: &'a str) -> Option<Cause<'a>>
-    ensures { (line : List ℕ) → StandsIn line word.now → IfSome result (IsTrueOf vocabulary line) }
+fn misfit<'a>(kind: Kind, word: &'a str) -> Option<Cause<'a>>
+    ensures { IfSome result (TrueOfWord word.now) }
 {
     match kind {
         Kind::Number(least, most) => wrong_number(word, least, most),
-        Kind::Opcode => wrong_opcode(word, true),
-        Kind::AnyOpcode => wrong_opcode(word, false),
+        Kind::Opcode => wrong_opcode(word),
         Kind::Digits(digits) => wrong_digits(word, digits),
-        Kind::Hex => wrong_hex(word),
-        Kind::Key if !is_key(vocabulary, word) => Some(Cause::UnknownKey(word)),
+        Kind::Hex if !is_hex(word) => Some(Cause::NoHex(word)),
         Kind::Unknown => Some(Cause::Unexpected(word)),
         Kind::OpcodeWord if word != "opcode" => Some(Cause::Unexpected(word)),
         _ => None,
     }
 }
 
-fn wrong_number<'a>(word: &'a str, least: u32, most: u32) -> Option<Cause<'a>>
-    ensures { (vocabulary : AVocabulary) (line : List ℕ) → StandsIn line word.now
-        → IfSome result (IsTrueOf vocabulary line) }
-{
-    let Some(number) = read_number(word) else {
-        return Some(Cause::NoNumber(word));
-    };
-    if least <= number && number <= most {
-        return None;
-    }
-    Some(Cause::OutOfRange { word, least, most })
-}
-
-fn wrong_opcode<'a>(word: &'a str, is_sent: bool) -> Option<Cause<'a>>
-    ensures { (vocabulary : AVocabulary) (line : List ℕ) → StandsIn line word.now
-        → IfSome result (IsTrueOf vocabulary line) }
+fn wrong_opcode<'a>(word: &'a str) -> Option<Cause<'a>>
+    ensures { IfSome result (TrueOfWord word.now) }
 {
     match wrong_number(word, 0, 255) {
         Some(cause) => Some(cause),
-        None => match opcode_of(word) {
-            None => Some(Cause::Unexpected(word)),
-            Some(Opcode::CancelInvite) if is_sent => Some(Cause::Unexpected(word)),
-            Some(_) => None,
-        },
+        None if is_opcode(word) => None,
+        None => Some(Cause::Unexpected(word)),
     }
 }
 
-fn opcode_of(word: &str) -> Option<Opcode> {
-    match u8::try_from(read_number(word)?) {
-        Ok(byte) => Opcode::from_byte(byte),
-        Err(_) => None,
+fn is_opcode(word: &str) -> bool {
+    match read_number(word) {
+        Some(number) if number < 256 => Opcode::from_byte(number as u8).is_some(),
+        _ => false,
     }
 }
 
 fn wrong_digits<'a>(word: &'a str, digits: u32) -> Option<Cause<'a>>
-    ensures { (vocabulary : AVocabulary) (line : List ℕ) → StandsIn line word.now
-        → IfSome result (IsTrueOf vocabulary line) }
+    ensures { IfSome result (TrueOfWord word.now) }
 {
     if !has_digits_alone(word) {
-        return wrong_hex(word);
+        return Some(Cause::NoHex(word));
     }
     if word.len() != digits as usize {
         return Some(Cause::OtherLength { word, digits });
     }
     None
-}
-
-fn wrong_hex<'a>(word: &'a str) -> Option<Cause<'a>>
-    ensures { (vocabulary : AVocabulary) (line : List ℕ) → StandsIn line word.now
-        → IfSome result (IsTrueOf vocabulary line) }
-{
-    if is_hex(word) {
-        None
-    } else {
-        Some(Cause::NoHex(word))
-    }
-}
-
-fn is_hex(word: &str) -> bool
-    ensures { result ≡ is_hex_text word.now }
-{
-    has_digits_alone(word) && word.len() % 2 == 0
-}
-
-fn has_digits_alone(word: &str) -> bool
-    ensures { result ≡ list_all is_ascii_hexdigit word.now }
-{
-    word.as_bytes().iter().all(|byte| byte.is_ascii_hexdigit())
-}
-
-// Whether a key has this name where such a line names one.
-fn is_key(vocabulary: Vocabulary, name: &str) -> bool
-    ensures { result ≡ has_key vocabulary name.now }
-{
-    match vocabulary {
-        Vocabulary::Station => <Key as NamedKey>::named(name).is_some(),
-        Vocabulary::ExtendedStation => <ExtendedKey as NamedKey>::named(name).is_some(),
-        _ => aid_named(name).is_some(),
-    }
 }

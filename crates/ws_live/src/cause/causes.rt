@@ -1,15 +1,17 @@
-//! Why a line of a script, or of items as text, is bad.
+//! Why a line of items or of elements as text is bad.
 ghost use Rattle.std.specs.Prelude.{◌≡◌, ◌++◌, ◌∷◌, [], List, ℕ, true, None, IfSome, MatchOption};
 ghost use Rattle.std.specs.Option.{is_some};
-ghost use Rattle.ws_live.specs.cause.Causes.{HasFirst, IsCause, IsTextOf, StandsIn, front_of};
+ghost use Rattle.ws_live.specs.LineCauses.{StandsIn};
+ghost use Rattle.ws_live.specs.cause.Causes.{HasFirst, IsCause, IsTextOf, front_of};
 ghost use Rattle.ws_live.specs.cause.Vocabularies.{vocabulary_words};
 ghost use Rattle.ws_live.specs.declared.cause.vocabulary.Vocabulary.{Vocabulary as AVocabulary};
 ghost use Rattle.ws_text.specs.Names.{look_up};
 
-use crate::cause::Cause;
 use crate::cause::cause_kinds::kinds_of;
-use crate::cause::cause_words::{first_word, has_tab, wrong_words};
+use crate::cause::cause_words::wrong_words;
 use crate::cause::vocabulary::{Vocabulary, shape_of};
+use crate::line_cause::Cause;
+use crate::line_words::{first_word, has_tab};
 use std::str;
 
 /// Why this line of this kind, which is bad, is bad. A unit is early where it stands before the record or the command
@@ -20,25 +22,9 @@ pub fn cause_of<'a>(line: &'a [u8], vocabulary: Vocabulary, is_early: bool) -> C
     let Ok(text) = str::from_utf8(line) else {
         return Cause::NotUtf8;
     };
-    if is_apart(vocabulary, text) {
-        return Cause::Apart;
-    }
     match behind_front(vocabulary, text) {
         Some(words) => cause_in(words, vocabulary, is_early),
         None => Cause::Other,
-    }
-}
-
-// Whether a line that is no unit begins with two blanks.
-fn is_apart(vocabulary: Vocabulary, text: &str) -> bool
-    ensures { result ≡ true → (rest : List ℕ) × (text.now ≡ 32 ∷ (32 ∷ rest)) }
-{
-    match vocabulary {
-        Vocabulary::Elements(_) => false,
-        _ => match text.strip_prefix("  ") {
-            Some(_) => true,
-            None => false,
-        },
     }
 }
 
@@ -48,10 +34,6 @@ fn behind_front(vocabulary: Vocabulary, text: &str) -> Option<&str>
 {
     match vocabulary {
         Vocabulary::Elements(_) => text.strip_prefix("  "),
-        Vocabulary::Station => Some(text),
-        Vocabulary::ExtendedStation => Some(text),
-        Vocabulary::Host => Some(text),
-        Vocabulary::AnyHost => Some(text),
         Vocabulary::Items(_) => Some(text),
     }
 }
@@ -68,7 +50,7 @@ fn cause_in<'a>(text: &'a str, vocabulary: Vocabulary, is_early: bool) -> Cause<
     let Some(shape) = shape_of(vocabulary, first) else {
         return unknown(first);
     };
-    match wrong_words(vocabulary, kinds_of(shape, rest), first, rest) {
+    match wrong_words(kinds_of(shape, rest), first, rest) {
         Some(cause) => cause,
         None => well_worded(first, is_early),
     }

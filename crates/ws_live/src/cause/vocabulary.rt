@@ -1,4 +1,4 @@
-//! The words that lines of a script begin with, and of what kind the words behind each are.
+//! The words that lines of items and of elements as text begin with, and of what kind the words behind each are.
 ghost use Rattle.std.specs.Prelude.{◌≡◌, ◌∷◌, [], codes};
 ghost use Rattle.ws_live.specs.cause.Vocabularies as Spec;
 ghost use Rattle.ws_live.specs.cause.Vocabularies.{Words};
@@ -9,14 +9,6 @@ use crate::asked::sender::Sender;
 /// The kinds of lines of which some are bad.
 #[derive(Clone, Copy, Debug, PartialEq, Eq)]
 pub enum Vocabulary {
-    /// Of a script of `connect`.
-    Station,
-    /// Of one with `--extended`.
-    ExtendedStation,
-    /// Of a script of `serve`.
-    Host,
-    /// Of one with `--any`.
-    AnyHost,
     /// Items of a sender as text.
     Items(Sender),
     /// Units of a record of that sender, behind two blanks each.
@@ -28,30 +20,11 @@ pub enum Vocabulary {
 pub enum Shape {
     /// There are none.
     Alone,
-    AnyText,
-    AKey,
     /// A row and a column.
     Cell,
-    /// The number of a field, and a text.
-    Filling,
-    Row,
-    /// None, or a cell and a length.
-    Shown,
-    /// What a station waits for.
-    Awaited,
-    /// An opcode of the profile, and hex or none.
-    Sent,
-    /// Any opcode, and hex or none.
-    SentAny,
-    /// What a host waits for.
-    AnswerAwaited,
-    /// What a host that takes any record waits for.
-    KeyAwaited,
     Bytes,
     /// A Telnet command.
     Command,
-    /// Milliseconds.
-    Pause,
     /// Two bytes.
     Controls,
     /// Hex, or none.
@@ -75,67 +48,8 @@ pub fn shape_of(vocabulary: Vocabulary, word: &str) -> Option<Shape>
     ensures { result ≡ look_up word.now (Spec.vocabulary_words vocabulary) }
 {
     match vocabulary {
-        Vocabulary::Station | Vocabulary::ExtendedStation => of_station(word),
-        Vocabulary::Host => of_host(word),
-        Vocabulary::AnyHost => of_any_host(word),
         Vocabulary::Items(_) => of_item(word),
         Vocabulary::Elements(sender) => of_unit(sender, word),
-    }
-}
-
-fn of_station(word: &str) -> Option<Shape>
-    ensures { result ≡ look_up word.now Spec.station_words }
-{
-    match word {
-        "type" => Some(Shape::AnyText),
-        "insert" => Some(Shape::AnyText),
-        "key" => Some(Shape::AKey),
-        "cursor" => Some(Shape::Cell),
-        "field" => Some(Shape::Filling),
-        "erase" => Some(Shape::Alone),
-        "newline" => Some(Shape::Alone),
-        "await" => Some(Shape::Awaited),
-        "show" => Some(Shape::Shown),
-        "fields" => Some(Shape::Alone),
-        "cells" => Some(Shape::Row),
-        "status" => Some(Shape::Alone),
-        "note" => Some(Shape::AnyText),
-        _ => None,
-    }
-}
-
-fn of_host(word: &str) -> Option<Shape>
-    ensures { result ≡ look_up word.now Spec.host_words }
-{
-    match word {
-        "send" => Some(Shape::Sent),
-        "cancel" => Some(Shape::Alone),
-        "await" => Some(Shape::AnswerAwaited),
-        "show" => Some(Shape::Alone),
-        _ => of_both_hosts(word),
-    }
-}
-
-fn of_any_host(word: &str) -> Option<Shape>
-    ensures { result ≡ look_up word.now Spec.any_words }
-{
-    match word {
-        "send" => Some(Shape::SentAny),
-        "await" => Some(Shape::KeyAwaited),
-        _ => of_both_hosts(word),
-    }
-}
-
-fn of_both_hosts(word: &str) -> Option<Shape>
-    ensures { result ≡ look_up word.now Spec.both_hosts }
-{
-    match word {
-        "raw" => Some(Shape::Bytes),
-        "telnet" => Some(Shape::Command),
-        "pause" => Some(Shape::Pause),
-        "close" => Some(Shape::Alone),
-        "end" => Some(Shape::Alone),
-        _ => None,
     }
 }
 

@@ -1,19 +1,24 @@
-ghost use Rattle.std.specs.Prelude.{◌≡◌, ◌≢◌, ◌++◌, [], ◌<◌, ℕ, List as Seq, true, length, codes, string_bytes};
-ghost use Rattle.std.specs.Prelude.{IfOk, IfErr, MatchOption};
+ghost use Rattle.std.specs.Prelude.{◌≡◌, ◌≢◌, ◌++◌, [], ◌<◌, ℕ, List as Seq, true, length, codes};
+ghost use Rattle.std.specs.Prelude.{string_bytes, IfOk, IfErr, MatchOption};
+ghost use Rattle.ws_live.specs.LineCauses.{IsCauseOf, IsNoneOf, IsFaultOfWords, TrueBehind};
 ghost use Rattle.ws_live.specs.live.ConnectLines as Spec;
 ghost use Rattle.ws_live.specs.live.ConnectLines.{IsStationLine, IsStationSoFar, station_language};
-ghost use Rattle.ws_live.specs.script.ScriptFaults.{IsLineFault, IsNoComment, has_no_blank};
+ghost use Rattle.ws_live.specs.script.ScriptFaults.{IsNoComment, has_no_blank};
 
-use crate::live::live_line::LiveLine;
+use crate::cause::cause_kinds::{COLUMN, Kind, ROW};
+use crate::cause::cause_words::unlike;
+use crate::line_cause::Cause;
+use crate::line_words::{
+    First, WordFault, first_word, left_behind, misplaced, missing_behind, wrong_word,
+};
+use crate::live::live_line::{LiveFault, LiveLine, line_fault};
 use crate::live::report::Report;
 use crate::live::report_words::{read_note, read_placed, read_row, read_span};
 use crate::live::stroke::Stroke;
 use crate::live::stroke_words::{read_cell, read_filling};
 use crate::live::wire_words::read_milliseconds;
-use crate::script::ScriptFault;
 use crate::script::key_line::{named_key, typed_keys};
 use crate::script::named_key::NamedKey;
-use crate::script::script_line::LineFault;
 use crate::script::script_move::split_word;
 use std::alloc::Global;
 use std::str;
@@ -62,14 +67,13 @@ impl<Q: NamedKey> LiveLine for StationLine<Q> {
         false
     }
 
-    fn read(alloc: Global, line: &[u8], inside: &[u8]) -> Result<Self, ScriptFault> {
+    fn read<'a>(alloc: Global, line: &'a [u8], inside: &'a [u8]) -> Result<Self, LiveFault<'a>> {
         if !inside.is_empty() {
-            return Err(ScriptFault::Line(1));
+            return Err(LiveFault::Line(1, Cause::Other));
         }
         match read_line(alloc, line) {
             Ok(read) => Ok(read),
-            Err(LineFault::Bad) => Err(ScriptFault::Line(1)),
-            Err(LineFault::Memory) => Err(ScriptFault::Memory),
+            Err(fault) => Err(line_fault(fault)),
         }
     }
 
@@ -79,13 +83,16 @@ impl<Q: NamedKey> LiveLine for StationLine<Q> {
 }
 
 // A line without its line end.
-fn read_line<Q: NamedKey>(alloc: Global, line: &[u8]) -> Result<StationLine<Q>, LineFault>
+fn read_line<'a, Q: NamedKey>(
+    alloc: Global,
+    line: &'a [u8],
+) -> Result<StationLine<Q>, WordFault<'a>>
     ensures line { IfOk result (IsStationLine Q.words line.now) }
-    ensures fault { IfErr result (IsLineFault (IsStationLine Q.words line.now)
-        (IsStationSoFar Q.words line.now)) }
+    ensures fault { IfErr result (IsFaultOfWords (IsStationLine Q.words line.now)
+        (IsStationSoFar Q.words line.now) (IsCauseOf (Spec.station_names Q.words) line.now)) }
 {
     let Ok(text) = str::from_utf8(line) else {
-        return Err(LineFault::Bad);
+        return Err(WordFault::Bad(Cause::NotUtf8));
     };
     if text.is_empty() {
         return Ok(StationLine::Nothing);
@@ -100,14 +107,15 @@ fn read_line<Q: NamedKey>(alloc: Global, line: &[u8]) -> Result<StationLine<Q>, 
 }
 
 // A line that is one word.
-fn read_word<Q: NamedKey>(word: &str) -> Result<StationLine<Q>, LineFault>
+fn read_word<'a, Q: NamedKey>(word: &'a str) -> Result<StationLine<Q>, WordFault<'a>>
     // A word alone on its line.
     requires some { 0 < length word.now }
     requires no_blank { has_no_blank word.now ≡ true }
     requires no_comment { IsNoComment word.now }
     // What it means, or that it means nothing.
     ensures line { IfOk result (Spec.MeansStationLine Q.words word.now) }
-    ensures fault { IfErr result (IsLineFault (Spec.MeansStationLine Q.words word.now) ⊥) }
+    ensures fault { IfErr result (IsFaultOfWords (Spec.MeansStationLine Q.words word.now) ⊥
+        (IsCauseOf (Spec.station_names Q.words) word.now)) }
 {
     match word {
         "await" => Ok(StationLine::Await(Awaited::Turn)),
@@ -116,23 +124,35 @@ fn read_word<Q: NamedKey>(word: &str) -> Result<StationLine<Q>, LineFault>
         "fields" => Ok(StationLine::Fields),
         "show" => Ok(StationLine::Show),
         "status" => Ok(StationLine::Report(Report::Status)),
-        _ => Err(LineFault::Bad),
+        _ => Err(WordFault::Bad(misplaced(kind_of(word), word, None))),
+    }
+}
+
+// What may stand behind the first word of a line.
+fn kind_of(word: &str) -> First
+    ensures { result ≡ First.Unknown → IsNoneOf Spec.station_words word.now }
+{
+    match word {
+        "type" | "insert" | "key" | "cursor" | "field" | "cells" | "note" => First::Words,
+        "await" | "show" | "erase" | "newline" | "fields" | "status" => First::Alone,
+        _ => First::Unknown,
     }
 }
 
 // A command with words behind its blank.
-fn read_command<Q: NamedKey>(
+fn read_command<'a, Q: NamedKey>(
     alloc: Global,
-    command: &str,
-    words: &str,
-) -> Result<StationLine<Q>, LineFault>
+    command: &'a str,
+    words: &'a str,
+) -> Result<StationLine<Q>, WordFault<'a>>
     requires no_blank { has_no_blank command.now ≡ true }
     requires no_comment { IsNoComment (command.now ++ codes " " ++ words.now) }
     ensures line { IfOk result (Spec.MeansStationLine Q.words
         (command.now ++ codes " " ++ words.now)) }
     ensures fault { IfErr result
-        (IsLineFault (Spec.MeansStationLine Q.words (command.now ++ codes " " ++ words.now))
-        (Spec.IsCommandSoFar Q.words (command.now ++ codes " " ++ words.now))) }
+        (IsFaultOfWords (Spec.MeansStationLine Q.words (command.now ++ codes " " ++ words.now))
+        (Spec.IsCommandSoFar Q.words (command.now ++ codes " " ++ words.now))
+        (IsCauseOf (Spec.station_names Q.words) (command.now ++ codes " " ++ words.now))) }
 {
     match command {
         "type" => Ok(StationLine::Press(typed_keys(alloc, words, false)?)),
@@ -144,15 +164,18 @@ fn read_command<Q: NamedKey>(
         "cells" => Ok(StationLine::Report(Report::Cells(read_row(words)?))),
         "show" => Ok(StationLine::Report(Report::Text(read_span(words)?))),
         "note" => Ok(StationLine::Report(Report::Note(read_note(alloc, words)?))),
-        _ => Err(LineFault::Bad),
+        _ => {
+            let cause = misplaced(kind_of(command), command, Some(words));
+            Err(WordFault::Bad(cause))
+        }
     }
 }
 
 // What is waited for: a record, quiet, or a text of one character at least, anywhere or at a cell.
-fn read_awaited(alloc: Global, words: &str) -> Result<Awaited, LineFault>
+fn read_awaited<'a>(alloc: Global, words: &'a str) -> Result<Awaited, WordFault<'a>>
     ensures awaited { IfOk result (Spec.IsAwaited words.now) }
-    ensures fault { IfErr result (IsLineFault (Spec.IsAwaited words.now)
-        (Spec.IsTextAwaited words.now)) }
+    ensures fault { IfErr result (IsFaultOfWords (Spec.IsAwaited words.now)
+        (Spec.IsTextAwaited words.now) (TrueBehind words.now)) }
 {
     if words == "record" {
         return Ok(Awaited::Record);
@@ -167,17 +190,37 @@ fn read_awaited(alloc: Global, words: &str) -> Result<Awaited, LineFault>
 }
 
 // How long nothing is to have come.
-fn read_quiet(words: &str) -> Result<Awaited, LineFault>
+fn read_quiet<'a>(words: &'a str) -> Result<Awaited, WordFault<'a>>
     ensures awaited { IfOk result (Spec.IsQuietAwaited words.now) }
-    ensures fault { IfErr result (IsLineFault (Spec.IsQuietAwaited words.now) ⊥) }
+    ensures fault { IfErr result (IsFaultOfWords (Spec.IsQuietAwaited words.now) ⊥
+        (TrueBehind words.now)) }
 {
     match behind_quiet(words) {
         Some(word) => match read_milliseconds(word) {
             Ok(time) => Ok(Awaited::Quiet(time)),
             Err(fault) => Err(fault),
         },
-        None => Err(LineFault::Bad),
+        None => Err(WordFault::Bad(unawaited(words))),
     }
+}
+
+// What is wrong with words for which nothing is awaited.
+fn unawaited<'a>(words: &'a str) -> Cause<'a>
+    ensures { TrueBehind words.now result }
+{
+    let (word, behind) = first_word(words);
+    if word == "record" {
+        return left_behind(behind);
+    }
+    if awaits_words(word) {
+        return missing_behind(word, behind);
+    }
+    wrong_word(word, behind, Cause::Unexpected(word))
+}
+
+// Whether words are to stand behind this one, for something to be awaited.
+fn awaits_words(word: &str) -> bool {
+    matches!(word, "text" | "at" | "quiet")
 }
 
 // What stands behind `text `.
@@ -205,9 +248,10 @@ fn behind_quiet(words: &str) -> Option<&str>
 }
 
 // A text that is awaited anywhere.
-fn read_text_anywhere(alloc: Global, text: &str) -> Result<Awaited, LineFault>
+fn read_text_anywhere<'a>(alloc: Global, text: &'a str) -> Result<Awaited, WordFault<'a>>
     ensures awaited { IfOk result (Spec.IsTextAnywhere text.now) }
-    ensures fault { IfErr result (IsLineFault (Spec.IsTextAnywhere text.now) (text.now ≢ [])) }
+    ensures fault { IfErr result (IsFaultOfWords (Spec.IsTextAnywhere text.now) (text.now ≢ [])
+        (TrueBehind text.now)) }
 {
     match read_text(alloc, text) {
         Ok(text) => Ok(Awaited::Text(text)),
@@ -216,21 +260,22 @@ fn read_text_anywhere(alloc: Global, text: &str) -> Result<Awaited, LineFault>
 }
 
 // A text behind the row and the column of its first cell.
-fn read_placed_text(alloc: Global, words: &str) -> Result<Awaited, LineFault>
+fn read_placed_text<'a>(alloc: Global, words: &'a str) -> Result<Awaited, WordFault<'a>>
     ensures awaited { IfOk result (Spec.IsPlacedText words.now) }
-    ensures fault { IfErr result (IsLineFault (Spec.IsPlacedText words.now)
-        (Spec.IsTextPlaced words.now)) }
+    ensures fault { IfErr result (IsFaultOfWords (Spec.IsPlacedText words.now)
+        (Spec.IsTextPlaced words.now) (TrueBehind words.now)) }
 {
     match read_placed(words) {
-        Ok(placed) => read_text_at(alloc, placed.0, placed.1),
-        Err(fault) => Err(fault),
+        Some(placed) => read_text_at(alloc, placed.0, placed.1),
+        None => Err(WordFault::Bad(unlike(words, &[ROW, COLUMN, Kind::AnyText]))),
     }
 }
 
 // A text that is awaited at a cell.
-fn read_text_at(alloc: Global, cell: Address, text: &str) -> Result<Awaited, LineFault>
+fn read_text_at<'a>(alloc: Global, cell: Address, text: &'a str) -> Result<Awaited, WordFault<'a>>
     ensures awaited { IfOk result (Spec.IsTextAt cell text.now) }
-    ensures fault { IfErr result (IsLineFault (Spec.IsTextAt cell text.now) (text.now ≢ [])) }
+    ensures fault { IfErr result (IsFaultOfWords (Spec.IsTextAt cell text.now) (text.now ≢ [])
+        (TrueBehind text.now)) }
 {
     match read_text(alloc, text) {
         Ok(text) => Ok(Awaited::At(cell, text)),
@@ -239,15 +284,16 @@ fn read_text_at(alloc: Global, cell: Address, text: &str) -> Result<Awaited, Lin
 }
 
 // A text of one character at least.
-fn read_text(alloc: Global, text: &str) -> Result<String, LineFault>
+fn read_text<'a>(alloc: Global, text: &'a str) -> Result<String, WordFault<'a>>
     ensures text { IfOk result (λ read. Spec.IsSomeText text.now (string_bytes read)) }
-    ensures fault { IfErr result (IsLineFault (Spec.IsSomeText text.now) (text.now ≢ [])) }
+    ensures fault { IfErr result (IsFaultOfWords (Spec.IsSomeText text.now) (text.now ≢ [])
+        (TrueBehind text.now)) }
 {
     if text.is_empty() {
-        return Err(LineFault::Bad);
+        return Err(WordFault::Bad(Cause::BlankAtEnd));
     }
     match String::from_str(alloc, text) {
         Ok(text) => Ok(text),
-        Err(_) => Err(LineFault::Memory),
+        Err(_) => Err(WordFault::Memory),
     }
 }

@@ -4,9 +4,29 @@ ghost use Rattle.ws_live.specs.live.LiveScript as Spec;
 ghost use Rattle.ws_live.specs.live.LiveScript.{AreLiveLines, HasBlock, HasInside, IsBlockFault, IsReadingFault};
 ghost use Rattle.ws_live.specs.live.LiveScript.{LineLanguage, text_cut};
 
-use crate::script::ScriptFault;
+use crate::line_cause::Cause;
+use crate::line_words::WordFault;
 use std::alloc::Global;
 use ws_text::first_line;
+
+/// Why lines of a script for a live session aren't read.
+#[derive(Clone, Copy)]
+pub enum LiveFault<'a> {
+    /// This line, counted from 1, is the first bad one, for this cause.
+    Line(u64, Cause<'a>),
+    /// A growth was refused.
+    Memory,
+}
+
+/// The fault of a line by that of its words.
+pub fn line_fault<'a>(fault: WordFault<'a>) -> LiveFault<'a>
+    ensures { result ≡ Spec.line_fault fault.entry }
+{
+    match fault {
+        WordFault::Bad(cause) => LiveFault::Line(1, cause),
+        WordFault::Memory => LiveFault::Memory,
+    }
+}
 
 /// A line of a script for a live session, with the lines that belong to it.
 ///
@@ -23,10 +43,11 @@ pub trait LiveLine: Drop {
 
     /// Reads a line, without its line end, with the text of the lines that belong to it.
     ///
-    /// `Line` where they are no such lines of a script, with the number of the bad one, which is 1 for the line itself.
+    /// `Line` where they are no such lines of a script, with the number of the bad one, which is 1 for the line itself,
+    /// and with a cause that is true of it.
     /// `Memory` where a growth was refused: the line and those that belong to it are good; or none belongs to it, and
     /// what was read of it is good.
-    fn read(alloc: Global, line: &[u8], inside: &[u8]) -> Result<Self, ScriptFault>
+    fn read<'a>(alloc: Global, line: &'a [u8], inside: &'a [u8]) -> Result<Self, LiveFault<'a>>
         ensures line { IfOk result (language.means line.now (lines inside.now)) }
         ensures fault { IfErr result (IsBlockFault language line.now (lines inside.now)) };
 
@@ -37,9 +58,9 @@ pub trait LiveLine: Drop {
 
 /// The lines of a script, in order.
 ///
-/// `Line` where a line is bad, with the number of the first one. `Memory` where a growth was refused; what was read of
-/// the text is good.
-pub fn read_lines<L: LiveLine>(alloc: Global, text: &[u8]) -> Result<Vec<L>, ScriptFault>
+/// `Line` where a line is bad, with the number of the first one and its cause. `Memory` where a growth was refused; what
+/// was read of the text is good.
+pub fn read_lines<L: LiveLine>(alloc: Global, text: &[u8]) -> Result<Vec<L>, LiveFault<'_>>
     ensures lines { IfOk result (λ read. AreLiveLines L.language text.now read.items) }
     ensures fault { IfErr result (IsReadingFault L.language text.now) }
 {
@@ -52,13 +73,13 @@ pub fn read_lines<L: LiveLine>(alloc: Global, text: &[u8]) -> Result<Vec<L>, Scr
         match L::read(alloc, line, inside.text) {
             Ok(line) => {
                 if read.push(line).is_err() {
-                    return Err(ScriptFault::Memory);
+                    return Err(LiveFault::Memory);
                 }
             }
-            Err(ScriptFault::Line(at)) => {
-                return Err(ScriptFault::Line(number.saturating_add(at)));
+            Err(LiveFault::Line(at, cause)) => {
+                return Err(LiveFault::Line(number.saturating_add(at), cause));
             }
-            Err(ScriptFault::Memory) => return Err(ScriptFault::Memory),
+            Err(LiveFault::Memory) => return Err(LiveFault::Memory),
         }
         number += 1 + inside.count;
         rest = inside.behind;

@@ -4,20 +4,24 @@ ghost use Rattle.ws_live.specs.live.LiveScript.{IsBlockFault};
 ghost use Rattle.ws_live.specs.live.ServeLines.{IsHostLine, IsOneLine, OpensHostBlock, host_language};
 ghost use Rattle.ws_live.specs.live.ServeLines as Spec;
 ghost use Rattle.ws_live.specs.live.ServeLines.{IsAnswerAwaited};
-ghost use Rattle.ws_live.specs.script.ScriptFaults.{IsLineFault, IsNoComment, has_no_blank};
+ghost use Rattle.ws_live.specs.LineCauses.{IsCauseOf, IsNoneOf, IsFaultOfWords, KeyedBehind};
+ghost use Rattle.ws_live.specs.script.ScriptFaults.{IsNoComment, has_no_blank};
 
-use crate::live::live_line::LiveLine;
+use crate::asked::sender::Sender;
+use crate::cause::cause_lines::cause_in_block;
+use crate::line_cause::Cause;
+use crate::line_words::{First, WordFault, first_word, left_behind, misplaced, wrong_name};
+use crate::live::live_line::{LiveFault, LiveLine, line_fault};
 use crate::live::wire_line::WireLine;
 use crate::live::wire_words::read_wire;
-use crate::script::ScriptFault;
 use crate::script::key_name::aid_named;
-use crate::script::script_line::LineFault;
-use crate::script::script_move::{read_move, read_opcode, split_word};
+use crate::script::script_move::split_word;
+use crate::script::send_words::{read_opcode, read_send};
 use std::alloc::Global;
 use std::str;
-use ws_code::Aid;
+use ws_code::{Aid, List};
 use ws_record::Opcode;
-use ws_session::{Move, Order};
+use ws_session::Order;
 use ws_text::{TextFault, read_elements};
 
 /// The answer that a host waits for.
@@ -55,17 +59,21 @@ impl LiveLine for HostLine {
         sent_alone(line).is_some()
     }
 
-    fn read(alloc: Global, line: &[u8], inside: &[u8]) -> Result<Self, ScriptFault> {
+    fn read<'a>(alloc: Global, line: &'a [u8], inside: &'a [u8]) -> Result<Self, LiveFault<'a>> {
         if inside.is_empty() {
             return read_alone(alloc, line);
         }
         match sent_alone(line) {
             Some(opcode) => match read_elements(alloc, opcode, inside) {
                 Ok(body) => Ok(HostLine::Give(Order::Send(opcode, body))),
-                Err(TextFault::Line(at)) => Err(ScriptFault::Line(at.saturating_add(1))),
-                Err(TextFault::Memory) => Err(ScriptFault::Memory),
+                Err(TextFault::Line(at)) => {
+                    let told = at.saturating_add(1);
+                    let cause = cause_in_block(line, inside, told, Sender::Host);
+                    Err(LiveFault::Line(told, cause))
+                }
+                Err(TextFault::Memory) => Err(LiveFault::Memory),
             },
-            None => Err(ScriptFault::Line(1)),
+            None => Err(LiveFault::Line(1, Cause::Other)),
         }
     }
 
@@ -75,25 +83,24 @@ impl LiveLine for HostLine {
 }
 
 // A line that no other belongs to.
-fn read_alone(alloc: Global, line: &[u8]) -> Result<HostLine, ScriptFault>
+fn read_alone<'a>(alloc: Global, line: &'a [u8]) -> Result<HostLine, LiveFault<'a>>
     ensures line { IfOk result (IsHostLine line.now []) }
     ensures fault { IfErr result (IsBlockFault host_language line.now []) }
 {
     match read_line(alloc, line) {
         Ok(read) => Ok(read),
-        Err(LineFault::Bad) => Err(ScriptFault::Line(1)),
-        Err(LineFault::Memory) => Err(ScriptFault::Memory),
+        Err(fault) => Err(line_fault(fault)),
     }
 }
 
 // A line by itself.
-fn read_line(alloc: Global, line: &[u8]) -> Result<HostLine, LineFault>
+fn read_line<'a>(alloc: Global, line: &'a [u8]) -> Result<HostLine, WordFault<'a>>
     ensures line { IfOk result (IsOneLine line.now) }
-    ensures fault { IfErr result (IsLineFault (IsOneLine line.now)
-        (Spec.IsOneSoFar line.now)) }
+    ensures fault { IfErr result (IsFaultOfWords (IsOneLine line.now)
+        (Spec.IsOneSoFar line.now) (IsCauseOf Spec.host_names line.now)) }
 {
     let Ok(text) = str::from_utf8(line) else {
-        return Err(LineFault::Bad);
+        return Err(WordFault::Bad(Cause::NotUtf8));
     };
     if text.is_empty() {
         return Ok(HostLine::Nothing);
@@ -108,14 +115,15 @@ fn read_line(alloc: Global, line: &[u8]) -> Result<HostLine, LineFault>
 }
 
 // A line that is one word.
-fn read_word(word: &str) -> Result<HostLine, LineFault>
+fn read_word<'a>(word: &'a str) -> Result<HostLine, WordFault<'a>>
     // A word alone on its line.
     requires some { 0 < length word.now }
     requires no_blank { has_no_blank word.now ≡ true }
     requires no_comment { IsNoComment word.now }
     // What it means, or that it means nothing.
     ensures line { IfOk result (Spec.MeansHostLine word.now) }
-    ensures fault { IfErr result (IsLineFault (Spec.MeansHostLine word.now) ⊥) }
+    ensures fault { IfErr result (IsFaultOfWords (Spec.MeansHostLine word.now) ⊥
+        (IsCauseOf Spec.host_names word.now)) }
 {
     match word {
         "await" => Ok(HostLine::Await),
@@ -123,18 +131,29 @@ fn read_word(word: &str) -> Result<HostLine, LineFault>
         "close" => Ok(HostLine::Wire(WireLine::Close)),
         "end" => Ok(HostLine::Nothing),
         "show" => Ok(HostLine::Show),
-        _ => Err(LineFault::Bad),
+        _ => Err(WordFault::Bad(misplaced(kind_of(word), word, None))),
+    }
+}
+
+// What may stand behind the first word of a line.
+fn kind_of(word: &str) -> First
+    ensures { result ≡ First.Unknown → IsNoneOf Spec.host_names.words word.now }
+{
+    match word {
+        "send" | "raw" | "telnet" | "pause" => First::Words,
+        "await" | "cancel" | "close" | "end" | "show" => First::Alone,
+        _ => First::Unknown,
     }
 }
 
 // A command with words behind its blank: a record to be sent, as in a script of both ends, a wait for an answer, or what
 // is done at the connection.
-fn read_command(
+fn read_command<'a>(
     alloc: Global,
-    line: &str,
-    command: &str,
-    words: &str,
-) -> Result<HostLine, LineFault>
+    line: &'a str,
+    command: &'a str,
+    words: &'a str,
+) -> Result<HostLine, WordFault<'a>>
     // A line of a command and its words.
     requires is { line.now ≡ command.now ++ codes " " ++ words.now }
     requires no_blank { has_no_blank command.now ≡ true }
@@ -142,38 +161,53 @@ fn read_command(
     // What it means, or that it means nothing.
     ensures line { IfOk result (Spec.MeansHostLine (command.now ++ codes " " ++ words.now)) }
     ensures fault { IfErr result
-        (IsLineFault (Spec.MeansHostLine (command.now ++ codes " " ++ words.now))
-        (Spec.IsHostBegun (command.now ++ codes " " ++ words.now))) }
+        (IsFaultOfWords (Spec.MeansHostLine (command.now ++ codes " " ++ words.now))
+        (Spec.IsHostBegun (command.now ++ codes " " ++ words.now))
+        (IsCauseOf Spec.host_names (command.now ++ codes " " ++ words.now))) }
 {
     match command {
-        "send" => match read_move(alloc, command, words) {
-            Ok(Move::Send(opcode, body)) => Ok(HostLine::Give(Order::Send(opcode, body))),
-            Ok(_) => Err(LineFault::Bad),
+        "send" => match read_send(alloc, words) {
+            Ok((opcode, body)) => Ok(HostLine::Give(Order::Send(opcode, List::of(body)))),
             Err(fault) => Err(fault),
         },
         "await" => match read_awaited(words) {
             Ok(awaited) => Ok(HostLine::AwaitAnswer(awaited)),
             Err(fault) => Err(fault),
         },
-        _ => match read_wire(alloc, line) {
-            Ok(wire) => Ok(HostLine::Wire(wire)),
-            Err(fault) => Err(fault),
-        },
+        _ => {
+            let other = misplaced(kind_of(command), command, Some(words));
+            match read_wire(alloc, line, other) {
+                Ok(wire) => Ok(HostLine::Wire(wire)),
+                Err(fault) => Err(fault),
+            }
+        }
     }
 }
 
 // The answer that is awaited.
-fn read_awaited(words: &str) -> Result<AnswerAwaited, LineFault>
+fn read_awaited<'a>(words: &'a str) -> Result<AnswerAwaited, WordFault<'a>>
     ensures awaited { IfOk result (IsAnswerAwaited words.now) }
-    ensures fault { IfErr result (IsLineFault (IsAnswerAwaited words.now) ⊥) }
+    ensures fault { IfErr result (IsFaultOfWords (IsAnswerAwaited words.now) ⊥
+        (KeyedBehind Spec.host_names.keys words.now)) }
 {
     if words == "answer" {
         return Ok(AnswerAwaited::Any);
     }
     match aid_named(words) {
         Some(aid) => Ok(AnswerAwaited::By(aid)),
-        None => Err(LineFault::Bad),
+        None => Err(WordFault::Bad(unanswered(words))),
     }
+}
+
+// What is wrong with words that are for no answer.
+fn unanswered<'a>(words: &'a str) -> Cause<'a>
+    ensures { KeyedBehind Spec.host_names.keys words.now result }
+{
+    let (word, behind) = first_word(words);
+    if word == "answer" {
+        return left_behind(behind);
+    }
+    wrong_name(word, behind, aid_named(word).is_some())
 }
 
 // The opcode of a line that sends a record and says no more of it.

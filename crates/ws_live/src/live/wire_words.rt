@@ -4,10 +4,16 @@ ghost use Rattle.ws_record.specs.declared.record.Item.TheVariants.{Telnet as Tel
 ghost use Rattle.ws_telnet.specs.Token.{telnet_spelling};
 ghost use Rattle.ws_telnet.specs.declared.token.Telnet.{Telnet as ATelnet};
 ghost use Rattle.ws_live.specs.live.ConnectLines.{IsMilliseconds};
+ghost use Rattle.ws_live.specs.LineCauses.{IsTrueOr, IsFaultOfWords, TrueBehind};
 ghost use Rattle.ws_live.specs.script.ScriptFaults.{IsLineFault};
 ghost use Rattle.ws_live.specs.live.WireLines as Spec;
 ghost use Rattle.ws_text.specs.Words.{IsHex};
 
+use crate::cause::cause_kinds::{Kind, kinds_of};
+use crate::cause::cause_words::unlike;
+use crate::cause::vocabulary::Shape;
+use crate::line_cause::Cause;
+use crate::line_words::WordFault;
 use crate::live::wire_line::WireLine;
 use crate::script::script_line::LineFault;
 use hex::FromHexError;
@@ -18,11 +24,18 @@ use ws_record::{Item, encode};
 use ws_stream::{Commands, Element};
 use ws_text::{TextFault, read_items, read_number};
 
-/// A line that works on the connection itself.
-pub fn read_wire(alloc: Global, line: &str) -> Result<WireLine, LineFault>
+// An hour in milliseconds.
+const HOUR: u32 = 3_600_000;
+
+/// A line that works on the connection itself; where it is of another kind, it is bad for that other cause.
+pub fn read_wire<'a>(
+    alloc: Global,
+    line: &'a str,
+    other: Cause<'a>,
+) -> Result<WireLine, WordFault<'a>>
     ensures line { IfOk result (Spec.MeansWire line.now) }
-    ensures fault { IfErr result (IsLineFault (Spec.MeansWire line.now)
-        (Spec.IsWireBegun line.now)) }
+    ensures fault { IfErr result (IsFaultOfWords (Spec.MeansWire line.now)
+        (Spec.IsWireBegun line.now) (IsTrueOr other.entry line.now)) }
 {
     if line == "close" {
         return Ok(WireLine::Close);
@@ -32,7 +45,7 @@ pub fn read_wire(alloc: Global, line: &str) -> Result<WireLine, LineFault>
             Ok(time) => Ok(WireLine::Pause(time)),
             Err(fault) => Err(fault),
         },
-        None => match read_bytes(alloc, line) {
+        None => match read_bytes(alloc, line, other) {
             Ok(bytes) => Ok(WireLine::Raw(bytes)),
             Err(fault) => Err(fault),
         },
@@ -40,15 +53,16 @@ pub fn read_wire(alloc: Global, line: &str) -> Result<WireLine, LineFault>
 }
 
 // The bytes that are written as they are.
-fn read_bytes(alloc: Global, line: &str) -> Result<List<u8>, LineFault>
+fn read_bytes<'a>(alloc: Global, line: &'a str, other: Cause<'a>) -> Result<List<u8>, WordFault<'a>>
     ensures bytes { IfOk result (Spec.IsRaw line.now) }
-    ensures fault { IfErr result (IsLineFault (Spec.IsRaw line.now) (Spec.IsWireBegun line.now)) }
+    ensures fault { IfErr result (IsFaultOfWords (Spec.IsRaw line.now) (Spec.IsWireBegun line.now)
+        (IsTrueOr other.entry line.now)) }
 {
     match behind_raw(line) {
         Some(hex) => read_hex(alloc, hex),
         None => match behind_telnet(line) {
-            Some(_) => read_telnet(alloc, line),
-            None => Err(LineFault::Bad),
+            Some(words) => read_telnet(alloc, line, words),
+            None => Err(WordFault::Bad(other)),
         },
     }
 }
@@ -78,41 +92,48 @@ fn behind_telnet(line: &str) -> Option<&str>
 }
 
 /// A time in milliseconds, up to an hour.
-pub fn read_milliseconds(word: &str) -> Result<u32, LineFault>
+pub fn read_milliseconds<'a>(word: &'a str) -> Result<u32, WordFault<'a>>
     ensures time { IfOk result (IsMilliseconds word.now) }
-    ensures fault { IfErr result (IsLineFault (IsMilliseconds word.now) ⊥) }
+    ensures fault { IfErr result (IsFaultOfWords (IsMilliseconds word.now) ⊥ (TrueBehind word.now)) }
 {
     match read_number(word) {
-        Some(time) if time >= 1 && time <= 3_600_000 => Ok(time),
-        _ => Err(LineFault::Bad),
+        Some(time) if time >= 1 && time <= HOUR => Ok(time),
+        _ => Err(WordFault::Bad(unlike(word, &[Kind::Number(1, HOUR)]))),
     }
 }
 
-// Bytes in hex, at least one.
-fn read_hex(alloc: Global, hex: &str) -> Result<List<u8>, LineFault>
+/// Bytes in hex, at least one.
+pub fn read_hex<'a>(alloc: Global, hex: &'a str) -> Result<List<u8>, WordFault<'a>>
     ensures bytes { IfOk result (IsHex hex.now) }
-    ensures fault { IfErr result (IsLineFault (IsHex hex.now) (Unit {0})) }
+    ensures fault { IfErr result (IsFaultOfWords (IsHex hex.now) (Unit {0}) (TrueBehind hex.now)) }
 {
     if hex.is_empty() {
-        return Err(LineFault::Bad);
+        return Err(WordFault::Bad(Cause::BlankAtEnd));
     }
     match hex::decode(alloc, hex) {
         Ok(bytes) => Ok(List::of(bytes)),
-        Err(FromHexError::OutOfMemory) => Err(LineFault::Memory),
-        Err(_) => Err(LineFault::Bad),
+        Err(FromHexError::OutOfMemory) => Err(WordFault::Memory),
+        Err(_) => Err(WordFault::Bad(unlike(hex, &[Kind::Hex]))),
     }
 }
 
 // The bytes of the Telnet command that a line says.
-fn read_telnet(alloc: Global, line: &str) -> Result<List<u8>, LineFault>
+fn read_telnet<'a>(alloc: Global, line: &str, words: &'a str) -> Result<List<u8>, WordFault<'a>>
     ensures bytes { IfOk result (Spec.IsCommandSaid line.now) }
-    ensures fault { IfErr result
-        (IsLineFault (Spec.IsCommandSaid line.now) (Spec.SaysItems line.now)) }
+    ensures fault { IfErr result (IsFaultOfWords (Spec.IsCommandSaid line.now)
+        (Spec.SaysItems line.now) (TrueBehind words.now)) }
 {
     match read_items(alloc, line.as_bytes()) {
-        Ok(items) => spelled_alone(alloc, items.as_slice()),
-        Err(TextFault::Line(_)) => Err(LineFault::Bad),
-        Err(TextFault::Memory) => Err(LineFault::Memory),
+        Ok(items) => match spelled_alone(alloc, items.as_slice()) {
+            Ok(bytes) => Ok(bytes),
+            Err(LineFault::Bad) => Err(WordFault::Bad(Cause::Other)),
+            Err(LineFault::Memory) => Err(WordFault::Memory),
+        },
+        Err(TextFault::Line(_)) => {
+            let kinds = kinds_of(Shape::Command, Some(words));
+            Err(WordFault::Bad(unlike(words, kinds)))
+        }
+        Err(TextFault::Memory) => Err(WordFault::Memory),
     }
 }
 

@@ -1,39 +1,51 @@
 //! The keys of a line.
 ghost use Rattle.std.specs.Prelude.{◌≡◌, List as Seq, IfOk, IfErr};
+ghost use Rattle.std.specs.Option.{is_some};
+ghost use Rattle.ws_live.specs.LineCauses.{IsFaultOfWords, KeyedBehind};
 ghost use Rattle.ws_live.specs.live.ConnectLines as Spec;
-ghost use Rattle.ws_live.specs.script.ScriptFaults.{IsLineFault};
 
+use crate::line_words::{WordFault, first_word, wrong_name};
 use crate::script::named_key::NamedKey;
-use crate::script::script_line::{LineFault, add, typed_key};
+use crate::script::script_line::typed_key;
 use std::alloc::Global;
 use ws_code::List;
 
 /// A key for each character of a text.
-pub fn typed_keys<Q: NamedKey>(
+pub fn typed_keys<'a, Q: NamedKey>(
     alloc: Global,
     text: &str,
     inserts: bool,
-) -> Result<List<Q>, LineFault>
+) -> Result<List<Q>, WordFault<'a>>
     ensures keys { IfOk result (Spec.AreKeysOf Q.words inserts text.now) }
-    ensures fault { IfErr result (λ fault. fault ≡ LineFault.Memory) }
+    ensures fault { IfErr result (λ fault. fault ≡ WordFault.Memory) }
 {
     let mut keys = Vec::new(alloc);
     for character in text.chars() {
-        add(&mut keys, Q::from_profile(typed_key(inserts, character)))?;
+        if keys
+            .push(Q::from_profile(typed_key(inserts, character)))
+            .is_err()
+        {
+            return Err(WordFault::Memory);
+        }
     }
     Ok(List::of(keys))
 }
 
 /// The key of this name.
-pub fn named_key<Q: NamedKey>(alloc: Global, name: &str) -> Result<List<Q>, LineFault>
+pub fn named_key<'a, Q: NamedKey>(alloc: Global, name: &'a str) -> Result<List<Q>, WordFault<'a>>
     ensures keys { IfOk result (Spec.AreNamed Q.words name.now) }
-    ensures fault { IfErr result (IsLineFault (Spec.AreNamed Q.words name.now)
-        ((keys : Seq Q) × Spec.AreNamed Q.words name.now keys)) }
+    ensures fault { IfErr result (IsFaultOfWords (Spec.AreNamed Q.words name.now)
+        ((keys : Seq Q) × Spec.AreNamed Q.words name.now keys)
+        (KeyedBehind (λ word. is_some (Q.words.named word)) name.now)) }
 {
     let Some(key) = Q::named(name) else {
-        return Err(LineFault::Bad);
+        let (word, behind) = first_word(name);
+        let is_named = Q::named(word).is_some();
+        return Err(WordFault::Bad(wrong_name(word, behind, is_named)));
     };
     let mut keys = Vec::new(alloc);
-    add(&mut keys, key)?;
-    Ok(List::of(keys))
+    match keys.push(key) {
+        Ok(()) => Ok(List::of(keys)),
+        Err(_) => Err(WordFault::Memory),
+    }
 }

@@ -1,17 +1,14 @@
 ghost use Rattle.std.specs.Prelude.{◌≡◌, ◌++◌, true, codes, IfOk, IfErr, MatchOption};
-ghost use Rattle.ws_record.specs.Body.{IsBody};
-ghost use Rattle.ws_stream.specs.Elements.{element_rules};
 ghost use Rattle.ws_live.specs.script.Script as Spec;
 ghost use Rattle.ws_live.specs.script.ScriptFaults.{IsLineFault, IsSendBegun, IsSendLine, has_no_blank};
 
+use crate::line_words::WordFault;
 use crate::script::key_name::key_named;
 use crate::script::script_line::LineFault;
-use hex::FromHexError;
+use crate::script::send_words::read_send;
 use std::alloc::Global;
 use ws_code::List;
-use ws_record::{BodyFault, Opcode, read_body};
 use ws_session::Move;
-use ws_stream::{Commands, Element};
 use ws_text::read_number;
 
 /// The word before the first blank, and what stands behind the blank.
@@ -32,7 +29,7 @@ pub fn read_move(alloc: Global, command: &str, words: &str) -> Result<Move, Line
         (IsSendLine (command.now ++ codes " " ++ words.now))) }
 {
     match command {
-        "send" => read_send(alloc, words),
+        "send" => read_sent(alloc, words),
         "down" => Ok(Move::ToStation(read_count(words)?)),
         "up" => Ok(Move::ToHost(read_count(words)?)),
         "key" => match key_named(words) {
@@ -43,62 +40,17 @@ pub fn read_move(alloc: Global, command: &str, words: &str) -> Result<Move, Line
     }
 }
 
-// A record to be sent: its opcode, and its body in hex where it has one.
-fn read_send(alloc: Global, words: &str) -> Result<Move, LineFault>
+// A record to be sent.
+fn read_sent(alloc: Global, words: &str) -> Result<Move, LineFault>
     ensures ok { IfOk result (Spec.IsMove (codes "send " ++ words.now)) }
     ensures fault { IfErr result
         (IsLineFault (Spec.IsMove (codes "send " ++ words.now)) (IsSendBegun words.now)) }
 {
-    let Some((number, hex)) = split_word(words) else {
-        let opcode = read_opcode(words)?;
-        return Ok(Move::Send(opcode, List::of(Vec::new(alloc))));
-    };
-    let opcode = read_opcode(number)?;
-    if hex.is_empty() {
-        return Err(LineFault::Bad);
+    match read_send(alloc, words) {
+        Ok((opcode, body)) => Ok(Move::Send(opcode, List::of(body))),
+        Err(WordFault::Bad(_)) => Err(LineFault::Bad),
+        Err(WordFault::Memory) => Err(LineFault::Memory),
     }
-    let body = read_body_text(alloc, hex)?;
-    Ok(Move::Send(opcode, List::of(body)))
-}
-
-/// An opcode in decimal; that of Cancel Invite is none.
-pub fn read_opcode(word: &str) -> Result<Opcode, LineFault>
-    ensures ok { IfOk result (Spec.IsSendOpcode word.now) }
-    ensures fault { IfErr result (IsLineFault (Spec.IsSendOpcode word.now) ⊥) }
-{
-    let Some(number) = read_number(word) else {
-        return Err(LineFault::Bad);
-    };
-    if number > 255 {
-        return Err(LineFault::Bad);
-    }
-    match Opcode::from_byte(number as u8) {
-        None | Some(Opcode::CancelInvite) => Err(LineFault::Bad),
-        Some(opcode) => Ok(opcode),
-    }
-}
-
-// A body in hex.
-fn read_body_text(alloc: Global, hex: &str) -> Result<Vec<Element>, LineFault>
-    ensures ok { IfOk result (λ body. Spec.IsBodyText hex.now body.items) }
-    ensures fault { IfErr result (IsLineFault (Spec.IsBodyText hex.now) (Unit {0})) }
-{
-    match hex::decode(alloc, hex) {
-        Ok(bytes) => read_elements(alloc, bytes.as_slice()),
-        Err(FromHexError::OutOfMemory) => Err(LineFault::Memory),
-        Err(_) => Err(LineFault::Bad),
-    }
-}
-
-// The elements that the bytes spell.
-fn read_elements(alloc: Global, bytes: &[u8]) -> Result<Vec<Element>, LineFault>
-    ensures ok { IfOk result (λ body. IsBody element_rules bytes.now body.items) }
-    ensures fault { IfErr result (IsLineFault (IsBody element_rules bytes.now) (Unit {0})) }
-{
-    read_body::<Commands>(alloc, bytes).map_err(|fault| match fault {
-        BodyFault::Bad => LineFault::Bad,
-        BodyFault::Memory => LineFault::Memory,
-    })
 }
 
 // How many bytes arrive.

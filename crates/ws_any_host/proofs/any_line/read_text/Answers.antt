@@ -1,6 +1,6 @@
 use Rattle.std.proofs.Common.{sym, ◌∙◌}
 use Rattle.ws_live.proofs.ScriptWords.{is_no_comment}
-use Rattle.ws_any_host.proofs.AnyWords.{line_fault}
+use Rattle.ws_any_host.proofs.AnyWords.{sent_fault}
 use Rattle.ws_any_host.proofs.any_line.read_text.Goals as goal
 
 pub read_word-requires-clause-no_comment : goal.read_word-requires-clause-no_comment
@@ -9,4 +9,4 @@ read_word-requires-clause-no_comment c = is_no_comment c.args.text.now c.strip_p
 
 pub returns-in-Err-clause-fault : goal.returns-in-Err-clause-fault
 returns-in-Err-clause-fault c =
-    line_fault c.args.text.now c.in-Some.words.now c.in-Some.ensures c.in-Err.fault c.in-Err.ensures.fault
+    sent_fault c.args.text.now c.in-Some.words.now c.in-Some.ensures c.in-Err.fault c.in-Err.ensures.fault

@@ -25,13 +25,14 @@ pub returns-in-Err-Line-clause-fault : goal.returns-in-Err-Line-clause-fault
 returns-in-Err-Line-clause-fault c =
     let some = some_text c.args.inside.now (sym c.is_empty.ensures ∙ c.if-is_empty.false) in
     let bad = rw c.in-Err-Line.field-0-is at c.in-Err-Line.ensures.fault in
-    bad_words c.args.line.now c.in-Some.ensures.0 _ c.in-Some.opcode c.in-Err-Line.at c.saturating_add.result
+    bad_words c.args.line.now c.in-Some.ensures.0 _ c.in-Some.opcode c.in-Err-Line.at c.saturating_add-told.result
     c.in-Some.ensures.1 some bad (rw c.in-Err-Line.field-0-is at c.in-Err-Line.ensures.only) (
       c.in-Err-Line.at,
       bad,
-      c.saturating_add.ensures
+      c.saturating_add-told.ensures
           ∙ ap (λ n. min (n + 1) (2 ^ 64 - 1)) c.in-Err-Line.at-is,
     )
+    c.cause_in_block-cause.result c.cause_in_block-cause.ensures
 
 pub returns-in-Err-Memory-clause-fault : goal.returns-in-Err-Memory-clause-fault
 returns-in-Err-Memory-clause-fault c =

@@ -1,6 +1,6 @@
 use Rattle.std.specs.Str.Lines.{lines}
 use Rattle.std.proofs.Common.{◌≡◌, ◌+◌, ◌-◌, suc, drop, ap, ◌∙◌, arith}
-use Rattle.ws_live.proofs.CauseTexts.{drop_next}
+use Rattle.ws_live.proofs.LineCauses.{drop_next}
 use Rattle.ws_live.proofs.cause.cause_lines.line_at.Goals as goal
 
 pub loop-preserved : goal.loop-preserved

@@ -1,6 +1,10 @@
-use Rattle.ws_live.proofs.CauseTexts.{words_left}
+use Rattle.std.proofs.Common.{subst}
+use Rattle.ws_live.specs.LineCauses.{IsLeft}
 use Rattle.ws_live.proofs.cause.cause_words.wrong_words.Goals as goal
 
-pub returns : goal.returns
-returns c = λ line left. c.left_over.ensures c.args.vocabulary line
-    (words_left line c.loop-kind.last.now c.loop-kind.rest (c.loop-kind.invariant.1 line left))
+pub returns-in-Err : goal.returns-in-Err
+returns-in-Err c = λ keys line left. c.in-Err.ensures.found keys line (c.loop-kind.invariant.1 line left)
+
+pub returns-in-Some : goal.returns-in-Some
+returns-in-Some c = λ keys line left. c.left_over.ensures keys line
+    (subst (λ r. IsLeft line c.loop-kind.last.now r) c.in-Some.is (c.loop-kind.invariant.1 line left))

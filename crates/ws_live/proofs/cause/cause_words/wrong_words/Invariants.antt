@@ -1,7 +1,7 @@
 use Rattle.std.proofs.Common.{ℕ, List}
 use denote.Shadow.{shadow}
 use denote.Text.{Utf8}
-use Rattle.ws_live.specs.cause.Causes.{IsLeft}
+use Rattle.ws_live.specs.LineCauses.{IsLeft}
 use Rattle.ws_live.proofs.cause.cause_words.wrong_words.Given as goal
 
 -- what is left of a line behind the words so far

@@ -1,11 +1,10 @@
 use Rattle.std.specs.Prelude.{codes}
 use Rattle.std.proofs.Common.{◌++◌, List, ℕ, sym, ◌∙◌, subst, inr}
 use Rattle.std.proofs.lemmas.Result.{IfOk-weaker, IfErr-weaker}
-use Rattle.ws_live.specs.live.ConnectLines.{MeansStationLine, IsStationLine, IsStationSoFar, IsCommandSoFar}
-use Rattle.ws_live.specs.script.ScriptFaults.{IsLineFault}
+use Rattle.ws_live.specs.live.ConnectLines.{MeansStationLine, IsStationLine, IsStationSoFar, IsCommandSoFar, station_names}
+use Rattle.ws_live.specs.LineCauses.{IsCauseOf, IsFaultOfWords}
 use Rattle.ws_live.proofs.ScriptWords.{comment_text, is_no_comment}
-use Rattle.ws_live.proofs.Scripts.{fault_on}
-use Rattle.ws_live.proofs.StationLines.{station_so_far}
+use Rattle.ws_live.proofs.StationLines.{station_so_far, text_fault}
 use Rattle.ws_live.proofs.live.connect_line.read_line.Goals as goal
 
 pub returns-then-is_some-clause-line : goal.returns-then-is_some-clause-line
@@ -31,16 +30,12 @@ returns-in-None-clause-line g c =
 
 pub returns-in-None-clause-fault : goal.returns-in-None-clause-fault
 returns-in-None-clause-fault g c =
+    let w = g.Q.NamedKey.words in
     let text = c.in-Ok.text.now in
     let line = c.args.line.now in
-    IfErr-weaker c.read_word.result (IsLineFault (MeansStationLine g.Q.NamedKey.words text) ⊥) (IsLineFault (IsStationLine
-    g.Q.NamedKey.words line)
-    (IsStationSoFar g.Q.NamedKey.words line))
-    (λ fault h. fault_on (MeansStationLine g.Q.NamedKey.words text) (IsStationLine g.Q.NamedKey.words line) fault (λ none_is read
-    l. none_is read
-    (subst (λ (z : List ℕ). MeansStationLine g.Q.NamedKey.words z read) (sym c.in-Ok.ensures.cases.0) l.1)) (λ (h : ⊥). absurd h)
-    h)
-    c.read_word.ensures.fault
+    IfErr-weaker c.read_word.result (IsFaultOfWords (MeansStationLine w text) ⊥ (IsCauseOf (station_names w) text))
+    (IsFaultOfWords (IsStationLine w line) (IsStationSoFar w line) (IsCauseOf (station_names w) line))
+    (λ fault h. text_fault w ⊥ line text fault c.in-Ok.ensures.cases.0 (λ (h : ⊥). absurd h) h) c.read_word.ensures.fault
 
 pub read_command-requires-clause-no_comment : goal.read_command-requires-clause-no_comment
 read_command-requires-clause-no_comment g c = λ rest e.
@@ -56,14 +51,12 @@ returns-in-Some-clause-line g c =
 
 pub returns-in-Some-clause-fault : goal.returns-in-Some-clause-fault
 returns-in-Some-clause-fault g c =
+    let w = g.Q.NamedKey.words in
     let text : List ℕ = (c.in-Some.command.now ++ codes " ") ++ c.in-Some.words.now in
     let line = c.args.line.now in
     let same = sym c.in-Some.ensures.0 ∙ c.in-Ok.ensures.cases.0 in
-    IfErr-weaker c.read_command.result (IsLineFault (MeansStationLine g.Q.NamedKey.words text) (IsCommandSoFar g.Q.NamedKey.words
-    text))
-    (IsLineFault (IsStationLine g.Q.NamedKey.words line) (IsStationSoFar g.Q.NamedKey.words line))
-    (λ fault h. fault_on (MeansStationLine g.Q.NamedKey.words text) (IsStationLine g.Q.NamedKey.words line) fault (λ none_is read
-    l. none_is read
-    (subst (λ (z : List ℕ). MeansStationLine g.Q.NamedKey.words z read) (sym same) l.1)) (station_so_far g.Q.NamedKey.words line
-    text same c.in-Ok.ensures.cases.1)
-    h) c.read_command.ensures.fault
+    IfErr-weaker c.read_command.result
+    (IsFaultOfWords (MeansStationLine w text) (IsCommandSoFar w text) (IsCauseOf (station_names w) text))
+    (IsFaultOfWords (IsStationLine w line) (IsStationSoFar w line) (IsCauseOf (station_names w) line))
+    (λ fault h. text_fault w (IsCommandSoFar w text) line text fault same
+    (station_so_far w line text same c.in-Ok.ensures.cases.1) h) c.read_command.ensures.fault

@@ -1,11 +1,10 @@
 use Rattle.std.specs.Prelude.{codes}
 use Rattle.std.proofs.Common.{◌++◌, List, ℕ, sym, ◌∙◌, subst, inl, inr}
 use Rattle.std.proofs.lemmas.Result.{IfOk-weaker, IfErr-weaker}
-use Rattle.ws_live.specs.live.ServeLines.{IsHostBegun, MeansHostLine, IsOneLine, IsOneSoFar}
-use Rattle.ws_live.specs.script.ScriptFaults.{IsLineFault}
-use Rattle.ws_live.proofs.LiveLines.{host_so_far}
+use Rattle.ws_live.specs.live.ServeLines.{IsHostBegun, MeansHostLine, IsOneLine, IsOneSoFar, host_names}
+use Rattle.ws_live.specs.LineCauses.{IsCauseOf, IsFaultOfWords}
+use Rattle.ws_live.proofs.LiveLines.{host_so_far, text_fault}
 use Rattle.ws_live.proofs.ScriptWords.{comment_text, is_no_comment}
-use Rattle.ws_live.proofs.Scripts.{fault_on}
 use Rattle.ws_live.proofs.live.serve_line.read_line.Goals as goal
 
 pub returns-then-is_some-clause-line : goal.returns-then-is_some-clause-line
@@ -29,11 +28,9 @@ pub returns-in-None-clause-fault : goal.returns-in-None-clause-fault
 returns-in-None-clause-fault c =
     let text = c.in-Ok.text.now in
     let line = c.args.line.now in
-    IfErr-weaker c.read_word.result (IsLineFault (MeansHostLine text) ⊥) (IsLineFault (IsOneLine line)
-    (IsOneSoFar line))
-    (λ fault h. fault_on (MeansHostLine text) (IsOneLine line) fault (λ none_is read l. none_is read
-    (subst (λ (z : List ℕ). MeansHostLine z read) (sym c.in-Ok.ensures.cases.0) l.1)) (λ (h : ⊥). absurd h) h)
-    c.read_word.ensures.fault
+    IfErr-weaker c.read_word.result (IsFaultOfWords (MeansHostLine text) ⊥ (IsCauseOf host_names text))
+    (IsFaultOfWords (IsOneLine line) (IsOneSoFar line) (IsCauseOf host_names line))
+    (λ fault h. text_fault ⊥ line text fault c.in-Ok.ensures.cases.0 (λ (h : ⊥). absurd h) h) c.read_word.ensures.fault
 
 pub read_command-requires-clause-no_comment : goal.read_command-requires-clause-no_comment
 read_command-requires-clause-no_comment c = λ rest e.
@@ -51,8 +48,7 @@ returns-in-Some-clause-fault c =
     let text : List ℕ = (c.in-Some.command.now ++ codes " ") ++ c.in-Some.words.now in
     let line = c.args.line.now in
     let same = sym c.in-Some.ensures.0 ∙ c.in-Ok.ensures.cases.0 in
-    IfErr-weaker c.read_command.result (IsLineFault (MeansHostLine text) (IsHostBegun text)) (IsLineFault (IsOneLine line)
-    (IsOneSoFar line))
-    (λ fault h. fault_on (MeansHostLine text) (IsOneLine line) fault (λ none_is read l. none_is read
-    (subst (λ (z : List ℕ). MeansHostLine z read) (sym same) l.1)) (host_so_far line text same c.in-Ok.ensures.cases.1) h)
+    IfErr-weaker c.read_command.result (IsFaultOfWords (MeansHostLine text) (IsHostBegun text) (IsCauseOf host_names text))
+    (IsFaultOfWords (IsOneLine line) (IsOneSoFar line) (IsCauseOf host_names line))
+    (λ fault h. text_fault (IsHostBegun text) line text fault same (host_so_far line text same c.in-Ok.ensures.cases.1) h)
     c.read_command.ensures.fault

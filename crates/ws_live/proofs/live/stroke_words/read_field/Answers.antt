@@ -1,24 +1,13 @@
-use Rattle.std.proofs.Common.{false}
-use Rattle.std.proofs.lemmas.Result.{err_from_is_err_and}
-use Rattle.ws_live.specs.live.ConnectLines.{IsFieldNumber, IsFieldText}
-use Rattle.ws_live.proofs.Scripts.{fault_on, only_memory}
-use Rattle.ws_live.proofs.StationLines.{any_keys}
+use Rattle.std.proofs.Common.{sym, ◌∙◌}
+use Rattle.ws_live.proofs.StrokeWords.{field_words, no_field_word}
 use Rattle.ws_live.proofs.live.stroke_words.read_field.Goals as goal
 
-pub returns-in_err-number-clause-fault : goal.returns-in_err-number-clause-fault
-returns-in_err-number-clause-fault g c =
-    let p = err_from_is_err_and c.from_residual.result c.from_residual.ensures.1 in
-    let word = c.args.word.now in
-    rw (p.1, p.2) (fault_on (IsFieldNumber word) (IsFieldText g.Q.NamedKey.words word c.args.text.now) _
-    (λ none_is f m. none_is f.number m.0) (λ (h : ⊥). absurd h) c.in_err-number.ensures.fault)
+pub returns-in-Some-read_field_number : goal.returns-in-Some-read_field_number
+returns-in-Some-read_field_number c = (c.in-Some.word.now, c.in-Some.ensures.0, c.in-Some-read_field_number.ensures)
 
--- any text has keys
-pub returns-in_err-keys-clause-fault : goal.returns-in_err-keys-clause-fault
-returns-in_err-keys-clause-fault g c =
-    let p = err_from_is_err_and c.from_residual-in_err-keys.result c.from_residual-in_err-keys.ensures.1 in
-    let text = c.args.text.now in
-    let keys = any_keys g.Q.NamedKey.words false text c.utf8.text in
-    rw (p.1, p.2) (only_memory (IsFieldText g.Q.NamedKey.words c.args.word.now text) _ c.in_err-keys.ensures.fault (
-      record { number = c.in_ok-number.number; keys = keys.0 },
-      (c.in_ok-number.ensures.ok, keys.1),
-    ))
+pub returns-in-None-read_field_number : goal.returns-in-None-read_field_number
+returns-in-None-read_field_number c = λ number text m. c.in-None-read_field_number.ensures number
+    (field_words c.args.words.now c.in-Some.word.now c.in-Some.text.now c.in-Some.ensures.0 c.in-Some.ensures.1 number text m).0
+
+pub returns-in-None : goal.returns-in-None
+returns-in-None c = no_field_word c.args.words.now c.in-None.ensures

@@ -1,25 +1,17 @@
-use Rattle.std.proofs.lemmas.Result.{IfOk-weaker, IfErr-weaker}
-use Rattle.ws_live.specs.declared.live.stroke.Filling.{Filling}
-use Rattle.ws_live.specs.live.ConnectLines.{IsFieldText, IsFilling}
-use Rattle.ws_live.specs.script.ScriptFaults.{IsLineFault}
-use Rattle.ws_live.proofs.Scripts.{fault_on}
-use Rattle.ws_live.proofs.StrokeWords.{no_field_text}
+use Rattle.std.proofs.Common.{false}
+use Rattle.ws_live.proofs.StationLines.{any_keys}
 use Rattle.ws_live.proofs.live.stroke_words.read_filling.Goals as goal
 
-pub returns-in-Some-clause-filling : goal.returns-in-Some-clause-filling
-returns-in-Some-clause-filling g c =
-    IfOk-weaker c.read_field.result _ _
-    (λ filling m. (c.in-Some.word.now, c.in-Some.text.now, c.in-Some.ensures.0, m)) c.read_field.ensures.filling
+pub returns-in-Ok-clause-filling : goal.returns-in-Ok-clause-filling
+returns-in-Ok-clause-filling g c = (c.in-Some.text.now, c.in-Some.ensures, c.in-Ok.ensures.keys)
 
-pub returns-in-Some-clause-fault : goal.returns-in-Some-clause-fault
-returns-in-Some-clause-fault g c =
-    let w = g.Q.NamedKey.words in
-    let words = c.args.words.now in
-    let word = c.in-Some.word.now in
-    let text = c.in-Some.text.now in
-    IfErr-weaker c.read_field.result
-    (IsLineFault (IsFieldText w word text) ((f : Filling g.row.Q.Denot) × IsFieldText w word text f))
-    (IsLineFault (IsFilling w words) ((f : Filling g.row.Q.Denot) × IsFilling w words f))
-    (λ fault h. fault_on (IsFieldText w word text) (IsFilling w words) fault
-    (no_field_text w words word text c.in-Some.ensures.0 c.in-Some.ensures.1)
-    (λ good. (good.0, (word, text, c.in-Some.ensures.0, good.1))) h) c.read_field.ensures.fault
+-- any text has keys
+pub returns-in-Err-clause-fault : goal.returns-in-Err-clause-fault
+returns-in-Err-clause-fault g c =
+    let keys = any_keys g.Q.NamedKey.words false c.in-Some.text.now c.utf8.in-Some.text in (
+      record { number = c.in-Some.number; keys = keys.0 },
+      (c.in-Some.text.now, c.in-Some.ensures, keys.1),
+    )
+
+pub returns-in-None-clause-fault : goal.returns-in-None-clause-fault
+returns-in-None-clause-fault g c = (λ filling m. c.in-None.ensures filling.number m.0 m.1, c.unlike.ensures)

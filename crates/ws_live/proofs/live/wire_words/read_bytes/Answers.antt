@@ -1,9 +1,10 @@
-use Rattle.std.proofs.Common.{inl, inr}
+use Rattle.std.specs.Prelude.{codes}
+use Rattle.std.proofs.Common.{inl, inr, refl}
 use Rattle.std.proofs.lemmas.Result.{IfOk-weaker, IfErr-weaker}
 use Rattle.ws_text.specs.Words.{IsHex}
 use Rattle.ws_live.specs.live.WireLines.{IsCommandSaid, IsRaw, IsWireBegun, SaysItems}
-use Rattle.ws_live.specs.script.ScriptFaults.{IsLineFault}
-use Rattle.ws_live.proofs.Scripts.{fault_on}
+use Rattle.ws_live.specs.LineCauses.{IsTrueOr, IsFaultOfWords, TrueBehind}
+use Rattle.ws_live.proofs.LineCauses.{bad_on}
 use Rattle.ws_live.proofs.WireWords.{no_command, no_hex, no_raw}
 use Rattle.ws_live.proofs.live.wire_words.read_bytes.Goals as goal
 
@@ -15,21 +16,28 @@ pub returns-in-Some-clause-fault : goal.returns-in-Some-clause-fault
 returns-in-Some-clause-fault c =
     let line = c.args.line.now in
     let hex = c.in-Some.hex.now in
-    IfErr-weaker c.read_hex.result (IsLineFault (IsHex hex) (Unit {0})) (IsLineFault (IsRaw line) (IsWireBegun line))
-    (λ fault h. fault_on (IsHex hex) (IsRaw line) fault (no_hex line hex c.in-Some.ensures)
-    (λ some. inl (hex, c.in-Some.ensures)) h) c.read_hex.ensures.fault
+    let other = c.args.other in
+    IfErr-weaker c.read_hex.result (IsFaultOfWords (IsHex hex) (Unit {0}) (TrueBehind hex))
+    (IsFaultOfWords (IsRaw line) (IsWireBegun line) (IsTrueOr other line))
+    (λ fault h. bad_on (IsHex hex) (IsRaw line) (TrueBehind hex) (IsTrueOr other line) fault
+    (no_hex line hex c.in-Some.ensures) (λ some. inl (hex, c.in-Some.ensures))
+    (λ cause t. inr (λ keys. t keys line (codes "raw", c.in-Some.ensures))) h) c.read_hex.ensures.fault
 
 pub returns-in-Some-behind_telnet-clause-bytes : goal.returns-in-Some-behind_telnet-clause-bytes
 returns-in-Some-behind_telnet-clause-bytes c = IfOk-weaker c.read_telnet.result _ _
-    (λ bytes m. inr ((c.in-Some-behind_telnet.field-0.now, c.in-Some-behind_telnet.ensures), m)) c.read_telnet.ensures.bytes
+    (λ bytes m. inr ((c.in-Some-behind_telnet.words.now, c.in-Some-behind_telnet.ensures), m)) c.read_telnet.ensures.bytes
 
 pub returns-in-Some-behind_telnet-clause-fault : goal.returns-in-Some-behind_telnet-clause-fault
 returns-in-Some-behind_telnet-clause-fault c =
     let line = c.args.line.now in
-    IfErr-weaker c.read_telnet.result (IsLineFault (IsCommandSaid line) (SaysItems line))
-    (IsLineFault (IsRaw line) (IsWireBegun line))
-    (λ fault h. fault_on (IsCommandSaid line) (IsRaw line) fault (no_command line c.in-None.ensures)
-    (λ says. inr ((c.in-Some-behind_telnet.field-0.now, c.in-Some-behind_telnet.ensures), says)) h) c.read_telnet.ensures.fault
+    let other = c.args.other in
+    let words = c.in-Some-behind_telnet.words.now in
+    IfErr-weaker c.read_telnet.result (IsFaultOfWords (IsCommandSaid line) (SaysItems line) (TrueBehind words))
+    (IsFaultOfWords (IsRaw line) (IsWireBegun line) (IsTrueOr other line))
+    (λ fault h. bad_on (IsCommandSaid line) (IsRaw line) (TrueBehind words) (IsTrueOr other line) fault
+    (no_command line c.in-None.ensures) (λ says. inr ((words, c.in-Some-behind_telnet.ensures), says))
+    (λ cause t. inr (λ keys. t keys line (codes "telnet", c.in-Some-behind_telnet.ensures))) h) c.read_telnet.ensures.fault
 
 pub returns-in-None-behind_telnet-clause-fault : goal.returns-in-None-behind_telnet-clause-fault
-returns-in-None-behind_telnet-clause-fault c = no_raw c.args.line.now c.in-None.ensures c.in-None-behind_telnet.ensures
+returns-in-None-behind_telnet-clause-fault c =
+    (no_raw c.args.line.now c.in-None.ensures c.in-None-behind_telnet.ensures, inl refl)

@@ -1,12 +1,6 @@
-use Rattle.std.proofs.Common.{◌∷◌, [], refl, sym, ◌∙◌}
-use Rattle.std.proofs.lemmas.Result.{err_from_is_err_and}
-use Rattle.ws_live.specs.live.ConnectLines.{AreNamed}
-use Rattle.ws_live.proofs.Scripts.{only_memory}
+use Rattle.std.specs.Option.{is_some}
+use Rattle.std.proofs.Common.{◌∷◌, [], refl, sym, ap, ◌∙◌}
 use Rattle.ws_live.proofs.script.key_line.named_key.Goals as goal
 
-pub returns-in_err-add-clause-fault : goal.returns-in_err-add-clause-fault
-returns-in_err-add-clause-fault g c =
-    let p = err_from_is_err_and c.from_residual.result c.from_residual.ensures.1 in
-    let key = c.in-Some.key in
-    rw (p.1, p.2) (only_memory (AreNamed g.Q.NamedKey.words c.args.name.now) _ c.in_err-add.ensures.fault
-    (key ∷ [], (key, sym c.named.ensures ∙ c.in-Some.is, refl)))
+pub returns-in-Err-clause-fault : goal.returns-in-Err-clause-fault
+returns-in-Err-clause-fault g c = (c.in-Some.key ∷ [], (c.in-Some.key, sym c.named.ensures ∙ c.in-Some.is, refl))

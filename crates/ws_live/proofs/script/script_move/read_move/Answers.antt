@@ -32,8 +32,8 @@ returns-in-send-clause-fault c =
     let command = c.args.command.now in
     let words = c.args.words.now in
     let line : List ℕ = (command ++ codes " ") ++ words in
-    IfErr-weaker c.read_send.result (IsLineFault (IsMove (codes "send " ++ words)) (IsSendBegun words))
+    IfErr-weaker c.read_sent.result (IsLineFault (IsMove (codes "send " ++ words)) (IsSendBegun words))
     (IsLineFault (IsMove line) (IsSendLine line)) (λ fault h.
     fault_on (IsMove (codes "send " ++ words)) (IsMove line) fault
     (λ none step m. none step (subst (λ (z : List ℕ). IsMove ((z ++ codes " ") ++ words) step) c.in-send.is m))
-    (λ begun. (words, ap (λ (z : List ℕ). (z ++ codes " ") ++ words) c.in-send.is, begun)) h) c.read_send.ensures.fault
+    (λ begun. (words, ap (λ (z : List ℕ). (z ++ codes " ") ++ words) c.in-send.is, begun)) h) c.read_sent.ensures.fault
