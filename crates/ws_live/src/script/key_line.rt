@@ -4,6 +4,7 @@ ghost use Rattle.std.specs.Option.{is_some};
 ghost use Rattle.ws_live.specs.LineCauses.{IsFaultOfWords, KeyedBehind};
 ghost use Rattle.ws_live.specs.live.ConnectLines as Spec;
 
+use crate::line_cause::Cause;
 use crate::line_words::{WordFault, first_word, wrong_name};
 use crate::script::named_key::NamedKey;
 use crate::script::script_line::typed_key;
@@ -39,13 +40,19 @@ pub fn named_key<'a, Q: NamedKey>(alloc: Global, name: &'a str) -> Result<List<Q
         (KeyedBehind (λ word. is_some (Q.words.named word)) name.now)) }
 {
     let Some(key) = Q::named(name) else {
-        let (word, behind) = first_word(name);
-        let is_named = Q::named(word).is_some();
-        return Err(WordFault::Bad(wrong_name(word, behind, is_named)));
+        return Err(WordFault::Bad(unnamed::<Q>(name)));
     };
     let mut keys = Vec::new(alloc);
     match keys.push(key) {
         Ok(()) => Ok(List::of(keys)),
         Err(_) => Err(WordFault::Memory),
     }
+}
+
+// What is wrong with words that are no key's name.
+fn unnamed<'a, Q: NamedKey>(words: &'a str) -> Cause<'a>
+    ensures { KeyedBehind (λ word. is_some (Q.words.named word)) words.now result }
+{
+    let (word, behind) = first_word(words);
+    wrong_name(word, behind, Q::named(word).is_some())
 }

@@ -67,6 +67,6 @@ returns-in-More g c =
         more = cut.0.more;
         spelled = rw (c.run-run.ensures.whole c.in-More.is, take-length c.args.bytes.now) at cut.0.spelled;
       },
-      c.len.ensures,
+      refl,
       refl,
     )
