@@ -150,7 +150,18 @@ fn behind_first<'a>(kind: First, first: &'a str, words: &'a str) -> Cause<'a>
     }
 }
 
-// What is wrong where a line goes on behind a word.
+/// What is wrong where a line ends behind this word.
+pub fn missing_behind<'a>(word: &'a str, rest: Option<&'a str>) -> Cause<'a>
+    ensures { (keys : List ℕ → Bool) (words : List ℕ) → IsFirstWord words word.now rest.entry
+        → KeyedBehind keys words result }
+{
+    match rest {
+        Some(_) => Cause::Other,
+        None => Cause::Missing(word),
+    }
+}
+
+/// What is wrong where a line goes on behind a word.
 pub fn left_behind<'a>(rest: Option<&'a str>) -> Cause<'a>
     ensures { (keys : List ℕ → Bool) (words word : List ℕ) → IsFirstWord words word rest.entry
         → KeyedBehind keys words result }
