@@ -6,7 +6,7 @@ use Rattle.ws_network.proofs.input_lines.next_line.Goals as goal
 pub returns-then-ready-clause-line : goal.returns-then-ready-clause-line
 returns-then-ready-clause-line g c =
     let line = c.without_end-line.result.now in
-    let inside = lines c.as_slice.result.now in
+    let inside = lines c.as_slice-2.result.now in
     let bad = subst (IsBlockFault g.L.LiveLine.language line inside)
     c.in-Err-Line.field-0-is c.in-Err-Line.ensures.fault in
     inr (
