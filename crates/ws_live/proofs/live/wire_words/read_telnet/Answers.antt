@@ -15,12 +15,6 @@ returns-in-Err-Bad-clause-fault c = (
   (λ keys line e. tt),
 )
 
-pub returns-in-Err-Memory-clause-fault : goal.returns-in-Err-Memory-clause-fault
-returns-in-Err-Memory-clause-fault c = (
-  c.in-Ok.items.items,
-  subst (λ (z : List ℕ). AreSaid z c.in-Ok.items.items) c.as_bytes.ensures.value c.in-Ok.ensures.ok,
-)
-
 pub returns-in-Err-Line-clause-fault : goal.returns-in-Err-Line-clause-fault
 returns-in-Err-Line-clause-fault c = (
   (λ bytes m. line_no_memory _ (rw c.in-Err-Line.field-0-is at (c.in-Err-Line.ensures.only (TelnetItem m.0 ∷ [])
