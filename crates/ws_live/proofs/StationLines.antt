@@ -344,7 +344,7 @@ module _ {Q : Type 0} (w : KeyWords Q) where
       → IsFaultOfWords (IsStationLine w line) (IsStationSoFar w line) (IsCauseOf (station_names w) line) fault
       → IsBlockFault (station_language w) line inside (line_fault fault)
   block_fault line inside (WordBad cause) e h = ((λ read m. h.0 read m.1), refl, inr (line, inside, refl, h.1))
-  block_fault line inside WordMemory e (inl m) = inl (m.0, e, m.1)
+  block_fault line inside WordMemory e (inl m) = inl (m.0, (e, m.1))
   block_fault line inside WordMemory e (inr b) = inr (e, b)
 
   -- WHAT WAS READ WHEN A GROWTH WAS REFUSED

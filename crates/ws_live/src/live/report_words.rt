@@ -53,8 +53,11 @@ fn read_span_text(words: &str) -> Option<Span>
         (Spec.IsSpanText words.now) }
 {
     match read_placed(words) {
-        Some((at, word)) => match read_count(word) {
-            Some(count) => Some(Span { at, count }),
+        Some(placed) => match read_count(placed.1) {
+            Some(count) => Some(Span {
+                at: placed.0,
+                count,
+            }),
             None => None,
         },
         None => None,

@@ -19,6 +19,7 @@ pub fn typed_keys<'a, Q: NamedKey>(
 ) -> Result<List<Q>, WordFault<'a>>
     ensures keys { IfOk result (Spec.AreKeysOf Q.words inserts text.now) }
     ensures fault { IfErr result (λ fault. fault ≡ WordFault.Memory) }
+    ensures typed { IfErr result (λ fault. (keys : Seq Q) × Spec.AreKeysOf Q.words inserts text.now keys) }
 {
     let mut keys = Vec::new(alloc);
     for character in text.chars() {

@@ -1,14 +1,11 @@
-use Rattle.std.proofs.Common.{false}
-use Rattle.ws_live.proofs.StationLines.{any_keys}
 use Rattle.ws_live.proofs.live.stroke_words.read_filling.Goals as goal
 
 pub returns-in-Ok-clause-filling : goal.returns-in-Ok-clause-filling
 returns-in-Ok-clause-filling g c = (c.in-Some.text.now, c.in-Some.ensures, c.in-Ok.ensures.keys)
 
--- any text has keys
 pub returns-in-Err-clause-fault : goal.returns-in-Err-clause-fault
 returns-in-Err-clause-fault g c =
-    let keys = any_keys g.Q.NamedKey.words false c.in-Some.text.now c.utf8.in-Some.text in (
+    let keys = c.in-Err.ensures.typed in (
       record { number = c.in-Some.number; keys = keys.0 },
       (c.in-Some.text.now, c.in-Some.ensures, keys.1),
     )

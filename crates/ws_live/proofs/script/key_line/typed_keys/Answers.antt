@@ -3,6 +3,7 @@ use Rattle.std.proofs.Common.{sym, ap, ◌∙◌, map-id}
 use Rattle.std.proofs.lemmas.Iterator.{YieldsList-from_chars}
 use Rattle.std.proofs.lemmas.Iterator.Consumers.{YieldsList-end}
 use Rattle.std.proofs.lemmas.Str.{scalars-chars, encodes-chars}
+use Rattle.ws_live.proofs.StationLines.{any_keys}
 use Rattle.ws_live.proofs.script.key_line.typed_keys.Goals as goal
 
 pub returns-clause-keys : goal.returns-clause-keys
@@ -16,3 +17,7 @@ returns-clause-keys g c =
       spelled = ap encode_utf8_all all ∙ encodes-chars c.args.text.now c.utf8.text;
       typed = c.of.ensures ∙ c.loop-character.invariant;
     }
+
+-- any text has keys
+pub returns-then-is_err-clause-typed : goal.returns-then-is_err-clause-typed
+returns-then-is_err-clause-typed g c = any_keys g.Q.NamedKey.words c.args.inserts c.args.text.now c.utf8.text
