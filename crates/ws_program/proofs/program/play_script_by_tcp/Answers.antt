@@ -29,7 +29,7 @@ returns g c =
     let script : SpellsMoves c.args.script.now = (c.in_ok-moves.moves.items, c.in_ok-moves.ensures.moves) in
     inr (
       printed.0,
-      (script, report.events, report.station.reacts.screen.screen, printed.1, rw printed.3 refl),
+      (script, (report.events, report.station.reacts.screen.screen, printed.1, rw printed.3 refl)),
       printed.2,
     )
 
@@ -43,6 +43,6 @@ returns-in_err-play_painted_to g c =
     carried_err g.S.Sink.writer c.args.sink.now c.play_painted_to.new.sink
     (play_tcp_action c.args.paint c.args.screen c.args.script.now) _ _ Write p.1 (p.2 ∙ ap run_fault e.0) (inr (inr (
       e.1.0,
-      (refl, (_, (script, report.events, report.station.reacts.screen.screen, e.1.1, refl))),
+      (refl, (_, (script, (report.events, report.station.reacts.screen.screen, e.1.1, refl)))),
       e.1.2,
     )))
