@@ -106,13 +106,14 @@ def homes_of(texts: dict[str, str]) -> dict[str, str]:
 
 
 def functions(path: str, text: str, homes: dict[str, str]) -> dict[str, Function]:
-    """The functions of a file by their paths. A type's own stand in the module that declares it."""
+    """The functions of a file by their paths. A type's own stand in the module that declares it, but where the block is
+    for some of its arguments alone."""
     hidden, found = blanked(text), {}
     blocks = [(it.end() - 1, closing(hidden, it.end() - 1), block_name(it[1], it[2])) for it in BLOCK.finditer(hidden)]
     for head in HEAD.finditer(hidden):
         around = [name for start, end, name in blocks if start < head.start() < end]
         is_own = len(around) == 1 and around[0][1]
-        module = homes.get(around[0][0].split("+")[0], module_of(path)) if is_own else module_of(path)
+        module = homes.get(around[0][0], module_of(path)) if is_own else module_of(path)
         full = "::".join(it for it in [module, *(name for name, _ in around), head[1]] if it)
         end = end_of_function(hidden, head.end())
         if not any(it.start < head.start() < it.end for it in found.values()):
