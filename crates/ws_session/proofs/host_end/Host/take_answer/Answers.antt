@@ -6,9 +6,9 @@ use Rattle.ws_session.proofs.host_end.Host.take_answer.Goals as goal
 
 pub returns-in-Ok-clause-reacted : goal.returns-in-Ok-clause-reacted
 returns-in-Ok-clause-reacted c =
+    let says = read_split c.in-Some.kind c.self.inside.kept.fields c.args.parts.now _ c.in-Ok.ensures.split in
     rw (← c.self.view_is) (λ side h. rw c.told.ensures (answer_taken (the_view c.self.inside) side h
-    c.known.ensures.legal.size _ (sym c.pending.ensures ∙ c.in-Some.is) _ _ _ (read_split c.in-Some.kind
-    c.self.inside.kept.fields c.args.parts.now c.in-Ok.answer c.in-Ok.ensures.split) c.cancel_read.ensures.event))
+    c.known.ensures.legal.size _ (sym c.pending.ensures ∙ c.in-Some.is) _ _ _ (cc) c.cancel_read.ensures.event))
 
 pub returns-in-Err-Reason-clause-reacted : goal.returns-in-Err-Reason-clause-reacted
 returns-in-Err-Reason-clause-reacted c =

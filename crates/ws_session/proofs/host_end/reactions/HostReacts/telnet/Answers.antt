@@ -1,4 +1,3 @@
-use Rattle.ws_session.proofs.Common.{◌∙◌, ap, ready_event}
 use Rattle.ws_session.specs.contracts.host_end.Host.{the_view}
 use Rattle.ws_session.proofs.HostSteps.{negotiated}
 use Rattle.ws_session.proofs.host_end.reactions.HostReacts.telnet.Goals as goal
@@ -6,5 +5,4 @@ use Rattle.ws_session.proofs.host_end.reactions.HostReacts.telnet.Goals as goal
 pub returns-in-Ok-clause-reacted : goal.returns-in-Ok-clause-reacted
 returns-in-Ok-clause-reacted c =
     rw (← c.self.view_is) (λ items side h. negotiated (the_view c.self.inside) _ side _ _ _ h
-    (rw (← h.options) c.in-Ok.ensures.answer)
-    (c.ready.ensures ∙ ap (λ b. ready_event b c.answer.new.self) c.records_allowed-was_allowed.ensures))
+    (rw (← h.options) c.in-Ok.ensures.answer) (cc))
