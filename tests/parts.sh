@@ -8,10 +8,10 @@ trap 'rm -rf "$folder"' EXIT
 passed=0
 failed=0
 
-# The processor seconds of all that this shell has waited for.
+# Sets `used` to the processor seconds of all that this shell has waited for. (A shell within this one has waited for nothing.)
 processor_seconds() {
     times >"$folder/times"
-    awk -F '[ms ]+' 'NR == 2 { printf "%d", $1 * 60 + $2 + $3 * 60 + $4 }' "$folder/times"
+    used=$(awk -F '[ms ]+' 'NR == 2 { printf "%d", $1 * 60 + $2 + $3 * 60 + $4 }' "$folder/times")
 }
 
 # took NAME PROCESSOR WALL: a row of the table at the end, in seconds.
@@ -21,9 +21,10 @@ took() {
 
 # part NAME MINUTES COMMAND.. Where `kind` is set, its times count for that row of the table.
 part() {
-    local name=$1 minutes=$2 status begun=$SECONDS spent
+    local name=$1 minutes=$2 status begun=$SECONDS spent used
     shift 2
-    spent=$(processor_seconds)
+    processor_seconds
+    spent=$used
     echo "== $name"
     timeout "${minutes}m" "$@" </dev/null 2>&1 | tee "$folder/text"
     status=$?
@@ -42,7 +43,8 @@ part() {
         failed=$((failed + 1))
     fi
     echo "== $name took $((SECONDS - begun)) seconds"
-    [ -z "${kind:-}" ] || took "$kind" $(($(processor_seconds) - spent)) $((SECONDS - begun))
+    processor_seconds
+    [ -z "${kind:-}" ] || took "$kind" $((used - spent)) $((SECONDS - begun))
 }
 
 # left_out TEXT: what the script itself leaves out.
@@ -57,7 +59,8 @@ sum_up() {
         awk -F '\t' '{ if (!($1 in cpu)) order[++n] = $1; cpu[$1] += $2; wall[$1] += $3 }
             END { for (i = 1; i <= n; i++) printf "%-28s %7.1f %7.1f\n", order[i], cpu[order[i]] / 60, wall[order[i]] / 60 }' "$folder/table"
     fi
-    echo "== all took $SECONDS seconds, and $(processor_seconds) seconds of processor time"
+    processor_seconds
+    echo "== all took $SECONDS seconds, and $used seconds of processor time"
     cat "$folder/left_out"
     echo "$passed passed, $failed failed"
     [ $failed -eq 0 ]
