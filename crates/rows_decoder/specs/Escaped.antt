@@ -1,4 +1,4 @@
--- The body of the tests: every byte is a unit, at the front 04 alone, an escape. Behind an escape no list may end.
+-- The body of the tests: every byte is a unit, at the front 04 alone, an escape. After an escape no list may end.
 -- A place is the byte before it, if there is one.
 
 use Rattle.std.specs.Prelude.{◌≡◌, ◌≢◌, ◌<◌, ◌==◌, ◌||◌, not, ℕ, List, [], ◌∷◌, Bool, true, Option, None, Some, is_some}
@@ -7,7 +7,7 @@ use Rattle.std.proofs.Common.{arith}
 use Rattle.ws_code.specs.Code.{Rules, IsPrefixFree, IsUnfinished, IsChain, place_after}
 use Rattle.ws_code.specs.declared.reason.Reason.TheVariants.{NoEscape}
 
--- a body may end anywhere but behind the byte 04
+-- a body may end anywhere but after the byte 04
 abbrev pub lets_end : Option ℕ → Bool
 lets_end None = true
 lets_end (Some before) = not (before == 0x04)

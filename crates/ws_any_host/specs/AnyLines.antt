@@ -30,7 +30,7 @@ sent opcode body = record { flags = 0; opcode = opcode; body = body }
 abbrev pub IsOpcode : List ℕ → Opcode → Type 0
 IsOpcode number opcode = IsNumber number (opcode_byte opcode)
 
--- an opcode, and behind a blank a body in hex
+-- an opcode, and after a blank a body in hex
 abbrev pub IsOpcodeAndBody : List ℕ → Opcode → List ℕ → Type 0
 IsOpcodeAndBody words opcode body = (number : List ℕ) × (hex : List ℕ) × (words ≡ (number ++ codes " ") ++ hex)
     × IsOpcode number opcode × IsHex hex body
@@ -66,7 +66,7 @@ IsLineBegun line = ((words : List ℕ) × (line ≡ codes "send " ++ words) × I
 abbrev pub SendsAnyOpcodeAlone : List ℕ → List ℕ → Opcode → Type 0
 SendsAnyOpcodeAlone line number opcode = IsUtf8 line × (line ≡ codes "send " ++ number) × IsOpcode number opcode
 
--- elements may stand behind such a line
+-- elements may stand after such a line
 abbrev pub OpensAnyBlock : List ℕ → Type 0
 OpensAnyBlock line = (number : List ℕ) × (opcode : Opcode) × SendsAnyOpcodeAlone line number opcode
 
@@ -80,12 +80,12 @@ SayBytes elements opcode body = (r : Record ExtendedElement)
 abbrev pub IsWordFault : List (List ℕ) → Opcode → TextFault → Type 0
 IsWordFault elements opcode why = IsAddFault extended_rules extended_wording elements (new_record opcode) why
 
--- a record is sent with the bytes of the elements that the lines behind its line say
+-- a record is sent with the bytes of the elements that the lines after its line say
 abbrev pub SendsBytesInWords : List ℕ → List (List ℕ) → AnyLine → Type 0
 SendsBytesInWords line elements read = (number : List ℕ) × (opcode : Opcode) × (body : List ℕ)
     × SendsAnyOpcodeAlone line number opcode × SayBytes elements opcode body × (read ≡ Send (sent opcode body))
 
--- a line of such a script, and the lines of elements behind it
+-- a line of such a script, and the lines of elements after it
 abbrev pub IsAnyLine : List ℕ → List (List ℕ) → AnyLine → Type 0
 IsAnyLine line elements read = ((elements ≡ []) × IsOneAnyLine line read)
     ⊎ ((elements ≢ []) × SendsBytesInWords line elements read)
@@ -94,13 +94,13 @@ IsAnyLine line elements read = ((elements ≡ []) × IsOneAnyLine line read)
 abbrev pub BeginsAnyLine : List ℕ → Type 0
 BeginsAnyLine line = (IsUtf8 line × IsLineBegun line) ⊎ OpensAnyBlock line
 
--- where elements are bad behind their line, which is the first: at the first line that adds none to the record, counted
+-- where elements are bad after their line, which is the first: at the first line that adds none to the record, counted
 -- as far as 64 bits count
 abbrev pub AreExtendedBadAt : Opcode → List (List ℕ) → ℕ → Type 0
 AreExtendedBadAt opcode elements at = (number : ℕ) × IsWordFault elements opcode (items.Line number)
     × (at ≡ min (number + 1) (2 ^ 64 - 1))
 
--- where a line is bad with the elements behind it: at itself, or in these
+-- where a line is bad with the elements after it: at itself, or in these
 abbrev pub IsBadAnyLineAt : List ℕ → List (List ℕ) → ℕ → Type 0
 IsBadAnyLineAt line elements at = ((at ≡ 1) × ((elements ≡ []) ⊎ (OpensAnyBlock line → ⊥)))
     ⊎ ((number : List ℕ) × (opcode : Opcode) × SendsAnyOpcodeAlone line number opcode

@@ -40,12 +40,12 @@ known_token (Command code) = Command code
 known_token (Negotiate verb option) = Negotiate verb option
 known_token (Subnegotiate sub) = known_sub sub (name_in sub)
 
--- the name behind a subnegotiation: the first that is told behind SEND, and no other (RFC 1091, section 2)
+-- the name after a subnegotiation: the first that is told after SEND, and no other (RFC 1091, section 2)
 abbrev pub name_behind : TerminalName → List ℕ → Option (List ℕ) → List ℕ
 name_behind Requested old (Some name) = name
 name_behind state old told = old
 
--- the name behind a token
+-- the name after a token
 abbrev pub name_after : Negotiated → Telnet → List ℕ
 name_after n (Command code) = n.name
 name_after n (Negotiate verb option) = n.name

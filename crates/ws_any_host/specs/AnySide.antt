@@ -57,7 +57,7 @@ send_fault n r =
     if not (host_allows_records n.host) then Some NotAllowed
     else (if is_any_too_big r then Some TooBig else None)
 
--- what such a host has done behind a send: the record is written; at a refused one nothing
+-- what such a host has done after a send: the record is written; at a refused one nothing
 abbrev pub any_at_send : Negotiated → Record ℕ → Option SendFault → Doing Negotiated ℕ AnyEvent
 any_at_send n r (Some fault) = idle n
 any_at_send n r None = record { side = n; written = RecordItem r ∷ []; told = [] }

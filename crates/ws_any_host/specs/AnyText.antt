@@ -47,7 +47,7 @@ any_event_text (Ready name) = codes "terminal " ++ terminal_name_text name ++ co
 any_event_text (Came r) = codes "record flags " ++ encode_upper (two_bytes r.flags) ++ codes " opcode "
     ++ decimal (opcode_byte r.opcode) ++ hex_behind_blank r.body ++ codes "\n"
 
--- a body begins as an answer by this key: behind a cursor's row and column (SC30-3533, responses to read commands)
+-- a body begins as an answer by this key: after a cursor's row and column (SC30-3533, responses to read commands)
 abbrev pub is_answer_by : ℕ → List ℕ → Bool
 is_answer_by aid (row ∷ column ∷ third ∷ rest) = third == aid
 is_answer_by aid short = false
@@ -101,7 +101,7 @@ module _ {S K : Type 0} (on : WatchedDevices S K) where
   KeyComes aid from came to = (event : AnyEvent) × HasHeard any_conduct on.devices from to (Some event)
       × (is_by aid event ≡ true) × (came.outcome ≡ Ok Done) × (came.text ≡ any_event_text event)
 
-  -- The host heard the station up to a record by the key, and printed all that it told: behind some things the record
+  -- The host heard the station up to a record by the key, and printed all that it told: after some things the record
   -- came; or none more did; or as many were told as one wait takes.
   pub record HearsKey (aid : ℕ) (from : WatchedAnyHost) (came : LineResult) (to : WatchedAnyHost) : Type 0 where
     pub told : List AnyEvent

@@ -33,12 +33,12 @@ rows_told s first last = map (cell_told s) (range_with_len ((first - 1) * 80) (c
 abbrev pub AreInOrder : List Field → Type 0
 AreInOrder fields = (low : ℕ) × AreApart low fields
 
--- the first of the fields ends behind the place
+-- the first of the fields ends after the place
 abbrev pub EndsBehind : ℕ → List Field → Type 0
 EndsBehind place [] = Unit {0}
 EndsBehind place (f ∷ fs) = place < f.start + f.length
 
--- these stand behind a field that ends at the place or before it
+-- these stand after a field that ends at the place or before it
 pub record IsPassed (place : ℕ) (fields behind : List Field) : Type 0 where
   pub field : Field
   pub first : fields ≡ field ∷ behind

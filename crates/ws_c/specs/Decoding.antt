@@ -97,7 +97,7 @@ module _ {P U : Type 0} (rules : Rules P U) where
   DecoderTakesOn old byte brought new = DecoderPushedOn old new byte More × (brought ≡ [])
 
   -- What a push of bytes into a decoder crosses as: with some nothing is complete. It ends there where they are all, or
-  -- else with the one behind them, with which something is complete, or which is refused.
+  -- else with the one after them, with which something is complete, or which is refused.
   pub record IsDecodeOn (bytes : List ℕ) (call : Crossed StepTold) (old new : Watching P) : Type 0 where
     pub quiet : ℕ
     pub counted : quiet ≤ length bytes

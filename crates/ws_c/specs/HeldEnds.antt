@@ -26,7 +26,7 @@ module _ {R K Place U Deed Event Reply : Type 0} (d : Driving R K Place U Deed E
   abbrev pub waiting : HeldEnd (Driven R K Place) Reply → List ℕ
   waiting held = drop held.sent (d.does.written held.end.reacts held.reply)
 
-  -- Of what waits a front goes out: it is put behind what stands at the buffer's front, and counted. That is all of it,
+  -- Of what waits a front goes out: it is put after what stands at the buffer's front, and counted. That is all of it,
   -- or as much as there is room for.
   pub record HandsOut (old new : HeldEnd (Driven R K Place) Reply) (at after : Filling) : Type 0 where
     pub out : List ℕ

@@ -76,7 +76,7 @@ abbrev pub among_all : Option Key → Option ExtendedKey
 among_all None = None
 among_all (Some key) = Some (Profile key)
 
--- the key of a kind's number and a value, where there is one: Reset has a number behind those of the profile
+-- the key of a kind's number and a value, where there is one: Reset has a number after those of the profile
 pub record IsAnyKeyFrom (kind value : ℕ) (key : Option ExtendedKey) : Type 0 where
   pub reset : kind ≡ RESET_KIND → key ≡ Some Reset
   pub other : kind ≢ RESET_KIND → (k : Option Key) × IsKeyFrom kind value k × (key ≡ among_all k)

@@ -67,7 +67,7 @@ event_told (Some Attention) = record { kind = 3; terminal = 0 }
 event_told (Some SystemRequest) = record { kind = 4; terminal = 0 }
 event_told (Some Cancelled) = record { kind = 5; terminal = 0 }
 
--- the last answer, behind an event
+-- the last answer, after an event
 abbrev pub answer_after : Option HostEvent → Option HostAnswer → Option HostAnswer
 answer_after (Some (Answer answer)) last = Some answer
 answer_after event last = last

@@ -40,7 +40,7 @@ pub record Front : Type 0 where
 abbrev pub first_bytes : List ℕ → ℕ → Front
 first_bytes bytes count = record { bytes = bytes; count = count }
 
--- the bytes behind a front
+-- the bytes after a front
 abbrev pub left_behind : Front → List ℕ
 left_behind front = drop front.count front.bytes
 
@@ -97,7 +97,7 @@ module _ {R K Place U Deed Event Reply : Type 0} (d : Driving R K Place U Deed E
   -- A push of bytes into an end, which tells this event, if one: what waited and what the end writes goes out in order,
   -- and the rest of it waits. No byte is taken before all that waited, and all that the bytes before it brought, has gone
   -- out. Where something waits at the end the buffer is full, and the call says so; of a reply of which a part waits at
-  -- least 17 bytes have gone out. An end that stops where it tells something takes no byte behind that, and tells nothing
+  -- least 17 bytes have gone out. An end that stops where it tells something takes no byte after that, and tells nothing
   -- before.
   pub record IsPush (stops : Bool) (event : Option Event) (bytes : List ℕ) (call : Crossed PushedTold)
       (old new : HeldEnd (Driven R K Place) Reply) : Type 0 where

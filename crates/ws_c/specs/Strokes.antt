@@ -35,7 +35,7 @@ abbrev pub IsStrokeTold : Result (Unit {0}) KeyFault → Status → Told → Typ
 IsStrokeTold (Ok done) status told = (status ≡ Done) × (told ≡ told_length 0)
 IsStrokeTold (Err fault) status told = IsKeyFaultTold fault status told
 
--- where a key is taken this is said of the keys behind it; where it is refused they aren't pressed
+-- where a key is taken this is said of the keys after it; where it is refused they aren't pressed
 abbrev pub GoesOnBehindKey : {S : Type 0} → Result (Option Answer) KeyFault → Type 0 → S → S
     → Result (Unit {0}) KeyFault → Type 0
 GoesOnBehindKey (Ok answer) behind next new result = behind

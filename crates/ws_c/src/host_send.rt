@@ -255,9 +255,12 @@ fn tell_cancel(sent: Result<ByteList<12>, SendFault>, buffer: &mut [u8], told: &
 // Cancels the asked read of a host's end.
 fn cancel_host(host: &mut HeldHost, buffer: &mut [u8], told: &mut Told) -> Status
     requires { 12 ≤ length buffer.old }
-    ensures sent { (sent : Result (Seq ℕ) AFault) × HostCancelled host.old.held.end host.new.held.end sent
+    ensures sent { (sent : Result (Seq ℕ) AFault)
+        × HostCancelled host.old.held.end host.new.held.end sent
         × IsCancelTold sent (crossed buffer.old buffer.new result told.new) }
-    ensures same { host.new ≡ record host.old { held = record host.old.held { end = host.new.held.end } } }
+    ensures same { host.new ≡ record host.old {
+      held = record host.old.held { end = host.new.held.end };
+    } }
 {
     let sent = cancel_read(&mut host.held.end);
     tell_cancel(sent, buffer, told)

@@ -206,8 +206,8 @@ pub extern "C" fn ws_c_station_key(
 ) -> u32
     ensures room { length buffer.old < 5404 → (result ≡ status_number Status.NoRoom)
         × (handle.new ≡ handle.old) × (buffer.new ≡ buffer.old) × (told.new ≡ told_length 0) }
-    ensures pressed { 5404 ≤ length buffer.old → (key : Option AnyKey) × IsAnyKeyFrom kind value key
-        × HasStatus result (λ status.
+    ensures pressed { 5404 ≤ length buffer.old → (key : Option AnyKey)
+        × IsAnyKeyFrom kind value key × HasStatus result (λ status.
         IsPressFrom key handle.old.owned.value handle.new.owned.value
         (crossed buffer.old buffer.new status told.new)) }
 {

@@ -12,12 +12,12 @@ pub record Keeper (U K : Type 0) : Type 1 where
   pub may_answer : Kept → Type 0
 
 module _ {U K : Type 0} where
-  -- whatever the one keep held, the other holds with these units behind it
+  -- whatever the one keep held, the other holds with these units after it
   abbrev pub Keeps : Keeper U K → K → K → List U → Type 0
   Keeps keeper old new more =
       (units : List U) (told : List ℕ) → keeper.holds old units told → keeper.holds new (units ++ more) told
 
-  -- what is kept of a unit, by the answer to it: the keep holds it behind what it held, or where memory is wanting only
+  -- what is kept of a unit, by the answer to it: the keep holds it after what it held, or where memory is wanting only
   -- that
   abbrev pub KeepsOne : Keeper U K → K → K → U → Kept → Type 0
   KeepsOne keeper old new unit GoOn = Keeps keeper old new (unit ∷ [])

@@ -1,4 +1,4 @@
--- What a run of values makes of a machine that reads one unit behind another, and of what keeps the units.
+-- What a run of values makes of a machine that reads one unit after another, and of what keeps the units.
 
 use Rattle.std.specs.Prelude.{◌≡◌, ◌≢◌, ℕ, true, false, List, [], ◌∷◌, ◌++◌, ◌⊎◌}
 use Rattle.ws_code.specs.Code.{Rules, IsChain, IsSpelled, IsPrefix, IsUnfinished, place_after, spelling_of}

@@ -20,7 +20,7 @@ use Rattle.ws_extended.specs.declared.extended_place.ExtendedPlace.{ExtendedPlac
 use Rattle.ws_extended.specs.declared.extended_place.ExtendedPlace.TheVariants.{InProfile}
 use Rattle.ws_stream.specs.declared.place.Place.TheVariants.{CommandsOnly}
 
--- the place at which a reply begins: behind another one, or first
+-- the place at which a reply begins: after another one, or first
 abbrev pub reply_place : Bool → ExtendedAnswerPlace
 reply_place again = if again then Replied else Beginning
 

@@ -22,11 +22,11 @@ use Rattle.ws_extended.specs.declared.extended_answer_place.ExtendedAnswerPlace.
 use Rattle.ws_extended.specs.declared.extended_answer_place.ExtendedAnswerPlace.TheVariants.{Replied, InSaved}
 use Rattle.ws_extended.specs.declared.extended_element.ExtendedElement.TheVariants as elements
 
--- how many bytes of a reply stand behind the first that follows its front
+-- how many bytes of a reply stand after the first that follows its front
 abbrev pub LATER_REPLY_BYTES : ℕ
 LATER_REPLY_BYTES = 52
 
--- the bytes that a saved screen begins with: what was saved comes back behind a Restore Screen, and an image begins
+-- the bytes that a saved screen begins with: what was saved comes back after a Restore Screen, and an image begins
 -- with Clear Unit
 abbrev pub saved_front : List ℕ
 saved_front = ESCAPE ∷ RESTORE_SCREEN ∷ ESCAPE ∷ CLEAR_UNIT ∷ []
@@ -67,12 +67,12 @@ answer_follows Replied part = false
 answer_follows (InSaved at) (Of e) = extended_follows at e
 answer_follows (InSaved at) part = false
 
--- the place behind a byte of a reply, by how many bytes follow
+-- the place after a byte of a reply, by how many bytes follow
 abbrev pub behind_reply : ℕ → ExtendedAnswerPlace
 behind_reply zero = Replied
 behind_reply (suc n) = InReply n
 
--- the place behind a part of an answer
+-- the place after a part of an answer
 abbrev pub place_behind_part : ExtendedAnswerPart → ExtendedAnswerPlace
 place_behind_part (Profile p) = Fields
 place_behind_part QueryReply = InReply LATER_REPLY_BYTES
@@ -86,7 +86,7 @@ abbrev pub answer_may_end : ExtendedAnswerPlace → Bool
 answer_may_end (InReply n) = false
 answer_may_end place = true
 
--- the reason of a byte behind the row of a cursor, by the bytes between: as in the profile, and behind an escape that
+-- the reason of a byte after the row of a cursor, by the bytes between: as in the profile, and after an escape that
 -- begins no command of a saved screen
 abbrev pub head_reason : List ℕ → Reason
 head_reason [] = BadAddress

@@ -21,7 +21,7 @@ use Rattle.ws_extended.specs.declared.extended_place.ExtendedPlace.TheVariants.{
 abbrev pub query_field : List ℕ
 query_field = 0x00 ∷ 0x05 ∷ 0xD9 ∷ 0x70 ∷ 0x00 ∷ []
 
--- the byte behind the escape
+-- the byte after the escape
 abbrev pub ask_code : Ask → ℕ
 ask_code Query = commands.WRITE_STRUCTURED_FIELD
 ask_code SaveScreen = commands.SAVE_SCREEN
@@ -29,7 +29,7 @@ ask_code ReadScreen = commands.READ_SCREEN
 ask_code ReadImmediate = commands.READ_IMMEDIATE
 ask_code ReadImmediateAlternate = commands.READ_MDT_IMMEDIATE_ALTERNATE
 
--- what stands behind the code of a command that asks: the field of a query, else nothing
+-- what stands after the code of a command that asks: the field of a query, else nothing
 abbrev pub ask_field : Ask → List ℕ
 ask_field Query = query_field
 ask_field _ = []
@@ -56,8 +56,8 @@ is_text (Ic place) = true
 is_text (Put byte) = true
 is_text _ = false
 
--- Commands stand everywhere but behind what asks, where that alone stands. Text stands behind Write Error Code and
--- behind text, and there no order does.
+-- Commands stand everywhere but after what asks, where that alone stands. Text stands after Write Error Code and
+-- after text, and there no order does.
 abbrev pub extended_follows : ExtendedPlace → ExtendedElement → Bool
 extended_follows (InProfile place) (Profile e) = element_rules.may_follow place e
 extended_follows (InProfile place) (Text e) = false
@@ -75,7 +75,7 @@ extended_follows (Asked before) RestoreScreen = false
 extended_follows (Asked before) WriteError = false
 extended_follows (Asked before) (Asks ask) = true
 
--- the place behind an element
+-- the place after an element
 abbrev pub place_behind : ExtendedElement → ExtendedPlace
 place_behind (Profile e) = InProfile (element_rules.after e)
 place_behind (Text e) = ErrorText

@@ -16,7 +16,7 @@ use Rattle.ws_extended.specs.declared.ask.Ask.TheVariants.{ReadImmediateAlternat
 use Rattle.ws_extended.specs.declared.extended_place.ExtendedPlace.{ExtendedPlace}
 use Rattle.ws_extended.specs.declared.extended_place.ExtendedPlace.TheVariants.{InProfile, ErrorText, Asked}
 
--- the reason of a command that asks behind one that has asked already, and of all else that stands there
+-- the reason of a command that asks after one that has asked already, and of all else that stands there
 abbrev pub ask_reason : Ask → Reason
 ask_reason Query = StructuredField
 ask_reason SaveScreen = SaveRestore

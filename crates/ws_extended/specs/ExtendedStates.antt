@@ -56,11 +56,11 @@ uncovers e = false
 abbrev pub state_before : ExtendedState → Element → ExtendedState
 state_before state e = if uncovers e then uncovered 0 state else state
 
--- the display behind the end of the open write
+-- the display after the end of the open write
 abbrev pub state_after_end : ExtendedState → ExtendedState
 state_after_end state = record state { history = after_end state.history }
 
--- the display behind the beginning of an error: the cells of the error line are kept, and the row is blank
+-- the display after the beginning of an error: the cells of the error line are kept, and the row is blank
 abbrev pub covered : ExtendedState → ExtendedState
 covered state = record {
   history = after_elements state.history (error_begins (error_row state.history));
@@ -71,12 +71,12 @@ covered state = record {
   text = 0;
 }
 
--- a count of a text's bytes behind an element of it
+-- a count of a text's bytes after an element of it
 abbrev pub bytes_behind : ℕ → Element → ℕ
 bytes_behind n (Put byte) = n + 1
 bytes_behind n e = n
 
--- the display behind an element: the profile's elements and a text's are carried out, and what asks ends an open write
+-- the display after an element: the profile's elements and a text's are carried out, and what asks ends an open write
 -- and no more
 abbrev pub state_after : ExtendedState → ExtendedElement → ExtendedState
 state_after state (Profile e) = record (state_before state e) {
@@ -90,7 +90,7 @@ state_after state RestoreScreen = state_after_end (uncovered 0 state)
 state_after state WriteError = covered (uncovered 0 state)
 state_after state (Asks ask) = state_after_end state
 
--- the display behind several elements
+-- the display after several elements
 abbrev pub state_after_all : ExtendedState → List ExtendedElement → ExtendedState
 state_after_all state [] = state
 state_after_all state (u ∷ us) = state_after_all (state_after state u) us
@@ -110,7 +110,7 @@ abbrev pub reset_history : History → Option Kept → History
 reset_history h None = h
 reset_history h (Some kept) = after_end (after_elements h (given_back RESETS kept.row kept.cells))
 
--- the display behind the key Reset, which does nothing where no error stands
+-- the display after the key Reset, which does nothing where no error stands
 abbrev pub state_after_reset : ExtendedState → ExtendedState
 state_after_reset state = record state { history = reset_history state.history state.kept; kept = None }
 

@@ -32,7 +32,7 @@ pub record Shows (state : ExtendedState) (display : ExtendedParts) : Type 0 wher
   pub kept_is : display.kept ≡ state.kept
   pub text_is : display.text ≡ state.text
 
--- a write is open behind an element that was carried out
+-- a write is open after an element that was carried out
 abbrev pub leaves_write_open : ExtendedElement → Bool
 leaves_write_open (Profile e) = lets_orders_follow e
 leaves_write_open (Text e) = true

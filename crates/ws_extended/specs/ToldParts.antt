@@ -24,7 +24,7 @@ abbrev pub reply_parts : List ℕ → List ExtendedAnswerPart
 reply_parts [] = []
 reply_parts (byte ∷ bytes) = Reply (length bytes) byte ∷ reply_parts bytes
 
--- the bytes of a reply behind its front
+-- the bytes of a reply after its front
 abbrev pub reply_tail : TerminalType → List ℕ
 reply_tail terminal = controller ++ (device terminal ++ (equipment ++ capabilities terminal))
 
@@ -41,8 +41,8 @@ abbrev pub answer_place : AnswerPlace → ExtendedAnswerPlace
 answer_place answers.Beginning = Beginning
 answer_place answers.Fields = Fields
 
--- Behind these bytes one of three begins with the byte: a reply with a 00, what is told at once with one behind a
--- cursor, a saved screen with an escape behind a Restore Screen.
+-- After these bytes one of three begins with the byte: a reply with a 00, what is told at once with one after a
+-- cursor, a saved screen with an escape after a Restore Screen.
 abbrev pub BeginsTold : AnswerPlace → List ℕ → ℕ → Type 0
 BeginsTold place bytes b = (place ≡ answers.Beginning)
     × (((bytes ≡ []) × (b ≡ 0)) ⊎ (((length bytes ≡ 2) × (b ≡ 0))

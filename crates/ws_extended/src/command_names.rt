@@ -40,7 +40,8 @@ pub fn command_named(name: &str) -> Option<ExtendedElement>
 
 /// A command is read back from its name, and from that alone.
 pub fn names_are_read()
-    ensures read { (element : AnElement) (name : List ℕ) → Spec.command_name element ≡ Some name
+    ensures read { (element : AnElement) (name : List ℕ)
+        → Spec.command_name element ≡ Some name
         → Spec.look_up_command name Spec.command_names ≡ Some element }
     ensures only { (element : AnElement) (name : List ℕ)
         → Spec.look_up_command name Spec.command_names ≡ Some element

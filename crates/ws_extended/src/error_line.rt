@@ -29,7 +29,8 @@ fn carry(screen: &mut Screen, element: &Element)
     ensures carried { Carries (element.now ∷ []) screen.old screen.new }
     ensures open_ { IsSome screen.old.writing → is_command element.now ≡ false
         → IsSome screen.new.writing }
-    ensures begun { (cc1 cc2 : ℕ) → element.now ≡ Write cc1 cc2 → IsSome screen.new.writing }
+    ensures begun { (cc1 cc2 : ℕ) → element.now ≡ Write cc1 cc2
+        → IsSome screen.new.writing }
 {
     let _refused = screen.apply(element);
 }

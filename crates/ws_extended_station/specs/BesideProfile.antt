@@ -53,7 +53,7 @@ as_reacted s (GoesOn next items) = GoesOn (with_profile s next) (map by_bytes it
 abbrev pub HaveJustArrived : {U H : Type 0} → List (Item U) → SideOn H → List ℕ → List (Item U) → SideOn H → Type 0
 HaveJustArrived arrived next bytes items side = (items ≡ arrived) × (side ≡ next)
 
--- at a station of the profile, behind these bytes, the acts lead on, write and tell this, and just these items arrive
+-- at a station of the profile, after these bytes, the acts lead on, write and tell this, and just these items arrive
 abbrev pub ProfileGoes : StationSide → StationSide → List (Item Element) → List ℕ → List (Item Element)
     → List (Act Key) → List ℕ → List Applied → Type 0
 ProfileGoes side next arrived bytes items acts written told =

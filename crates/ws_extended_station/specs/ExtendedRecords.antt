@@ -29,11 +29,11 @@ elements_fault state (u ∷ us) = option_or (state_fault state u) (elements_faul
 abbrev pub record_fault : ExtendedState → List ExtendedElement → Option Reason
 record_fault state body = option_or (second_reason (asks_in body)) (elements_fault state body)
 
--- the display behind a record's opcode, which acts as in the profile; an error stands as before
+-- the display after a record's opcode, which acts as in the profile; an error stands as before
 abbrev pub state_after_opcode : Opcode → ExtendedState → ExtendedState
 state_after_opcode opcode state = record state { history = opcode_events opcode ++ state.history }
 
--- the display behind a record, which acts at the moment of its EOR: its elements, the end of its write, its opcode
+-- the display after a record, which acts at the moment of its EOR: its elements, the end of its write, its opcode
 abbrev pub state_after_record : ExtendedState → Record ExtendedElement → ExtendedState
 state_after_record state r = state_after_opcode r.opcode (state_after_end (state_after_all state r.body))
 

@@ -44,7 +44,7 @@ pub record ComesBack (saved : ExtendedState) (screen : ScreenParts) (state : Ext
   pub none_stands : (state_after_record state r).kept ≡ None
   pub silent : alarms_of (state_after_record state r).history ≡ alarms_of state.history
 
--- Reset behind this record, whose text leads the cursor, sends nothing and leaves the screen as it was, but for the lock
+-- Reset after this record, whose text leads the cursor, sends nothing and leaves the screen as it was, but for the lock
 -- and the cursor
 abbrev pub TakesErrorBack : ExtendedSide → ScreenParts → Record ExtendedElement → List Element → Type 0
 TakesErrorBack side screen r text = let stood : ExtendedState = state_after_record side.happened.state r in

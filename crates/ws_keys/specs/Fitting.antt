@@ -23,7 +23,7 @@ abbrev pub behind_address : List Field → Expected → ℕ → Option Expected
 behind_address fields e p = if nat_le e.next p
     then option_map (λ f. record { next = p + 1; room = sent_length f }) (find (starts_at p) fields) else None
 
--- what may come behind a part; none where the part does not fit
+-- what may come after a part; none where the part does not fit
 abbrev pub behind_part : List Field → Expected → AnswerPart → Option Expected
 behind_part fields e (Byte b) = behind_byte e
 behind_part fields e (At p) = behind_address fields e p

@@ -64,13 +64,13 @@ abbrev pub after_host_gets : Dialogue → List Telnet → Dialogue
 after_host_gets dialogue [] = dialogue
 after_host_gets dialogue (token ∷ later) = after_host_writes dialogue (host_answer dialogue.host token)
 
--- the dialogue behind a move: the first token that is on its way to that end arrives there
+-- the dialogue after a move: the first token that is on its way to that end arrives there
 abbrev pub after_arrival : Move → Dialogue → Dialogue
 after_arrival ToStation dialogue =
     after_station_gets dialogue (drop dialogue.at_station dialogue.to_station)
 after_arrival ToHost dialogue = after_host_gets dialogue (drop dialogue.at_host dialogue.to_host)
 
--- the dialogue behind moves, in order
+-- the dialogue after moves, in order
 abbrev pub after_arrivals : List Move → Dialogue → Dialogue
 after_arrivals [] dialogue = dialogue
 after_arrivals (move ∷ moves) dialogue = after_arrivals moves (after_arrival move dialogue)

@@ -68,12 +68,12 @@ pub data Move : Type 0 where
   ToStation : Move
   ToHost : Move
 
--- the exchange behind a move: the first token that is on its way to that end comes to it, and its reply is on its way
+-- the exchange after a move: the first token that is on its way to that end comes to it, and its reply is on its way
 abbrev pub after_token_move : Move → Exchange → Exchange
 after_token_move ToStation exchange = after_station_takes exchange exchange.to_station
 after_token_move ToHost exchange = after_host_takes exchange exchange.to_host
 
--- the exchange behind moves, in order
+-- the exchange after moves, in order
 abbrev pub after_token_moves : List Move → Exchange → Exchange
 after_token_moves [] exchange = exchange
 after_token_moves (move ∷ moves) exchange = after_token_moves moves (after_token_move move exchange)
@@ -101,10 +101,10 @@ after_all_to_station exchange = after_token_moves (replicate (length exchange.to
 abbrev pub after_all_to_host : Exchange → Exchange
 after_all_to_host exchange = after_token_moves (replicate (length exchange.to_host) ToHost) exchange
 
--- the exchange behind a full delivery: all that is on its way comes to the station, and then all to the host end
+-- the exchange after a full delivery: all that is on its way comes to the station, and then all to the host end
 abbrev pub after_delivery : Exchange → Exchange
 after_delivery exchange = after_all_to_host (after_all_to_station exchange)
 
--- the exchange behind three full deliveries, one after another
+-- the exchange after three full deliveries, one after another
 abbrev pub after_three_deliveries : Exchange → Exchange
 after_three_deliveries exchange = after_delivery (after_delivery (after_delivery exchange))

@@ -162,7 +162,7 @@ host_judgement host (Some terminal) = Some (record {
   reply = requests host.modes;
 })
 
--- what the host end does at a name: the first one behind SEND is judged, and no other
+-- what the host end does at a name: the first one after SEND is judged, and no other
 abbrev pub host_name_answer : HostState → TerminalName → List ℕ → Option (Answer HostState)
 host_name_answer host Requested name = host_judgement host (terminal_named name)
 host_name_answer host Unknown name = Some (no_effect host)

@@ -21,7 +21,7 @@ abbrev pub IsUnreadFault : ToldFault → Type 0
 IsUnreadFault told = (told ≡ Run Read) ⊎ (told ≡ Run Memory)
 
 -- Why there is no line more: standard input can't be read, a growth was refused, or a line is bad, counted from 1. A
--- session that tells when it is ready goes on behind a bad line.
+-- session that tells when it is ready goes on after a bad line.
 abbrev pub IsInputFault : Bool → ToldFault → Type 0
 IsInputFault ready told = IsUnreadFault told
     ⊎ ((ready ≡ false) × ((number : ℕ) × (cause : String Global) × (told ≡ Line number cause)))
@@ -43,7 +43,7 @@ module _ {L : Type 0} (language : LineLanguage L) where
     IsNextLine ready next = IsMeant next ⊎ ((ready ≡ true) × ((cause : String Global)
         × (next ≡ language.bad_line cause) × ((at : ℕ) × TellsWhyBad at (string_bytes cause))))
 
-    -- Where a line is told as bad behind so many, it means nothing with those that belong to it, and the number is that
+    -- Where a line is told as bad after so many, it means nothing with those that belong to it, and the number is that
     -- of the bad one, as far as 64 bits count.
     abbrev pub TellsBadLine : ℕ → ToldFault → Type 0
     TellsBadLine before (Line number cause) = (at : ℕ) × TellsWhyBad at (string_bytes cause)

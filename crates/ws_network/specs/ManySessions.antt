@@ -13,7 +13,7 @@ use Rattle.ws_live.specs.declared.asked.live_asked.ServeAsked.{ServeAsked}
 abbrev pub number_line : ℕ → List ℕ
 number_line number = codes "session " ++ (decimal number ++ codes "\n")
 
--- the line before a session behind so many: the first has none
+-- the line before a session after so many: the first has none
 abbrev pub session_line : ℕ → List ℕ
 session_line zero = []
 session_line (suc before) = number_line (suc before + 1)
@@ -32,7 +32,7 @@ module _ (IsSession : Account → Type 0) where
   AreSessions (Some path) (Some sessions) came = AreMany sessions came
   AreSessions script sessions came = IsSession came
 
--- what the sessions of `serve` came to, behind what tells the address at which it listens
+-- what the sessions of `serve` came to, after what tells the address at which it listens
 abbrev pub HasServedBy : {L O : Type 0} → LineLanguage L → (ServeAsked → List L → Account → Type 0) → Printout O
     → ServeAsked → Bool → Type 0
 HasServedBy {L = L} language IsServed out asked all_well = (lines : List L) × (first : List ℕ) × (text : List ℕ)

@@ -11,7 +11,7 @@ abbrev pub sender_word : Sender → List ℕ
 sender_word Host = codes " host "
 sender_word Station = codes " station "
 
--- the line of a piece: so many milliseconds behind the connection's beginning, by whom, and its bytes
+-- the line of a piece: so many milliseconds after the connection's beginning, by whom, and its bytes
 abbrev pub piece_line : ℕ → Sender → List ℕ → List ℕ
 piece_line milliseconds sender bytes =
     decimal milliseconds ++ (sender_word sender ++ (encode_upper bytes ++ codes "\n"))

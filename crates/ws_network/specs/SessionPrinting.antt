@@ -1,4 +1,4 @@
--- What a live session prints, by its lines and what stands behind them, and how it ends; a fault is the program's own.
+-- What a live session prints, by its lines and what stands after them, and how it ends; a fault is the program's own.
 
 use Rattle.std.specs.Borrow.{Bor}
 use Rattle.std.specs.Prelude.{◌≡◌, ℕ, List, [], ◌++◌, ◌⊎◌, Bool, true, false, ◌&&◌, Option, MatchOption, Result, Ok, Err}
@@ -36,7 +36,7 @@ told_as Tells printing = record {
   Cut = λ text told. IsOwnFault (printing.Cut text) told;
 }
 
--- what is printed behind a text that is out: that text went out, and then this was printed
+-- what is printed after a text that is out: that text went out, and then this was printed
 abbrev pub IsPrintedBehind : {S A E : Type 0} → Writer S → S → S → (List ℕ → Printing A E) → Result A E → Type 0
 IsPrintedBehind {S} writer from to printing outcome = (first : List ℕ) × (between : S)
     × WentOut writer from between first × IsPrinted writer between to (printing first) outcome
@@ -88,8 +88,8 @@ module _ {L P : Type 0} (session : SessionLines L P) where
   abbrev pub HaveLedTo : Account → P → Type 0
   HaveLedTo came mid = HaveRun prints_closed session.from session.lines came mid
 
-  -- the account of the lines and of one behind them that is carried on: where a line stopped the session, nothing
-  -- stands behind it
+  -- the account of the lines and of one after them that is carried on: where a line stopped the session, nothing
+  -- stands after it
   abbrev pub IsTextAndOn : L → Account → Type 0
   IsTextAndOn on came =
       ((so_far : Account) × (mid : P) × (behind : Account) × HaveLedTo so_far mid
@@ -97,7 +97,7 @@ module _ {L P : Type 0} (session : SessionLines L P) where
       × (came.all_well ≡ so_far.all_well && behind.all_well) × (came.text ≡ so_far.text ++ behind.text))
       ⊎ IsOverAt prints_closed session.from session.lines came session.to
 
-  -- what is printed by the one that is carried on, behind lines that went so well
+  -- what is printed by the one that is carried on, after lines that went so well
   abbrev pub answering_on : L → Bool → P → Printing Bool ToldFault
   answering_on on well mid = told_as (λ on_well all_well. all_well ≡ well && on_well)
       (carrying_on session.does on mid session.to)
@@ -107,7 +107,7 @@ module _ {L P : Type 0} (session : SessionLines L P) where
   ending_lines has_script = session_printing has_script
       (λ ran all_well. (ran.is_over ≡ true) × (all_well ≡ ran.all_well))
 
-  -- what is printed by such a session behind a text that is out: by lines that end it, behind nothing; or behind all
+  -- what is printed by such a session after a text that is out: by lines that end it, after nothing; or after all
   -- that lines print, by the one that is carried on
   abbrev pub serve_printing : Bool → L → List ℕ → Printing Bool ToldFault
   serve_printing has_script on first = record {

@@ -19,7 +19,7 @@ use Rattle.ws_program.specs.StreamText.{View}
 abbrev pub new_state : ExtendedState
 new_state = record { history = []; kept = None; text = 0 }
 
--- the display behind an item: a record is carried out as a station does on it, a Telnet command has no effect
+-- the display after an item: a record is carried out as a station does on it, a Telnet command has no effect
 abbrev pub state_after_item : ExtendedState → Item ExtendedElement → ExtendedState
 state_after_item state (RecordItem r) = state_after_record state r
 state_after_item state (TelnetItem telnet) = state
@@ -29,7 +29,7 @@ abbrev pub extended_item_fault : ExtendedState → Item ExtendedElement → Opti
 extended_item_fault state (RecordItem r) = record_fault state r.body
 extended_item_fault state (TelnetItem telnet) = None
 
--- the display behind the items
+-- the display after the items
 abbrev pub state_after_items : ExtendedState → List (Item ExtendedElement) → ExtendedState
 state_after_items state [] = state
 state_after_items state (x ∷ xs) = state_after_items (state_after_item state x) xs
@@ -38,12 +38,12 @@ state_after_items state (x ∷ xs) = state_after_items (state_after_item state x
 abbrev pub MakesDisplay : List (Item ExtendedElement) → ExtendedParts → Type 0
 MakesDisplay items display = Shows (state_after_items new_state items) display × (display.screen.writing ≡ None)
 
--- what stands behind the items: the screen of the display that they give, and the row on which an error stands
+-- what stands after the items: the screen of the display that they give, and the row on which an error stands
 abbrev pub IsExtendedEnd : Paint → List (Item ExtendedElement) → List ℕ → Type 0
 IsExtendedEnd paint items text = (d : ExtendedParts) × Shows (state_after_items new_state items) d
     × IsDisplayText paint d.screen (error_line (standing_row d)) text
 
--- how a live host's items are shown, and behind them the display's screen in a paint and the row of an error
+-- how a live host's items are shown, and after them the display's screen in a paint and the row of an error
 abbrev pub extended_view : Paint → View ExtendedElement
 extended_view paint = record {
   lines = extended_item_text;

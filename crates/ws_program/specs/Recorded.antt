@@ -38,7 +38,7 @@ piece_of Host Station bytes = []
 piece_of Station Host bytes = []
 piece_of Station Station bytes = bytes
 
--- what an end sent by the lines of a recording: its pieces, one behind another
+-- what an end sent by the lines of a recording: its pieces, one after another
 abbrev pub AreSent : RecordedEnd → List (List ℕ) → List ℕ → Type 0
 AreSent end [] bytes = bytes ≡ []
 AreSent end (line ∷ more) bytes = (sender : RecordedEnd) × (piece rest : List ℕ) × IsPieceLine line sender piece

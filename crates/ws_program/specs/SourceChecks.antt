@@ -34,7 +34,7 @@ command_outcome true outcome = run_outcome outcome
 command_outcome false outcome = closed_outcome (run_outcome outcome)
 
 module _ {S : Type 0} (reader : Reader S) (from to : S) where
-  -- a source gave bytes of which such are refused: all, up to its end, or some with a refused one, behind which no more
+  -- a source gave bytes of which such are refused: all, up to its end, or some with a refused one, after which no more
   -- is read
   abbrev pub GaveEnough : (List ℕ → Type 0) → List ℕ → Type 0
   GaveEnough IsBad bytes = GaveAll reader from to bytes

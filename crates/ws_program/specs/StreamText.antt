@@ -1,4 +1,4 @@
--- What is shown of a stream: the lines of its items, and what stands behind them: a screen, or the line of a refusal.
+-- What is shown of a stream: the lines of its items, and what stands after them: a screen, or the line of a refusal.
 
 use Rattle.std.specs.Prelude.{◌≡◌, ℕ, ◌+◌, ◌<◌, List, [], ◌∷◌, ◌++◌, ◌⊎◌, Bool, true, false, Option, None, Some, IfSome}
 use Rattle.std.specs.Prelude.{length, take, map, Result, Ok, Err}
@@ -20,7 +20,7 @@ use Rattle.ws_program.specs.CheckLine.{line_of, is_accepted}
 use Rattle.ws_program.specs.declared.verdict.Verdict.{Verdict}
 use Rattle.ws_program.specs.declared.verdict.Verdict.TheVariants.{Refused, Truncated}
 
--- How items of some body are shown: an item's lines, why one isn't carried out behind others, and what stands behind
+-- How items of some body are shown: an item's lines, why one isn't carried out after others, and what stands after
 -- all of them where the stream is accepted.
 pub record View (U : Type 0) : Type 1 where
   pub lines : ℕ → Item U → List ℕ
@@ -55,7 +55,7 @@ module _ {U : Type 0} where
   lines_with view placed (Some x) = lines_of view placed ++ view.lines x.0 x.1
 
 module _ {Place U : Type 0} where
-  -- behind the items before, the item is complete with the byte at its place, and not before, and no layer refuses
+  -- after the items before, the item is complete with the byte at its place, and not before, and no layer refuses
   -- a byte up to that one
   pub record IsComplete (rules : Rules Place U) (bytes : List ℕ) (before : List (Item U)) (x : Placed U)
       : Type 0 where
@@ -75,18 +75,18 @@ module _ {Place U : Type 0} where
   AreShown way bytes before (x ∷ xs) = IsComplete way.rules bytes before x × (way.view.fault before x.1 ≡ None)
       × AreShown way bytes (before ++ x.1 ∷ []) xs
 
-  -- the bytes are accepted, and what stands behind all items is shown
+  -- the bytes are accepted, and what stands after all items is shown
   abbrev pub IsAcceptedEnd : Showing Place U → List ℕ → List (Placed U) → List ℕ → Type 0
   IsAcceptedEnd way bytes placed text = IsInGrammar way.rules bytes (items_without_places placed)
       × way.view.Ends (items_without_places placed) text
 
-  -- a byte is refused behind the items, and its line is shown
+  -- a byte is refused after the items, and its line is shown
   abbrev pub IsRefusedEnd : Rules Place U → List ℕ → List (Placed U) → List ℕ → Type 0
   IsRefusedEnd rules bytes placed text = (place : ℕ) × (reason : Reason) × IsRefused rules bytes place reason
       × HoldsItems rules (take place bytes) (items_without_places placed)
       × (text ≡ line_of (Refused place reason) (length bytes))
 
-  -- the bytes end too early behind the items, and the line of that is shown
+  -- the bytes end too early after the items, and the line of that is shown
   abbrev pub IsTruncatedEnd : Rules Place U → List ℕ → List (Placed U) → List ℕ → Type 0
   IsTruncatedEnd rules bytes placed text = IsTruncated rules bytes × HoldsItems rules bytes
       (items_without_places placed)
@@ -99,13 +99,13 @@ module _ {Place U : Type 0} where
       × (way.view.fault (items_without_places placed) x.1 ≡ Some reason)
       × (text ≡ way.view.lines x.0 x.1 ++ line_of (Refused x.0 reason) (length bytes))
 
-  -- what stands behind the items: that of an accepted stream, or the line of one that is not
+  -- what stands after the items: that of an accepted stream, or the line of one that is not
   abbrev pub IsEnd : Showing Place U → List ℕ → List (Placed U) → Bool → List ℕ → Type 0
   IsEnd way bytes placed true text = IsAcceptedEnd way bytes placed text
   IsEnd way bytes placed false text = IsRefusedEnd way.rules bytes placed text
       ⊎ (IsTruncatedEnd way.rules bytes placed text ⊎ IsUnappliedEnd way bytes placed text)
 
-  -- the whole text that is shown of a stream: the lines of its items, and what comes behind them
+  -- the whole text that is shown of a stream: the lines of its items, and what comes after them
   pub record IsShown (way : Showing Place U) (bytes : List ℕ) (accepted : Bool) (text : List ℕ)
       : Type 0 where
     pub placed : List (Placed U)
@@ -144,7 +144,7 @@ module _ {Place U : Type 0} where
   IsNext rules bytes old new (Some x) = (items : List (Item U)) → HasTaken rules bytes old items
       → IsNextItem rules bytes items old new x
 
-  -- a unit of the record that comes next behind the items is complete in the bytes, so that a list grows for it
+  -- a unit of the record that comes next after the items is complete in the bytes, so that a list grows for it
   abbrev pub GrowsBehind : Rules Place U → List ℕ → List (Item U) → Type 0
   GrowsBehind rules bytes items = HasUnit rules [] items bytes
 
@@ -156,7 +156,7 @@ module _ {Place U : Type 0} where
       → GrowsBehind rules bytes items
   IsNextFault rules bytes old fault = ⊥
 
-  -- how what is shown ends: with the whole text; or with the lines of the first items, behind which a growth is refused
+  -- how what is shown ends: with the whole text; or with the lines of the first items, after which a growth is refused
   abbrev pub IsShowEnd : Showing Place U → List ℕ → List ℕ → Result Bool Fault → Type 0
   IsShowEnd way bytes text (Ok accepted) = IsShown way bytes accepted text
   IsShowEnd way bytes text (Err Memory) = (placed : List (Placed U)) × AreShown way bytes [] placed
@@ -173,14 +173,14 @@ module _ {Place U : Type 0} where
 
   module _ {S : Type 0} (out : Printout S) (way : Showing Place U) (bytes : List ℕ) where
     -- what is answered where not all items are carried out: the items' lines went out, and the line of a verdict
-    -- goes on behind them, or there was a fault
+    -- goes on after them, or there was a fault
     abbrev pub IsStop : Result Verdict Fault → Type 0
     IsStop (Ok verdict) = (is_accepted verdict ≡ false) × ((lines : List ℕ) × AreFirstLines way bytes lines
         × IsPrintedOut out lines × IsShown way bytes false (lines ++ line_of verdict (length bytes)))
     IsStop (Err fault) = IsPrinted out.writer out.from out.to (show_printing way bytes) (Err fault)
 
     -- All items were shown and carried out, and so is a stream that is accepted; or the last one isn't carried out, and
-    -- the line of that verdict goes on behind it.
+    -- the line of that verdict goes on after it.
     abbrev pub IsThrough : (List ℕ → Type 0) → Option Verdict → Type 0
     IsThrough IsEnding None = (lines : List ℕ) × AreFirstLines way bytes lines × IsPrintedOut out lines
         × ((text : List ℕ) → IsEnding text → IsShown way bytes true (lines ++ text))

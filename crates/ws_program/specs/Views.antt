@@ -39,11 +39,11 @@ after_items h (x ∷ xs) = after_items (after_item h x) xs
 abbrev pub MakesScreen : List (Item Element) → ScreenParts → Type 0
 MakesScreen items screen = Gives (after_items [] items) screen × (screen.writing ≡ None)
 
--- what stands behind the items of a host: the screen that they give
+-- what stands after the items of a host: the screen that they give
 abbrev pub IsScreenEnd : Paint → List (Item Element) → List ℕ → Type 0
 IsScreenEnd paint items text = (s : ScreenParts) × Gives (after_items [] items) s × IsScreenText paint s text
 
--- how a host's items are shown, and the screen behind them in a paint
+-- how a host's items are shown, and the screen after them in a paint
 abbrev pub painted_host_view : Paint → View Element
 painted_host_view paint = record {
   lines = item_text;
@@ -51,22 +51,22 @@ painted_host_view paint = record {
   Ends = IsScreenEnd paint;
 }
 
--- how a host's items are shown, and the screen behind them in plain text
+-- how a host's items are shown, and the screen after them in plain text
 abbrev pub host_view : View Element
 host_view = painted_host_view Plain
 
--- nothing stands behind a station's answers
+-- nothing stands after a station's answers
 abbrev pub IsNoEnd : {U : Type 0} → List (Item U) → List ℕ → Type 0
 IsNoEnd items text = text ≡ []
 
--- how a station's answers are shown; nothing stands behind them
+-- how a station's answers are shown; nothing stands after them
 abbrev pub answer_view : View AnswerPart
 answer_view = record { lines = answer_text; fault = λ _ _. None; Ends = IsNoEnd }
 
--- how what a live host's station sends is shown; nothing stands behind it
+-- how what a live host's station sends is shown; nothing stands after it
 abbrev pub told_view : View ExtendedAnswerPart
 told_view = record { lines = told_item_text; fault = λ _ _. None; Ends = IsNoEnd }
 
--- a way to show items, with what stands behind them in a paint
+-- a way to show items, with what stands after them in a paint
 abbrev pub in_paint : {U : Type 0} → View U → (Paint → List (Item U) → List ℕ → Type 0) → Paint → View U
 in_paint view Ends paint = record { lines = view.lines; fault = view.fault; Ends = Ends paint }

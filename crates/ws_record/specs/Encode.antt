@@ -11,7 +11,7 @@ use Rattle.ws_record.specs.declared.encoder.EncodeFault.{EncodeFault}
 use Rattle.ws_record.specs.declared.encoder.EncodeFault.TheVariants.{TooBig, BadSequence, Memory, Write}
 use Rattle.ws_record.specs.Grammar.{record_bytes}
 
--- a record's bytes with each FF doubled, and IAC EOR behind them (RFC 854; RFC 885)
+-- a record's bytes with each FF doubled, and IAC EOR after them (RFC 854; RFC 885)
 abbrev pub record_spelling : List ℕ → List ℕ
 record_spelling bytes = flat_map doubled bytes ++ 0xff ∷ 0xef ∷ []
 

@@ -43,7 +43,7 @@ pub record IsFramed (bytes : List ℕ) : Type 0 where
   pub spelled : bytes ≡ header (length bytes) flags opcode ++ rest
 
 module _ {Place U : Type 0} where
-  -- the bytes behind a header are the spelling of a body
+  -- the bytes after a header are the spelling of a body
   pub record IsBodyBytes (rules : Rules Place U) (bytes : List ℕ) : Type 0 where
     pub units : List U
     pub whole : IsWhole rules units
@@ -86,7 +86,7 @@ module _ {Place U : Type 0} where
     pub are_items : items ≡ flat_map (λ s. commands s.0 ++ RecordItem s.1 ∷ []) stretches ++ commands rest
     pub is_open : record_so_far ≡ carried rest
 
-  -- the bytes spell the items, perhaps with whole tokens of an open record behind them
+  -- the bytes spell the items, perhaps with whole tokens of an open record after them
   abbrev pub Spells : Rules Place U → List ℕ → List (Item U) → Type 0
   Spells rules bytes items = (record_so_far : List ℕ) × Holds rules bytes items record_so_far []
 

@@ -25,7 +25,7 @@ pub record Watching (Place : Type 0) : Type 0 where
   pub reader : Keeping Place
   pub failed : Bool
 
--- What bytes of a stream have come to: the items in them, and the open record behind these.
+-- What bytes of a stream have come to: the items in them, and the open record after these.
 pub record StreamSoFar (U : Type 0) : Type 0 where
   pub bytes : List ℕ
   pub items : List (Item U)
@@ -64,7 +64,7 @@ module _ {Place U : Type 0} where
     pub is_head : IsHead head so_far
     pub cut : IsCut rules (drop 10 so_far) units unfinished
 
-  -- Behind these bytes, which hold these items, the byte completes a unit of the open record's body, and no layer
+  -- After these bytes, which hold these items, the byte completes a unit of the open record's body, and no layer
   -- refuses a byte up to it.
   pub record CompletesUnit (rules : Rules Place U) (bytes : List ℕ) (items : List (Item U)) (byte : ℕ)
       : Type 0 where

@@ -21,9 +21,9 @@ pub record BeginsList {Place U : Type 0} (rules : Rules Place U) (bytes : List �
   pub spelled : spelling_of rules units ≡ bytes ++ more
 
 module _ {Place U : Type 0} where
-  -- The prefix is open to the layer. Behind an EOR the record is whole and of its declared length, and its body is
+  -- The prefix is open to the layer. After an EOR the record is whole and of its declared length, and its body is
   -- whole;
-  -- elsewhere the record so far can become a record with a right header, and what stands behind its header begins some
+  -- elsewhere the record so far can become a record with a right header, and what stands after its header begins some
   -- body.
   abbrev pub IsOpenPrefix : Rules Place U → Layer → List ℕ → Type 0
   IsOpenPrefix rules Tokens prefix = BeginsList token_rules prefix

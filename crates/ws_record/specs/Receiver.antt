@@ -28,7 +28,7 @@ module _ {Place U : Type 0} where
     pub head : Option Head
     pub leads : LeadsWith rules receiver.live bytes items head receiver.units
 
-  -- behind these bytes and the items that they hold a byte of the piece completes a unit of the next record
+  -- after these bytes and the items that they hold a byte of the piece completes a unit of the next record
   abbrev pub HasUnit : Rules Place U → List ℕ → List (Item U) → List ℕ → Type 0
   HasUnit rules bytes items piece = (front : List ℕ) × (byte : ℕ) × (rest : List ℕ)
       × (piece ≡ front ++ byte ∷ rest) × CompletesUnit rules (bytes ++ front) items byte
@@ -49,14 +49,14 @@ module _ {Place U : Type 0} where
   abbrev pub MayGrow : Rules Place U → List ℕ → Type 0
   MayGrow rules bytes = ((items : List (Item U)) × HasUnit rules [] items bytes) ⊎ HasItem rules bytes
 
-  -- a byte behind these is refused, or the growth for a unit that is complete with it was
+  -- a byte after these is refused, or the growth for a unit that is complete with it was
   abbrev pub IsTakeFault : Rules Place U → List ℕ → List (Item U) → ℕ → Fault → Type 0
   IsTakeFault rules bytes items byte (Refused place reason) = (place ≡ length bytes)
       × IsRefused rules (bytes ++ byte ∷ []) place reason
   IsTakeFault rules bytes items byte Memory = CompletesUnit rules bytes items byte
   IsTakeFault rules bytes items byte fault = ⊥
 
-  -- a byte of the piece behind these is refused, or the growth for a unit of it was
+  -- a byte of the piece after these is refused, or the growth for a unit of it was
   abbrev pub IsFeedFault : Rules Place U → List ℕ → List (Item U) → List ℕ → Fault → Type 0
   IsFeedFault rules bytes items piece (Refused place reason) = (length bytes ≤ place)
       × IsRefused rules (bytes ++ piece) place reason

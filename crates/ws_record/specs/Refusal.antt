@@ -48,7 +48,7 @@ module _ {Place U : Type 0} where
   IsFirstClosed rules Header bytes = IsOpen rules Tokens bytes × ¬ IsOpen rules Header bytes
   IsFirstClosed rules Body bytes = IsOpen rules Header bytes × ¬ IsOpen rules Body bytes
 
-  -- the reason of a byte behind these of a body, by the table of the body; of an EOR it is that the record ends inside
+  -- the reason of a byte after these of a body, by the table of the body; of an EOR it is that the record ends inside
   -- a unit
   abbrev pub IsBodyReason : Rules Place U → List ℕ → Token → Reason → Type 0
   IsBodyReason rules bytes (Data b) reason = (units : List U) × (begun : List ℕ) × IsCut rules bytes units begun

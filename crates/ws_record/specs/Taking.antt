@@ -19,7 +19,7 @@ abbrev pub ArePlain : List ℕ → Type 0
 ArePlain bytes = AllByRecursion (λ b. b ≢ IAC) bytes
 
 module _ {U K : Type 0} where
-  -- whatever the one keep held, the other holds with these units behind it, and was told of these values
+  -- whatever the one keep held, the other holds with these units after it, and was told of these values
   abbrev pub KeepsTold : Keeper U K → K → K → List U → List ℕ → Type 0
   KeepsTold keeper old new more values =
       (units : List U) (told : List ℕ) → keeper.holds old units told
@@ -29,7 +29,7 @@ module _ {U K : Type 0} where
   abbrev pub OnlyIfOn : Keeper U K → List U → Type 0
   OnlyIfOn keeper units = (units ≡ []) ⊎ keeper.may_answer answer.GoOn
 
--- the values end with one that is so, behind the others
+-- the values end with one that is so, after the others
 abbrev pub EndIn : List ℕ → (List ℕ → ℕ → Type 0) → Type 0
 EndIn values Q = (front : List ℕ) × (last : ℕ) × (values ≡ front ++ last ∷ []) × Q front last
 

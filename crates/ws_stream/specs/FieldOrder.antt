@@ -19,7 +19,7 @@ is_control w = nat_le 0x8000 w && nat_lt w 0x10000
 abbrev pub is_attribute : ℕ → Bool
 is_attribute b = nat_le 0x20 b && nat_lt b 0x40
 
--- control words stand only behind a format word
+-- control words stand only after a format word
 abbrev pub HasFormat : Option ℕ → List ℕ → Type 0
 HasFormat None controls = controls ≡ []
 HasFormat (Some w) controls = IsFfw w

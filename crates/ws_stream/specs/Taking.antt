@@ -39,7 +39,7 @@ pub record IsWaiting (old : Commands) (phase : Phase) (new : Commands) (end : En
   pub place : new.place ≡ old.place
   pub begun : unfinished_of new ≡ unfinished_in phase old.bytes old.kinds old.controls
 
--- Behind the bytes of an element that has begun at the place, the byte goes on with it, or is refused.
+-- After the bytes of an element that has begun at the place, the byte goes on with it, or is refused.
 abbrev pub GoesOnWithElement : Place → List ℕ → ℕ → Commands → End → Type 0
 GoesOnWithElement place begun b machine More =
     IsStep element_rules (reading place begun) b (reading_of machine) answer.More
@@ -48,7 +48,7 @@ GoesOnWithElement place begun b machine (Bad reason) =
 GoesOnWithElement place begun b machine _ = ⊥
 
 module _ {K : Type 0} where
-  -- the keep has answered so to the element, and the machine stands behind it
+  -- the keep has answered so to the element, and the machine stands after it
   pub record HasKept (keeper : Keeper Element K) (old : K) (element : Element) (after : WithKeep Commands K)
       (kept : Kept) : Type 0 where
     pub keeps : KeepsOne keeper old after.keep element kept

@@ -28,12 +28,12 @@ carried tokens = flat_map data_of tokens
 abbrev pub HasNoEor : List Token → Type 0
 HasNoEor tokens = AllByRecursion (λ t. t ≢ Eor) tokens
 
--- parts of a stream of tokens, each with an EOR behind it, and the rest
+-- parts of a stream of tokens, each with an EOR after it, and the rest
 abbrev pub joined : List (List Token) → List Token → List Token
 joined parts rest = flat_map (λ part. part ++ Eor ∷ []) parts ++ rest
 
 -- The bytes are tokens, cut into records by their EORs (RFC 885). The data bytes of each record have this property, and
--- none stand behind the last EOR.
+-- none stand after the last EOR.
 pub record IsStream (P : List ℕ → Type 0) (bytes : List ℕ) : Type 0 where
   pub parts : List (List Token)
   pub rest : List Token
@@ -43,7 +43,7 @@ pub record IsStream (P : List ℕ → Type 0) (bytes : List ℕ) : Type 0 where
   pub tokens : IsWhole token_rules (joined parts rest)
   pub spelled : bytes ≡ spelling_of token_rules (joined parts rest)
 
--- the bytes are whole tokens, the last of them behind these data bytes since the EOR before
+-- the bytes are whole tokens, the last of them after these data bytes since the EOR before
 pub record EndsWithToken (bytes record_so_far : List ℕ) (last : Token) : Type 0 where
   pub parts : List (List Token)
   pub rest : List Token

@@ -17,7 +17,7 @@ use Rattle.ws_telnet.specs.declared.token.Telnet.TheVariants.{Command, Option as
 use Rattle.ws_telnet.specs.declared.token.Token.{Token}
 use Rattle.ws_telnet.specs.declared.token.Token.TheVariants.{Data, Eor, Telnet as TelnetToken}
 
--- the byte behind IAC that is the command (RFC 854)
+-- the byte after IAC that is the command (RFC 854)
 abbrev pub command_byte : CommandCode → ℕ
 command_byte Nop = 0xf1
 command_byte DataMark = 0xf2
@@ -29,7 +29,7 @@ command_byte EraseCharacter = 0xf7
 command_byte EraseLine = 0xf8
 command_byte GoAhead = 0xf9
 
--- the byte behind IAC that is the verb (RFC 854, RFC 855)
+-- the byte after IAC that is the verb (RFC 854, RFC 855)
 abbrev pub verb_byte : Verb → ℕ
 verb_byte Will = 0xfb
 verb_byte Wont = 0xfc

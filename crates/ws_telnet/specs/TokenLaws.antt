@@ -295,7 +295,7 @@ token_prefix_free place (TelnetToken (Subnegotiate s))
 token_prefix_free place (TelnetToken (Subnegotiate s))
     (TelnetToken (Subnegotiate t)) rest hu hv e = ap (λ x. TelnetToken (Subnegotiate x)) (same_sub s t rest e)
 
--- behind any tokens a next one can come
+-- after any tokens a next one can come
 pub token_begins : (place : Unit {0}) → IsUnfinished token_rules place []
 token_begins place = record {
   unit = Eor;

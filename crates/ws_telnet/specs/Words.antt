@@ -26,8 +26,8 @@ telnet_of said.Sub sub = telnet.Sub sub
 abbrev pub IsWholeToken : List ℕ → Tokens → Token → Type 0
 IsWholeToken bytes machine token = IsSpelled token_rules tt bytes token × (unfinished_token machine ≡ [])
 
--- Behind the bytes of a begun token the byte makes this word, and leaves this machine: with it the token is still
--- unfinished, or is whole, or it is refused. Behind a whole token and a refused byte the machine stands between tokens.
+-- After the bytes of a begun token the byte makes this word, and leaves this machine: with it the token is still
+-- unfinished, or is whole, or it is refused. After a whole token and a refused byte the machine stands between tokens.
 abbrev pub IsWord : List ℕ → ℕ → Tokens → Word → Type 0
 IsWord begun b machine More =
     (unfinished_token machine ≡ begun ++ b ∷ []) × IsUnfinished token_rules tt (unfinished_token machine)

@@ -108,7 +108,8 @@ fn hand_down(place: ExtendedPlace, inner: &mut Commands, byte: u8) -> Push<Exten
 // Whether no command beside the profile has the code.
 #[inline(always)]
 fn is_own_command(code: u8) -> bool
-    ensures { result ≡ true → (place : APlace) → takes_command (InProfile place) code ≡ true }
+    ensures { result ≡ true → (place : APlace)
+        → takes_command (InProfile place) code ≡ true }
 {
     match code {
         command_code::WRITE_STRUCTURED_FIELD
@@ -126,7 +127,8 @@ fn is_own_command(code: u8) -> bool
 #[inline(always)]
 pub(super) fn begins_profile(values: &[u8]) -> bool
     requires { 0 < length values.now }
-    ensures { result ≡ true → (place : APlace) → is_inner (InProfile place) values.now ≡ true }
+    ensures { result ≡ true → (place : APlace)
+        → is_inner (InProfile place) values.now ≡ true }
 {
     if values[0] != ESCAPE {
         return true;
@@ -141,7 +143,8 @@ pub(super) fn begins_profile(values: &[u8]) -> bool
 fn behind_escape(place: ExtendedPlace, code: u8) -> Option<Push<ExtendedElement>>
     ensures answered { (push : APush AnElement) → result ≡ Some push → (begun : List ℕ)
         → IsStep extended_rules (reading place (ESCAPE ∷ [])) code (reading place begun) push }
-    ensures left { result ≡ None → code ≢ WRITE_STRUCTURED_FIELD → takes_command place code ≡ true }
+    ensures left { result ≡ None → code ≢ WRITE_STRUCTURED_FIELD
+        → takes_command place code ≡ true }
 {
     match code {
         command_code::WRITE_STRUCTURED_FIELD => None,

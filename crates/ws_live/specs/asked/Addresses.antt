@@ -23,7 +23,7 @@ HasNo byte text = (i : ℕ) → i < length text → slice_index text i ≢ byte
 abbrev pub IsZone : List ℕ → Type 0
 IsZone zone = (zone ≢ []) × HasNo 58 zone
 
--- an address of IPv6, and a zone behind its percent sign
+-- an address of IPv6, and a zone after its percent sign
 pub record IsZonedV6 (text : List ℕ) : Type 0 where
   pub address : List ℕ
   pub zone : List ℕ
@@ -36,18 +36,18 @@ pub record IsZonedV6 (text : List ℕ) : Type 0 where
 abbrev pub IsV6 : List ℕ → Type 0
 IsV6 text = IsPlainV6 text ⊎ IsZonedV6 text
 
--- what stands behind a host: nothing, or a colon and a port's text
+-- what stands after a host: nothing, or a colon and a port's text
 abbrev pub IsBehindHost : List ℕ → Option (List ℕ) → Type 0
 IsBehindHost behind None = behind ≡ []
 IsBehindHost behind (Some port) = behind ≡ 58 ∷ port
 
--- an address of IPv6 in brackets, and what stands behind it
+-- an address of IPv6 in brackets, and what stands after it
 pub record IsBracketed (text host behind : List ℕ) : Type 0 where
   pub spelled : text ≡ 91 ∷ (host ++ 93 ∷ behind)
   pub address : IsV6 host
   pub inside : HasNo 93 host
 
--- a name or an address of IPv4, which has no colon and doesn't begin with a bracket, and what stands behind it
+-- a name or an address of IPv4, which has no colon and doesn't begin with a bracket, and what stands after it
 pub record IsNamed (text host behind : List ℕ) : Type 0 where
   pub spelled : text ≡ host ++ behind
   pub some : host ≢ []

@@ -31,7 +31,7 @@ StandsIn line word = (front : List ℕ) × (back : List ℕ) × (line ≡ front 
 abbrev pub EndsWith : List ℕ → List ℕ → Type 0
 EndsWith line text = (front : List ℕ) × (line ≡ front ++ text)
 
--- a line whose words up to this one were looked at: it ends with that word, or with a blank and the words behind it
+-- a line whose words up to this one were looked at: it ends with that word, or with a blank and the words after it
 abbrev pub IsLeft : List ℕ → List ℕ → Option (Bor (List ℕ)) → Type 0
 IsLeft line last rest = MatchOption rest (EndsWith line last) (λ words. EndsWith line (32 ∷ words.now))
 

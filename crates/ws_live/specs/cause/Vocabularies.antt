@@ -1,4 +1,4 @@
--- The words that lines of a script and of items as text begin with, and of what kind the words behind each are.
+-- The words that lines of a script and of items as text begin with, and of what kind the words after each are.
 
 use Rattle.std.specs.Prelude.{ℕ, List, [], ◌∷◌, codes}
 use Rattle.ws_live.specs.declared.cause.vocabulary.Shape.{Shape}
@@ -12,7 +12,7 @@ use Rattle.ws_live.specs.declared.cause.vocabulary.Vocabulary.TheVariants.{Items
 use Rattle.ws_live.specs.declared.asked.sender.Sender.{Sender}
 use Rattle.ws_live.specs.declared.asked.sender.Sender.TheVariants as sender
 
--- first words, with the kind of the words behind each
+-- first words, with the kind of the words after each
 abbrev pub Words : Type 0
 Words = List (List ℕ × Shape)
 
@@ -70,7 +70,7 @@ unit_words sender.ExtendedHost = elements_before (commands_before [])
 unit_words sender.Station = parts_before ((codes "TEXT", Coded) ∷ [])
 unit_words sender.ExtendedStation = parts_before (elements_before (commands_before told_words))
 
--- the words that a line of this kind begins with; those of elements stand behind two blanks
+-- the words that a line of this kind begins with; those of elements stand after two blanks
 abbrev pub vocabulary_words : Vocabulary → Words
 vocabulary_words Station = station_words
 vocabulary_words ExtendedStation = station_words

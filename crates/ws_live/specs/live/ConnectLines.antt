@@ -27,11 +27,11 @@ use Rattle.ws_live.specs.declared.live.connect_line.Awaited.TheVariants.{Turn, R
 abbrev pub IsNothing : List ℕ → Type 0
 IsNothing line = (line ≡ []) ⊎ ((text : List ℕ) × (line ≡ codes "#" ++ text))
 
--- behind a row its column stands, and something behind that
+-- after a row its column stands, and something after that
 abbrev pub IsBehindRow : List ℕ → List ℕ → ℕ → List ℕ → Type 0
 IsBehindRow row words cell rest = (column : List ℕ) × (words ≡ column ++ codes " " ++ rest) × IsCell row column cell
 
--- a cell by its row and its column, and what stands behind them
+-- a cell by its row and its column, and what stands after them
 abbrev pub IsPlaced : List ℕ → ℕ → List ℕ → Type 0
 IsPlaced words cell rest = (row : List ℕ) × (behind : List ℕ) × (words ≡ row ++ codes " " ++ behind)
     × IsBehindRow row behind cell rest
@@ -49,7 +49,7 @@ abbrev pub IsTextAt : ℕ → List ℕ → Awaited → Type 0
 IsTextAt cell words (At at text) = (at ≡ cell) × IsSomeText words (string_bytes text)
 IsTextAt cell words awaited = ⊥
 
--- what is awaited by the words behind `await at`: a text, behind the row and the column of its first cell
+-- what is awaited by the words after `await at`: a text, after the row and the column of its first cell
 abbrev pub IsPlacedText : List ℕ → Awaited → Type 0
 IsPlacedText words (At cell text) = IsPlaced words cell (string_bytes text) × (string_bytes text ≢ [])
 IsPlacedText words awaited = ⊥
@@ -66,7 +66,7 @@ abbrev pub IsQuietAwaited : List ℕ → Awaited → Type 0
 IsQuietAwaited words (Quiet time) = IsQuietText words time
 IsQuietAwaited words awaited = ⊥
 
--- what is awaited by the words behind `await`
+-- what is awaited by the words after `await`
 abbrev pub IsAwaited : List ℕ → Awaited → Type 0
 IsAwaited words Turn = ⊥
 IsAwaited words Record = words ≡ codes "record"
@@ -80,7 +80,7 @@ abbrev pub MeansWait : List ℕ → Awaited → Type 0
 MeansWait line awaited = ((line ≡ codes "await") × (awaited ≡ Turn))
     ⊎ ((words : List ℕ) × (line ≡ codes "await " ++ words) × IsAwaited words awaited)
 
--- the words of a text behind the row and the column of its first cell
+-- the words of a text after the row and the column of its first cell
 abbrev pub IsTextPlaced : List ℕ → Type 0
 IsTextPlaced words = (cell : ℕ) × (text : List ℕ) × IsPlaced words cell text × (text ≢ [])
 
@@ -147,7 +147,7 @@ module _ {Q : Type 0} (w : KeyWords Q) where
   abbrev pub IsFieldText : List ℕ → List ℕ → Filling Q → Type 0
   IsFieldText word text filling = IsFieldNumber word filling.number × AreKeysOf false text filling.keys
 
-  -- the same, the text behind the number
+  -- the same, the text after the number
   abbrev pub IsFilling : List ℕ → Filling Q → Type 0
   IsFilling words filling = (word : List ℕ) × (text : List ℕ) × (words ≡ word ++ codes " " ++ text)
       × IsFieldText word text filling

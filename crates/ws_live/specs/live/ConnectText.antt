@@ -87,7 +87,7 @@ abbrev pub IsWorking : Waited → Bool → Type 0
 IsWorking (Failed why) broken = Unit {0}
 IsWorking waited broken = broken ≡ false
 
--- the character that a key enters, where it enters one, behind a blank
+-- the character that a key enters, where it enters one, after a blank
 abbrev pub entered_behind : Option ℕ → List ℕ
 entered_behind None = []
 entered_behind (Some character) = codes " " ++ encode_utf8 character
@@ -105,12 +105,12 @@ key_refused_text entered (acted.Refused why) = key_refused_line entered why
 abbrev pub pressed : Bool → Closing
 pressed well = if well then Done else Declined
 
--- how keys close that close so, and one behind them
+-- how keys close that close so, and one after them
 abbrev pub closing_of_both : Closing → Closing → Closing
 closing_of_both Done next = next
 closing_of_both closing next = closing
 
--- how many records are ahead behind these: one more for each, as far as 64 bits count
+-- how many records are ahead after these: one more for each, as far as 64 bits count
 abbrev pub more_ahead : ℕ → List Applied → ℕ
 more_ahead ahead [] = ahead
 more_ahead ahead (one ∷ told) = more_ahead (one_more ahead) told
@@ -231,7 +231,7 @@ module _ {S K : Type 0} (display : WatchedDisplay S K) where
       × (HearsNone mid ended to ⊎ ((length told ≡ most_reads) × (to ≡ mid) × (ended ≡ Failed fault.Read)))
 
   -- A line that shows something of a station: the records that have come are applied first, and are ahead then;
-  -- behind its text stands what there was behind them, if not only that no more has come.
+  -- after its text stands what there was after them, if not only that no more has come.
   pub record ShowsStation (IsText : StationOf display.at.on → List ℕ → Type 0) (from : WatchedStation × ℕ)
       (came : LineResult) (to : WatchedStation × ℕ) : Type 0 where
     pub told : List Applied
@@ -282,7 +282,7 @@ module _ {S K : Type 0} (display : LiveDisplay)
   for_waits = record { at = record { on = display.on; devices = on.devices }; tells = on.tells }
 
   -- What a line at a station comes to, with screens in a paint; the keys of a stroke are those at the screen that the
-  -- station then has. Behind a line that waits or presses keys no record is ahead.
+  -- station then has. After a line that waits or presses keys no record is ahead.
   abbrev pub StationRuns : Paint → LinesDo (StationLine display.on.Pressed) StationAndAhead
   StationRuns paint NoLine from came to = (to ≡ from) × (came.outcome ≡ Ok Nothing) × (came.text ≡ [])
   StationRuns paint (Press keys) from came to = KeysRun for_keys keys from.0 came to.0 × (to.1 ≡ 0)

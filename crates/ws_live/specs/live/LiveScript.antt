@@ -24,17 +24,17 @@ abbrev pub BeginsFlush : List (List ℕ) → Type 0
 BeginsFlush [] = Unit {0}
 BeginsFlush (line ∷ more) = is_indented line ≡ false
 
--- a text that is cut in two: the front, of so many lines, and what is behind it
+-- a text that is cut in two: the front, of so many lines, and what is after it
 pub record TextCut : Type 0 where
   pub inside : List ℕ
   pub count : ℕ
   pub behind : List ℕ
 
--- this front, of so many lines, and this behind it
+-- this front, of so many lines, and this after it
 abbrev pub text_cut : List ℕ → ℕ → List ℕ → TextCut
 text_cut inside count behind = record { inside = inside; count = count; behind = behind }
 
--- the front of a text whose lines begin with two blanks, the number of these, and what is behind it, of which the first
+-- the front of a text whose lines begin with two blanks, the number of these, and what is after it, of which the first
 -- line doesn't
 pub record HasInside (text : List ℕ) (cut : TextCut) : Type 0 where
   pub whole : text ≡ cut.inside ++ cut.behind
@@ -58,14 +58,14 @@ pub record LineLanguage (L : Type 0) : Type 1 where
   pub bad_line : String Global → L
 
 module _ {L : Type 0} (language : LineLanguage L) where
-  -- a line, those that belong to it, which stand behind one that lines may belong to, and those behind them
+  -- a line, those that belong to it, which stand after one that lines may belong to, and those after them
   pub record IsBlock (line : List ℕ) (inside after : List (List ℕ)) : Type 0 where
     pub indented : AreIndented inside
     pub opened : (inside ≡ []) ⊎ language.opener line
     pub whole : language.opener line → BeginsFlush after
 
-  -- of a line and the text behind it: the front of that text whose lines belong to the line, the number of these, and
-  -- what is behind them
+  -- of a line and the text after it: the front of that text whose lines belong to the line, the number of these, and
+  -- what is after them
   pub record HasBlock (line text : List ℕ) (cut : TextCut) : Type 0 where
     pub whole : text ≡ cut.inside ++ cut.behind
     pub split : lines text ≡ lines cut.inside ++ lines cut.behind
@@ -73,14 +73,14 @@ module _ {L : Type 0} (language : LineLanguage L) where
     pub counted : cut.count ≡ length (lines cut.inside)
     pub few : cut.count + length cut.behind ≤ length text
 
-  -- each of the first lines means one of these, in order, with those that belong to it, and the rest is behind them
+  -- each of the first lines means one of these, in order, with those that belong to it, and the rest is after them
   abbrev pub MeanThese : List (List ℕ) → List L → List (List ℕ) → Type 0
   MeanThese all [] rest = all ≡ rest
   MeanThese all (first ∷ read) rest = (line : List ℕ) × (inside : List (List ℕ)) × (after : List (List ℕ))
       × (all ≡ line ∷ (inside ++ after)) × IsBlock line inside after × language.means line inside first
       × MeanThese after read rest
 
-  -- the lines of a text mean these, in order, each with those behind two blanks that belong to it
+  -- the lines of a text mean these, in order, each with those after two blanks that belong to it
   abbrev pub AreLiveLines : List ℕ → List L → Type 0
   AreLiveLines text read = MeanThese (lines text) read []
 
@@ -119,7 +119,7 @@ module _ {L : Type 0} (language : LineLanguage L) where
   IsBlockFault line inside (Line at) = IsBadBlock line inside at
   IsBlockFault line inside Memory = IsGoodBlockSoFar line inside
 
-  -- as far as it was read, a script is good: behind good lines stands one that is good so far, with all that belong to
+  -- as far as it was read, a script is good: after good lines stands one that is good so far, with all that belong to
   -- it
   pub record IsLiveScriptSoFar (text : List ℕ) : Type 0 where
     pub line : List ℕ

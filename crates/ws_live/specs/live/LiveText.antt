@@ -51,7 +51,7 @@ ran_none = record { all_well = true; is_over = false }
 abbrev pub ran_by : Closing → Ran
 ran_by closing = record { all_well = is_well closing; is_over = stops closing }
 
--- what two runs have come to, one behind the other
+-- what two runs have come to, one after the other
 abbrev pub ran_and : Ran → Ran → Ran
 ran_and a b = record { all_well = a.all_well && b.all_well; is_over = b.is_over }
 

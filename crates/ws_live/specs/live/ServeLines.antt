@@ -21,7 +21,7 @@ use Rattle.ws_live.specs.declared.live.serve_line.AnswerAwaited.TheVariants.{Any
 use Rattle.ws_live.specs.declared.live.serve_line.HostLine.{HostLine}
 use Rattle.ws_live.specs.declared.live.serve_line.HostLine.TheVariants.{Nothing, Give, Await, AwaitAnswer, Show, Wire, Bad}
 
--- the answer that the words behind `await` are for: any, or one by the key of a name
+-- the answer that the words after `await` are for: any, or one by the key of a name
 abbrev pub IsAnswerAwaited : List ℕ → AnswerAwaited → Type 0
 IsAnswerAwaited words Any = words ≡ codes "answer"
 IsAnswerAwaited words (By aid) = aid_named words ≡ Some aid
@@ -59,17 +59,17 @@ IsOneSoFar line = ((read : HostLine) × IsOneLine line read) ⊎ (IsUtf8 line ×
 abbrev pub SendsAlone : List ℕ → List ℕ → Opcode → Type 0
 SendsAlone line number opcode = IsUtf8 line × (line ≡ codes "send " ++ number) × IsSendOpcode number opcode
 
--- elements may stand behind such a line
+-- elements may stand after such a line
 abbrev pub OpensHostBlock : List ℕ → Type 0
 OpensHostBlock line = (number : List ℕ) × (opcode : Opcode) × SendsAlone line number opcode
 
--- a record is sent with the elements that the lines behind its line say
+-- a record is sent with the elements that the lines after its line say
 abbrev pub SendsInWords : List ℕ → List (List ℕ) → HostLine → Type 0
 SendsInWords line elements read = (number : List ℕ) × (opcode : Opcode) × (r : Record Element)
     × SendsAlone line number opcode × AddUnits element_rules element_wording elements (new_record opcode) r
     × (read ≡ Give (Send opcode r.body))
 
--- a line of such a script, and the lines of elements behind it
+-- a line of such a script, and the lines of elements after it
 abbrev pub IsHostLine : List ℕ → List (List ℕ) → HostLine → Type 0
 IsHostLine line elements read = ((elements ≡ []) × IsOneLine line read)
     ⊎ ((elements ≢ []) × SendsInWords line elements read)
@@ -78,14 +78,14 @@ IsHostLine line elements read = ((elements ≡ []) × IsOneLine line read)
 abbrev pub BeginsHostLine : List ℕ → Type 0
 BeginsHostLine line = (IsUtf8 line × IsHostBegun line) ⊎ OpensHostBlock line
 
--- where elements are bad behind their line, which is the first: at the first line that adds none to the record, counted
+-- where elements are bad after their line, which is the first: at the first line that adds none to the record, counted
 -- as far as 64 bits count
 abbrev pub AreBadAt : Opcode → List (List ℕ) → ℕ → Type 0
 AreBadAt opcode elements at = (number : ℕ)
     × IsAddFault element_rules element_wording elements (new_record opcode) (items.Line number)
     × (at ≡ min (number + 1) (2 ^ 64 - 1))
 
--- where a line is bad with the elements behind it: at itself, or in these
+-- where a line is bad with the elements after it: at itself, or in these
 abbrev pub IsBadHostLineAt : List ℕ → List (List ℕ) → ℕ → Type 0
 IsBadHostLineAt line elements at = ((at ≡ 1) × ((elements ≡ []) ⊎ (OpensHostBlock line → ⊥)))
     ⊎ ((number : List ℕ) × (opcode : Opcode) × SendsAlone line number opcode × AreBadAt opcode elements at)

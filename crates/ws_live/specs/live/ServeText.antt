@@ -113,7 +113,7 @@ module _ {S K : Type 0} (on : WatchedDevices S K) where
   AnswerComes awaited from came to = (event : HostEvent) × HasHeard host_conduct on.devices from to (Some event)
       × (is_awaited awaited event ≡ true) × (came.outcome ≡ Ok Done) × (came.text ≡ told_text event)
 
-  -- The host end heard the station up to the answer, and printed all that it told: behind some things the answer came;
+  -- The host end heard the station up to the answer, and printed all that it told: after some things the answer came;
   -- or none more did; or as many were told as one wait takes.
   pub record HearsAnswer (awaited : AnswerAwaited) (from : WatchedHost) (came : LineResult)
       (to : WatchedHost) : Type 0 where

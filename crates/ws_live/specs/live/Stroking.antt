@@ -21,7 +21,7 @@ module _ {Q : Type 0} where
   stroke_runs s EraseEof = Some (erase_eof_runs s)
   stroke_runs s (Fill filling) = option_map (emptying_runs s.cursor) (numbered_field s filling.number)
 
-  -- the keys behind them: what a field is filled with
+  -- the keys after them: what a field is filled with
   abbrev pub keys_behind : Stroke Q → List Q
   keys_behind (Fill filling) = filling.keys
   keys_behind stroke = []

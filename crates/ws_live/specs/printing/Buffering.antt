@@ -1,4 +1,4 @@
--- A sink behind a buffer: what the buffer holds hasn't gone out yet.
+-- A sink after a buffer: what the buffer holds hasn't gone out yet.
 
 use Rattle.std.specs.Prelude.{◌≡◌, ℕ, List, [], ◌++◌, take, None, Some}
 use Rattle.ws_code.specs.Device.{MayTake, Writer, WentOut, FailedWithin}
@@ -16,6 +16,6 @@ buffered_takes writer b bytes (Some count) b' = (out : List ℕ) × WentOut writ
     × (b.held ++ take count bytes ≡ out ++ b'.held) × (count ≡ 0 → bytes ≡ [])
 buffered_takes writer b bytes None b' = FailedWithin writer b.sink b'.sink b.held × (b'.held ≡ [])
 
--- what a sink behind a buffer does
+-- what a sink after a buffer does
 abbrev pub buffered_writer : {S : Type 0} → Writer S → Writer (Buffering S)
 buffered_writer writer = record { takes = buffered_takes writer; failures = λ b. b.failures }

@@ -26,7 +26,7 @@ color_codes Yellow = codes "33"
 color_codes Pink = codes "35"
 color_codes Blue = codes "34"
 
--- a style's codes: reversed, underscored and blinking have one behind the colour's; column separators have none
+-- a style's codes: reversed, underscored and blinking have one after the colour's; column separators have none
 abbrev pub style_codes : Style → List ℕ
 style_codes style = color_codes style.color ++ (if style.is_reversed then codes ";7" else [])
     ++ (if style.is_underscored then codes ";4" else []) ++ (if style.is_blinking then codes ";5" else [])
@@ -40,23 +40,23 @@ abbrev pub is_same : Option ℕ → ℕ → Bool
 is_same None attribute = false
 is_same (Some before) attribute = before == attribute
 
--- the sequence before a cell: none behind a cell of the same attribute
+-- the sequence before a cell: none after a cell of the same attribute
 abbrev pub sequence_behind : Option ℕ → ℕ → List ℕ
 sequence_behind before attribute = if is_same before attribute then [] else attribute_sequence attribute
 
--- what is printed of cells behind a cell of an attribute, or behind none: for each of them the sequence where its
+-- what is printed of cells after a cell of an attribute, or after none: for each of them the sequence where its
 -- attribute is another, then its character
 abbrev pub colored_behind : Option ℕ → List Shown → List ℕ
 colored_behind before [] = []
 colored_behind before (cell ∷ cells) = sequence_behind before cell.attribute ++ encode_utf8 cell.character
     ++ colored_behind (Some cell.attribute) cells
 
--- what is printed of the cells of a row: nothing of none, and the reset behind the last
+-- what is printed of the cells of a row: nothing of none, and the reset after the last
 abbrev pub colored_text : List Shown → List ℕ
 colored_text [] = []
 colored_text (cell ∷ cells) = colored_behind None (cell ∷ cells) ++ reset
 
--- cells without the blanks at their end: the last of them shows no blank, and behind it there are only blanks
+-- cells without the blanks at their end: the last of them shows no blank, and after it there are only blanks
 pub record AreWithoutLastBlanks (cells shown : List Shown) : Type 0 where
   pub blanks : List Shown
   pub behind : cells ≡ shown ++ blanks

@@ -12,7 +12,7 @@ error_line None = []
 error_line (Some row) = codes "error row " ++ decimal row ++ 10 ∷ []
 
 -- It is the operator's turn where the keyboard is unlocked, or where an error stands: then Reset is waited for. The
--- error's row is printed behind the screen.
+-- error's row is printed after the screen.
 abbrev pub operated_extended : OperatedOn DisplayParts
 operated_extended = record {
   IsTurn = λ d. (d.display.screen.locked ≡ false) ⊎ IsSome (standing_row d.display);

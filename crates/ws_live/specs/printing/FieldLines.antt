@@ -21,7 +21,7 @@ text_of_cells cells place count =
 abbrev pub shown_of : List ℕ → Field → List ℕ
 shown_of cells field = text_of_cells cells field.start field.length
 
--- a text behind a blank, and nothing for no text
+-- a text after a blank, and nothing for no text
 abbrev pub behind_blank : List ℕ → List ℕ
 behind_blank [] = []
 behind_blank (b ∷ text) = codes " " ++ b ∷ text

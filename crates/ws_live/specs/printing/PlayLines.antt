@@ -96,7 +96,7 @@ abbrev pub AreScreenLines : Paint → Bool → ScreenParts → List ℕ → Type
 AreScreenLines paint true screen lines = IsScreenText paint screen lines
 AreScreenLines paint false screen lines = lines ≡ []
 
--- the whole text of a session's report: the lines of its events, and behind them the station's screen in a paint, where
+-- the whole text of a session's report: the lines of its events, and after them the station's screen in a paint, where
 -- it is asked for
 pub record IsPaintedPlayText (paint : Paint) (events : List Event) (station : ScreenParts) (screen : Bool)
     (text : List ℕ) : Type 0 where

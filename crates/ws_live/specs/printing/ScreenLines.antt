@@ -12,7 +12,7 @@ use Rattle.ws_live.specs.printing.ColoredRows.{IsColoredRow}
 use Rattle.ws_live.specs.declared.printing.paint.Paint.{Paint}
 use Rattle.ws_live.specs.declared.printing.paint.Paint.TheVariants.{Plain, Color}
 
--- a text without the blanks at its end: what it shows doesn't end in one, and behind it there are only blanks
+-- a text without the blanks at its end: what it shows doesn't end in one, and after it there are only blanks
 pub record IsWithoutLastBlanks (text shown : List ℕ) : Type 0 where
   pub blanks : ℕ
   pub behind : text ≡ shown ++ replicate blanks 0x20
@@ -58,7 +58,7 @@ abbrev pub IsScreenText : Paint → ScreenParts → List ℕ → Type 0
 IsScreenText paint s text = (rows : List ℕ) × AreRows paint s.cells (range_with_len 1 ROWS) rows
     × (text ≡ codes "screen\n" ++ rows ++ state_line s)
 
--- the lines of a display, in a paint: its screen's, and those behind them, if there are any
+-- the lines of a display, in a paint: its screen's, and those after them, if there are any
 abbrev pub IsDisplayText : Paint → ScreenParts → List ℕ → List ℕ → Type 0
 IsDisplayText paint s [] text = IsScreenText paint s text
 IsDisplayText paint s (b ∷ behind) text = (lines : List ℕ) × IsScreenText paint s lines × (text ≡ lines ++ b ∷ behind)

@@ -1,4 +1,4 @@
--- What a live host prints of what its end tells: as a session's report does, and behind each field of an answer the
+-- What a live host prints of what its end tells: as a session's report does, and after each field of an answer the
 -- text that its bytes show.
 
 use Rattle.std.specs.Prelude.{ℕ, List, [], ◌∷◌, ◌++◌, ◌==◌, codes, encode_utf8, if◌then◌else◌}

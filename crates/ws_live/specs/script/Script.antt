@@ -34,7 +34,7 @@ IsBodyText hex body = (bytes : List ℕ) × (decode_of hex ≡ Ok bytes) × IsBo
 abbrev pub IsSendOpcode : List ℕ → Opcode → Type 0
 IsSendOpcode number opcode = IsNumber number (opcode_byte opcode) × (opcode ≢ CancelInvite)
 
--- a record to be sent: its opcode, and its body behind a blank where it has one
+-- a record to be sent: its opcode, and its body after a blank where it has one
 pub record IsRecordText (words : List ℕ) (opcode : Opcode) (body : List Element) : Type 0 where
   pub number : List ℕ
   pub sent : IsSendOpcode number opcode

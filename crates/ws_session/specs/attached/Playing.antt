@@ -18,7 +18,7 @@ abbrev pub records_from : ℕ → List (Item Element) → ℕ
 records_from n [] = n
 records_from n (item ∷ items) = records_from (n + records_in_item item) items
 
--- the keys that aren't due behind the items
+-- the keys that aren't due after the items
 abbrev pub keys_left_from : ℕ → List (ℕ × Key) → List (Item Element) → List (ℕ × Key)
 keys_left_from n keys [] = later n keys
 keys_left_from n keys (item ∷ items) = keys_left_from (n + records_in_item item) (later n keys) items

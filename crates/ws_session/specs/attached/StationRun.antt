@@ -41,7 +41,7 @@ pub record LastRead {R : Type 0} (reader : Reader R) (source source' : R) : Type
   pub gave_last : reader.gives before room (Some last) source'
   pub uncounted : reader.failures source' ≡ reader.failures source
 
--- what a run is asked: its terminal, and the keys to be pressed, each behind so many records
+-- what a run is asked: its terminal, and the keys to be pressed, each after so many records
 pub record Asked : Type 0 where
   pub terminal : TerminalType
   pub keys : List (ℕ × Key)
@@ -61,11 +61,11 @@ abbrev pub outflow : {S : Type 0} → Writer S → S → S → Outflow S
 outflow writer from to = record { writer = writer; from = from; to = to }
 
 module _ (run : Asked) where
-  -- what a new station has done behind these items and the keys that were due
+  -- what a new station has done after these items and the keys that were due
   abbrev pub behind : List (Item Element) → Outcome
   behind items = outcome (new_station_side run.terminal) (moments run.keys items)
 
-  -- what a new station has written behind these items and the keys that were due
+  -- what a new station has written after these items and the keys that were due
   abbrev pub run_text : List (Item Element) → List ℕ
   run_text items = plain_spelling answer_rules (behind items).written
 
@@ -73,18 +73,18 @@ module _ (run : Asked) where
   abbrev pub AreTakenAll : List (Item Element) → Type 0
   AreTakenAll items = AreTaken (new_station_side run.terminal) (moments run.keys items)
 
-  -- the bytes hold these items, none of them is refused, and the station is one behind them and the keys that were due
+  -- the bytes hold these items, none of them is refused, and the station is one after them and the keys that were due
   pub record IsBehind (bytes : List ℕ) (items : List (Item Element)) (station : StationParts) : Type 0 where
     pub leads : StationLeads station bytes items (behind items).side
     pub taken : AreTakenAll items
 
   module _ {S : Type 0} (out : Outflow S) where
-    -- what is to be written behind these items went out
+    -- what is to be written after these items went out
     abbrev pub HasWrittenAll : List (Item Element) → Type 0
     HasWrittenAll items = WentOut out.writer out.from out.to (run_text items)
 
     -- A byte of these is refused, and not one of the first so many; all that was to be written before it went out. The
-    -- station stood behind a front of the bytes before it, and no item is complete with the others.
+    -- station stood after a front of the bytes before it, and no item is complete with the others.
     pub record RunRefuses (first : ℕ) (bytes : List ℕ) (at : ℕ × Reason) : Type 0 where
       pub before : List ℕ
       pub front : List ℕ
@@ -102,7 +102,7 @@ module _ (run : Asked) where
           (λ item. station_takes (behind items).side item ≡ Refuses at.1)
       pub wrote : HasWrittenAll items
 
-    -- A write failed, in what was to be written behind items of these bytes.
+    -- A write failed, in what was to be written after items of these bytes.
     pub record RunUnwritten (bytes : List ℕ) : Type 0 where
       pub before : List ℕ
       pub after : List ℕ

@@ -23,7 +23,7 @@ module _ {E K Deed Event : Type 0} (conduct : Conduct E Deed Event) (writer : Wr
     pub led : conduct.goes old acts written told new
     pub failed : FailedWithin writer from to written
 
--- the end took these bytes and refused the one behind them, and nothing was written
+-- the end took these bytes and refused the one after them, and nothing was written
 pub record RefusesBehind {E K Deed Event : Type 0} (conduct : Conduct E Deed Event) (old new : E) (from to : K)
     (front : List ℕ) (byte : ℕ) (why : Fault) : Type 0 where
   pub refusal : Refusal
@@ -31,7 +31,7 @@ pub record RefusesBehind {E K Deed Event : Type 0} (conduct : Conduct E Deed Eve
   pub is : why ≡ fault_of refusal
   pub unwritten : to ≡ from
 
--- bytes don't come through: a write failed behind the last of them, or the end refused the last
+-- bytes don't come through: a write failed after the last of them, or the end refused the last
 abbrev pub IsUnheard : {E K Deed Event : Type 0} (conduct : Conduct E Deed Event) (writer : Writer K) (old new : E)
     (from to : K) (bytes : List ℕ) → Fault → Type 0
 IsUnheard conduct writer old new from to bytes why = (front : List ℕ) × (byte : ℕ)

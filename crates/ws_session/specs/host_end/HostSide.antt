@@ -83,7 +83,7 @@ host_negotiates h (Some answer) =
     GoesOn (record { options = answer.after; kept = h.kept; cancelling = h.cancelling })
     (record { items = map TelnetItem answer.reply; event = ready_event (host_allows_records h.options) answer.after })
 
--- the host end behind the end of a read: nothing is pending on the screen that it keeps, and the keyboard is locked
+-- the host end after the end of a read: nothing is pending on the screen that it keeps, and the keyboard is locked
 abbrev pub after_read : HostSide → Bool → HostSide
 after_read h cancelling = record { options = h.options; kept = cancelled ∷ h.kept; cancelling = cancelling }
 

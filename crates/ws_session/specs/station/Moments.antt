@@ -70,7 +70,7 @@ abbrev pub due : ℕ → List (ℕ × Key) → List Moment
 due n [] = []
 due n (k ∷ ks) = if nat_lt n k.0 then [] else Presses k.1 ∷ due n ks
 
--- the keys that are pressed behind more than so many records
+-- the keys that are pressed after more than so many records
 abbrev pub later : ℕ → List (ℕ × Key) → List (ℕ × Key)
 later n [] = []
 later n (k ∷ ks) = if nat_lt n k.0 then k ∷ ks else later n ks
@@ -86,6 +86,6 @@ moments_from n keys [] = due n keys
 moments_from n keys (item ∷ items) =
     due n keys ++ Arrives item ∷ moments_from (n + records_in_item item) (later n keys) items
 
--- keys and items in the order in which they happen: each key behind as many records as it names
+-- keys and items in the order in which they happen: each key after as many records as it names
 abbrev pub moments : List (ℕ × Key) → List (Item Element) → List Moment
 moments keys items = moments_from 0 keys items

@@ -40,7 +40,7 @@ module _ {D U H PlaceV V K R : Type 0} (d : DisplayOf D U H PlaceV V K R) where
   key_on s key =
       if d.sends key && not (station_allows_records s.options) then RefusesKey NotReady else d.presses s key
 
-  -- what a station has done behind a key: it has gone on, and written what the key sends; at a refused one nothing
+  -- what a station has done after a key: it has gone on, and written what the key sends; at a refused one nothing
   abbrev pub at_key_on : SideOn H → KeyReactionOn H → Doing (SideOn H) V Applied
   at_key_on s (RefusesKey fault) = idle s
   at_key_on s (Silent next) = idle next

@@ -54,7 +54,7 @@ opcode_events MessageLightOn = lit true ∷ []
 opcode_events MessageLightOff = lit false ∷ []
 opcode_events opcode = []
 
--- the events behind a record, which acts at the moment of its EOR: its elements, the end of its write, its opcode
+-- the events after a record, which acts at the moment of its EOR: its elements, the end of its write, its opcode
 abbrev pub after_record : History → Record Element → History
 after_record h r = opcode_events r.opcode ++ after_end (after_elements h r.body)
 
@@ -82,7 +82,7 @@ sends Attention = true
 sends SystemRequest = true
 sends key = false
 
--- the side of a station behind a key that it took: its screen has the key's edit
+-- the side of a station after a key that it took: its screen has the key's edit
 abbrev pub after_key : StationSide → Key → StationSide
 after_key s key =
     record { options = s.options; happened = events_by (edit_of (screen_at s) key) ++ s.happened }

@@ -39,7 +39,7 @@ module _ {S R : Type 0} (line : Passage S R) where
     pub failed : FailedWithin line.devices.writer line.from.sink line.to.sink bytes
     pub unread : line.to.source ≡ line.from.source
 
-  -- all the bytes went out, and the source gave its end behind so many bytes, which are too few and stand at the
+  -- all the bytes went out, and the source gave its end after so many bytes, which are too few and stand at the
   -- slice's front
   pub record IsCutShort (bytes slice : List ℕ) (at : ℕ) : Type 0 where
     pub wrote : HasPassed bytes
@@ -50,7 +50,7 @@ module _ {S R : Type 0} (line : Passage S R) where
     pub gave : GaveAll line.devices.reader line.from.source line.to.source given
     pub few : gave.count ≤ at
 
-  -- all the bytes went out, and a read failed behind too few bytes, which stand at the slice's front
+  -- all the bytes went out, and a read failed after too few bytes, which stand at the slice's front
   pub record IsUnread (bytes slice : List ℕ) : Type 0 where
     pub wrote : HasPassed bytes
     pub given : List ℕ

@@ -76,32 +76,32 @@ to_station w = drop w.at_station (down_bytes w)
 abbrev pub to_host : Session → List ℕ
 to_host w = drop w.at_host (up_bytes w)
 
--- the session behind what the station made of an item: it goes on and writes, or its refusal is told
+-- the session after what the station made of an item: it goes on and writes, or its refusal is told
 abbrev pub station_did : Session → Reaction StationSide (List (Item AnswerPart)) → Session
 station_did w (Refuses reason) =
     record w { station_refused = true; events = w.events ++ StationRefused (w.at_station - 1) reason ∷ [] }
 station_did w (GoesOn station items) = record w { station = station; up = w.up ++ items }
 
--- the session behind a byte that arrived at the station, and completed this item or none; a station that has refused
+-- the session after a byte that arrived at the station, and completed this item or none; a station that has refused
 -- takes none
 abbrev pub station_gets : Session → Bool → Option (Item Element) → Session
 station_gets w true item = w
 station_gets w false None = w
 station_gets w false (Some item) = station_did w (station_takes w.station item)
 
--- the events, and behind them what the host end tells, if it tells something
+-- the events, and after them what the host end tells, if it tells something
 abbrev pub events_with : List Event → Option HostEvent → List Event
 events_with events None = events
 events_with events (Some event) = events ++ Host event ∷ []
 
--- the session behind what the host end made of an item: it goes on, writes and tells, or its refusal is told
+-- the session after what the host end made of an item: it goes on, writes and tells, or its refusal is told
 abbrev pub host_did : Session → Reaction HostSide HostOutput → Session
 host_did w (Refuses reason) =
     record w { host_refused = true; events = w.events ++ HostRefused (w.at_host - 1) reason ∷ [] }
 host_did w (GoesOn host told) =
     record w { host = host; down = w.down ++ told.items; events = events_with w.events told.event }
 
--- the session behind a byte that arrived at the host end, and completed this item or none; a host end that has refused
+-- the session after a byte that arrived at the host end, and completed this item or none; a host end that has refused
 -- takes none
 abbrev pub host_gets : Session → Bool → Option (Item AnswerPart) → Session
 host_gets w true item = w
@@ -136,7 +136,7 @@ abbrev pub bytes_to_host : ℕ → Session → Session
 bytes_to_host zero w = w
 bytes_to_host (suc n) w = bytes_to_host n (byte_to_host w)
 
--- the session behind what the station made of a key: what it sends is written, an answer to a read is kept as one, and
+-- the session after what the station made of a key: what it sends is written, an answer to a read is kept as one, and
 -- a refusal is told
 abbrev pub station_pressed : Session → KeyReaction → Session
 station_pressed w (RefusesKey fault) = record w { events = w.events ++ KeyRefused fault ∷ [] }
@@ -148,21 +148,21 @@ station_pressed w (Answers station kind aid) = record w {
 }
 station_pressed w (Signals opcode flags) = record w { up = w.up ++ empty_record flags opcode ∷ [] }
 
--- the session behind a key; a station that has refused a byte takes none
+-- the session after a key; a station that has refused a byte takes none
 abbrev pub after_press : Session → Key → Session
 after_press w key =
     station_pressed w (if w.station_refused then RefusesKey KeyFailed else station_key w.station key)
 
--- the session behind what the host end made of a send or a cancel: its record is written, or its refusal is told
+-- the session after what the host end made of a send or a cancel: its record is written, or its refusal is told
 abbrev pub host_sent : Session → SendReaction → Session
 host_sent w (RefusesSend fault) = record w { events = w.events ++ SendRefused fault ∷ [] }
 host_sent w (Sends host item) = record w { host = host; down = w.down ++ item ∷ [] }
 
--- the session behind a send or a cancel; a host end that has refused a byte sends nothing
+-- the session after a send or a cancel; a host end that has refused a byte sends nothing
 abbrev pub after_send : Session → SendReaction → Session
 after_send w sends = host_sent w (if w.host_refused then RefusesSend SendFailed else sends)
 
--- the session behind a move
+-- the session after a move
 abbrev pub after_move : Session → Move → Session
 after_move w (Send opcode body) = after_send w (host_orders w.host (Sending opcode body))
 after_move w Cancel = after_send w (host_orders w.host Cancelling)
@@ -170,7 +170,7 @@ after_move w (ToStation n) = bytes_to_station n w
 after_move w (ToHost n) = bytes_to_host n w
 after_move w (Press key) = after_press w key
 
--- the session behind moves, in order
+-- the session after moves, in order
 abbrev pub after_moves : Session → List Move → Session
 after_moves w [] = w
 after_moves w (move ∷ moves) = after_moves (after_move w move) moves
