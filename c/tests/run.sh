@@ -126,7 +126,11 @@ stage=$folder/stage
 prints() {
     LD_LIBRARY_PATH=$stage/usr/lib "$2" | diff - "$1"
 }
-made_by=(BUILD="$BUILD" LIB="$LIB" GLUE="$GLUE" T5250="$T5250")
+# As they are named from there, without a blank of the path that leads there, which no make can take in a target.
+made_by=(GLUE="$GLUE")
+for name in BUILD LIB T5250; do
+    made_by+=("$name=$(realpath --relative-to="$here" "${!name}")")
+done
 try "make install" "$MAKE" -C "$here" install PREFIX=/usr DESTDIR="$stage" "${made_by[@]}"
 try "the program that was installed" "$stage/usr/bin/t5250" check "$top/examples/inquiry.hex"
 try "its page of the manual" grep -q '^.TH T5250 1' "$stage/usr/share/man/man1/t5250.1"
@@ -208,6 +212,26 @@ uninstalls() {
         && find "$stage" ! -type d >"$folder/left" && [ ! -s "$folder/left" ]
 }
 try "make uninstall" uninstalls
+
+# A PREFIX with blanks and quotes is one path, here and for pkg-config.
+odd="$folder/some where/it's"
+installs_oddly() {
+    "$MAKE" -C "$here" install PREFIX="$odd" DESTDIR= "${made_by[@]}" && "$odd/bin/t5250" --version >/dev/null || return
+    if command -v pkg-config >/dev/null; then
+        eval "flags=($(PKG_CONFIG_PATH="$odd/lib/pkgconfig" pkg-config --cflags --libs ribbonscarp))"
+        "$CC" "${warnings[@]}" -o "$folder/odd" "$tests/installed.c" "${flags[@]}" || return
+    fi
+    mkdir -p "$folder/some" && touch "$folder/some/kept" "$folder/kept" || return
+    "$MAKE" -C "$here" uninstall PREFIX="$odd" DESTDIR= "${made_by[@]}" || return
+    [ -z "$(find "$odd" ! -type d)" ] && [ -e "$folder/some/kept" ] && [ -e "$folder/kept" ]
+}
+try "a prefix with blanks and quotes" installs_oddly
+
+builds_in_a_tree() {
+    mkdir "$folder/a tree" && cp -r "$here" "$top/VERSION" "$folder/a tree/" && rm -rf "$folder/a tree/c/build" \
+        && ln -s "$LIB" "$folder/a tree/libws_c.a" && "$MAKE" -C "$folder/a tree/c" all LIB=../libws_c.a GLUE="$GLUE"
+}
+try "a tree in a folder with a blank" builds_in_a_tree
 
 echo "$passed passed, $failed failed"
 [ $failed -eq 0 ]
