@@ -1,9 +1,9 @@
 #!/usr/bin/env python3
-"""Prints docs/DEFINITIONS.md from the comments of the specs, and checks that it stands so.
+"""Makes docs/DEFINITIONS.md of the comments of the specs: `make docs` calls it with `--write`.
 
-With `--write` it writes the page. Without, it prints what is wrong: the page isn't what would be printed, a definition
-that a public contract cites isn't listed, one is listed where it isn't declared or has no comment, a name is nowhere,
-or two definitions of the crates have one name.
+Without that word it writes no page, and prints what would be wrong with it: a definition that a public contract cites
+isn't listed, one is listed where it isn't declared or has no comment, a name is nowhere, or two definitions of the
+crates have one name.
 Its last line counts what it looked at, and its status is 1 where something is wrong.
 
 What stands by hand is docs/definitions.head.md. There `<!-- reading: FILE FUNCTION; NAMES -->` is where a reading goes:
@@ -208,10 +208,9 @@ def told_twice(index):
 
 def main():
     index = Index()
-    printed = Page(index).text()
+    text = Page(index).text()
     if "--write" in sys.argv[1:]:
-        PAGE.write_text(printed)
-    text = PAGE.read_text()
+        PAGE.write_text(text)
     named = set(re.findall(r"`([A-Za-z_0-9]+)`", text))
     defined = set(re.findall(r"\w+", "\n".join(source.text for source in index.sources.values())))
     places, citations = cited_by_name(index)
@@ -219,8 +218,6 @@ def main():
     wrong += [f"not in DEFINITIONS.md: {name} ({place})" for name, place in sorted(places.items()) if name not in named]
     wrong += [f"DEFINITIONS.md names what is nowhere: {name}" for name in sorted(named - defined)]
     wrong += told_twice(index)
-    if text != printed:
-        wrong.append("DEFINITIONS.md isn't what docs/definitions.py prints: run it with --write")
     for line in wrong:
         print(line)
     print(f"{citations} citations, {of_rows} rows")

@@ -2,8 +2,8 @@
 """Checks that the files which the documents name are there.
 
 Run it from anywhere. A name in backquotes that ends like a source file's, as `specs/Code.antt`, has to end the path of some
-file of the repository; so has each file of a list `{first,second}.rt`. A name right before a text is that of a file which
-the reader is to make of it. Its last line counts the names, and its status is 1 where one is of no file.
+file of the repository, or of docs/DEFINITIONS.md, which `make docs` makes; so has each file of a list
+`{first,second}.rt`. A name right before a text is that of a file which the reader is to make of it. Its last line counts the names, and its status is 1 where one is of no file.
 """
 import pathlib
 import re
@@ -26,7 +26,7 @@ def names(text):
 def main():
     listed = ["git", "ls-files", "--cached", "--others", "--exclude-standard"]
     files = subprocess.run(listed, cwd=ROOT, capture_output=True, text=True, check=True).stdout.split("\n")
-    paths = [f"/{file}" for file in files if file]
+    paths = [f"/{file}" for file in [*files, "docs/DEFINITIONS.md"] if file]
     passed, wrong = 0, []
     pages = ("*.md", "docs/*.md", "*/README.md", ".github/*/*.md")
     for page in sorted({page for pattern in pages for page in ROOT.glob(pattern)}):
