@@ -78,7 +78,7 @@ def libraries(index):
 
 def sentence(definition):
     """What a definition says: its comment; of a constant its value too."""
-    value = re.match(r"(?:pub )?const \w+: .*? = (.*);$", definition.text, re.S)
+    value = re.match(r"(?:pub(?:\(\w+\))? )?const \w+: .*? = (.*);$", definition.text, re.S)
     parts = ([value[1]] if value else []) + ([definition.comment] if definition.comment else [])
     text = ": ".join(parts)
     return text if text.endswith(".") or not text else f"{text}."

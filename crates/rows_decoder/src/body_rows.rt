@@ -1,3 +1,5 @@
+//! Bodies by themselves, of plain bytes, and the bytes of a header.
+
 use crate::{same_bytes, says};
 use std::alloc::Global;
 use std::process::Abort;

@@ -1,3 +1,5 @@
+//! Telnet commands at each place of a stream, and the lines that are printed of them.
+
 use crate::feed_rows::{Cut, Wants, expect_each_way, heard};
 use crate::vectors::{INVITE, PUT_FF};
 use crate::{holds, same, same_at, same_bytes};
@@ -11,7 +13,8 @@ use ws_text::{Output, put_item};
 // A row, its bytes, and its items as they are shown, with the places of their last bytes.
 type Accepted<'a> = (&'a str, &'a [u8], &'a str);
 
-pub const PUT_FF_SHOWN: &str = "at 17 record flags 0000 opcode 3\n  WRITE 00 08\n  PUT FF\n";
+/// The lines of `put-ff`, whose one data byte is FF.
+pub(crate) const PUT_FF_SHOWN: &str = "at 17 record flags 0000 opcode 3\n  WRITE 00 08\n  PUT FF\n";
 
 const ACCEPTED: [Accepted; 9] = [
     ("empty-stream", b"", ""),
@@ -45,8 +48,8 @@ const ACCEPTED: [Accepted; 9] = [
     ),
 ];
 
-// The lines of the items whose last bytes are at these places.
-pub fn expect_shown(
+/// The lines of the items whose last bytes are at these places.
+pub(crate) fn expect_shown(
     rt: &impl Abort,
     alloc: Global,
     row: &str,

@@ -1,3 +1,5 @@
+//! Streams decoded at once: their items, or where and why they are refused.
+
 use crate::encoder_rows::record;
 use crate::escaped::Escaped;
 use crate::feed_rows::{Wants, expect_each_way, steps_of};
@@ -12,9 +14,9 @@ use ws_record::{
 };
 use ws_telnet::{CommandCode, Sub, Telnet};
 
-// An item that a row asks for.
+/// An item that a row asks for.
 #[derive(Clone, Copy)]
-pub enum Wanted<'a> {
+pub(crate) enum Wanted<'a> {
     // A record whose flags are all 0.
     Record(Opcode, &'a [u8]),
     Command(CommandCode),
@@ -27,11 +29,14 @@ type Accepted<'a> = (&'a str, &'a [u8], &'a [Wanted<'a>], &'a [u64]);
 // Bytes by name, the place of the one that is refused, and why.
 type Refused<'a> = (&'a str, &'a [u8], u64, Reason);
 
-pub const INVITE: Wanted = Wanted::Record(Opcode::Invite, b"");
+/// A record without a body.
+pub(crate) const INVITE: Wanted = Wanted::Record(Opcode::Invite, b"");
 
-pub const PUT_FF: Wanted = Wanted::Record(Opcode::PutGet, b"\x04\x11\x00\x08\xff");
+/// A record of a Write to Display and the byte FF.
+pub(crate) const PUT_FF: Wanted = Wanted::Record(Opcode::PutGet, b"\x04\x11\x00\x08\xff");
 
-pub fn made(rt: &impl Abort, alloc: Global, wanted: Wanted) -> Item<u8> {
+/// The item that a row asks for.
+pub(crate) fn made(rt: &impl Abort, alloc: Global, wanted: Wanted) -> Item<u8> {
     match wanted {
         Wanted::Record(opcode, body) => record(opcode, body.to_vec(alloc).expect(rt, "memory")),
         Wanted::Command(code) => Item::Telnet(Telnet::Command(code)),
@@ -43,7 +48,8 @@ fn sub(rt: &impl Abort, option: u8, data: &[u8]) -> Telnet {
     Telnet::Sub(Sub::new(option, data).expect(rt, "not too much data"))
 }
 
-pub fn all_made(rt: &impl Abort, alloc: Global, wanted: &[Wanted]) -> Vec<Item<u8>> {
+/// The items that a row asks for.
+pub(crate) fn all_made(rt: &impl Abort, alloc: Global, wanted: &[Wanted]) -> Vec<Item<u8>> {
     let mut items = Vec::new(alloc);
     for item in wanted {
         items.push(made(rt, alloc, *item)).expect(rt, "memory");
@@ -285,7 +291,7 @@ const REFUSED_ESCAPED: [Refused; 2] = [
     ),
 ];
 
-// A body whose first byte must be 04, behind which it may not end.
+// A body whose first byte must be 04, after which it may not end.
 #[test]
 fn another_body(rt: HostRuntime) {
     expect_rows::<Escaped>(&rt, rt.alloc(), &ACCEPTED_ESCAPED, &REFUSED_ESCAPED);

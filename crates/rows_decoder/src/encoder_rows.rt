@@ -1,3 +1,5 @@
+//! Items that are encoded and read back, and those that can't be.
+
 use crate::decoder_rows::{INVITE, PUT_FF, Wanted, all_made, made};
 use crate::escaped::Escaped;
 use crate::{holds, same, same_at, same_bytes, says, vectors};
@@ -11,8 +13,8 @@ use ws_record::{
 };
 use ws_telnet::{CommandCode, Sub, Telnet, Verb};
 
-// A record whose flags are all 0.
-pub fn record<U: Drop>(opcode: Opcode, body: Vec<U>) -> Item<U> {
+/// A record whose flags are all 0.
+pub(crate) fn record<U: Drop>(opcode: Opcode, body: Vec<U>) -> Item<U> {
     Item::Record(Record {
         flags: 0,
         opcode,
@@ -20,14 +22,14 @@ pub fn record<U: Drop>(opcode: Opcode, body: Vec<U>) -> Item<U> {
     })
 }
 
-// A record whose body is so many times the byte.
-pub fn repeated(rt: &impl Abort, alloc: Global, byte: u8, count: usize) -> Item<u8> {
+/// A record whose body is so many times the byte.
+pub(crate) fn repeated(rt: &impl Abort, alloc: Global, byte: u8, count: usize) -> Item<u8> {
     let body = vec![in alloc; byte; count].expect(rt, "memory");
     record(Opcode::PutGet, body)
 }
 
-// The fault of the items, into memory and into a sink that stays empty.
-pub fn expect_fault<B: Body<Unit = U>, U: Drop>(
+/// The fault of the items, into memory and into a sink that stays empty.
+pub(crate) fn expect_fault<B: Body<Unit = U>, U: Drop>(
     rt: &impl Abort,
     alloc: Global,
     items: &[Item<U>],
@@ -40,8 +42,8 @@ pub fn expect_fault<B: Body<Unit = U>, U: Drop>(
     same(rt, encode::<B>(alloc, items).err(), Some(fault));
 }
 
-// The items are encoded to these bytes, into memory and into a sink, and come back.
-pub fn expect_encoded<B: Body<Unit = U>, U: PartialEq + Debug + Drop>(
+/// The items are encoded to these bytes, into memory and into a sink, and come back.
+pub(crate) fn expect_encoded<B: Body<Unit = U>, U: PartialEq + Debug + Drop>(
     rt: &impl Abort,
     alloc: Global,
     items: &[Item<U>],
@@ -57,8 +59,8 @@ pub fn expect_encoded<B: Body<Unit = U>, U: PartialEq + Debug + Drop>(
     same(rt, back.as_slice(), items);
 }
 
-// A source of the bytes fails behind so many reads: a fault, but for the last, which says that there is no more.
-pub fn expect_reads<B: Body<Unit = U>, U: PartialEq + Debug + Drop>(
+/// A source of the bytes fails after so many reads: a fault, but for the last, which says that there is no more.
+pub(crate) fn expect_reads<B: Body<Unit = U>, U: PartialEq + Debug + Drop>(
     rt: &impl Abort,
     alloc: Global,
     bytes: &[u8],
@@ -76,8 +78,8 @@ pub fn expect_reads<B: Body<Unit = U>, U: PartialEq + Debug + Drop>(
     }
 }
 
-// The items, which the bytes spell, are written to a sink that fails behind so many bytes.
-pub fn expect_writes<B: Body<Unit = U>, U: Drop>(
+/// The items, which the bytes spell, are written to a sink that fails after so many bytes.
+pub(crate) fn expect_writes<B: Body<Unit = U>, U: Drop>(
     rt: &impl Abort,
     alloc: Global,
     items: &[Item<U>],
@@ -141,7 +143,7 @@ const ESCAPE_ALONE: Wanted = Wanted::Record(Opcode::PutGet, b"\x04");
 
 const NO_ESCAPE: Wanted = Wanted::Record(Opcode::PutGet, b"\xc1");
 
-// Records that begin with no escape, or end behind one: the place of the first.
+// Records that begin with no escape, or end after one: the place of the first.
 const BAD_SEQUENCES: [(&[Wanted], usize); 3] = [
     (&[NO_ESCAPE], 0),
     (&[ESCAPED_BYTES, NO_ESCAPE, NO_ESCAPE], 1),

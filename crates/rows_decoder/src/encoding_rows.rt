@@ -1,3 +1,5 @@
+//! Items that are encoded: at the limits of a record, by each way to bytes and back, with an FF in a length.
+
 use crate::command_rows::{PUT_FF_SHOWN, expect_shown};
 use crate::encoder_rows::{expect_encoded, expect_fault, expect_reads, expect_writes, record};
 use crate::vectors::{LENGTH_255, PUT_FF};

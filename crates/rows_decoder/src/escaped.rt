@@ -1,13 +1,15 @@
+//! A small body of another grammar than the profile's, for records over any body.
+
 ghost use Rattle.std.specs.Prelude.{[]};
 ghost use Rattle.rows_decoder.specs.Escaped.{escaped_rules, escaped_nonempty, escaped_prefix_free, escaped_begins, escaped_can_end};
 
 use arrayvec::ArrayVec;
 use ws_code::{Body, Code, Push, Reason};
 
-/// A body for tests: bytes, the first of which must be 04, an escape. Behind an escape it may not end. A place is
+/// A body for tests: bytes, the first of which must be 04, an escape. After an escape it may not end. A place is
 /// the byte before it, if there is one.
 #[derive(Drop)]
-pub struct Escaped {
+pub(crate) struct Escaped {
     before: Option<u8>,
 }
 

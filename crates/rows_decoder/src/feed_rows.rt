@@ -1,3 +1,5 @@
+//! Streams fed in pieces, cut in every way: the same items come, and the same fault.
+
 use crate::decoder_rows::{Wanted, made};
 use crate::{holds, same, same_at};
 use std::alloc::Global;
@@ -9,14 +11,14 @@ use ws_record::{
 };
 use ws_telnet::{CommandCode, Telnet};
 
-// Where a list of bytes is cut.
+/// Where a list of bytes is cut.
 #[derive(Clone, Copy, Debug)]
-pub enum Cut {
+pub(crate) enum Cut {
     // Into pieces of a size, which isn't 0.
     Pieces(usize),
-    // In two, behind so many bytes.
+    // In two, after so many bytes.
     Two(usize),
-    // Behind the bytes whose bits are set, the first byte's the lowest.
+    // After the bytes whose bits are set, the first byte's the lowest.
     Bits(u32),
 }
 
@@ -43,17 +45,22 @@ impl Cut {
     }
 }
 
-// What a receiver gives: items, the place of each item's last byte, and how many bytes it took or the fault.
+/// What a receiver gives: items, the place of each item's last byte, and how many bytes it took or the fault.
 #[derive(Drop)]
-pub struct Given<U: Drop> {
-    pub items: Vec<Item<U>>,
-    pub places: Vec<u64>,
-    pub end: Result<u64, Fault>,
+pub(crate) struct Given<U: Drop> {
+    pub(crate) items: Vec<Item<U>>,
+    pub(crate) places: Vec<u64>,
+    pub(crate) end: Result<u64, Fault>,
 }
 
-// What a receiver gives of the bytes, cut so. Behind an item the rest of its piece is fed, though it be empty, and an
-// empty piece is the last.
-pub fn heard<B: Body>(rt: &impl Abort, alloc: Global, bytes: &[u8], cut: Cut) -> Given<B::Unit> {
+/// What a receiver gives of the bytes, cut so. After an item the rest of its piece is fed, though it be empty, and an
+/// empty piece is the last.
+pub(crate) fn heard<B: Body>(
+    rt: &impl Abort,
+    alloc: Global,
+    bytes: &[u8],
+    cut: Cut,
+) -> Given<B::Unit> {
     let mut receiver = Receiver::<B>::new(alloc);
     let mut heard = Given {
         items: Vec::new(alloc),
@@ -61,7 +68,7 @@ pub fn heard<B: Body>(rt: &impl Abort, alloc: Global, bytes: &[u8], cut: Cut) ->
         end: Ok(0),
     };
     let mut taken = 0usize;
-    // in two behind no byte: the first piece is empty
+    // in two after no byte: the first piece is empty
     let mut rest: &[u8] = match cut {
         Cut::Two(0) => b"",
         _ => cut.piece(bytes, 0),
@@ -94,8 +101,8 @@ pub fn heard<B: Body>(rt: &impl Abort, alloc: Global, bytes: &[u8], cut: Cut) ->
     heard
 }
 
-// The steps that the bytes give one by one with their places, but for those with which nothing is complete.
-pub fn steps_of<B: Body>(
+/// The steps that the bytes give one by one with their places, but for those with which nothing is complete.
+pub(crate) fn steps_of<B: Body>(
     rt: &impl Abort,
     alloc: Global,
     bytes: &[u8],
@@ -111,7 +118,7 @@ pub fn steps_of<B: Body>(
     steps
 }
 
-// The same of bytes that are cut so, each step behind the place of its last byte.
+// The same of bytes that are cut so, each step after the place of its last byte.
 fn watched<B: Body>(
     rt: &impl Abort,
     alloc: Global,
@@ -141,12 +148,12 @@ fn watched<B: Body>(
     steps
 }
 
-// What a row's bytes are to give.
+/// What a row's bytes are to give.
 #[derive(Drop)]
-pub struct Wants<'a, U> {
-    pub items: &'a [Item<U>],
-    pub places: &'a [u64],
-    pub end: Result<u64, Fault>,
+pub(crate) struct Wants<'a, U> {
+    pub(crate) items: &'a [Item<U>],
+    pub(crate) places: &'a [u64],
+    pub(crate) end: Result<u64, Fault>,
 }
 
 // What is found of the bytes at once is what the row wants.
@@ -179,9 +186,9 @@ fn expect_cut<B: Body<Unit = U>, U: PartialEq + Debug + Drop>(
     same_at(rt, (bytes, cut), found.end, wants.end);
 }
 
-// All decoders find what the row wants: at once, from a source, and by a receiver, however the bytes are cut in two or
-// into pieces of a size. So cut they give the steps of single bytes at the same places.
-pub fn expect_each_way<B: Body<Unit = U>, U: PartialEq + Debug + Drop>(
+/// All decoders find what the row wants: at once, from a source, and by a receiver, however the bytes are cut in two or
+/// into pieces of a size. So cut they give the steps of single bytes at the same places.
+pub(crate) fn expect_each_way<B: Body<Unit = U>, U: PartialEq + Debug + Drop>(
     rt: &impl Abort,
     alloc: Global,
     row: &str,
@@ -202,7 +209,7 @@ pub fn expect_each_way<B: Body<Unit = U>, U: PartialEq + Debug + Drop>(
     }
 }
 
-// `ff-in-every-cut`: behind any of its bytes but the last.
+// `ff-in-every-cut`: after any of its bytes but the last.
 #[test]
 fn ff_in_every_cut(rt: HostRuntime) {
     let alloc = rt.alloc();

@@ -1,5 +1,6 @@
-// Streams that are cut short, and streams in which a byte is another: all decoders say the same of them, and
-// what is accepted comes back from its encoding.
+//! Streams that are cut short, and streams in which a byte is another: all decoders say the same of them, and
+//! what is accepted comes back from its encoding.
+
 use crate::feed_rows::{Cut, heard};
 use crate::same_at;
 use crate::vectors::{LENGTH_255, REFUSED_BODIES, Side, VECTORS, Vector};

@@ -1,5 +1,6 @@
-// Want of memory is answered only where a growth was refused. No clause says when one was, so these tests, in
-// which none is, go through the sizes at which lists grow and counters turn.
+//! Want of memory is answered only where a growth was refused. No clause says when one was, so these tests, in
+//! which none is, go through the sizes at which lists grow and counters turn.
+
 use crate::decoder_rows::{Wanted, made};
 use crate::encoder_rows::repeated;
 use crate::feed_rows::{Cut, heard};
@@ -90,7 +91,7 @@ fn bodies_of_each_size(rt: HostRuntime) {
     }
 }
 
-// Commands, cut behind a number of bytes: whole ones are items, half a command is truncated.
+// Commands, cut after a number of bytes: whole ones are items, half a command is truncated.
 fn expect_front(rt: &impl Abort, alloc: Global, bytes: &[u8], length: usize) {
     let wanted = if length % 2 == 0 {
         Ok(length / 2)

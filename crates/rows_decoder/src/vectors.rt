@@ -1,28 +1,32 @@
-// Streams with what they come to, for every test that goes through them: the fault, or how many items they are.
+//! Streams with what they come to, for every test that goes through them: the fault, or how many items they are.
+
 use ws_code::{Fault, Reason};
 
-// What the bodies of a stream's records are.
+/// What the bodies of a stream's records are.
 #[derive(Clone, Copy)]
-pub enum Side {
+pub(crate) enum Side {
     FromHost,
     FromStation,
 }
 
+/// A stream by its name, who sends it, and what it comes to: how many items, or the fault.
 #[derive(Clone, Copy)]
-pub struct Vector<'a> {
-    pub name: &'a str,
-    pub side: Side,
-    pub bytes: &'a [u8],
-    pub outcome: Result<usize, Fault>,
+pub(crate) struct Vector<'a> {
+    pub(crate) name: &'a str,
+    pub(crate) side: Side,
+    pub(crate) bytes: &'a [u8],
+    pub(crate) outcome: Result<usize, Fault>,
 }
 
-pub const INVITE: &[u8] = b"\x00\x0a\x12\xa0\x00\x00\x04\x00\x00\x01\xff\xef";
+/// A record without a body.
+pub(crate) const INVITE: &[u8] = b"\x00\x0a\x12\xa0\x00\x00\x04\x00\x00\x01\xff\xef";
 
-pub const PUT_FF: &[u8] =
+/// A record of a Write to Display and the byte FF, which is doubled.
+pub(crate) const PUT_FF: &[u8] =
     b"\x00\x0f\x12\xa0\x00\x00\x04\x00\x00\x03\x04\x11\x00\x08\xff\xff\xff\xef";
 
-// A record of 255 bytes: the FF of its length is doubled. Behind a Write to Display stand 241 bytes 40.
-pub const LENGTH_255: &[u8] =
+/// A record of 255 bytes: the FF of its length is doubled. After a Write to Display stand 241 bytes 40.
+pub(crate) const LENGTH_255: &[u8] =
     b"\x00\xff\xff\x12\xa0\x00\x00\x04\x00\x00\x03\x04\x11\x00\x00@@@@@@@@@@@@@@@@@@@@@@@@@@@@@@@@@@@@@@@@@@@@@@@@@@@@@@@@@@@@@@@@@@@@@@@@@@@@@@@@@@@@@@@@@@@@@@@@@@@@@@@@@@@@@@@@@@@@@@@@@@@@@@@@@@@@@@@@@@@@@@@@@@@@@@@@@@@@@@@@@@@@@@@@@@@@@@@@@@@@@@@@@@@@@@@@@@@@@@@@@@@@@@@@@@@@@@@@@@@@@@@@@@@@@@@@@@@@@@@@@\xff\xef";
 
 // A form of one field at 6, 53, and the answer to it.
@@ -32,7 +36,8 @@ const BOB: &[u8] =
 const BOB_ANSWER: &[u8] =
     b"\x00\x13\x12\xa0\x00\x00\x04\x00\x00\x03\x06\x38\xf1\x11\x06\x35\xc2\xd6\xc2\xff\xef";
 
-pub const VECTORS: [Vector; 29] = [
+/// The streams, as the worked rows name them.
+pub(crate) const VECTORS: [Vector; 29] = [
     Vector {
         name: "empty-stream",
         side: Side::FromHost,
@@ -254,8 +259,8 @@ pub const VECTORS: [Vector; 29] = [
     },
 ];
 
-// Bodies that the code of commands refuses, each for a reason of its own, and the beginning of one.
-pub const REFUSED_BODIES: [Vector; 8] = [
+/// Bodies that the code of commands refuses, each for a reason of its own, and the beginning of one.
+pub(crate) const REFUSED_BODIES: [Vector; 8] = [
     Vector {
         name: "immediate-still-refused",
         side: Side::FromHost,

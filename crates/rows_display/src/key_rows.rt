@@ -1,4 +1,4 @@
-// What each key does: cells, MDT, cursor and lock afterwards.
+//! What each key does: cells, MDT, cursor and lock afterwards.
 
 use crate::screens::{aid, apply, at, begin_field, check_cells, put_field, screen_of};
 use crate::{holds, same, same_at};
@@ -19,7 +19,7 @@ const A_TO_D: [u8; 4] = [0xc1, 0xc2, 0xc3, 0xc4];
 
 const NULLS: [u8; 4] = [0; 4];
 
-// The cells of the bypass field and of the field behind it are as they were made.
+// The cells of the bypass field and of the field after it are as they were made.
 fn check_other_fields(rt: &impl Abort, screen: &Screen) {
     check_cells(rt, screen, 3, &[0xd1, 0xd2]);
     check_cells(rt, screen, 4, &[0xe2, 0xe3]);
@@ -162,7 +162,7 @@ const MOVES: [((u8, u8), Key, (u8, u8)); 25] = [
     ((1, 5), Key::Down, (2, 5)),
     ((24, 5), Key::Down, (1, 5)),
     ((10, 10), Key::Home, (2, 2)),
-    // before all fields, in the first and the last cell, in the bypass field, in the last field, behind all
+    // before all fields, in the first and the last cell, in the bypass field, in the last field, after all of them
     ((1, 1), Key::Tab, (2, 2)),
     ((2, 2), Key::Tab, (4, 2)),
     ((2, 5), Key::Tab, (4, 2)),
@@ -231,7 +231,7 @@ const ON_THE_LAST_CELL: [(Key, (u8, u8), u8); 6] = [
     (Key::Tab, (2, 2), 0x00),
 ];
 
-// A field on the last cell: behind its character comes the first field.
+// A field on the last cell: after its character comes the first field.
 #[test]
 fn field_on_the_last_cell(rt: HostRuntime) {
     let mut screen = screen_of(&rt, 0x4000, &A_TO_D);

@@ -1,3 +1,5 @@
+//! What each element does to a screen, and what a screen refuses.
+
 use crate::{holds, same, same_at};
 use std::process::Abort;
 use ws_code::{Address, Aid, Body, Code, DataByte, Ffw, Reason};
@@ -123,7 +125,7 @@ fn field_limits(rt: HostRuntime) {
         refuses_field(&rt, &mut screen, *cell, *length, *reason);
         same(&rt, screen.field_count(), 0);
     }
-    // behind a field of ten cells at 6, 53
+    // after a field of ten cells at 6, 53
     let first = [begin(), sba(&rt, 6, 52), input(&rt, 0x4000, 0x20, 10)];
     let mut screen = screen_with(&rt, &first);
     refuses_field(&rt, &mut screen, (6, 54), 4, Reason::FieldOverlap);
@@ -234,7 +236,7 @@ fn cc1_codes(rt: HostRuntime) {
     }
 }
 
-// An element, and the home behind it.
+// An element, and the home after it.
 fn expect_home(rt: &impl Abort, screen: &mut Screen, element: Element, home: u16) {
     applies(rt, screen, element);
     same(rt, screen.home().place(), home);

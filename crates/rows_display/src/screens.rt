@@ -1,4 +1,4 @@
-// Screens that a host's bytes make, for rows of several files.
+//! Screens that a host's bytes make, for rows of several files.
 
 use crate::{holds, same};
 use std::process::Abort;
@@ -7,7 +7,8 @@ use ws_keys::Key;
 use ws_screen::Screen;
 use ws_stream::{Commands, Element, FieldStart, Place};
 
-pub fn at(rt: &impl Abort, row: u8, col: u8) -> Address {
+/// The address of a row and a column.
+pub(crate) fn at(rt: &impl Abort, row: u8, col: u8) -> Address {
     Address::new(row, col).expect(rt, "a cell")
 }
 
@@ -23,14 +24,15 @@ fn first_element(place: Place, bytes: &[u8]) -> Option<(Element, usize)> {
     Some((slot?, run.used))
 }
 
-pub fn apply(rt: &impl Abort, screen: &mut Screen, element: &Element) {
+/// Carries out an element that the screen takes.
+pub(crate) fn apply(rt: &impl Abort, screen: &mut Screen, element: &Element) {
     let may_follow = Commands::may_follow(Commands::first(), element) || screen.writing();
     assert!(rt; may_follow);
     holds(rt, screen.apply(element).is_ok());
 }
 
-// A new screen to which a host's body was applied, and its write ended.
-pub fn screen_with(rt: &impl Abort, body: &[u8]) -> Screen {
+/// A new screen to which a host's body was applied, and its write ended.
+pub(crate) fn screen_with(rt: &impl Abort, body: &[u8]) -> Screen {
     let mut screen = Screen::new();
     let mut place = Commands::first();
     let mut rest = body;
@@ -45,42 +47,49 @@ pub fn screen_with(rt: &impl Abort, body: &[u8]) -> Screen {
     screen
 }
 
-pub fn aid(rt: &impl Abort, byte: u8) -> Key {
+/// The key of an attention identifier.
+pub(crate) fn aid(rt: &impl Abort, byte: u8) -> Key {
     Key::Aid(Aid::from_byte(byte).expect(rt, "a key"))
 }
 
-// A read of modified fields over one field of ten cells at 6, 53.
-pub const ONE_FIELD: [u8; 19] = [
+/// A read of modified fields over one field of ten cells at 6, 53.
+pub(crate) const ONE_FIELD: [u8; 19] = [
     0x04, 0x40, 0x04, 0x11, 0x00, 0x08, 0x11, 0x06, 0x34, 0x1D, 0x40, 0x00, 0x20, 0x00, 0x0A, 0x04,
     0x52, 0x00, 0x00,
 ];
 
-// Two fields, the later one defined first and with C1 00 C2 in it: their format words' first bytes, and the read.
-pub fn two_fields(later: u8, earlier: u8, read: u8) -> [u8; 29] {
+/// Two fields, the later one defined first and with C1 00 C2 in it: their format words' first bytes, and the read.
+pub(crate) fn two_fields(later: u8, earlier: u8, read: u8) -> [u8; 29] {
     [
         0x04, 0x11, 0x00, 0x08, 0x11, 0x06, 0x34, 0x1D, later, 0x00, 0x20, 0x00, 0x06, 0xC1, 0x00,
         0xC2, 0x11, 0x03, 0x01, 0x1D, earlier, 0x00, 0x20, 0x00, 0x04, 0x04, read, 0x00, 0x00,
     ]
 }
 
-// One field at 6, 53: its format word, its length and the read.
-pub fn one_field(high: u8, low: u8, cells: u8, read: u8) -> [u8; 17] {
+/// One field at 6, 53: its format word, its length and the read.
+pub(crate) fn one_field(high: u8, low: u8, cells: u8, read: u8) -> [u8; 17] {
     [
         0x04, 0x11, 0x00, 0x08, 0x11, 0x06, 0x34, 0x1D, high, low, 0x20, 0x00, cells, 0x04, read,
         0x00, 0x00,
     ]
 }
 
-// Makes an input field with its attribute at a row and a column.
-pub fn begin_field(rt: &impl Abort, screen: &mut Screen, cell: (u8, u8), format: u16, length: u16) {
+/// Makes an input field with its attribute at a row and a column.
+pub(crate) fn begin_field(
+    rt: &impl Abort,
+    screen: &mut Screen,
+    cell: (u8, u8),
+    format: u16,
+    length: u16,
+) {
     let format = Ffw::new(format).expect(rt, "a format word");
     let field = FieldStart::new(Some(format), &[], 0x20, length).expect(rt, "a field");
     apply(rt, screen, &Element::Sba(at(rt, cell.0, cell.1)));
     apply(rt, screen, &Element::Sf(field));
 }
 
-// Makes an input field whose first cell is in a row's second column, and fills it.
-pub fn put_field(rt: &impl Abort, screen: &mut Screen, row: u8, format: u16, cells: &[u8]) {
+/// Makes an input field whose first cell is in a row's second column, and fills it.
+pub(crate) fn put_field(rt: &impl Abort, screen: &mut Screen, row: u8, format: u16, cells: &[u8]) {
     assert!(rt; cells.len() < 80);
     begin_field(rt, screen, (row, 1), format, cells.len() as u16);
     for byte in cells {
@@ -89,8 +98,8 @@ pub fn put_field(rt: &impl Abort, screen: &mut Screen, row: u8, format: u16, cel
     }
 }
 
-// A field of four cells at 2, 2; one with bypass at 3, 2, modified; one at 4, 2. The keyboard is unlocked.
-pub fn screen_of(rt: &impl Abort, format: u16, cells: &[u8]) -> Screen {
+/// A field of four cells at 2, 2; one with bypass at 3, 2, modified; one at 4, 2. The keyboard is unlocked.
+pub(crate) fn screen_of(rt: &impl Abort, format: u16, cells: &[u8]) -> Screen {
     let mut screen = Screen::new();
     apply(rt, &mut screen, &Element::Write { cc1: 0, cc2: 0x08 });
     put_field(rt, &mut screen, 2, format, cells);
@@ -100,7 +109,8 @@ pub fn screen_of(rt: &impl Abort, format: u16, cells: &[u8]) -> Screen {
     screen
 }
 
-pub fn check_cells(rt: &impl Abort, screen: &Screen, row: u8, cells: &[u8]) {
+/// Expects these cells from the beginning of a row on.
+pub(crate) fn check_cells(rt: &impl Abort, screen: &Screen, row: u8, cells: &[u8]) {
     for (index, byte) in cells.iter().enumerate() {
         assert!(rt; index < 78);
         same(rt, screen.cell(at(rt, row, index as u8 + 2)), *byte);

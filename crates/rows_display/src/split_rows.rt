@@ -1,4 +1,4 @@
-// What a host reads from answers, and from the contents of signed numeric fields.
+//! What a host reads from answers, and from the contents of signed numeric fields.
 
 use crate::screens::{ONE_FIELD, apply, one_field, screen_with, two_fields};
 use crate::{holds, same, same_at, same_bytes};

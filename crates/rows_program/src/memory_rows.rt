@@ -1,6 +1,7 @@
-// Each call that takes memory, where a growth may be refused: it answers want of memory or what it answers with
-// memory, and what it stands on goes on as it says. Here no growth is refused; tests/run_without_memory.py runs these
-// tests with each one refused in turn, so nothing here rests on memory, but what a call under test gave.
+//! Each call that takes memory, where a growth may be refused: it answers want of memory or what it answers with
+//! memory, and what it stands on goes on as it says. Here no growth is refused; tests/run_without_memory.py runs these
+//! tests with each one refused in turn, so nothing here rests on memory, but what a call under test gave.
+
 use crate::{holds, same, same_bytes};
 use arrayvec::ArrayVec;
 use std::alloc::Global;
@@ -20,19 +21,21 @@ use ws_session::{
 use ws_stream::{AnswerPart, Answers, Commands, Element, FieldStart};
 use ws_telnet::{CommandCode, Telnet};
 
-// A host end's opening, and what a station answers.
+// A host end's opening.
 const OPENING: &[u8] =
     b"\xff\xfd\x18\xff\xfa\x18\x01\xff\xf0\xff\xfd\x19\xff\xfb\x19\xff\xfd\x00\xff\xfb\x00";
 
+/// What a station answers to the opening.
 pub(crate) const OPENED: &[u8] =
     b"\xff\xfb\x18\xff\xfa\x18\x00IBM-3179-2\xff\xf0\xff\xfb\x19\xff\xfd\x19\xff\xfb\x00\xff\xfd\x00";
 
 const INVITE: &[u8] = b"\x00\x0a\x12\xa0\x00\x00\x04\x00\x00\x01\xff\xef";
 
-// A form of one field at 6, 53, and the answer to it.
+// A form of one field at 6, 53.
 const BOB: &[u8] =
     b"\x00\x1d\x12\xa0\x00\x00\x04\x00\x00\x03\x04\x40\x04\x11\x00\x08\x11\x06\x34\x1d\x40\x00\x20\x00\x0a\x04\x52\x00\x00\xff\xef";
 
+/// The record of the answer to it.
 pub(crate) const BOB_ANSWER: &[u8] =
     b"\x00\x13\x12\xa0\x00\x00\x04\x00\x00\x03\x06\x38\xf1\x11\x06\x35\xc2\xd6\xc2\xff\xef";
 
@@ -43,7 +46,7 @@ const BOB_LINE: &[u8] = b"accepted: 1 records, 0 commands, 31 bytes\n";
 const BOB_SHOWN: &[u8] =
     b"at 30 record flags 0000 opcode 3\n  CLEAR-UNIT\n  WRITE 00 08\n  SBA 6 52\n  SF 4000 20 10\n  READ-MDT 00 00\nscreen\ncursor 6 53, unlocked, message off, blink off, fields 1\n";
 
-// What the elements of `bob` are, and the parts of its answer.
+// What the elements of `bob` are.
 fn form(rt: &impl Abort) -> [Element; 5] {
     let before = Address::new(6, 52).expect(rt, "an address");
     let field = FieldStart::new(Ffw::new(0x4000), &[], 0x20, 10).expect(rt, "a field");
@@ -56,6 +59,7 @@ fn form(rt: &impl Abort) -> [Element; 5] {
     ]
 }
 
+/// The parts of `bob`'s answer.
 pub(crate) fn parts(rt: &impl Abort) -> [AnswerPart; 5] {
     let letter_b = DataByte::new(0xc2).expect(rt, "a byte");
     let letter_o = DataByte::new(0xd6).expect(rt, "a byte");
@@ -141,6 +145,7 @@ fn send_within(rt: &impl Abort, host: &mut HostEnd) {
     same(rt, host.fields().len(), 1);
 }
 
+/// Whether `bob` was read from an answer.
 pub(crate) fn is_bob(answer: &HostAnswer) -> bool {
     match answer.fields.as_slice() {
         [field] => field.content.as_slice() == b"\xc2\xd6\xc2".as_slice(),
@@ -198,7 +203,7 @@ fn host_end_within_memory(rt: HostRuntime) {
     push_within(&rt, &mut host);
 }
 
-// A station that shows `bob`'s form. None of this takes memory.
+/// A station that shows `bob`'s form. None of this takes memory.
 pub(crate) fn station_with_bob(rt: &impl Abort) -> Station {
     let mut station = Station::new(TerminalType::default());
     for byte in OPENING.iter().chain(BOB.iter()) {
@@ -369,7 +374,7 @@ fn records_without_memory(rt: HostRuntime) {
     same(&rt, written.len(), 14);
 }
 
-// A cancel is sent wherever a read was asked, with no memory behind that.
+// A cancel is sent wherever a read was asked, with no memory after that.
 #[test]
 fn cancel_without_memory(rt: HostRuntime) {
     let mut host = ready_host(&rt, rt.alloc());

@@ -1,3 +1,5 @@
+//! Scripts that are played: what is printed, and what ends a play.
+
 use crate::{same, same_at, same_bytes};
 use std::alloc::Global;
 use std::process::Abort;
@@ -8,17 +10,19 @@ use ws_nego::TerminalType;
 use ws_program::{Asked, answer, status};
 use ws_session::{Event, HostEnd, KeyFault, Report, SendFault, Station};
 
-// A script, whether the screen is asked for, and what is written.
-pub type Row<'a> = (&'a str, &'a str, bool, &'a str);
+/// A script, whether the screen is asked for, and what is written.
+pub(crate) type Row<'a> = (&'a str, &'a str, bool, &'a str);
 
-pub const PLAY_BOB: Row = (
+/// `play-bob`: one field is filled in and sent.
+pub(crate) const PLAY_BOB: Row = (
     "play-bob",
     "settle\nsend 3 0440041100081106341D400020000A04520000\nsettle\ntype BOB\nkey Enter\nsettle\n",
     false,
     "host ready IBM-3179-2\nanswer 6 56 F1\n  field 6 53 C2D6C2\n",
 );
 
-pub const PLAYED: [Row; 13] = [
+/// The other rows.
+pub(crate) const PLAYED: [Row; 13] = [
     PLAY_BOB,
     (
         "play-cancel",

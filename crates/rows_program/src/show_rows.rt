@@ -1,3 +1,5 @@
+//! What is shown of a stream: screens, fields and lines.
+
 use crate::{same, same_at, same_bytes};
 use ws_code::VecSink;
 use ws_program::{check_to, show_to};

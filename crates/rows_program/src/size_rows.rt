@@ -1,3 +1,5 @@
+//! Streams of the largest sizes, with memory enough: none is refused for want of it.
+
 use crate::{same, same_at, same_bytes};
 use std::alloc::Global;
 use std::net::{Net, TcpListener, TcpStream};
@@ -76,7 +78,7 @@ fn lines_in(text: &[u8]) -> usize {
     count
 }
 
-// A line for each command, and two behind them of a whole stream's screen, or one of what is cut off.
+// A line for each command, and two after them of a whole stream's screen, or one of what is cut off.
 fn expect_shown(rt: &impl Abort, alloc: Global, size: usize, bytes: &[u8]) {
     let mut sink = VecSink::new(alloc);
     let found = show_to(alloc, bytes, &mut sink);

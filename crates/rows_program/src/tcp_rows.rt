@@ -1,3 +1,5 @@
+//! Plays over a connection: told as those in one place, and where the connection fails.
+
 use crate::play_rows::{PLAY_BOB, PLAYED};
 use crate::{holds, same, same_at, same_bytes, says};
 use std::alloc::Global;

@@ -1,3 +1,4 @@
+-- Keys on the second display do what they do on the profile's.
 use Rattle.std.proofs.Common.{Option, Some, None, Result, Ok, Err, ap}
 use Rattle.ws_keys.specs.declared.answer.Answer.{Answer}
 use Rattle.ws_keys.specs.declared.answer.Answer.TheVariants.{Read, Attention, SystemRequest}

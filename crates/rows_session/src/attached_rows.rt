@@ -1,5 +1,6 @@
-// Ends that are attached to a source and a sink, and a line that breaks: a write fails, or a byte is refused. Each later
-// call answers that the end has failed. What such ends do else is seen in live sessions.
+//! Ends that are attached to a source and a sink, and a line that breaks: a write fails, or a byte is refused. Each later
+//! call answers that the end has failed. What such ends do else is seen in live sessions.
+
 use crate::end_rows::{OPENED, OPENING, new_station};
 use crate::same;
 use std::alloc::Global;

@@ -1,4 +1,5 @@
-// Callers of the crates, each as a program of one's own would write it. docs/CALLING.md shows them.
+//! Callers of the crates, each as a program of one's own would write it. docs/CALLING.md shows them.
+
 use std::alloc::{AllocError, Global};
 use ws_code::{Fault, Reason, Sink, write_whole};
 use ws_keys::Key;
@@ -9,14 +10,14 @@ use ws_session::{
 };
 use ws_stream::{Commands, Element, is_body};
 
-// What of a stream came whole before its end or its refusal.
+/// What of a stream came whole before its end or its refusal.
 #[derive(Debug, Drop)]
 pub(crate) struct Seen {
     pub(crate) elements: Vec<Element>,
     pub(crate) refused: Option<(u64, Reason)>,
 }
 
-// Reads a stream live: the elements come as they are whole, also those of a record that is refused later.
+/// Reads a stream live: the elements come as they are whole, also those of a record that is refused later.
 pub(crate) fn see(alloc: Global, bytes: &[u8]) -> Result<Seen, AllocError> {
     let mut live = Live::<Commands>::new();
     let mut elements = Vec::new(alloc);
@@ -31,7 +32,7 @@ pub(crate) fn see(alloc: Global, bytes: &[u8]) -> Result<Seen, AllocError> {
     Ok(Seen { elements, refused })
 }
 
-// Feeds a piece of any length, and keeps the items that are complete with its bytes.
+/// Feeds a piece of any length, and keeps the items that are complete with its bytes.
 pub(crate) fn feed_piece(
     receiver: &mut Receiver<Commands>,
     piece: &[u8],
@@ -50,7 +51,7 @@ pub(crate) fn feed_piece(
     Ok(())
 }
 
-// Carries out the records of a stream on a new screen, up to the first that it refuses.
+/// Carries out the records of a stream on a new screen, up to the first that it refuses.
 pub(crate) fn screen_of(items: &[Item<Element>]) -> Result<Screen, Reason> {
     let mut screen = Screen::new();
     for item in items {
@@ -63,14 +64,14 @@ pub(crate) fn screen_of(items: &[Item<Element>]) -> Result<Screen, Reason> {
     Ok(screen)
 }
 
-// What ends an emulator's loop: a byte of the host is refused, or the line to the host takes no more.
+/// What ends an emulator's loop: a byte of the host is refused, or the line to the host takes no more.
 #[derive(Debug, Drop, PartialEq, Eq)]
 pub(crate) enum Ended {
     Refused(Refusal),
     Line(Fault),
 }
 
-// An emulator: what has come from the host is taken, and the replies are written.
+/// An emulator: what has come from the host is taken, and the replies are written.
 pub(crate) fn hear<S: Sink>(
     station: &mut Station,
     bytes: &[u8],
@@ -88,7 +89,7 @@ pub(crate) fn hear<S: Sink>(
     Ok(())
 }
 
-// An emulator: a key is pressed, and what it sends is written. A refused key tells why, for the status line.
+/// An emulator: a key is pressed, and what it sends is written. A refused key tells why, for the status line.
 pub(crate) fn strike<S: Sink>(
     station: &mut Station,
     key: Key,
@@ -102,7 +103,7 @@ pub(crate) fn strike<S: Sink>(
     Ok(None)
 }
 
-// A test harness: a screen is sent to a station that is ready.
+/// A test harness: a screen is sent to a station that is ready.
 pub(crate) fn ask<S: Sink>(
     host: &mut HostEnd,
     body: &[Element],
@@ -115,15 +116,15 @@ pub(crate) fn ask<S: Sink>(
     }
 }
 
-// What a harness has heard: how many bytes it took, and what the last of them told.
+/// What a harness has heard: how many bytes it took, and what the last of them told.
 #[derive(Debug, Drop)]
 pub(crate) struct Heard {
     pub(crate) used: usize,
     pub(crate) event: Option<HostEvent>,
 }
 
-// A test harness: what has come from the station is taken, up to the first thing that it tells; the replies are
-// written. The bytes behind those that were used come again with the next call.
+/// A test harness: what has come from the station is taken, up to the first thing that it tells; the replies are
+/// written. The bytes after those that were used come again with the next call.
 pub(crate) fn await_event<S: Sink>(
     host: &mut HostEnd,
     bytes: &[u8],

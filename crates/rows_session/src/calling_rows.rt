@@ -1,4 +1,5 @@
-// The callers of `calling.rt`, at work.
+//! The callers of `calling.rt`, at work.
+
 use crate::calling::{Ended, Heard, ask, await_event, feed_piece, hear, screen_of, see, strike};
 use crate::end_rows::{
     ATTENTION, BOB, BOB_ANSWER, BOB_RECORD, BOB_TOLD, OPENED, OPENING, PAST_END, enter, is_told,

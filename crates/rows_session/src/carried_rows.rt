@@ -1,4 +1,5 @@
-// Sessions over lines that fail, or bring something else than what was written.
+//! Sessions over lines that fail, or bring something else than what was written.
+
 use crate::same;
 use std::alloc::Global;
 use std::process::Abort;
@@ -66,7 +67,7 @@ const OTHER_BYTES: [Brought; 2] = [
     },
 ];
 
-// What was read arrives, whatever was written: an end refuses FF 00, and takes nothing behind it.
+// What was read arrives, whatever was written: an end refuses FF 00, and takes nothing after it.
 #[test]
 fn lines_that_bring_other_bytes(rt: HostRuntime) {
     for brought in &OTHER_BYTES {

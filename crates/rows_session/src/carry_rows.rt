@@ -1,4 +1,5 @@
-// A piece over a connection, whole and where a device stops it.
+//! A piece over a connection, whole and where a device stops it.
+
 use crate::{same, same_at};
 use std::alloc::Global;
 use std::process::Abort;
@@ -57,7 +58,7 @@ fn carry_cut_short(rt: HostRuntime) {
     }
 }
 
-// A source of three bytes that fails behind so many.
+// A source of three bytes that fails after so many.
 fn reads_behind(rt: &impl Abort, alloc: Global, calls: usize) {
     let mut taken = [0u8; 3];
     let mut sink = VecSink::new(alloc);
@@ -68,7 +69,7 @@ fn reads_behind(rt: &impl Abort, alloc: Global, calls: usize) {
     same(rt, taken.get(..calls), b"xyz".get(..calls));
 }
 
-// A sink that fails behind so many bytes.
+// A sink that fails after so many bytes.
 fn writes_behind(rt: &impl Abort, alloc: Global, calls: usize) {
     let mut taken = [0u8; 3];
     let mut sink = FailingSink::new(alloc, calls as u64);

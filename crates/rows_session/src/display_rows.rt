@@ -1,4 +1,5 @@
-// A station on another display than the profile's.
+//! A station on another display than the profile's.
+
 use crate::end_rows::{ATTENTION, CANCEL, OPENED, OPENING};
 use crate::second_display::SecondDisplay;
 use crate::{holds, same};

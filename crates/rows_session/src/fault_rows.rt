@@ -1,4 +1,4 @@
-// The texts of the faults of a session.
+//! The texts of the faults of a session.
 
 use crate::says;
 use ws_session::{KeyFault, KeyRefusal, Reason, Refusal, SendFault};

@@ -1,4 +1,5 @@
-// A host end by itself, and what it reads from a station's answers.
+//! A host end by itself, and what it reads from a station's answers.
+
 use crate::end_rows::{
     BOB, BOB_ANSWER, BOB_TOLD, CANCEL, OPENING, is_told, joined, keys_of, last_event, push_all,
     ready_host, ready_station, record, refusal_of, send, waiting_host,
@@ -46,7 +47,7 @@ fn waits(rt: &impl Abort, host: &HostEnd, taken: u64) {
     same(rt, host.fields().as_slice().len(), 1);
 }
 
-// Behind a refused byte a host end tells what it told before, and has taken that byte too.
+// After a refused byte a host end tells what it told before, and has taken that byte too.
 #[test]
 fn a_refusal_changes_nothing_else_of_a_host_end(rt: HostRuntime) {
     let mut host = waiting_host(&rt, rt.alloc());
@@ -75,7 +76,7 @@ fn an_answer_behind_its_cancel(rt: HostRuntime) {
     same(&rt, host.cancel().err(), Some(SendFault::Failed));
 }
 
-// An answer with a byte before its first field, behind the 31 bytes of the opening.
+// An answer with a byte before its first field, after the 31 bytes of the opening.
 #[test]
 fn an_answer_that_fits_no_read(rt: HostRuntime) {
     let alloc = rt.alloc();
@@ -243,7 +244,7 @@ const ANSWERED_FORMS: [AnsweredForm; 15] = [
     },
 ];
 
-// What a station writes behind the opening that takes a record and the keys.
+// What a station writes after the opening that takes a record and the keys.
 fn is_answered(rt: &impl Abort, alloc: Global, form: &AnsweredForm) {
     let sent = record(rt, alloc, form.body);
     let stream = joined(rt, alloc, &[OPENING, sent.as_slice()]);

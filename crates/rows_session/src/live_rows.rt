@@ -87,7 +87,7 @@ fn carried<R: Abort + AllocGlobal, E, S, K, L: LiveMove<E, S, K>>(
     }
 }
 
-// A station that is given these bytes, one a read, and behind them nothing in time.
+// A station that is given these bytes, one a read, and after them nothing in time.
 fn station_given<'a>(
     alloc: Global,
     bytes: &'a [u8],
@@ -98,7 +98,7 @@ fn station_given<'a>(
     Attached::new(new_station(), source, VecSink::new(alloc))
 }
 
-// Scripts for a station behind the opening and a form, what they print, and what came of them: a record is ahead of a
+// Scripts for a station after the opening and a form, what they print, and what came of them: a record is ahead of a
 // wait that shows it, a wait isn't met, a key is refused.
 const STATIONS: [(&str, &str, Came); 4] = [
     (

@@ -1,4 +1,5 @@
-// Runs of a station over devices.
+//! Runs of a station over devices.
+
 use crate::end_rows::{BOB_ANSWER, OPENED, OPENING_AND_BOB, enter, new_station};
 use crate::{holds, same};
 use arrayvec::ArrayVec;
@@ -16,7 +17,7 @@ const TEXT: &[u8; 52] =
     b"\xff\xfb\x18\xff\xfa\x18\x00IBM-3179-2\xff\xf0\xff\xfb\x19\xff\xfd\x19\xff\xfb\x00\xff\xfd\x00\
 \x00\x13\x12\xa0\x00\x00\x04\x00\x00\x03\x06\x38\xf1\x11\x06\x35\xc2\xd6\xc2\xff\xef";
 
-// Tab before the first record, and B, O, B, Enter behind it.
+// Tab before the first record, and B, O, B, Enter after it.
 fn keys_due(rt: &impl Abort) -> [(u32, Key); 5] {
     [
         (0, Key::Tab),

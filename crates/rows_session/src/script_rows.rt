@@ -1,3 +1,5 @@
+//! Lines of scripts: the keys and texts that they are, and why a line is none.
+
 use crate::{same, same_at, says};
 use std::alloc::Global;
 use std::process::Abort;

@@ -1,3 +1,5 @@
+//! A display of another kind, on which a station stands as well.
+
 ghost use Rattle.std.specs.Prelude.{◌≡◌, refl};
 ghost use Rattle.ws_stream.specs.declared.answer_part.AnswerPart.{AnswerPart};
 ghost use Rattle.ws_stream.specs.declared.answer_place.AnswerPlace.{AnswerPlace};
@@ -13,8 +15,8 @@ use ws_record::{Head, RawBody};
 use ws_screen::Screen;
 use ws_session::{ProfileDisplay, StationDisplay};
 
-// A display beside the profile's, which shows that a station stands on any: each byte of a record's body is a unit, a
-// record rings and is answered by an empty Cancel Invite whose bytes are kept here, and one key more ends the ringing.
+/// A display beside the profile's, which shows that a station stands on any: each byte of a record's body is a unit, a
+/// record rings and is answered by an empty Cancel Invite whose bytes are kept here, and one key more ends the ringing.
 #[derive(Drop)]
 pub(crate) struct SecondDisplay {
     profile: ProfileDisplay,

@@ -1,5 +1,6 @@
-// Whole sessions by scripts, as `t5250 play` reads them: what the text that it writes of them doesn't show. The text is
-// compared by the rows of `rows_program`, which also have these scripts.
+//! Whole sessions by scripts, as `t5250 play` reads them: what the text that it writes of them doesn't show. The text is
+//! compared by the rows of `rows_program`, which also have these scripts.
+
 use crate::end_rows::{BOB_TOLD, is_told};
 use crate::same;
 use std::alloc::Global;
@@ -85,7 +86,7 @@ fn answers_hold_what_was_typed(rt: HostRuntime) {
     }
 }
 
-// What is in flight to the station and to the host end behind so many full deliveries of an opening,
+// What is in flight to the station and to the host end after so many full deliveries of an opening,
 // first one to the station (RFC 4777).
 struct InFlight {
     deliveries: usize,

@@ -1,4 +1,5 @@
-// Bodies and answers of all lengths: with memory enough none is refused for want of it.
+//! Bodies and answers of all lengths: with memory enough none is refused for want of it.
+
 use crate::end_rows::{joined, last_event, ready_host, record, refusal_of, send};
 use crate::{holds, same, same_at};
 use std::alloc::Global;

@@ -1,4 +1,5 @@
-// A station by itself, by worked examples.
+//! A station by itself, by worked examples.
+
 use crate::end_rows::{
     ATTENTION, BOB, OPENING, PAST_END, keys_of, last_event, new_station, push_all, ready_host,
     ready_station, replies,
@@ -146,7 +147,7 @@ fn stations_refuse_early_records(rt: HostRuntime) {
     presses(&rt, rt.alloc(), &mut early, "type A", Err(KeyFault::Failed));
 }
 
-// A data byte past the screen's end, behind the opening's 21 bytes, the form's 31 and 20 of its record. What was on the
+// A data byte past the screen's end, after the opening's 21 bytes, the form's 31 and 20 of its record. What was on the
 // screen stays, with a letter that is typed inside the record, and the station takes no byte more.
 #[test]
 fn stations_refuse_records_past_the_end(rt: HostRuntime) {
@@ -166,7 +167,7 @@ fn stations_refuse_records_past_the_end(rt: HostRuntime) {
     same(&rt, station.screen().cell(first), 0xc2);
 }
 
-// Behind a refused byte a station tells what it told before, and has taken that byte too.
+// After a refused byte a station tells what it told before, and has taken that byte too.
 #[test]
 fn a_refusal_changes_nothing_else_of_a_station(rt: HostRuntime) {
     let alloc = rt.alloc();

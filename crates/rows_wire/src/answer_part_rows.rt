@@ -1,3 +1,5 @@
+//! Parts of answers: what spells them, what is refused, and where.
+
 use crate::{holds, same, same_bytes};
 use arrayvec::ArrayVec;
 use std::process::Abort;

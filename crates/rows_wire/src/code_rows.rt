@@ -1,3 +1,5 @@
+//! Reasons, faults, lists, code page 037, addresses and attention keys: their numbers, names and texts.
+
 use crate::{holds, same, same_at, same_bytes};
 use arrayvec::ArrayVec;
 use std::alloc::Global;

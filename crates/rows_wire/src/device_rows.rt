@@ -1,3 +1,5 @@
+//! Sources and sinks in memory, and what comes of those that fail.
+
 ghost use Rattle.std.specs.Prelude.{◌≡◌, List, ℕ, length, IfOk};
 ghost use Rattle.ws_code.specs.Device.{GaveAll};
 
@@ -64,7 +66,7 @@ fn sources_give_all_bytes(rt: HostRuntime) {
     holds(&rt, reader.into_inner().is_empty());
 }
 
-// What is counted of a source that fails behind so many reads, and how many failures it tells.
+// What is counted of a source that fails after so many reads, and how many failures it tells.
 fn counts_behind(rt: &impl Abort, reads: u64, counted: Result<u64, Fault>, failures: u64) {
     let mut source = FailingSource::new(b"bytes", reads);
     same_at(rt, reads, count_all(&mut source), counted);
@@ -100,7 +102,7 @@ fn sinks_keep_their_bytes(rt: HostRuntime) {
     same_bytes(&rt, writer.into_inner().as_slice(), b"four");
 }
 
-// What writing comes to in a sink that fails behind so many writes, and how many failures it tells.
+// What writing comes to in a sink that fails after so many writes, and how many failures it tells.
 fn writes_behind(
     rt: &impl Abort,
     alloc: Global,

@@ -1,3 +1,5 @@
+//! Elements of a host's body: what spells them, what is refused, and where.
+
 use crate::{holds, same, same_bytes};
 use arrayvec::ArrayVec;
 use std::process::Abort;
@@ -47,7 +49,7 @@ fn spelled_again(bytes: &[u8]) -> Option<ArrayVec<u8, 32>> {
     None
 }
 
-// The bytes stand in a body behind a Write to Display, and are refused at the place in the body.
+// The bytes stand in a body after a Write to Display, and are refused at the place in the body.
 fn expect_refused(rt: &impl Abort, bytes: &[u8], place: usize, reason: u8) {
     let write = answer_to(Commands::first(), &[0x04, 0x11, 0x00, 0x00]);
     same(rt, write, unit(3));

@@ -1,3 +1,5 @@
+//! What each end answers to each token, in tables and in whole exchanges.
+
 use crate::{holds, same, same_at, same_bytes};
 use std::process::Abort;
 use std::test::*;

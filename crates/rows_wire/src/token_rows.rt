@@ -1,3 +1,5 @@
+//! Tokens: what spells them, what is refused, and writing them to a sink that fails.
+
 use crate::{holds, same, same_at, same_bytes};
 use arrayvec::ArrayVec;
 use std::alloc::Global;
@@ -156,7 +158,7 @@ fn each_token_has_its_spelling(rt: HostRuntime) {
     check_spelling(&rt, rt.alloc(), &token, &wanted);
 }
 
-// A token is written to a sink that fails behind so many bytes.
+// A token is written to a sink that fails after so many bytes.
 fn cut_behind(rt: &impl Abort, alloc: Global, calls: u8, wanted: Result<(), Fault>) {
     let telnet = Telnet::Option(Verb::Do, 0x19);
     let front = b"\xff\xfd\x19".as_slice().get(..usize::from(calls));

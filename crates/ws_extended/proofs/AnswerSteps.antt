@@ -29,7 +29,7 @@ use Rattle.ws_extended.specs.declared.extended_answers.waits.Waits.{Waits}
 use Rattle.ws_extended.specs.declared.extended_answers.waits.Waits.TheVariants.{Front, InElement}
 use Rattle.ws_extended.specs.declared.extended_place.ExtendedPlace.{ExtendedPlace}
 
--- the byte is taken, and what is waited for now is behind it
+-- the byte is taken, and what is waited for now is after it
 pub part_more : (begun : List ℕ) (b : ℕ) (place : ExtendedAnswerPlace) (waits waits' : Waits) (at : ExtendedPlace)
     (bytes : List ℕ) (result : Push ExtendedAnswerPart) → result ≡ More → waits' ≡ waits → waits_at waits at ≡ place
     → waits_behind waits bytes ≡ begun ++ b ∷ [] → IsUnfinished extended_answer_rules place (begun ++ b ∷ [])

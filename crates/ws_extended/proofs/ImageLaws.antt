@@ -117,7 +117,7 @@ before_end t s a = record (cleared t) {
   writing = Some (write_end s a);
 }
 
--- and behind its end
+-- and after its end
 abbrev behind_end : ScreenParts → ScreenParts → ℕ → ScreenParts
 behind_end t s a = record (after_cc2 (lights s) (Some s.cursor) (before_end t s a)) { writing = None }
 

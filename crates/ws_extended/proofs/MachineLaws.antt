@@ -185,7 +185,7 @@ none_begins place b ne takes front = go place front.unit front.stands front.spel
     go (Asked before) RestoreScreen s e t = false≢true s.may_follow
     go (Asked before) WriteError s e t = false≢true s.may_follow
 
--- what goes on behind the first two bytes of a query is one
+-- what goes on after the first two bytes of a query is one
 pub only_query : (u : ExtendedElement) (place : ExtendedPlace) (more : List ℕ) → Stands extended_rules place u
     → extended_spelling u ≡ ESCAPE ∷ WRITE_STRUCTURED_FIELD ∷ more → more ≡ query_field
 only_query (Profile e) place more s same = absurd (false≢true (own_code e [] WRITE_STRUCTURED_FIELD more s.is_unit

@@ -1,4 +1,4 @@
--- A run of bytes behind another.
+-- A run of bytes after another.
 use Rattle.std.proofs.Common.{◌≡◌, true, ℕ, List, [], ◌∷◌, ◌++◌, inl, inr, refl, sym, ap, ◌∙◌, subst, append_assoc}
 use Rattle.std.proofs.lemmas.Grind.{flat_map-append}
 use Rattle.ws_code.specs.Code.{Rules, IsChain, IsPrefix, IsSpelled, IsUnfinished, place_after, spelling_of}

@@ -64,7 +64,7 @@ ends_closed h = go (open_write h) refl
 -- A SAVED SCREEN
 
 module _ (row : ℕ) (s : ScreenParts) (state : ExtendedState) where
-  -- what stands behind Restore Screen comes to this display
+  -- what stands after Restore Screen comes to this display
   abbrev behind : History
   behind = after_end (uncovered 0 state).history
 
@@ -95,7 +95,7 @@ saved_is_body row s legal typed small =
 
 -- AN ERROR
 
--- how long a text is behind another
+-- how long a text is after another
 abbrev text_behind : ℕ → List Element → ℕ
 text_behind n [] = n
 text_behind n (e ∷ text) = text_behind (bytes_behind n e) text

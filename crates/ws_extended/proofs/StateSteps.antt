@@ -1,4 +1,4 @@
--- What the parts of a display with an error line are behind a step.
+-- What the parts of a display with an error line are after a step.
 use Rattle.std.proofs.Common.{◌≡◌, ℕ, List, [], ◌∷◌, ◌++◌, Bool, true, false, Option, Some, None, map, replicate, refl}
 use Rattle.std.proofs.Common.{sym, ap, ◌∙◌, subst, unwrap_or, length, if◌then◌else◌}
 use Rattle.std.proofs.lemmas.Bool.{false≢true}

@@ -1,5 +1,6 @@
-// What holds of the bodies of live hosts' stations by their definitions. These functions do nothing: a caller gets the
-// law by the call.
+//! What holds of the bodies of live hosts' stations by their definitions. These functions do nothing: a caller gets the
+//! law by the call.
+
 ghost use Rattle.std.specs.Prelude.{◌≡◌, ◌∷◌, ◌++◌, [], ◌<◌, ℕ, List, map};
 ghost use Rattle.ws_code.specs.Code.{IsPrefix, IsUnfinished, IsWhole, spelling_of};
 ghost use Rattle.ws_nego.specs.declared.terminal.TerminalType.{TerminalType};

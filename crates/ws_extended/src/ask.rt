@@ -1,3 +1,5 @@
+//! The commands that a station answers at once, without a key (SC30-3533, commands).
+
 ghost use Rattle.std.specs.Prelude.{◌≡◌};
 
 use ws_code::Reason;
@@ -21,7 +23,7 @@ pub enum Ask {
 impl Ask {
     ghost use Rattle.ws_extended.specs.ExtendedReasons.{ask_reason};
 
-    /// Why nothing but what asks stands behind it in a body (own choice), and why a record that asked before it isn't
+    /// Why nothing but what asks stands after it in a body (own choice), and why a record that asked before it isn't
     /// answered.
     pub fn reason(self) -> Reason
         ensures { result ≡ ask_reason self }

@@ -1,3 +1,5 @@
+//! What a record asks at once, kept while its elements are read.
+
 ghost use Rattle.std.specs.Prelude.{◌≡◌, ◌∷◌, ◌++◌, [], List, None};
 ghost use Rattle.ws_extended.specs.Asking.{HasAsked, asks_in};
 ghost use Rattle.ws_extended.specs.declared.ask.Ask.{Ask as AnAsk};

@@ -15,7 +15,7 @@ use ws_stream::Element;
 
 /// A row that an error covers, as it was.
 #[derive(Clone, Copy)]
-pub struct KeptRow {
+pub(crate) struct KeptRow {
     row: u8,
     cells: [u8; COLUMNS as usize],
     ghost on_screen: { IsRow row },
@@ -95,7 +95,7 @@ fn blank_row(screen: &mut Screen, row: u8, blank: [u8; COLUMNS as usize])
 }
 
 /// Covers a row by an error, whose text comes next (Write Error Code).
-pub fn begin_error(screen: &mut Screen, row: u8)
+pub(crate) fn begin_error(screen: &mut Screen, row: u8)
     requires { IsRow row }
     ensures carried { Carries (error_begins row) screen.old screen.new }
     ensures open_ { IsSome screen.new.writing }
@@ -107,7 +107,7 @@ pub fn begin_error(screen: &mut Screen, row: u8)
 
 impl KeptRow {
     /// A row, as it is now.
-    pub fn of(screen: &Screen, row: u8) -> KeptRow
+    pub(crate) fn of(screen: &Screen, row: u8) -> KeptRow
         requires { IsRow row }
         ensures row { result.row ≡ row }
         ensures cells { result.cells ≡ row_cells row screen.now.cells }
@@ -120,7 +120,7 @@ impl KeptRow {
     }
 
     /// Which row it is.
-    pub fn row(&self) -> u8
+    pub(crate) fn row(&self) -> u8
         ensures value { result ≡ self.now.row }
         ensures on_screen { IsRow result }
     {
@@ -128,7 +128,7 @@ impl KeptRow {
     }
 
     /// Gives the row back to a screen, with a CC2 for the end of the write.
-    pub fn give_back(&self, screen: &mut Screen, cc2: u8)
+    pub(crate) fn give_back(&self, screen: &mut Screen, cc2: u8)
         ensures carried { Carries (given_back cc2 self.now.row self.now.cells)
             screen.old screen.new }
         ensures open_ { IsSome screen.new.writing }

@@ -1,3 +1,5 @@
+//! What a live host's station sends is made of (SC30-3533, commands).
+
 use crate::ExtendedElement;
 use ws_code::Address;
 use ws_stream::AnswerPart;
@@ -6,11 +8,11 @@ use ws_stream::AnswerPart;
 /// commands).
 #[derive(Debug, Drop, PartialEq, Eq)]
 pub enum ExtendedAnswerPart {
-    /// A part of an answer to a read. Bytes and addresses stand behind `AtOnce` too.
+    /// A part of an answer to a read. Bytes and addresses stand after `AtOnce` too.
     Profile(AnswerPart),
     /// The first eight bytes of a reply to a 5250 Query.
     QueryReply,
-    /// A byte of such a reply, behind which so many more stand.
+    /// A byte of such a reply, after which so many more stand.
     Reply { left: u8, byte: u8 },
     /// The beginning of a saved screen: Restore Screen and Clear Unit.
     Saved,

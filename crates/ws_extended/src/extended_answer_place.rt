@@ -1,3 +1,5 @@
+//! Where a part of what a live host's station sends stands, by the parts that may come there.
+
 use crate::ExtendedPlace;
 
 /// Where a part of what a live host's station sends stands. It says which parts may stand there.
@@ -7,9 +9,9 @@ pub enum ExtendedAnswerPlace {
     Beginning,
     /// Bytes and addresses of fields.
     Fields,
-    /// A byte of a reply, behind which so many more stand.
+    /// A byte of a reply, after which so many more stand.
     InReply(u8),
-    /// Behind a reply: another one.
+    /// After a reply: another one.
     Replied,
     /// The elements of a saved screen that may stand there.
     InSaved(ExtendedPlace),

@@ -1,3 +1,5 @@
+//! The machine that reads what a live host's station sends, part by part.
+
 ghost use Rattle.std.specs.Prelude.{◌≡◌, true};
 ghost use Rattle.ws_extended.specs.ExtendedAnswers.{extended_answer_rules};
 ghost use Rattle.ws_extended.specs.ExtendedAnswerLaws.{answer_nonempty, answer_part_bytes, answer_prefix_free, answer_begins, answer_can_end};
@@ -15,14 +17,14 @@ use waits::Waits;
 use ws_code::{Body, Code, Push};
 use ws_stream::{AnswerPart, Answers};
 
-// How many bytes of a reply stand behind the first that follows its front.
+// How many bytes of a reply stand after the first that follows its front.
 const LATER_REPLY_BYTES: u8 = 52;
 
 /// Reads what a live host's station sends, part by part: what `Answers` reads, and beside it what is told at once
 /// (SC30-3533, commands: the replies to 5250 Query and Save Screen, and what Read Screen and immediate reads tell).
 ///
 /// A byte is refused as `Answers` refuses it, and beside that (own choice): in the front of a reply to a query and
-/// behind a reply by `StructuredField`, behind a Restore Screen, where no Clear Unit follows, by `SaveRestore`, and in
+/// after a reply by `StructuredField`, after a Restore Screen, where no Clear Unit follows, by `SaveRestore`, and in
 /// a saved screen as `ExtendedCommands` refuses it.
 #[derive(Drop)]
 pub struct ExtendedAnswers {

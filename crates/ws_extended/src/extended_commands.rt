@@ -1,3 +1,5 @@
+//! The machine that reads a live host's body element by element.
+
 ghost use Rattle.std.specs.Prelude.{◌≡◌, true};
 ghost use Rattle.ws_stream.specs.Elements.{allows_orders};
 ghost use Rattle.ws_stream.specs.Taking.{reading_of};
@@ -23,7 +25,7 @@ use ws_stream::{Commands, Element, Place};
 /// Immediate Alternate).
 ///
 /// A byte is refused as `Commands` refuses it, and beside that (own choice): in a structured field that isn't the
-/// query by `StructuredField`, behind Write Error Code and its text where it is an order by `ErrorCode`, and behind a
+/// query by `StructuredField`, after Write Error Code and its text where it is an order by `ErrorCode`, and after a
 /// command that asks at once, where only others of these may stand, by the reason that `Ask::reason` names.
 #[derive(Drop)]
 pub struct ExtendedCommands {

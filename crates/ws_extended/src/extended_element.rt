@@ -1,3 +1,5 @@
+//! What a live host's body is made of (SC30-3533, commands).
+
 use crate::Ask;
 use ws_stream::Element;
 
@@ -8,9 +10,9 @@ pub enum ExtendedElement {
     Profile(Element),
     /// An Insert Cursor or a cell's byte of an error's text.
     Text(Element),
-    /// Restore Screen, behind which stands what was sent at a Save Screen.
+    /// Restore Screen, after which stands what was sent at a Save Screen.
     RestoreScreen,
-    /// Write Error Code, behind which stands its text.
+    /// Write Error Code, after which stands its text.
     WriteError,
     /// A command that asks at once.
     Asks(Ask),

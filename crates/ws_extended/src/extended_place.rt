@@ -1,3 +1,5 @@
+//! Where an element of a live host's body stands, by the elements that may come there.
+
 use crate::Ask;
 use ws_stream::Place;
 
@@ -6,8 +8,8 @@ use ws_stream::Place;
 pub enum ExtendedPlace {
     /// Those of the profile that may stand there, and all commands.
     InProfile(Place),
-    /// Behind Write Error Code or its text: text, and all commands.
+    /// After Write Error Code or its text: text, and all commands.
     ErrorText,
-    /// Behind a command that asks at once: others that do.
+    /// After a command that asks at once: others that do.
     Asked(Ask),
 }

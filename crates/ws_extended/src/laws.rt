@@ -1,5 +1,6 @@
-// What holds of live hosts' bodies, images and errors by their definitions. These functions do nothing: a caller gets
-// the law by the call.
+//! What holds of live hosts' bodies, images and errors by their definitions. These functions do nothing: a caller gets
+//! the law by the call.
+
 ghost use Rattle.std.specs.Prelude.{◌≡◌, ◌∷◌, ◌++◌, [], ◌<◌, ◌≤◌, length, ℕ, List, None, map, false, true, unwrap_or};
 ghost use Rattle.ws_code.specs.Code.{IsPrefix, IsUnfinished, IsWhole, spelling_of};
 ghost use Rattle.ws_stream.specs.Elements.{element_rules};
@@ -93,7 +94,7 @@ pub fn restore_gives_back()
         → IsWhole extended_rules (saved_screen row s) }
 {}
 
-/// Behind a Write Error Code and its text, the key Reset gives the screen as it was, but for the lock and the cursor,
+/// After a Write Error Code and its text, the key Reset gives the screen as it was, but for the lock and the cursor,
 /// and of neither is anything refused: as events, and on a display. Where no error stands Reset does nothing.
 pub fn reset_gives_back()
     ensures given { (h : History) (s : ScreenParts) → Gives h s → IsLegal s → s.writing ≡ None

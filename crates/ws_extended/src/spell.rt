@@ -1,3 +1,5 @@
+//! How elements of a live host's body are spelled (SC30-3533, commands).
+
 ghost use Rattle.std.specs.Prelude.{◌≡◌, ◌∷◌, []};
 ghost use Rattle.ws_stream.specs.declared.command_code.TheConstants.{ESCAPE as THE_ESCAPE};
 ghost use Rattle.ws_extended.specs.ExtendedElements.{ask_code, ask_field, extended_spelling, query_field};
@@ -10,10 +12,10 @@ use ws_stream::command_code::{self, ESCAPE};
 
 /// The structured field of a 5250 Query: five bytes long, of class D9, type 70, no flag (SC30-3533, 5250 Query
 /// command).
-pub const QUERY_FIELD: [u8; 5] = [0x00, 0x05, 0xd9, 0x70, 0x00];
+pub(crate) const QUERY_FIELD: [u8; 5] = [0x00, 0x05, 0xd9, 0x70, 0x00];
 
 /// Replaces what the list held by an element's spelling.
-pub fn spell(unit: &ExtendedElement, into: &mut ArrayVec<u8, 32>)
+pub(crate) fn spell(unit: &ExtendedElement, into: &mut ArrayVec<u8, 32>)
     ensures { into.new.items ≡ extended_spelling unit.now }
 {
     match unit {

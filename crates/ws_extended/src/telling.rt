@@ -20,7 +20,7 @@ use ws_screen::{ReadKind, Screen};
 pub const MOST_TOLD_BYTES: usize = 4254;
 
 /// What stands in the place of a key, where none was pressed.
-pub const NO_KEY: u8 = 0;
+pub(crate) const NO_KEY: u8 = 0;
 
 // The cursor, and no key.
 fn put_head(screen: &Screen, told: &mut ArrayVec<u8, MOST_TOLD_BYTES>)

@@ -13,7 +13,7 @@ use Rattle.ws_keys.specs.declared.key.Key.TheVariants.{Left, Right, Up, Down}
 use Rattle.ws_keys.specs.declared.key.KeyRefusal.TheVariants.{Locked}
 use Rattle.ws_keys.proofs.EditedScreens.{moved_alone}
 
--- keys behind others
+-- keys after others
 pub led_on : (keys more : List Key) (s t u : ScreenParts) → LeadTo keys s t → LeadTo more t u
     → LeadTo (keys ++ more) s u
 led_on [] more s t u e l = subst (λ w. LeadTo more w u) e l

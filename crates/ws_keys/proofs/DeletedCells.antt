@@ -12,7 +12,7 @@ abbrev pub deleted : ℕ → ℕ → List ℕ → ℕ → List ℕ
 deleted zero w x i = x
 deleted (suc k) w x i = deleted k w (after_delete w x i) i
 
--- what stands behind the cells that a Delete moves: the sign, or nothing
+-- what stands after the cells that a Delete moves: the sign, or nothing
 abbrev pub IsTail : ℕ → List ℕ → Type 0
 IsTail w [] = is_signed_word w ≡ false
 IsTail w (b ∷ []) = is_signed_word w ≡ true

@@ -43,7 +43,7 @@ no-room : (n room : ℕ) → nat_lt 0 room ≡ false → nat_le (n + 1) room ≡
 no-room n room none = same_test (nat_le (n + 1) room) false
     (λ e. let le : n + 1 ≤ room = leb-true (n + 1) room e in sym none ∙ lt-ltb 0 room (omega arith)) (λ e. absurd (cc))
 
--- the fields behind the bytes fit, by their addresses from one on
+-- the fields after the bytes fit, by their addresses from one on
 abbrev fit_behind : List Field → ℕ → Option (List ReadField) → Bool
 fit_behind fields next o =
     option_map_or (λ read. list_all (fits_field fields) read && is_rising_from next read) o false
@@ -52,7 +52,7 @@ and-false : (b : Bool) → (b && false) ≡ false
 and-false true = refl
 and-false false = refl
 
--- a field more, by whether its address ascends, what starts there, and the fields behind
+-- a field more, by whether its address ascends, what starts there, and the fields after
 at_address : (fields : List Field) (n next p : ℕ) (t : Bool) (o : Option Field) (q : Option (List ReadField))
     → option_map_or (λ e. nat_le n e.room && fit_behind fields e.next q)
     (if t then option_map (λ f. let e : Expected = record { next = p + 1; room = sent_length f } in e) o else None)

@@ -12,8 +12,12 @@ use crate::movement::next_field;
 use ws_code::{Address, CELLS};
 use ws_screen::{Field, Screen};
 
-// The open field, at an unlocked keyboard.
-pub fn entered_field(screen: &Screen) -> Result<Field, KeyRefusal>
+/// The open field, at an unlocked keyboard (SC30-3533, operator errors).
+///
+/// # Errors
+///
+/// `Locked` where the keyboard is locked, else `Protected` where the cursor is in no field that keys enter.
+pub(crate) fn entered_field(screen: &Screen) -> Result<Field, KeyRefusal>
     ensures { MatchResult result
         (λ field. (screen.now.locked ≡ false) × (open_field screen.now ≡ Some field)
         × (1 ≤ field.length) × (field.start + field.length ≤ CELLS))
@@ -29,8 +33,8 @@ pub fn entered_field(screen: &Screen) -> Result<Field, KeyRefusal>
     }
 }
 
-// Changes the open field at the cursor.
-pub fn change_field(screen: &mut Screen, field: &Field, change: Change, to: Address)
+/// Changes the open field's cells at the cursor, turns its MDT on, and moves the cursor.
+pub(crate) fn change_field(screen: &mut Screen, field: &Field, change: Change, to: Address)
     requires open_ { open_field screen.old ≡ Some field.now }
     requires asked { AsksChange change field.now.format
         (screen.old.cursor - field.now.start) field.now.length }
@@ -47,7 +51,12 @@ pub fn change_field(screen: &mut Screen, field: &Field, change: Change, to: Addr
     screen.edit_field(field, &edit, to);
 }
 
-pub fn delete(screen: &mut Screen) -> Result<Option<Answer>, KeyRefusal>
+/// Presses Delete (SC30-3533, keyboard functions): the cells after the cursor move left by one.
+///
+/// # Errors
+///
+/// Those of `entered_field`; the screen then stays.
+pub(crate) fn delete(screen: &mut Screen) -> Result<Option<Answer>, KeyRefusal>
     ensures { Spec.IsPressed Pressing.Delete screen.old screen.new result }
 {
     let field = entered_field(screen)?;
@@ -56,7 +65,13 @@ pub fn delete(screen: &mut Screen) -> Result<Option<Answer>, KeyRefusal>
     Ok(None)
 }
 
-pub fn exit_field(screen: &mut Screen) -> Result<Option<Answer>, KeyRefusal>
+/// Presses Field Exit (SC30-3533, keyboard functions): the cells from the cursor on are dropped, those before it
+/// adjusted, and the cursor goes to the next field.
+///
+/// # Errors
+///
+/// Those of `entered_field`; the screen then stays.
+pub(crate) fn exit_field(screen: &mut Screen) -> Result<Option<Answer>, KeyRefusal>
     ensures { Spec.IsPressed Pressing.FieldExit screen.old screen.new result }
 {
     let field = entered_field(screen)?;
@@ -65,7 +80,12 @@ pub fn exit_field(screen: &mut Screen) -> Result<Option<Answer>, KeyRefusal>
     Ok(None)
 }
 
-pub fn exit_with_minus(screen: &mut Screen) -> Result<Option<Answer>, KeyRefusal>
+/// Presses Field Minus (SC30-3533, keyboard functions): a Field Exit with a minus as the sign.
+///
+/// # Errors
+///
+/// Those of `entered_field`, and `WrongCharacter` in a field that isn't signed numeric; the screen then stays.
+pub(crate) fn exit_with_minus(screen: &mut Screen) -> Result<Option<Answer>, KeyRefusal>
     ensures { Spec.IsPressed Pressing.FieldMinus screen.old screen.new result }
 {
     let field = entered_field(screen)?;
@@ -77,7 +97,13 @@ pub fn exit_with_minus(screen: &mut Screen) -> Result<Option<Answer>, KeyRefusal
     Ok(None)
 }
 
-pub fn dup(screen: &mut Screen) -> Result<Option<Answer>, KeyRefusal>
+/// Presses Dup (SC30-3533, keyboard functions): the cells from the cursor on become 1C, and the cursor goes to the
+/// next field.
+///
+/// # Errors
+///
+/// Those of `entered_field`, and `DupNotAllowed` where the format word doesn't allow it; the screen then stays.
+pub(crate) fn dup(screen: &mut Screen) -> Result<Option<Answer>, KeyRefusal>
     ensures { Spec.IsPressed Pressing.Dup screen.old screen.new result }
 {
     let field = entered_field(screen)?;
@@ -89,7 +115,13 @@ pub fn dup(screen: &mut Screen) -> Result<Option<Answer>, KeyRefusal>
     Ok(None)
 }
 
-pub fn erase_input(screen: &mut Screen) -> Result<Option<Answer>, KeyRefusal>
+/// Presses Erase Input (SC30-3533, keyboard functions): all fields that keys enter become 00, with their MDTs off, and
+/// the cursor goes home.
+///
+/// # Errors
+///
+/// `Locked` where the keyboard is locked; the screen then stays.
+pub(crate) fn erase_input(screen: &mut Screen) -> Result<Option<Answer>, KeyRefusal>
     ensures { Spec.IsPressed Pressing.EraseInput screen.old screen.new result }
 {
     if screen.locked() {

@@ -12,8 +12,8 @@ use ws_code::Address;
 use ws_screen::{ReadKind, Screen};
 use ws_stream::AnswerPart;
 
-/// Whether the parts behind a head hold something that fits the read.
-pub fn fits_read(screen: &Screen, kind: ReadKind, parts: &[AnswerPart]) -> bool
+/// Whether the parts after a head hold something that fits the read.
+pub(crate) fn fits_read(screen: &Screen, kind: ReadKind, parts: &[AnswerPart]) -> bool
     ensures { result ≡ is_some (read_data kind screen.now.fields parts.now) }
 {
     match kind {
@@ -47,7 +47,7 @@ fn are_bytes(parts: &[AnswerPart]) -> bool
 fn fits_modified(screen: &Screen, parts: &[AnswerPart]) -> bool
     ensures { result ≡ Spec.fits_from screen.now.fields Spec.at_first parts.now }
 {
-    // No room: a content stands behind an address.
+    // No room: a content stands after an address.
     let mut expected = Expected { next: 0, room: 0 };
     for part in parts {
         let Some(behind) = expected.after(screen, *part) else {
@@ -60,7 +60,7 @@ fn fits_modified(screen: &Screen, parts: &[AnswerPart]) -> bool
 
 /// What may come next of modified fields: an address from `next` on, or one of `room` bytes.
 #[derive(Clone, Copy)]
-pub struct Expected {
+pub(crate) struct Expected {
     next: u16,
     room: u16,
 }
@@ -68,7 +68,7 @@ pub struct Expected {
 impl Expected {
     ghost use Rattle.ws_keys.specs.Fitting.{behind_part, behind_address};
 
-    // What may come behind a part; `None` where the part may not come.
+    // What may come after a part; `None` where the part may not come.
     fn after(self, screen: &Screen, part: AnswerPart) -> Option<Expected>
         ensures { result ≡ behind_part screen.now.fields self part }
     {

@@ -1,3 +1,5 @@
+//! Keys repeated, of which strokes are made.
+
 ghost use Rattle.std.specs.Prelude.{◌≡◌};
 ghost use Rattle.ws_keys.specs.Strokes.{run_of};
 

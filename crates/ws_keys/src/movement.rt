@@ -9,8 +9,8 @@ use crate::key::KeyRefusal;
 use ws_code::{Address, CELLS};
 use ws_screen::{Field, Screen};
 
-// The place some cells on, from the last to the first.
-pub fn address_after(from: Address, cells: u16) -> Address
+/// The place so many cells on, fewer than 1,920; after the last cell comes the first.
+pub(crate) fn address_after(from: Address, cells: u16) -> Address
     requires { cells < CELLS }
     ensures { result ≡ (from + cells) % CELLS }
 {
@@ -20,8 +20,12 @@ pub fn address_after(from: Address, cells: u16) -> Address
     }
 }
 
-// A key that only moves the cursor.
-pub fn move_to(screen: &mut Screen, to: Address) -> Result<Option<Answer>, KeyRefusal>
+/// Presses a key that only moves the cursor (SC30-3533, keyboard functions).
+///
+/// # Errors
+///
+/// `Locked` where the keyboard is locked; the cursor then stays.
+pub(crate) fn move_to(screen: &mut Screen, to: Address) -> Result<Option<Answer>, KeyRefusal>
     ensures { Spec.Does (Spec.locked_refusal screen.old ∷ []) (Some (cursor_edit to)) None
         screen.old screen.new result }
 {
@@ -32,8 +36,9 @@ pub fn move_to(screen: &mut Screen, to: Address) -> Result<Option<Answer>, KeyRe
     Ok(None)
 }
 
-// The next field.
-pub fn next_field(screen: &Screen) -> Address
+/// Where the next field starts: the first after the cursor, else the first of all, of those that keys enter. Without
+/// such a field the cursor's place.
+pub(crate) fn next_field(screen: &Screen) -> Address
     ensures { result ≡ Spec.next_field screen.now }
 {
     let fields = screen.fields();
@@ -44,7 +49,7 @@ pub fn next_field(screen: &Screen) -> Address
     }
 }
 
-// Whether keys enter a field that starts behind a place.
+// Whether keys enter a field that starts after a place.
 fn opens_behind(field: &Field, at: Address) -> bool
     ensures { result ≡ (is_non_bypass field.now && nat_lt at field.now.start) }
 {
@@ -58,16 +63,17 @@ fn opens_before(field: &Field, at: Address) -> bool
     !field.format.bypass() && field.start.place() < at.place()
 }
 
-// The first field behind a place, of those that keys enter.
+// The first field after a place, of those that keys enter.
 fn first_behind(fields: &[Field], at: Address) -> Option<Field>
     ensures { result ≡ find (λ f. is_non_bypass f && nat_lt at f.start) fields.now }
 {
     fields.iter().copied().find(|field| opens_behind(field, at))
 }
 
-// The field to go back to.
+/// Where the field to go back to starts: the last before the cursor, else the last of all, of those that keys enter.
+/// Without such a field the cursor's place.
 #[tactic(auto, using(crate::proofs::SearchLemmas::find_last_is))]
-pub fn field_before(screen: &Screen) -> Address
+pub(crate) fn field_before(screen: &Screen) -> Address
     ensures { result ≡ Spec.field_before screen.now }
 {
     let fields = screen.fields();

@@ -94,7 +94,15 @@ fn after_character(screen: &Screen, field: &Field) -> Address
     }
 }
 
-pub fn type_character(screen: &mut Screen, character: char) -> Result<Option<Answer>, KeyRefusal>
+/// Enters a character at the cursor, which goes one cell on, or to the next field (SC30-3533, keyboard functions).
+///
+/// # Errors
+///
+/// Those of `entered_field`, and `WrongCharacter` for one that the field doesn't take; the screen then stays.
+pub(crate) fn type_character(
+    screen: &mut Screen,
+    character: char,
+) -> Result<Option<Answer>, KeyRefusal>
     ensures { Spec.IsPressed (Pressing.Char character) screen.old screen.new result }
 {
     let field = entered_field(screen)?;
@@ -130,7 +138,17 @@ fn has_room(screen: &Screen, field: &Field) -> bool
     screen.cell(at) == 0
 }
 
-pub fn insert_character(screen: &mut Screen, character: char) -> Result<Option<Answer>, KeyRefusal>
+/// Enters a character at the cursor, once the cells from there on have moved right by one (SC30-3533, keyboard
+/// functions).
+///
+/// # Errors
+///
+/// Those of `type_character`, and `NoRoom` where the last cell that characters are entered in isn't empty; the screen
+/// then stays.
+pub(crate) fn insert_character(
+    screen: &mut Screen,
+    character: char,
+) -> Result<Option<Answer>, KeyRefusal>
     ensures { Spec.IsPressed (Pressing.Insert character) screen.old screen.new result }
 {
     let field = entered_field(screen)?;

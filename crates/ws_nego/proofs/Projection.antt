@@ -1,3 +1,4 @@
+-- Dialogues of all tokens written, by the exchange of those in flight.
 use Rattle.std.proofs.Common.{◌≡◌, ℕ, zero, suc, ◌+◌, ◌≤◌, List, [], ◌∷◌, ◌++◌, false, Option, Some, None, length, drop}
 use Rattle.std.proofs.Common.{refl, ap, ◌∙◌, sym, subst, arith, lit≤}
 use Rattle.std.proofs.Math.Numerals.{add-one}

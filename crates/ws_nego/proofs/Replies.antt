@@ -1,3 +1,4 @@
+-- What an end answers to a token that can be written can be written.
 use Rattle.std.specs.List.{AllByRecursion}
 use Rattle.std.proofs.Common.{ℕ, ◌<◌, List, [], ◌∷◌, ◌++◌, Option, Some, None, Bool, true, false, arith, rules}
 use Rattle.std.proofs.Common.{if◌then◌else◌}
@@ -20,8 +21,6 @@ use Rattle.ws_nego.specs.declared.options.Direction.{Direction}
 use Rattle.ws_nego.specs.declared.options.OptionTable.{OptionTable}
 use Rattle.ws_nego.specs.declared.terminal.TerminalType.{TerminalType}
 use Rattle.ws_nego.specs.declared.terminal.TerminalType.TheVariants.{Ibm5251Model11}
-
--- What an end answers to a token that can be written can be written.
 
 option_in_range : (verb : Option Verb) (option : ℕ) → option < 256 → AllByRecursion IsTelnet (option_tokens verb option)
 option_in_range None option h = tt

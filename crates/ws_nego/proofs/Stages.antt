@@ -1,3 +1,4 @@
+-- Exchanges by stages: how far each end is, where a move leads, and what holds at each.
 use Rattle.std.proofs.Common.{◌≡◌, ℕ, ◌+◌, ◌≤◌, List, [], ◌∷◌, true, false, Some, length, take, drop, replicate, refl}
 use Rattle.std.proofs.Common.{ap, ◌∙◌, sym, subst, lit≤}
 use Rattle.ws_telnet.specs.declared.codes.TheConstants.{BINARY, TERMINAL_TYPE, END_OF_RECORD}

@@ -1,5 +1,5 @@
-// What holds of every exchange between a new station and a new host end. These functions do
-// nothing: a caller gets the law by the call.
+//! What holds of every exchange between a new station and a new host end. These functions do
+//! nothing: a caller gets the law by the call.
 
 ghost use Rattle.std.specs.Prelude.{◌≡◌, ◌≤◌, ◌+◌, List, [], length, true, false};
 ghost use Rattle.ws_nego.specs.declared.terminal.TerminalType.{TerminalType};

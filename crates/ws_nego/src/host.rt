@@ -1,3 +1,5 @@
+//! What a host end asks for and answers until records are allowed (RFC 854, 856, 885, 1091; RFC 4777, section 2).
+
 ghost use Rattle.std.specs.Prelude.{◌≡◌, ◌≤◌, ◌+◌, ◌++◌, ◌∷◌, [], length, None, IfOk, IfErr, OnErr, option_map};
 ghost use Rattle.ws_code.specs.declared.reason.Reason.TheVariants.{UnsupportedTerminal};
 ghost use Rattle.ws_nego.specs.Options.{telnet_bytes, AnswersWith};

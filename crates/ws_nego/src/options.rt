@@ -1,3 +1,5 @@
+//! Directions of options, a table with an entry for each, and the bytes of a reply.
+
 ghost use Rattle.std.specs.Prelude.{◌≡◌, ◌≤◌, ◌<◌, ◌+◌, ◌++◌, ◌∷◌, [], length};
 ghost use Rattle.ws_telnet.specs.Token.{telnet_spelling};
 ghost use Rattle.ws_nego.specs.Options as spec;
@@ -14,12 +16,12 @@ pub type Reply = ByteList<17>;
 pub const IS: u8 = 0;
 
 /// The one byte of a subnegotiation of TERMINAL-TYPE that asks for a name (RFC 1091, section 2).
-pub const SEND: u8 = 1;
+pub(crate) const SEND: u8 = 1;
 
 /// One direction of an option: the end that performs it, and the option (RFC 854, "GENERAL
 /// CONSIDERATIONS").
 #[derive(Clone, Copy)]
-pub enum Direction {
+pub(crate) enum Direction {
     StationBinary,
     StationTerminalType,
     StationEndOfRecord,
@@ -29,17 +31,17 @@ pub enum Direction {
 
 /// An entry for each direction.
 #[derive(Clone, Copy)]
-pub struct OptionTable<T> {
-    pub station_binary: T,
-    pub station_terminal_type: T,
-    pub station_end_of_record: T,
-    pub host_binary: T,
-    pub host_end_of_record: T,
+pub(crate) struct OptionTable<T> {
+    pub(crate) station_binary: T,
+    pub(crate) station_terminal_type: T,
+    pub(crate) station_end_of_record: T,
+    pub(crate) host_binary: T,
+    pub(crate) host_end_of_record: T,
 }
 
 impl<T: Copy> OptionTable<T> {
     /// The table whose entries are all the same.
-    pub fn uniform(value: T) -> Self
+    pub(crate) fn uniform(value: T) -> Self
         ensures { result ≡ spec.uniform_table value }
     {
         OptionTable {
@@ -52,7 +54,7 @@ impl<T: Copy> OptionTable<T> {
     }
 
     /// The entry of a direction.
-    pub fn get(&self, direction: Direction) -> T
+    pub(crate) fn get(&self, direction: Direction) -> T
         ensures { result ≡ entry self.now direction }
     {
         match direction {
@@ -65,7 +67,7 @@ impl<T: Copy> OptionTable<T> {
     }
 
     /// Replaces the entry of a direction.
-    pub fn set(&mut self, direction: Direction, value: T)
+    pub(crate) fn set(&mut self, direction: Direction, value: T)
         ensures { self.new ≡ with_entry self.old direction value }
     {
         match direction {
@@ -102,7 +104,7 @@ fn host_direction(option: u8) -> Option<Direction>
 }
 
 /// The direction of which the verb speaks to the station.
-pub fn direction_at_station(verb: Verb, option: u8) -> Option<Direction>
+pub(crate) fn direction_at_station(verb: Verb, option: u8) -> Option<Direction>
     ensures { result ≡ spec.direction_at_station verb option }
 {
     match verb {
@@ -112,7 +114,7 @@ pub fn direction_at_station(verb: Verb, option: u8) -> Option<Direction>
 }
 
 /// The direction of which the verb speaks to the host end.
-pub fn direction_at_host(verb: Verb, option: u8) -> Option<Direction>
+pub(crate) fn direction_at_host(verb: Verb, option: u8) -> Option<Direction>
     ensures { result ≡ spec.direction_at_host verb option }
 {
     match verb {
@@ -122,7 +124,7 @@ pub fn direction_at_host(verb: Verb, option: u8) -> Option<Direction>
 }
 
 /// The answer to a verb whose direction isn't in the table (RFC 854, "GENERAL CONSIDERATIONS").
-pub fn refusal(verb: Verb) -> Option<Verb>
+pub(crate) fn refusal(verb: Verb) -> Option<Verb>
     ensures { result ≡ refusing_verb verb }
 {
     match verb {
@@ -144,7 +146,7 @@ fn push_token(bytes: &mut ArrayVec<u8, 17>, token: Telnet)
 }
 
 /// Appends the token of a verb and an option.
-pub fn push_option(bytes: &mut ArrayVec<u8, 17>, verb: Verb, option: u8)
+pub(crate) fn push_option(bytes: &mut ArrayVec<u8, 17>, verb: Verb, option: u8)
     requires { length bytes.old.items + 3 ≤ 17 }
     ensures { bytes.new.items ≡ bytes.old.items ++ telnet_bytes (option_tokens (Some verb) option) }
 {
@@ -152,7 +154,7 @@ pub fn push_option(bytes: &mut ArrayVec<u8, 17>, verb: Verb, option: u8)
 }
 
 /// The reply of one option token, or the empty one where there is no verb.
-pub fn option_reply(verb: Option<Verb>, option: u8) -> Reply
+pub(crate) fn option_reply(verb: Option<Verb>, option: u8) -> Reply
     ensures { result ≡ telnet_bytes (option_tokens verb option) }
 {
     let mut bytes = ArrayVec::new();
@@ -163,7 +165,7 @@ pub fn option_reply(verb: Option<Verb>, option: u8) -> Reply
 }
 
 /// The reply of one subnegotiation of TERMINAL-TYPE.
-pub fn terminal_type_reply(code: u8, name: &[u8]) -> Reply
+pub(crate) fn terminal_type_reply(code: u8, name: &[u8]) -> Reply
     requires short { length name.now < 64 }
     requires fits { length (telnet_spelling (terminal_type_token code name.now)) ≤ 17 }
     ensures { result ≡ telnet_bytes (terminal_type_token code name.now ∷ []) }
@@ -183,7 +185,7 @@ pub fn terminal_type_reply(code: u8, name: &[u8]) -> Reply
 }
 
 /// The empty reply.
-pub fn no_reply() -> Reply
+pub(crate) fn no_reply() -> Reply
     ensures { result ≡ [] }
 {
     ByteList::of(ArrayVec::new())

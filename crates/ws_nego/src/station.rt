@@ -1,3 +1,5 @@
+//! What a display station answers until records are allowed (RFC 854, 856, 885, 1091; RFC 4777, section 2).
+
 ghost use Rattle.std.specs.Prelude.{◌≡◌, ◌≤◌, ◌+◌, ◌++◌, ◌∷◌, [], length};
 ghost use Rattle.ws_nego.specs.Options.{telnet_bytes};
 ghost use Rattle.ws_nego.specs.Station as spec;

@@ -1,3 +1,5 @@
+//! The displays that a session can name as its terminal (RFC 1205; names: RFC 1091).
+
 ghost use Rattle.std.specs.Prelude.{◌≡◌, ◌≤◌, ◌↔◌, length, IsTrue};
 ghost use Rattle.ws_nego.specs.Terminal.{terminal_type_name, is_name_of, terminal_named};
 

@@ -1,3 +1,4 @@
+-- The faults of a stream: of pieces, of sources, and that there is one at most.
 use Rattle.ws_record.proofs.Common as C
 use C.{◌≡◌, ℕ, List, [], ◌∷◌, ◌++◌, take, drop, sym, ap, ◌∙◌, append_assoc, ◌<◌, ◌⊎◌, Result, Ok, Err, IfOk, IfErr}
 use C.{MatchResult, length, ◌*◌, ◌≤◌, inl, inr, arith, length-append, common_steps, append-nil, take-append-drop, Rules}
@@ -130,7 +131,7 @@ module _ {Place U : Type 0} (rules : Rules Place U) where
   one_layer : (bytes : List ℕ) (l m : Layer) → IsFirstClosed rules l bytes → IsFirstClosed rules m bytes → l ≡ m
   one_layer bytes l m p q = grind (arith, open_tokens)
 
-  -- behind a byte at which a layer is closed nothing is open
+  -- after a byte at which a layer is closed nothing is open
   behind : (before : List ℕ) (byte : ℕ) (more longer : List ℕ) (layer : Layer)
       → IsFirstClosed rules layer (before ++ byte ∷ []) → longer ≡ before ++ byte ∷ more
       → ((l : Layer) → IsOpen rules l longer) → ⊥

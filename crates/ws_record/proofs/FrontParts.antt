@@ -1,3 +1,4 @@
+-- What is complete in a front of the values that a record takes.
 use Rattle.ws_record.proofs.Common as C
 use C.{◌≡◌, ℕ, List, [], ◌∷◌, ◌++◌, take, drop, refl, sym, ap, ◌∙◌, append_assoc, ◌<◌, length, ◌≤◌, inl, inr, arith}
 use C.{length-append, Option, Some, None, cases_lt, flat_map-append, common_steps, append-nil, take-append-drop}
@@ -11,14 +12,12 @@ use Rattle.ws_code.proofs.Cuts.{CutAt}
 use Rattle.ws_record.specs.declared.news.News.TheVariants.{Refused}
 use Rattle.ws_record.proofs.Lives.{holds_iac, IsPart}
 
--- What is complete in a front of the values that a record takes.
-
 module _ {Place U K : Type 0} (rules : Rules Place U) (begins : Begins rules) (keeper : Keeper U K) where
   filled : (z : List ℕ) → (z ≡ [] → ⊥) → 0 < length z
   filled [] some = absurd (some refl)
   filled (b ∷ z) some = omega arith
 
-  -- the units behind others stand where those lead
+  -- the units after others stand where those lead
   chain_behind : (place : Place) (us vs : List U) → IsChain rules place (us ++ vs)
       → IsChain rules (place_after rules place us) vs
   chain_behind place [] vs c = c
@@ -177,7 +176,7 @@ module _ {Place U K : Type 0} (rules : Rules Place U) (begins : Begins rules) (k
 module _ {Place U K : Type 0} (rules : Rules Place U) (keeper : Keeper U K) where
   module _ {live : Watching Place} {bytes : List ℕ} {items : List (Item U)} {so_far : RecordSoFar U}
       (l : Leads rules live bytes items so_far) where
-    -- behind bytes that no part of the open record follows
+    -- after bytes that no part of the open record follows
     part_still : (front begun : List ℕ) → Holds rules (bytes ++ front) items so_far.bytes begun
         → IsPart rules keeper items so_far (bytes ++ front)
     part_still front begun h = (
@@ -206,7 +205,7 @@ module _ {Place U K : Type 0} (rules : Rules Place U) (keeper : Keeper U K) wher
           rw (first, one) (part_still (IAC ∷ []) (IAC ∷ []) (holds_iac rules l piece fresh)))
     ]
 
-    -- behind values of the open record, before the last one that it takes
+    -- after values of the open record, before the last one that it takes
     pub part_in_values : (begins : Begins rules)
         (to : Keeping Place) (old new : K) (news : News) (piece : List ℕ) (used n : ℕ) → n < used
         → used ≤ length piece

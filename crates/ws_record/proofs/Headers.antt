@@ -1,3 +1,4 @@
+-- The ten bytes of a header, one after another.
 use Rattle.ws_record.proofs.Common.{◌≡◌, ℕ, List, [], ◌∷◌, ◌++◌, drop, refl, ◌∙◌, append_assoc, ◌<◌, length, ◌*◌, ◌≤◌}
 use Rattle.ws_record.proofs.Common.{inl, inr, arith, ◌+◌, zero, suc, get_or, ◌-◌, length-append, replicate}
 use Rattle.ws_record.proofs.Common.{get_or-append, get_or-append_seam, cases_lt, common_steps, length-replicate}
@@ -8,7 +9,7 @@ use Rattle.ws_record.proofs.Common.{IsFramed, HeaderSoFar, declared, CanBeFramed
 pub header_length : (n f : ℕ) (o : Opcode) (rest : List ℕ) → length (header n f o ++ rest) ≡ 10 + length rest
 header_length n f o rest = omega arith
 
--- what a right header has at a place behind its length
+-- what a right header has at a place after its length
 pub record RightCell (i b : ℕ) : Type 0 where
   pub kind_high : i ≡ 2 → b ≡ 0x12
   pub kind_low : i ≡ 3 → b ≡ 0xa0
@@ -35,14 +36,14 @@ framed_means : (xs : List ℕ) → IsFramed xs → (declared xs ≡ length xs) �
 framed_means xs f =
     let long = header_length (length xs) f.flags f.opcode f.rest in grind (arith, common_steps, header_right)
 
--- more bytes behind a whole header, and the front of a right one
+-- more bytes after a whole header, and the front of a right one
 pub header_append : (xs ys : List ℕ) → 10 ≤ length xs → HeaderSoFar xs → HeaderSoFar (xs ++ ys)
 header_append xs ys long h = grind (arith, common_steps)
 
 header_front : (xs ys : List ℕ) → HeaderSoFar (xs ++ ys) → HeaderSoFar xs
 header_front xs ys h = grind (arith, common_steps)
 
--- a byte behind bytes that aren't a whole header yet
+-- a byte after bytes that aren't a whole header yet
 pub header_more : (xs : List ℕ) (b : ℕ) → HeaderSoFar xs → (length xs ≡ 1 → 10 ≤ get_or xs 0 0 * 256 + b)
     → RightCell (length xs) b → HeaderSoFar (xs ++ b ∷ [])
 header_more xs b h long right = record {

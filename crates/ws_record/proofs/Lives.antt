@@ -1,3 +1,4 @@
+-- What a front of a piece makes of a decoder that gives steps.
 use Rattle.ws_record.proofs.Common as C
 use C.{true, ◌≡◌, ℕ, List, [], ◌∷◌, ◌++◌, take, refl, sym, ap, ◌∙◌, append_assoc, ◌<◌, ◌⊎◌, length, ◌≤◌, inl, false}
 use C.{arith, ◌+◌, ◌^◌, length-append, ◌≢◌, Option, None, common_steps, append-nil, length-take-le, Rules, IsSpelled}
@@ -87,7 +88,7 @@ module _ {Place U : Type 0} (rules : Rules Place U) where
     held_at_none n lt =
         let zero : n ≡ 0 = omega (arith, lt) in (so_far.bytes, live.begun, rw (zero, append-nil bytes) l.holds)
 
-    -- an FF behind the bytes
+    -- an FF after the bytes
     pub holds_iac : live.begun ≡ [] → Holds rules (bytes ++ IAC ∷ []) items so_far.bytes (IAC ∷ [])
     holds_iac fresh = holds_more _ (rw fresh at l.holds) (IAC ∷ []) iac_goes_on
 
@@ -331,7 +332,7 @@ module _ {Place U : Type 0} (rules : Rules Place U) (can : CanEnd rules) (law : 
 module _ {Place U K : Type 0} (rules : Rules Place U) (keeper : Keeper U K) (bytes : List ℕ) (items : List (Item U))
     (so_far : RecordSoFar U) (old : K)
     (live : Watching Place) (new : K) (news : News) where
-  -- what a front behind the bytes made, and that its bytes are counted
+  -- what a front after the bytes made, and that its bytes are counted
   pub record Made (front : List ℕ) : Type 0 where
     pub advance : IsAdvance (intake rules keeper) (with_keep (stream bytes items so_far) old) front (with_keep live new)
         news

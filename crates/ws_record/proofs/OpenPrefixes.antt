@@ -1,3 +1,4 @@
+-- What is open and refused, told of whole streams and of prefixes of the last record alike.
 use Rattle.ws_record.proofs.Common as C
 use C.{◌≡◌, ℕ, List, [], ◌∷◌, ◌++◌, take, drop, refl, sym, ◌∙◌, append_assoc, length, ◌≤◌, arith, ◌+◌, zero, suc}
 use C.{length-append, ◌↔◌, common_steps, append-nil, take-append-drop, take_more, take-append-le, take_at, Rules}

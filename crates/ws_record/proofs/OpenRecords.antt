@@ -1,3 +1,4 @@
+-- What bytes of its header and runs of its body make of the open record.
 use Rattle.ws_record.proofs.Common as C
 use C.{IfSome, slice_index, true, ◌≡◌, ℕ, List, [], ◌∷◌, ◌++◌, take, drop, refl, sym, ap, ◌∙◌, append_assoc, ◌<◌}
 use C.{length, ◌*◌, ◌≤◌, inl, inr, arith, ◌+◌, get_or, ◌-◌, length-append, Option, Some, None, length-take}
@@ -128,7 +129,7 @@ module _ {Place U : Type 0} (rules : Rules Place U) where
             ) (omega (arith, on.declares (omega arith))),
           )
 
-  -- behind the tenth byte
+  -- after the tenth byte
 
   -- ten bytes of a header are all of it
   pub ten_there : {reader : Keeping Place} {so_far : RecordSoFar U} → HasRead rules reader so_far
@@ -256,7 +257,7 @@ news_of (end.Bad reason) = Refused reason
 module _ {Place U K : Type 0} (rules : Rules Place U) (keeper : Keeper U K) (reader : Keeping Place)
     (so_far : RecordSoFar U) (old : K) (v : List ℕ) (used : ℕ) (y : Ready rules reader so_far v used)
     (free : IsPrefixFree rules) (begins : Begins rules) where
-  -- the record behind a run over the values
+  -- the record after a run over the values
   ran : {to : Reading Place} (run : HasReadValues rules (reading_of reader) v to)
       → HasRead rules (moved reader used to) (grown so_far v run.units)
   ran run = rw y.long at (body_run rules y.reads y.ten _ v y.are (omega (arith, y.long, y.room)) run)
@@ -285,7 +286,7 @@ module _ {Place U K : Type 0} (rules : Rules Place U) (keeper : Keeper U K) (rea
     read_before = body_run rules y.reads y.ten stop.before.read stop.front
         (AreBytes-front stop.front (stop.last ∷ []) all_are) (omega (arith, shorter)) stop.on.run
 
-  -- What a run over the values makes of the record. Behind a value that is refused, or a unit that isn't kept, no
+  -- What a run over the values makes of the record. After a value that is refused, or a unit that isn't kept, no
   -- matter how the reader and the keep stand.
   pub taken : (end : End) (to : Reading Place) (standing : Standing Place) (kept new : K)
       → IsRunOfValues (intake rules keeper) (with_keep (reading_of reader) old) v (with_keep to kept) standing end
@@ -347,7 +348,7 @@ module _ {Place U K : Type 0} (rules : Rules Place U) (keeper : Keeper U K) (rea
 
 module _ {Place U K : Type 0} (rules : Rules Place U) (keeper : Keeper U K) (so_far : RecordSoFar U) (keep : K)
     (v : List ℕ) where
-  -- a value of a header behind others: it is whole with it, or the value is refused
+  -- a value of a header after others: it is whole with it, or the value is refused
   pub header_step : (before to : Keeping Place) (front : List ℕ) (b : ℕ) (news : News)
       → HasRead rules before (record so_far { bytes = so_far.bytes ++ front }) → v ≡ front ++ b ∷ []
       → IsHeaderStep rules to (record so_far { bytes = so_far.bytes ++ front }) b news → (news ≡ More → ⊥)

@@ -1,3 +1,4 @@
+-- What a front of a piece makes of a receiver and its items.
 use Rattle.ws_record.proofs.Common.{true, ◌≡◌, ℕ, List, [], ◌∷◌, ◌++◌, take, drop, refl, sym, ap, ◌∙◌, append_assoc}
 use Rattle.ws_record.proofs.Common.{◌<◌, Result, Ok, Err, IfOk, IfErr, length, ◌≤◌, false, arith, ◌+◌, ◌^◌}
 use Rattle.ws_record.proofs.Common.{length-append, Some, None, Vec, Global, common_steps, append-nil, take-append-drop}

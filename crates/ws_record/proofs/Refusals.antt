@@ -1,3 +1,4 @@
+-- Which bytes are refused, layer by layer, at a byte more.
 use Rattle.ws_record.proofs.Common as C
 use C.{AllByRecursion, ◌≡◌, ℕ, List, [], ◌∷◌, ◌++◌, drop, refl, sym, ap, ◌∙◌, length, inl, inr, arith, ◌+◌, map}
 use C.{length-append, common_steps, append-nil, Rules, IsSpelled, IsPrefix, spelling_of, AreBytes, IsCut, Reason}
@@ -118,7 +119,7 @@ module _ {Place U : Type 0} (rules : Rules Place U) where
               → IsOpen rules l (bytes ++ b ∷ []) → ⊥
           closed l bad o = bad_data (held h l) b _ s bad o.stream
 
-    -- an Eor behind a record that isn't whole is refused
+    -- an Eor after a record that isn't whole is refused
     pub refuse_end : IsSpelled token_rules tt (begun ++ b ∷ []) Eor → IsEndRefused rules so_far reason
         → (place : ℕ) × (length (bytes ++ b ∷ []) ≡ place + 1)
         × IsRefused rules (bytes ++ b ∷ []) place reason

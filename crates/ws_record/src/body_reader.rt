@@ -1,4 +1,5 @@
-// A record's body by itself, as a test or a caller in another language has it.
+//! A record's body by itself, as a test or a caller in another language has it.
+
 ghost use Rattle.std.specs.Prelude.{◌≡◌, IfOk, IfErr, Err};
 ghost use Rattle.ws_record.specs.Body.{IsBody, IsBodyFault, HasUnitSoFar};
 ghost use Rattle.ws_record.specs.declared.body_reader.BodyFault.{BodyFault as ABodyFault};
@@ -29,6 +30,8 @@ impl fmt::Display for BodyFault {
 impl Error for BodyFault {}
 
 /// The units whose spelling the bytes are, and which may be a record's body (SC30-3533).
+///
+/// # Errors
 ///
 /// `Bad` comes where the bytes spell no body; `Memory` where a growth was refused for a unit, up to which
 /// nothing is wrong with the bytes.

@@ -1,3 +1,5 @@
+//! The items of a whole stream, from a slice of bytes or from a source.
+
 ghost use Rattle.std.specs.Prelude.{◌≡◌, List, ℕ, IfOk, IfErr, MatchResult};
 ghost use Rattle.ws_code.specs.Device.{GaveAll};
 ghost use Rattle.ws_record.specs.declared.record.Item.{Item};
@@ -9,7 +11,9 @@ use crate::{Item, Receiver};
 use std::alloc::Global;
 use ws_code::{Body, DeviceFailed, Fault, Source};
 
-/// The items that the bytes spell.
+/// The items that the bytes spell (RFC 854, 885, 1205).
+///
+/// # Errors
 ///
 /// `Refused` names the first byte after which nothing that follows can make the stream valid, counted from 0, and why;
 /// `Truncated` the bytes' number, where they end inside a token or a record; `Memory` comes only where a
@@ -28,10 +32,13 @@ pub fn decode_all<B: Body>(alloc: Global, bytes: &[u8]) -> Result<Vec<Item<B::Un
     Ok(items)
 }
 
-/// The items that the bytes of the source spell, up to its end.
+/// The items that the bytes of the source spell, up to its end (RFC 854, 885, 1205). At most 4,294,967,296 reads are
+/// made. A failed read is never taken for the end.
+///
+/// # Errors
 ///
 /// `Refused`, `Truncated` and `Memory` as of `decode_all`; `Read` exactly where a read failed, or 4,294,967,296
-/// reads didn't reach the end. No more reads are made than these. A failed read is never taken for the end.
+/// reads didn't reach the end.
 pub fn decode_from<B: Body, S: Source>(
     alloc: Global,
     source: &mut S,

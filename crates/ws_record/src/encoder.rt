@@ -1,3 +1,5 @@
+//! Items as the bytes that spell them, where all of them can be encoded.
+
 // Not named encode: a module and a function brought in beside it may not share a name.
 ghost use Rattle.std.specs.Prelude.{◌≡◌, IsTrue, ◌↔◌, OnOk, IfOk, IfErr};
 ghost use Rattle.std.specs.List.{AllByRecursion};
@@ -51,6 +53,8 @@ impl Error for EncodeFault {}
 /// The plain spelling of the items: each record with its IAC EOR, no command inside it, and each
 /// command (RFC 1205, section 3; RFC 854; RFC 885).
 ///
+/// # Errors
+///
 /// `BadSequence` and `TooBig` name the first item that can't be encoded, before any memory is asked
 /// for; `Memory` comes only where a growth was refused.
 pub fn encode<B: Body>(alloc: Global, items: &[Item<B::Unit>]) -> Result<Vec<u8>, EncodeFault>
@@ -69,6 +73,8 @@ pub fn encode<B: Body>(alloc: Global, items: &[Item<B::Unit>]) -> Result<Vec<u8>
 }
 
 /// Writes the plain spelling of the items, as `encode` gives it.
+///
+/// # Errors
 ///
 /// `BadSequence` and `TooBig` name the first item that can't be encoded, before any byte is written.
 /// With `Write` a write failed, or took no byte, and only bytes before it went out. `Memory` never

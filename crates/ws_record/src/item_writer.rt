@@ -1,3 +1,5 @@
+//! Items that can be encoded, written one after another without memory.
+
 ghost use Rattle.std.specs.Prelude.{◌≡◌, ◌+◌, ◌<◌, ◌≤◌, ◌^◌, length, IfSome, IfNone, IfErr, OnOk};
 ghost use Rattle.std.specs.List.{flat_map};
 ghost use Rattle.ws_code.specs.Code.{spelling_of};
@@ -12,8 +14,15 @@ use arrayvec::ArrayVec;
 use ws_code::{Body, Fault, Sink, write_whole};
 use ws_telnet::{EOR, IAC, write_telnet};
 
-/// Writes the plain spelling of items that can be encoded. `Write` is the only fault.
-pub fn write_items<B: Body, S: Sink>(sink: &mut S, items: &[Item<B::Unit>]) -> Result<(), Fault>
+/// Writes the plain spelling of items that can be encoded (RFC 1205, section 3; RFC 854; RFC 885).
+///
+/// # Errors
+///
+/// `Write` alone: a write failed, or took no byte.
+pub(crate) fn write_items<B: Body, S: Sink>(
+    sink: &mut S,
+    items: &[Item<B::Unit>],
+) -> Result<(), Fault>
     requires { CanAllBeEncoded B.rules items.now }
     ensures ok { OnOk result (WentOut S.writer sink.old sink.new
         (plain_spelling B.rules items.now)) }
@@ -47,7 +56,7 @@ fn write_encoded<B: Body, S: Sink>(sink: &mut S, encoded: &Record<B::Unit>) -> R
 }
 
 /// How many bytes the units are spelled with; none for more than a record has room for, 65,525.
-pub fn body_length<B: Body>(units: &[B::Unit]) -> Option<u16>
+pub(crate) fn body_length<B: Body>(units: &[B::Unit]) -> Option<u16>
     ensures some { IfSome result (λ n.
         (n ≡ length (spelling_of B.rules units.now)) × (n ≤ 65525)) }
     ensures none { IfNone result (65525 < length (spelling_of B.rules units.now)) }

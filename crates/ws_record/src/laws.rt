@@ -1,3 +1,5 @@
+//! What holds of streams by their definitions, and of reading what was written. Each law comes by a call.
+
 ghost use Rattle.std.specs.Prelude.{◌≡◌, ◌++◌, ◌<◌, ◌≤◌, ◌⊎◌, List, ℕ, length, IfOk, IfErr, MatchResult};
 ghost use Rattle.ws_code.specs.Device.{most_reads};
 ghost use Rattle.std.specs.List.{AllByRecursion};
@@ -81,7 +83,9 @@ pub fn fronts_hold_items<B: Body>()
 
 /// Encodes the items and decodes what came of it: the items come back.
 ///
-/// The faults are those of `encode`; `Memory` also where a growth was refused in decoding.
+/// # Errors
+///
+/// Those of `encode`; `Memory` also where a growth was refused in decoding.
 pub fn encode_and_decode<B: Body>(
     alloc: Global,
     items: &[Item<B::Unit>],

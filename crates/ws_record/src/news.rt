@@ -1,3 +1,5 @@
+//! What a decoder tells with the last byte of a front.
+
 ghost use Rattle.std.specs.Prelude.{true, false, ◌≡◌};
 ghost use Rattle.ws_record.specs.Advance.{OnLastNews, awaits_more};
 
@@ -38,7 +40,7 @@ impl News {
 
     /// Whether nothing follows: every later call answers `Failed`.
     #[inline(always)]
-    pub fn is_last(self) -> bool
+    pub(crate) fn is_last(self) -> bool
         ensures { OnLastNews self (result ≡ true) × (OnLastNews self ⊥ → result ≡ false) }
     {
         matches!(self, News::Refused(_) | News::NoMemory | News::Failed)

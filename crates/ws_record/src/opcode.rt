@@ -1,3 +1,5 @@
+//! The operation that a record's header names (RFC 1205, section 3).
+
 ghost use Rattle.std.specs.Prelude.{◌≡◌, IfSome, IfNone};
 ghost use Rattle.ws_record.specs.declared.opcode.Opcode.{Opcode};
 ghost use Rattle.ws_record.specs.Grammar.{opcode_byte};

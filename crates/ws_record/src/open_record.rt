@@ -1,3 +1,5 @@
+//! The record that a stream is in the middle of: its header byte by byte, its body run by run, and its end.
+
 ghost use Rattle.std.specs.Prelude.{◌≡◌, ◌≢◌, ◌++◌, ◌∷◌, ◌+◌, ◌*◌, ◌<◌, ◌≤◌, [], List, ℕ, Option, Some, None, true, false, length, take, slice_index, IfSome, IfNone};
 ghost use Rattle.ws_code.specs.Run.{IsAt, intake, with_keep};
 ghost use Rattle.ws_telnet.specs.declared.token.Token.TheVariants.{Data};
@@ -13,7 +15,7 @@ use std::marker::Model;
 use ws_code::{Body, End, Keep, Reason, Run, ShortList, Standing, word};
 use ws_telnet::{IAC, Word};
 
-// The reason why a byte can't stand behind these in a header, before the opcode.
+// The reason why a byte can't stand after these in a header, before the opcode.
 fn header_refusal(header: &[u8], byte: u8) -> Option<Reason>
     requires { length header.now < 9 }
     ensures none { IfNone result (HeaderSoFar header.now
@@ -70,7 +72,7 @@ fn begin_body<B: Body>(machine: &mut B, at: &mut Standing<B::Place>)
 
 /// The open record of a stream: its header, and of its body what the unit that is read needs.
 #[derive(Drop)]
-pub struct OpenRecord<B: Body> {
+pub(crate) struct OpenRecord<B: Body> {
     header: ShortList<u8, 10>,
     left: u16,
     machine: B,
@@ -96,7 +98,7 @@ impl<B: Body> Model for OpenRecord<B> {
 
 impl<B: Body> OpenRecord<B> {
     /// No record is open.
-    pub fn new() -> Self
+    pub(crate) fn new() -> Self
         ensures { HasRead B.rules result no_record }
     {
         let place = B::first();
@@ -112,7 +114,7 @@ impl<B: Body> OpenRecord<B> {
     }
 
     /// Whether no byte of a record was taken.
-    pub fn is_empty(&self) -> bool
+    pub(crate) fn is_empty(&self) -> bool
         ensures { (so_far : RecordSoFar B.Unit) → HasRead B.rules self.now so_far
             → (result ≡ true → so_far ≡ no_record) × (result ≡ false → so_far.bytes ≢ []) }
     {
@@ -121,7 +123,7 @@ impl<B: Body> OpenRecord<B> {
 
     /// Takes bytes of the piece up to an FF, as values: some of the header, or some of the body.
     #[inline(always)]
-    pub fn take<K: Keep<B::Unit>>(&mut self, piece: &[u8], keep: &mut K) -> Advance
+    pub(crate) fn take<K: Keep<B::Unit>>(&mut self, piece: &[u8], keep: &mut K) -> Advance
         // A piece whose first byte is plain.
         requires some { 0 < length piece.now }
         requires plain { slice_index piece.now 0 ≢ IAC }
@@ -199,7 +201,7 @@ impl<B: Body> OpenRecord<B> {
         }
     }
 
-    // Takes values of the header, or the first one behind a whole record.
+    // Takes values of the header, or the first one after a whole record.
     #[inline(never)]
     fn take_header<K: Keep<B::Unit>>(&mut self, values: &[u8], _keep: &mut K) -> Advance
         // Values for the header.
@@ -229,7 +231,7 @@ impl<B: Body> OpenRecord<B> {
         }
     }
 
-    // Takes a byte of the header, or one behind a whole record.
+    // Takes a byte of the header, or one after a whole record.
     #[inline(always)]
     fn take_header_byte(&mut self, byte: u8) -> News
         requires { self.old.left ≡ 0 }
@@ -292,7 +294,7 @@ impl<B: Body> OpenRecord<B> {
 
     /// Takes what a token's last byte has made of it.
     #[inline(always)]
-    pub fn complete<K: Keep<B::Unit>>(&mut self, word: Word, keep: &mut K) -> News
+    pub(crate) fn complete<K: Keep<B::Unit>>(&mut self, word: Word, keep: &mut K) -> News
         ensures { (so_far : RecordSoFar B.Unit) → HasRead B.rules self.old so_far
             → IsWordTaken (intake B.rules K.keeper) so_far (with_keep self.old keep.old) word
             (with_keep self.new keep.new) result }

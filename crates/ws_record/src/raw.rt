@@ -1,3 +1,5 @@
+//! Bodies of plain bytes, for a stream whose records are looked into no further.
+
 ghost use Rattle.std.specs.Prelude.{[], refl};
 ghost use Rattle.ws_record.specs.RawBody.{raw_rules, raw_nonempty, raw_prefix_free, raw_begins};
 

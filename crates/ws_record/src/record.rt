@@ -1,3 +1,5 @@
+//! What a stream holds: records with their headers, and Telnet commands (RFC 1205, section 3; RFC 854).
+
 use crate::Opcode;
 use ws_code::List;
 use ws_telnet::Telnet;

@@ -1,3 +1,5 @@
+//! A record whose body is bytes already, written with its header and its end (RFC 1205, section 3).
+
 ghost use Rattle.std.specs.Prelude.{◌≡◌, ◌++◌, ◌+◌, ◌≤◌, length, IfErr, OnOk};
 ghost use Rattle.std.specs.List.{flat_map};
 ghost use Rattle.ws_code.specs.Device.{WentOut, FailedWithin};
@@ -11,8 +13,11 @@ use ws_telnet::{EOR, IAC};
 
 /// Writes a whole record with its IAC EOR, each FF of it doubled (RFC 1205, section 3).
 ///
-/// The body is at most 65,525 bytes, and may be empty. `Write` is the only fault: a write failed, or
-/// took no byte. Then only bytes before it went out.
+/// The body is at most 65,525 bytes, and may be empty.
+///
+/// # Errors
+///
+/// `Write` alone: a write failed, or took no byte. Then only bytes before it went out.
 pub fn write_record<S: Sink>(
     sink: &mut S,
     flags: u16,
@@ -52,8 +57,12 @@ pub fn header_bytes(length: u16, flags: u16, opcode: Opcode) -> [u8; 10]
     ]
 }
 
-/// Writes the bytes, each FF twice.
-pub fn write_doubled<S: Sink>(sink: &mut S, bytes: &[u8]) -> Result<(), Fault>
+/// Writes the bytes, each FF twice (RFC 854).
+///
+/// # Errors
+///
+/// `Write` alone: a write failed, or took no byte.
+pub(crate) fn write_doubled<S: Sink>(sink: &mut S, bytes: &[u8]) -> Result<(), Fault>
     ensures ok { OnOk result (WentOut S.writer sink.old sink.new
         (flat_map doubled bytes.now)) }
     ensures err { IfErr result (λ fault. (fault ≡ Fault.Write)

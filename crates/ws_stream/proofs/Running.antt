@@ -1,3 +1,4 @@
+-- From one byte to a run of them.
 use Rattle.std.specs.Prelude.{◌≡◌, ◌≢◌, ◌⊎◌, ℕ, List, [], ◌∷◌, ◌++◌, true, false, Option, Some, None, refl}
 use Rattle.std.proofs.Common.{inl, inr, sym, ap, subst}
 use Rattle.ws_code.specs.Code.{IsSpelled, IsUnfinished}
@@ -16,8 +17,6 @@ use Rattle.ws_stream.specs.declared.commands.phase.Phase.{Phase}
 use Rattle.ws_stream.specs.declared.commands.phase.Phase.TheVariants.{Begin}
 use Rattle.ws_stream.specs.declared.element.Element.{Element}
 use Rattle.ws_stream.specs.declared.place.Place.{Place}
-
--- From one byte to a run of them.
 
 -- what is waited for tells whether an element has begun
 inside_begun : (phase : Phase) (bytes kinds controls : List ℕ) → is_inside phase ≡ true

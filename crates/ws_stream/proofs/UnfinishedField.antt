@@ -1,3 +1,4 @@
+-- What a machine within a Start of Field needs.
 use Rattle.std.specs.List.{flat_map, list_all}
 use Rattle.std.specs.Prelude.{◌≡◌, ◌≢◌, ℕ, ◌+◌, ◌-◌, ◌*◌, ◌<◌, ◌≤◌, ◌/◌, ◌%◌, List, [], ◌∷◌, ◌++◌, length, ◌⊎◌, Bool}
 use Rattle.std.specs.Prelude.{true, false, nat_le, nat_lt, Option, Some, None, is_some, SomeIff, refl}
@@ -18,8 +19,6 @@ use Rattle.ws_stream.specs.declared.element.Element.{Element}
 use Rattle.ws_stream.specs.declared.element.Element.TheVariants.{Sf, Put}
 use Rattle.ws_stream.specs.declared.place.Place.{Place}
 use Rattle.ws_stream.proofs.Unfinished.{order_allowed}
-
--- What a machine within a Start of Field needs.
 
 -- SF
 in_field : (u : Element) (rest : List ℕ) → IsElement u → spelling u ≡ 0x1D ∷ rest

@@ -1,3 +1,4 @@
+-- What a machine within a Start of Header needs.
 use Rattle.std.specs.Prelude.{◌≡◌, ◌≢◌, ℕ, zero, suc, ◌+◌, ◌-◌, ◌<◌, ◌≤◌, List, [], ◌∷◌, ◌++◌, length, replicate}
 use Rattle.std.specs.Prelude.{slice_index, true, refl}
 use Rattle.std.proofs.Common.{sym, ap, ◌∙◌, subst, arith, length-append}
@@ -11,8 +12,6 @@ use Rattle.ws_stream.specs.declared.element.Element.{Element}
 use Rattle.ws_stream.specs.declared.element.Element.TheVariants.{Soh, Put}
 use Rattle.ws_stream.specs.declared.place.Place.{Place}
 use Rattle.ws_stream.proofs.Unfinished.{order_allowed}
-
--- What a machine within a Start of Header needs.
 
 -- SOH
 pub soh_begins : (place : Place) → allows_orders place ≡ true → IsUnfinished element_rules place (0x01 ∷ [])

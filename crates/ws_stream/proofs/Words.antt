@@ -1,3 +1,4 @@
+-- How many bytes a list of words has.
 use Rattle.std.specs.List.{flat_map}
 use Rattle.std.specs.Prelude.{◌≡◌, ℕ, ◌*◌, List, [], ◌∷◌, length}
 use Rattle.std.proofs.Common.{arith}

@@ -1,3 +1,5 @@
+//! Where an element of a host's body stands, by the elements that may come there.
+
 /// Which elements may stand where one does.
 #[derive(Clone, Copy, Debug, PartialEq, Eq)]
 pub enum Place {

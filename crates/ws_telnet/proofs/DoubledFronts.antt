@@ -1,3 +1,4 @@
+-- Fronts of doubled bytes after which an end stands.
 use Rattle.std.specs.List.{flat_map}
 use Rattle.std.proofs.Common.{◌≡◌, ℕ, List, [], ◌∷◌, ◌++◌, refl, sym, ap, ◌∙◌, append_assoc, inl, inr}
 use Rattle.std.proofs.lemmas.List.{append-nil}
@@ -7,8 +8,6 @@ use Rattle.ws_telnet.specs.Token.{token_rules, doubled}
 use Rattle.ws_telnet.specs.TokenLaws.{token_begins}
 use Rattle.ws_telnet.specs.declared.token.Token.TheVariants.{Data, Eor}
 use Rattle.ws_telnet.proofs.OneToken.{begins_token}
-
--- Fronts of doubled bytes that an end stands behind.
 
 -- bytes in pairs, and a token that isn't whole
 pub record DoubledFront (content x : List ℕ) : Type 0 where

@@ -1,3 +1,4 @@
+-- Bytes with each FF doubled, as they go out in runs.
 use Rattle.std.specs.List.{flat_map}
 use Rattle.std.proofs.Common.{◌≡◌, ℕ, List, [], ◌∷◌, ◌++◌, take, drop, refl, sym, ap, ◌∙◌, append_assoc, ◌<◌, length}
 use Rattle.std.proofs.Common.{◌≤◌, arith, ◌+◌, get_or}
@@ -8,8 +9,6 @@ use Rattle.ws_code.proofs.DeviceLaws.{went_out_both, failed_within_both}
 use Rattle.ws_code.proofs.Lists.{run, run_more, run_none}
 use Rattle.ws_code.proofs.Parts.{fails_last}
 use Rattle.ws_telnet.specs.Token.{doubled}
-
--- Bytes with each FF doubled, as they go out in runs.
 
 pub doubled_more : (bytes : List ℕ) (at : ℕ) → at < length bytes → flat_map doubled (take (at + 1) bytes)
     ≡ flat_map doubled (take at bytes) ++ doubled (get_or bytes at 0)

@@ -1,3 +1,4 @@
+-- Where bytes stand in a stream: after an Eor, or elsewhere.
 use Rattle.std.specs.List.{AllByRecursion}
 use Rattle.std.proofs.Common.{append_assoc, ap, arith, ◌≡◌, ℕ, List, [], ◌∷◌, ◌++◌, inl, inr, sym, ◌∙◌}
 use Rattle.std.proofs.lemmas.Grind.{common_steps, flat_map-append}
@@ -16,8 +17,6 @@ use Rattle.ws_telnet.specs.declared.token.Token.TheVariants.{Data, Eor, Telnet a
 use Rattle.ws_telnet.proofs.Streams.{ends_with, stream_of, stream_right, stream_asks, open_stream, left_by, ended_by}
 use Rattle.ws_telnet.proofs.Streams.{left-append, ended-append, of_parts, left_open, parted}
 use Rattle.ws_telnet.proofs.TokenLists.{chain_front}
-
--- Where bytes stand in a stream: behind an Eor, or elsewhere.
 
 -- bytes that end with an Eor have one cut
 behind_eor : {bytes ended begun : List ℕ} {tokens : List Token} → IsCut token_rules bytes tokens begun

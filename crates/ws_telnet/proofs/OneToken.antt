@@ -1,3 +1,4 @@
+-- One token: what spells it, and what begins it.
 use Rattle.std.proofs.Common.{◌≡◌, ℕ, List, [], ◌∷◌, ◌++◌, refl, ◌<◌, ◌≢◌, ne_eqb}
 use Rattle.ws_code.specs.Code.{IsSpelled, IsUnfinished}
 use Rattle.ws_telnet.specs.Machine.{unfinished_token}
@@ -9,8 +10,6 @@ use Rattle.ws_telnet.specs.declared.token.Token.TheVariants.{Data}
 use Rattle.ws_telnet.specs.declared.tokens.Tokens.{Tokens}
 use Rattle.ws_telnet.specs.declared.word.Word.{Word}
 use Rattle.ws_telnet.specs.declared.word.Word.TheVariants as word
-
--- One token: what spells it, and what begins it.
 
 -- a token whose spelling this is, and one that goes on
 pub is_token : {t : Token} {bytes : List ℕ} → IsToken t → token_spelling t ≡ bytes → IsSpelled token_rules tt bytes t

@@ -1,3 +1,4 @@
+-- Lists of tokens, and their one cut into records and a rest.
 use Rattle.std.specs.List.{AllByRecursion}
 use Rattle.std.proofs.Common.{◌≡◌, ℕ, List, [], ◌∷◌, ◌++◌, refl, sym, ◌∙◌, map, append_assoc, arith}
 use Rattle.ws_code.specs.Code.{IsChain, AreBytes}
@@ -6,8 +7,6 @@ use Rattle.ws_telnet.specs.Streams.{HasNoEor, joined}
 use Rattle.ws_telnet.specs.Token.{token_rules}
 use Rattle.ws_telnet.specs.declared.token.Token.{Token}
 use Rattle.ws_telnet.specs.declared.token.Token.TheVariants.{Data, Eor}
-
--- Lists of tokens.
 
 -- the front of a chain is one
 pub chain_front : (us vs : List Token) → IsChain token_rules tt (us ++ vs) → IsChain token_rules tt us

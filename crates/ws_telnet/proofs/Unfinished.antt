@@ -1,3 +1,4 @@
+-- What a machine between the bytes of a token needs.
 use Rattle.std.specs.List.{flat_map}
 use Rattle.std.specs.Prelude.{◌≡◌, ◌≢◌, ℕ, ◌<◌, ◌≤◌, ◌==◌, List, [], ◌∷◌, ◌++◌, length, true, false, refl}
 use Rattle.std.proofs.Common.{inl, inr, sym, ap, ◌∙◌, subst, arith, append_assoc, length-append}
@@ -11,8 +12,6 @@ use Rattle.ws_telnet.specs.TokenLaws.{iac_or_not, doubled_plain, content_front, 
 use Rattle.ws_telnet.specs.declared.token.Telnet.TheVariants.{Option as Negotiate, Sub as Subnegotiate}
 use Rattle.ws_telnet.specs.declared.token.Token.TheVariants.{Eor, Telnet as TelnetToken}
 use Rattle.ws_telnet.specs.declared.token.Verb.{Verb}
-
--- What a machine between the bytes of a token needs.
 
 -- a subnegotiation so far can end with FF F0
 pub sub_goes_on : (option : ℕ) (xs : List ℕ) → option < 256 → length xs ≤ 64 → AreBytes xs

@@ -1,3 +1,5 @@
+//! What a Telnet stream is made of: bytes of records, ends of records, and commands (RFC 854, 855, 885).
+
 ghost use Rattle.std.specs.Prelude.{◌≡◌, ◌≤◌, ◌<◌, length, SomeIff};
 ghost use Rattle.ws_telnet.specs.Token.{command_byte, verb_byte};
 

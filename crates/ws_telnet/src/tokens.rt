@@ -1,3 +1,5 @@
+//! The machine that reads tokens byte by byte (RFC 854; EOR: RFC 885).
+
 ghost use Rattle.std.specs.Prelude.{◌≡◌, ◌≢◌, ◌++◌, ◌∷◌, ◌<◌, [], true, false, ◌⊎◌, IfSome, IfNone};
 ghost use Rattle.ws_telnet.specs.Token.{token_rules, token_reason, command_byte, verb_byte, doubled};
 ghost use Rattle.ws_code.specs.Code.{IsUnfinished};
@@ -86,7 +88,7 @@ impl Tokens {
         self.phase = Phase::Iac;
     }
 
-    /// Takes the byte behind an FF outside a subnegotiation (RFC 854, "TELNET COMMAND STRUCTURE"). Whoever has both
+    /// Takes the byte after an FF outside a subnegotiation (RFC 854, "TELNET COMMAND STRUCTURE"). Whoever has both
     /// bytes needs no `begin`.
     #[inline(always)]
     pub fn after_iac(&mut self, byte: u8) -> Word
@@ -147,7 +149,7 @@ impl Tokens {
     // A verb, or a command that stands alone.
     #[inline(always)]
     fn command(&mut self, byte: u8) -> Word
-        // Behind an IAC between two tokens, with a byte that goes with it alone.
+        // After an IAC between two tokens, with a byte that goes with it alone.
         requires between { unfinished_token self.old ≡ [] }
         requires no_data { byte ≢ IAC }
         requires no_eor { byte ≢ EOR }

@@ -1,3 +1,5 @@
+//! What the byte after an FF, or a later one of its token, brings: nothing yet, a value, an end, a command, a refusal.
+
 use crate::{CommandCode, Verb};
 use ws_code::Reason;
 

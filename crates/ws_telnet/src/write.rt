@@ -1,3 +1,5 @@
+//! How tokens are spelled, into a list or out to a sink (RFC 854; EOR: RFC 885).
+
 ghost use Rattle.std.specs.Prelude.{◌≡◌, ◌++◌, ◌∷◌, ◌+◌, ◌*◌, ◌≤◌, [], length, OnOk, IfErr};
 ghost use Rattle.std.specs.List.{flat_map};
 ghost use Rattle.ws_code.specs.Device.{WentOut, FailedWithin};
@@ -24,7 +26,9 @@ pub fn spell(token: &Token, into: &mut ArrayVec<u8, 133>)
 
 /// Writes the token's spelling (RFC 854; EOR: RFC 885).
 ///
-/// `Write` is the only fault: the sink failed, and what went out of the spelling is a prefix of it.
+/// # Errors
+///
+/// `Write` alone: the sink failed, and what went out of the spelling is a prefix of it.
 pub fn write_token<S: Sink>(sink: &mut S, token: &Token) -> Result<(), Fault>
     ensures ok { OnOk result (WentOut S.writer sink.old sink.new
         (token_spelling token.now)) }
@@ -39,7 +43,9 @@ pub fn write_token<S: Sink>(sink: &mut S, token: &Token) -> Result<(), Fault>
 // Beside write_token, since a token can't be made of a borrowed command without a copy.
 /// Writes a command's spelling (RFC 854).
 ///
-/// `Write` is the only fault: the sink failed, and what went out of the spelling is a prefix of it.
+/// # Errors
+///
+/// `Write` alone: the sink failed, and what went out of the spelling is a prefix of it.
 pub fn write_telnet<S: Sink>(sink: &mut S, telnet: &Telnet) -> Result<(), Fault>
     ensures ok { OnOk result (WentOut S.writer sink.old sink.new
         (telnet_spelling telnet.now)) }

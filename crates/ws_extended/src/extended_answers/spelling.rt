@@ -1,3 +1,5 @@
+//! How parts of what a live host's station sends are spelled.
+
 ghost use Rattle.std.specs.Prelude.{◌≡◌};
 ghost use Rattle.ws_extended.specs.ExtendedAnswers.{extended_part_spelling};
 
@@ -10,7 +12,7 @@ use ws_stream::Answers;
 use ws_stream::command_code::{CLEAR_UNIT, ESCAPE, RESTORE_SCREEN};
 
 /// Replaces what the list held by a part's spelling.
-pub fn spell_part(part: &ExtendedAnswerPart, into: &mut ArrayVec<u8, 32>)
+pub(crate) fn spell_part(part: &ExtendedAnswerPart, into: &mut ArrayVec<u8, 32>)
     ensures { into.new.items ≡ extended_part_spelling part.now }
 {
     into.clear();

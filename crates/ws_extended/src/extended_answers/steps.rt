@@ -1,3 +1,5 @@
+//! One byte of what a live host's station sends, by what the machine waited for.
+
 ghost use Rattle.std.specs.Prelude.{◌≡◌, ◌++◌, ◌∷◌, [], true, false, take};
 ghost use Rattle.ws_code.specs.Code.{IsUnfinished};
 ghost use Rattle.ws_code.specs.Run.{reading};
@@ -26,7 +28,7 @@ use ws_stream::order_code::SET_BUFFER_ADDRESS;
 // A Restore Screen, read as row and column of a cursor: 4 and 18.
 const RESTORE_AS_CURSOR: u16 = 257;
 
-/// The place behind a byte of a reply.
+/// The place after a byte of a reply.
 pub(super) fn behind_reply(left: u8) -> ExtendedAnswerPlace
     ensures { result ≡ Spec.behind_reply left }
 {
@@ -128,7 +130,7 @@ impl ExtendedAnswers {
         }
     }
 
-    // A byte of a reply's front, behind so many.
+    // A byte of a reply's front, after so many.
     fn front(&mut self, again: bool, count: u8, byte: u8) -> Push<ExtendedAnswerPart>
         requires { is_waiting (Waits.Front again count) ≡ true }
         ensures { IsStep extended_answer_rules (reading (reply_place again) (take count reply_head))

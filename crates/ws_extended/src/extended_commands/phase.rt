@@ -1,11 +1,13 @@
+//! What the machine of a live host's body waits for next.
+
 /// What a machine waits for.
 #[derive(Clone, Copy)]
-pub enum Phase {
+pub(crate) enum Phase {
     Begin,
     /// The command.
     Escaped,
     /// What the profile's machine waits for.
     Inside,
-    /// The next of the query's bytes, behind so many of its structured field.
+    /// The next of the query's bytes, after so many of its structured field.
     InQuery(u8),
 }

@@ -1,3 +1,5 @@
+//! One byte of a live host's body, by what the machine waited for, and which bytes are the profile's machine's.
+
 ghost use Rattle.std.specs.Prelude.{◌≡◌, ◌≢◌, ◌<◌, ◌++◌, ◌∷◌, [], List, ℕ, true, false, Some, None, length, take, IfSome};
 ghost use Rattle.ws_code.specs.Code.{IsPrefix, IsSpelled, IsUnfinished};
 ghost use Rattle.ws_code.specs.declared.reason.Reason.{Reason as AReason};
@@ -139,7 +141,7 @@ pub(super) fn begins_profile(values: &[u8]) -> bool
     is_own_command(values[1])
 }
 
-// The answer to a byte behind an escape, but where the profile's machine is asked or a query begins.
+// The answer to a byte after an escape, but where the profile's machine is asked or a query begins.
 fn behind_escape(place: ExtendedPlace, code: u8) -> Option<Push<ExtendedElement>>
     ensures answered { (push : APush AnElement) → result ≡ Some push → (begun : List ℕ)
         → IsStep extended_rules (reading place (ESCAPE ∷ [])) code (reading place begun) push }
@@ -226,7 +228,7 @@ impl ExtendedCommands {
         }
     }
 
-    // The byte behind an escape.
+    // The byte after an escape.
     fn escaped(&mut self, byte: u8) -> Push<ExtendedElement>
         requires { self.old.phase ≡ Phase.Escaped }
         ensures { IsStep extended_rules (reading self.old.place (ESCAPE ∷ [])) byte
@@ -242,7 +244,7 @@ impl ExtendedCommands {
         }
     }
 
-    // A byte of a query's structured field, behind so many.
+    // A byte of a query's structured field, after so many.
     fn in_query(&mut self, count: u8, byte: u8) -> Push<ExtendedElement>
         requires { count < 5 }
         ensures { IsStep extended_rules

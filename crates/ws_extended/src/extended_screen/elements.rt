@@ -14,7 +14,7 @@ use crate::ExtendedElement;
 use ws_code::{COLUMNS, ROWS, Reason};
 use ws_stream::Element;
 
-// The row of the error line behind an element of the profile.
+// The row of the error line after an element of the profile.
 fn row_behind(row: u8, element: &Element) -> u8
     requires { IsRow row }
     ensures value { result ≡ unwrap_or (sets_error_row (did element.now)) row }
@@ -100,7 +100,7 @@ impl ExtendedScreen {
     // Carries out an element of the profile as the screen does.
     fn carry_out(&mut self, element: &Element) -> Result<(), Reason>
         requires { NeedsOpenWrite (Profile element.now) self.old.screen }
-        // Whether it is refused, and what is shown behind it.
+        // Whether it is refused, and what is shown after it.
         ensures fault { refusal result ≡ fault self.old.screen element.now }
         ensures after { OnOk result ((state : ExtendedState) → Shows state self.old
             → Shows (record state { history = after_element state.history element.now }) self.new) }
@@ -114,11 +114,15 @@ impl ExtendedScreen {
         Ok(())
     }
 
-    /// Carries out an element of the profile, as `apply` does.
+    /// Carries out an element of the profile, as `apply` does (SC30-3533, display data stream).
+    ///
+    /// # Errors
+    ///
+    /// The reason for which the screen refuses it; nothing is changed then.
     #[inline(always)]
     pub fn apply_profile(&mut self, element: &Element) -> Result<(), Reason>
         requires { NeedsOpenWrite (Profile element.now) self.old.screen }
-        // Whether it is refused, and what is shown behind it.
+        // Whether it is refused, and what is shown after it.
         ensures fault { (state : ExtendedState) → Shows state self.old
             → refusal result ≡ state_fault state (Profile element.now) }
         ensures after { OnOk result ((state : ExtendedState) → Shows state self.old
@@ -138,7 +142,7 @@ impl ExtendedScreen {
     // Carries out an element of an error's text.
     fn show_text(&mut self, element: &Element) -> Result<(), Reason>
         requires { NeedsOpenWrite (Text element.now) self.old.screen }
-        // Whether it is refused, and what is shown behind it.
+        // Whether it is refused, and what is shown after it.
         ensures fault { (state : ExtendedState) → Shows state self.old
             → refusal result ≡ state_fault state (Text element.now) }
         ensures after { OnOk result ((state : ExtendedState) → Shows state self.old
@@ -161,7 +165,7 @@ impl ExtendedScreen {
         }
     }
 
-    // Restore Screen: what comes back stands behind it.
+    // Restore Screen: what comes back stands after it.
     fn restore(&mut self)
         ensures restored { (state : ExtendedState) → Shows state self.old
             → Shows (state_after state RestoreScreen) self.new }
@@ -181,12 +185,16 @@ impl ExtendedScreen {
         self.cover();
     }
 
-    /// Carries out an element of a live host's body. An order or a byte stands in an open write; a text's are an
-    /// Insert Cursor or a byte. A refused element has the screen's reason, or `PastEnd` where an error's text has more
-    /// bytes than a row has cells; it changes nothing.
+    /// Carries out an element of a live host's body (SC30-3533, commands). An order or a byte stands in an open write;
+    /// a text's are an Insert Cursor or a byte.
+    ///
+    /// # Errors
+    ///
+    /// The screen's reason, or `PastEnd` where an error's text has more bytes than a row has cells; nothing is changed
+    /// then.
     pub fn apply(&mut self, element: &ExtendedElement) -> Result<(), Reason>
         requires { NeedsOpenWrite element.now self.old.screen }
-        // Whether it is refused, and what is shown behind it.
+        // Whether it is refused, and what is shown after it.
         ensures fault { (state : ExtendedState) → Shows state self.old
             → refusal result ≡ state_fault state element.now }
         ensures after { OnOk result ((state : ExtendedState) → Shows state self.old

@@ -17,9 +17,12 @@ fn waits_for_reset(key: &Key) -> bool
 }
 
 impl ExtendedScreen {
-    /// Presses a key, as `ws_keys::press` does, but that where an error stands every key but Attention and System
-    /// Request is refused as `Locked` (SC30-3533, operator errors), whether or not the keyboard is locked. Only the
-    /// screen changes, and nothing at a refused key.
+    /// Presses a key, as `ws_keys::press` does. Only the screen changes.
+    ///
+    /// # Errors
+    ///
+    /// Where an error stands, every key but Attention and System Request is refused as `Locked` (SC30-3533, operator
+    /// errors), whether or not the keyboard is locked; elsewhere those of `ws_keys::press`. Nothing is changed then.
     pub fn press(&mut self, key: Key) -> Result<Option<Answer>, KeyRefusal>
         // What a key comes to where an error stands that it waits for, and elsewhere.
         ensures held { (is_some self.old.kept && waits_for_reset key) ≡ true

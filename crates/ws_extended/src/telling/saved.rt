@@ -14,7 +14,7 @@ use ws_screen::Screen;
 use ws_stream::command_code::{ESCAPE, RESTORE_SCREEN};
 use ws_stream::{Commands, Element};
 
-// The bytes of elements behind a Restore Screen, as far as there is room.
+// The bytes of elements after a Restore Screen, as far as there is room.
 #[derive(Drop)]
 struct SavedBytes {
     bytes: ArrayVec<u8, MOST_TOLD_BYTES>,
@@ -82,7 +82,7 @@ fn saved_bytes(screen: &Screen, row: u8) -> SavedBytes
 }
 
 /// A screen as it is saved, with the row of its error line.
-pub fn put_saved(screen: &Screen, row: u8, told: &mut ArrayVec<u8, MOST_TOLD_BYTES>)
+pub(crate) fn put_saved(screen: &Screen, row: u8, told: &mut ArrayVec<u8, MOST_TOLD_BYTES>)
     requires { told.old.items ≡ [] }
     ensures { told.new.items ≡ spelling_of extended_rules (saved_screen row screen.now) }
 {

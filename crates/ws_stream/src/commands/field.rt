@@ -1,3 +1,5 @@
+//! The bytes of a Start of Field: format word, control words, attribute, length.
+
 ghost use Rattle.std.specs.Prelude.{◌≡◌, ◌∷◌, ◌++◌, [], ℕ, true, nat_le};
 ghost use Rattle.ws_code.specs.Code.{IsUnfinished};
 ghost use Rattle.ws_code.specs.Run.{reading, with_keep};

@@ -1,3 +1,5 @@
+//! The bytes of a Start of Header, and of orders with an address.
+
 ghost use Rattle.std.specs.Prelude.{◌≡◌, ◌∷◌, ◌++◌, ◌+◌, [], ℕ, length};
 ghost use Rattle.ws_code.specs.Code.{IsUnfinished};
 ghost use Rattle.ws_code.specs.Run.{reading, with_keep};

@@ -1,3 +1,5 @@
+//! One byte of a host's body, and a run of them: what the machine makes of what it waited for.
+
 ghost use Rattle.std.specs.Prelude.{◌≡◌, ◌≤◌, [], true, length, take};
 ghost use Rattle.ws_code.specs.Code.{IsUnfinished};
 ghost use Rattle.ws_code.specs.Run.{IsRunOfValues, intake, with_keep};
@@ -12,7 +14,7 @@ use super::phase::Phase;
 use crate::{Element, Place};
 use ws_code::{Code, End, Keep, Kept, Run, Standing};
 
-// Hands over an element behind which the machine stands.
+// Hands over an element after which the machine stands.
 #[inline(always)]
 pub(super) fn hand_over<K: Keep<Element>>(keep: &mut K, element: Element) -> End
     ensures { (machine : Commands)
@@ -38,7 +40,7 @@ impl Commands {
         End::More
     }
 
-    // The element is complete, and the machine begins anew behind it.
+    // The element is complete, and the machine begins anew after it.
     #[inline(always)]
     pub(super) fn complete<K: Keep<Element>>(&mut self, keep: &mut K, element: Element) -> End
         ensures { IsKept K.keeper keep.old element (with_keep self.new keep.new) result }
