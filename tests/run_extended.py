@@ -1,5 +1,5 @@
 #!/usr/bin/env python3
-"""Runs `t5250 connect --extended` at a host that sends what live hosts send, and has Wireshark read the session.
+"""Runs `t5250 connect` at a host that sends what live hosts send, and has Wireshark read the session.
 
 The host, in Python, asks what the station is, saves the screen before a help and restores it, and tells an error. Each
 record of the station is compared with the bytes that docs/PROFILE.md's chapter 'Extended' says. Then the session is
@@ -226,7 +226,7 @@ class TestExtended(Test):
             lines.append(Line(side.stream))
             lines[0].play()
         with self.subTest("connect"):
-            at_host(play, ["--extended", "--wait", "20"], None, 1, PRINTED, script=SCRIPT)
+            at_host(play, ["--wait", "20"], None, 1, PRINTED, script=SCRIPT)
         with self.subTest("check, show and make"):
             compare_lines(lines[0].heard)
         with self.subTest("tshark"):

@@ -88,7 +88,7 @@ class TestConnections(Test):
                 side.send(asks)
             over.wait(15)
         host = Host(play, narrow=True)
-        words = ["connect", "--extended", "--wait", "4", "127.0.0.1:%d" % host.port]
+        words = ["connect", "--wait", "4", "127.0.0.1:%d" % host.port]
         run = Run(words, "await text none\n", keep_open=True)
         run.end(2, "", "cannot write\n")
         timed(3.9, 5.8, run.began, "the wait")

@@ -7,7 +7,7 @@ The other side of the connection, in Python, cuts, delays and joins its bytes at
 the lines of the script are random too; some records are refused, some bytes can't stand where they do, some connections
 end early, some lines wait in vain. What the program prints, its status, its fault and what goes over the line is
 compared to the byte with what tests/model says, which is written from docs/PROFILE.md. Sessions take turns: `connect`,
-`serve`, `connect --extended`, `serve --any`; several run at a time.
+`serve`, `connect --strict`, `serve --any`; several run at a time.
 
 The seed is from the clock without `--seed`. It is told first, and each session that differs is told with the words that
 repeat it. Without another word it ends after 60 seconds, and always behind ten that differ. Build the program first

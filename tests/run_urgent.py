@@ -76,12 +76,12 @@ class TestUrgent(unittest.TestCase):
 
     def test_connect_takes_a_data_mark(self):
         """In the data it is a command of no effect: the record behind it is taken."""
-        for words in [], ["--extended"]:
+        for words in [], ["--strict"]:
             with self.subTest(words):
                 connect(lambda side: side.send(DATA_MARK + RECORD), words, 0, "")
 
     def test_connect_loses_it(self):
-        for words in [], ["--extended"]:
+        for words in [], ["--strict"]:
             with self.subTest(words):
                 for play, count, reason in LOST:
                     connect(play, words, 1, f"station refused at {len(ASKED) + count}: {reason}\n")

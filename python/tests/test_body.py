@@ -113,7 +113,7 @@ class AnyHostTest(unittest.TestCase):
         with listen(wait=10, any=True) as listener:
             script = "await text Name\nawait record\nawait record\nawait text Other\nawait text Name\nawait record\n"
             script += "type BOB\nkey F5\n"
-            station = run_connect(listener.port, script, "--extended", "--terminal", "IBM-5251-11")
+            station = run_connect(listener.port, script, "--terminal", "IBM-5251-11")
             with listener.accept() as host:
                 self.assertEqual(host.wait_ready(), "IBM-5251-11")
                 host.send(Body().clear().write().text(6, 2, "Name").field(6, 20, 10).cursor(6, 20))

@@ -175,8 +175,8 @@ def made(words, text):
 
 class TestBadLines(unittest.TestCase):
     def test_bad_lines_of_scripts_at_a_station(self):
-        in_scripts(["connect", "--wait", "1", "127.0.0.1:1"], station_rows())
-        in_scripts(["connect", "--extended", "--wait", "1", "127.0.0.1:1"], station_rows(True))
+        in_scripts(["connect", "--strict", "--wait", "1", "127.0.0.1:1"], station_rows())
+        in_scripts(["connect", "--wait", "1", "127.0.0.1:1"], station_rows(True))
 
     def test_bad_lines_of_scripts_at_a_host(self):
         in_scripts(["serve", "--wait", "1", "127.0.0.1:0"], host_rows(HOST))
@@ -193,7 +193,7 @@ class TestBadLines(unittest.TestCase):
 
     def test_bad_lines_of_a_driven_station(self):
         connect, host = settled_connect(Side.take_end, 5)
-        for text, cause in station_rows():
+        for text, cause in station_rows(True):
             expect(told(connect, text), "bad line: %s\nok\n" % cause, repr(text))
         # The session goes on.
         expect(connect.asked("show 6 2 4").count("\n"), 1, "show")

@@ -14,11 +14,11 @@ from records import record
 class TestBoth(unittest.TestCase):
     def test_examples_go_together(self):
         """An inquiry, and what live hosts send beside the profile: a query, a screen saved and restored, an error."""
-        for name, of_host, of_station in ("inquiry", [], []), ("live-host", ["--any"], ["--extended"]):
+        for name, of_host in ("inquiry", []), ("live-host", ["--any"]):
             with self.subTest(name):
                 example = str(TOP / "examples" / name)
                 serve = Run(["serve", "--wait", "10", *of_host, "127.0.0.1:0", example + ".serve"])
-                connect = Run(["connect", "--wait", "10", *of_station, serve.line().split()[1], example + ".connect"])
+                connect = Run(["connect", "--wait", "10", serve.line().split()[1], example + ".connect"])
                 connect.end(0, pathlib.Path(example + ".connected").read_text())
                 serve.end(0, pathlib.Path(example + ".served").read_text())
 

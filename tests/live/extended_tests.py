@@ -1,11 +1,11 @@
-"""`connect --extended` at a host of Python: what a station tells at once, and what errors and keys do."""
+"""`connect` at a host of Python that sends what live hosts send: what a station tells at once, and what errors and keys do."""
 import unittest
 
 from live.lines import at_host
 from peers import negotiate_as_host
 from records import ASKED, record
 
-WORDS = ["--extended", "--wait", "5"]
+WORDS = ["--wait", "5"]
 FORM = "044004110008110634" "1D400020000A" "04520000"
 ERROR = "0421130635" "22C5D9D9"
 QUERY = "04F30005D97000"
@@ -80,6 +80,14 @@ class TestExtended(unittest.TestCase):
         # It is told before the empty record of Cancel Invite.
         steps = [(record(QUERY, 10), [record(IBM_3179, 0), record(opcode=10)])]
         at_host(answered(steps), WORDS, "await record\n", 0, "")
+
+    def test_the_words_of_the_command_line(self):
+        """`--extended` has no effect; with `--strict` the query is refused at the byte after its escape."""
+        place = len(ASKED + record(QUERY)) - 8
+        for words in ["--strict", "--extended"], ["--extended", "--strict"]:
+            at_host(answered([(record(QUERY), [])]), WORDS + words, "await record\n", 1,
+                    "station refused at %d: reason 30 StructuredField\n" % place)
+        at_host(answered([(record(QUERY), [record(IBM_3179, 0)])]), WORDS + ["--extended"], "await record\n", 0, "")
 
     def test_records_that_are_refused(self):
         for body, reason in REFUSED:

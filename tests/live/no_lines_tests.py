@@ -53,7 +53,7 @@ class TestNoLines(unittest.TestCase):
     """Nothing is connected, nor listened for."""
 
     def test_scripts_of_a_station(self):
-        for words in [], ["--extended"]:
+        for words in [], ["--strict"]:
             for line in STATION:
                 run = Run(["connect", "--wait", "1", *words, "127.0.0.1:1"], script="status\n\n%s\n" % line)
                 run.end(2, "", "script line 3\n")

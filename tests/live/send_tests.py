@@ -81,7 +81,7 @@ class TestSend(unittest.TestCase):
                 ready += "record flags 0000 opcode 3 %s\n" % LARGEST.hex().upper()
             side.close()
             serve.end(0, ready)
-        for kind in [], ["--extended"]:
+        for kind in [], ["--strict"]:
             at_host(sending(LARGEST, opcode=2), ["--wait", "10", *kind], "await record\nshow 1 1 1\n", 0, "A\n")
 
     def test_a_record_that_is_too_big(self):

@@ -105,7 +105,7 @@ class TestStation(unittest.TestCase):
 
     def test_a_query_is_refused(self):
         printed = "station refused at 32: reason 30 StructuredField\n"
-        at_host(sending("04F30005D97000"), ["--wait", "5"], "await\n", 1, printed)
+        at_host(sending("04F30005D97000"), ["--strict", "--wait", "5"], "await\n", 1, printed)
 
     def test_a_host_that_closes_inside_a_record(self):
         def play(side):

@@ -20,6 +20,7 @@ WRONG_CONNECTS = [
     ["--terminal", "IBM-3179", "127.0.0.1"],
     ["--terminal", "", "127.0.0.1"],
     ["--answers", "127.0.0.1"],
+    ["--strict", "--strict", "127.0.0.1"],
     ["--screen", "127.0.0.1"],
     ["127.0.0.1", "a", "b"],
     [],
@@ -35,6 +36,7 @@ WRONG_SERVES = [
     ["--terminal", "IBM-3179-2", "127.0.0.1:0"],
     ["--color", "127.0.0.1:0"],
     ["--extended", "127.0.0.1:0"],
+    ["--strict", "127.0.0.1:0"],
     ["127.0.0.1:0", "a", "b"],
 ] + [[word] for word in [
     "127.0.0.1", "localhost", "::1", "[::1]", "::1:5250", ":5250", "127.0.0.1:", "127.0.0.1:65536", "127.0.0.1:99999",
@@ -78,7 +80,7 @@ class TestWords(Test):
         Run(["connect", "--wait", "5", "no-such-host.invalid"], "await\n").end(2, "", "no connection: unknown name\n")
         Run(["serve", "no-such-host.invalid:0"], "").end(2, "", "no connection: unknown name\n")
         # By each option, of which one has a longer number than it needs.
-        words = ["--ready", "--color", "--extended", "--wait=007", "--terminal=ibm-3196-a1", "--record=" + self.folder + "/it"]
+        words = ["--ready", "--color", "--strict", "--extended", "--wait=007", "--terminal=ibm-3196-a1", "--record=" + self.folder + "/it"]
         Run(["connect", *words, "127.0.0.1:%d" % port], script="await\n").end(2, "", "no connection: refused\n")
         # Not one of this machine's addresses.
         Run(["serve", "192.0.2.1:0"], "").end(2, "", "no connection: no address of this machine\n")

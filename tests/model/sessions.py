@@ -21,7 +21,7 @@ class ConnectPlan(Plan):
         return Connect(self.terminal or "IBM-3179-2", self.is_other, self.is_ready, self.is_colored)
 
     def words(self):
-        words = ["connect", "--wait", str(self.wait)] + ["--extended"] * self.is_other + ["--ready"] * self.is_ready
+        words = ["connect", "--wait", str(self.wait)] + ["--strict"] * (not self.is_other) + ["--ready"] * self.is_ready
         words += ["--color"] * self.is_colored
         return words + (["--terminal", self.terminal] if self.terminal else [])
 

@@ -9,9 +9,9 @@ use crate::asked::sender::Sender;
 /// The kinds of lines of which some are bad.
 #[derive(Clone, Copy, Debug, PartialEq, Eq)]
 pub enum Vocabulary {
-    /// Of a script of `connect`.
+    /// Of a script of `connect --strict`.
     Station,
-    /// Of one with `--extended`.
+    /// Of one of `connect` without it.
     ExtendedStation,
     /// Of a script of `serve`.
     Host,

@@ -38,8 +38,10 @@ With --record, FILE has a line `MILLISECONDS host|station HEX` for each piece
 that crossed the connection. It holds what was typed into hidden fields,
 passwords too, so none but its owner can read it.
 
-With --extended, `key Reset` takes an error away that a host shows. Until then
-`await` goes on too, and `show` ends with `error row R`.
+It takes what live hosts send beside the profile, such as Query and Save Screen:
+`key Reset` takes an error away that a host shows, and until then `await` goes
+on too, and `show` ends with `error row R`. With --strict it refuses all that,
+and there is no `key Reset`.
 
 Exit status:
   0  every line was carried out, none was late or ended, nothing was refused
@@ -47,9 +49,9 @@ Exit status:
   2  a fault, told in one line on standard error
 
 Examples:
-  t5250 connect pub400.com examples/inquiry.connect
+  t5250 connect --strict pub400.com examples/inquiry.connect
   t5250 connect --color --wait 5 '[::1]:5250' < examples/inquiry.connect
-  t5250 connect --extended pub400.com examples/live-host.connect
+  t5250 connect pub400.com examples/live-host.connect
   t5250 connect --ready --terminal IBM-5251-11 127.0.0.1:5250";
 
 const SERVE_EXAMPLES: &str = "\
@@ -105,9 +107,9 @@ Examples:
 /// Of the flag for screens in colour.
 pub const COLOR_HELP: &str = "Prints the rows of a screen in colour, by sequences of ECMA-48";
 
-/// Of the flag for what is beside the profile.
-const EXTENDED_HELP: &str =
-    "Takes also what live hosts send beside the profile, such as Query and Save Screen";
+const STRICT_HELP: &str = "Keeps to the profile, and refuses what live hosts send beside it";
+
+const EXTENDED_HELP: &str = "Without effect: what it asked for is taken without --strict";
 
 const ANY_HELP: &str = "Takes any terminal name and any record, for tests of emulators";
 
@@ -131,6 +133,7 @@ pub fn connect_command<'a>(alloc: Global) -> CommandParts<'a> {
         CONNECT_EXAMPLES,
     )
     .word(flag(alloc, "color", COLOR_HELP))
+    .word(flag(alloc, "strict", STRICT_HELP))
     .word(flag(alloc, "extended", EXTENDED_HELP))
     .word(terminal(alloc))
     .word(place(alloc, "HOST[:PORT]", HOST_HELP, true));
@@ -239,7 +242,7 @@ pub fn connect_asked<'a>(
         wait: seconds(words),
         ready: words.get_flag("ready"),
         paint: paint_asked(words),
-        extended: words.get_flag("extended"),
+        extended: !words.get_flag("strict"),
         record: words.get_str("record"),
         script: words.get_str("SCRIPT"),
     })
