@@ -49,9 +49,9 @@ Exit status:
   2  a fault, told in one line on standard error
 
 Examples:
-  t5250 connect --strict pub400.com examples/inquiry.connect
+  t5250 connect --strict 127.0.0.1:5250 examples/inquiry.connect
   t5250 connect --color --wait 5 '[::1]:5250' < examples/inquiry.connect
-  t5250 connect pub400.com examples/live-host.connect
+  t5250 connect 127.0.0.1:5250 examples/live-host.connect
   t5250 connect --ready --terminal IBM-5251-11 127.0.0.1:5250";
 
 const SERVE_EXAMPLES: &str = "\
