@@ -38,22 +38,25 @@ def serve(listening, stream):
         reader.join()
 
 
-def instructions(program, stream):
-    """How many `connect` takes that waits until the host has closed."""
+def instructions(program, words, stream):
+    """How many `connect` with these words takes that waits until the host has closed."""
     with socket.create_server(("127.0.0.1", 0)) as listening:
         threading.Thread(target=serve, args=(listening, stream), daemon=True).start()
         counter = ["valgrind", "--tool=callgrind", "--callgrind-out-file=/dev/null", program]
         host = f"127.0.0.1:{listening.getsockname()[1]}"
-        run = subprocess.run([*counter, "connect", "--wait", "120", host], input="await\n", capture_output=True, text=True)
+        command = [*counter, "connect", *words, "--wait", "120", host]
+        run = subprocess.run(command, input="await\n", capture_output=True, text=True)
     counted = re.search(r"Collected : (\d+)", run.stderr)
     return int(counted[1]) if counted else sys.exit(f"not counted: {run.stderr[-300:]}")
 
 
 def main():
     program = sys.argv[1] if len(sys.argv) > 1 else PROGRAM
-    for name, (unit, few, many) in STREAMS.items():
-        spent = instructions(program, unit * many) - instructions(program, unit * few)
-        print(f"{name:<14}{spent / (len(unit) * (many - few)):8.1f} instructions a byte")
+    for words in [], ["--strict"]:
+        for name, (unit, few, many) in STREAMS.items():
+            spent = instructions(program, words, unit * many) - instructions(program, words, unit * few)
+            told = " ".join([name, *words])
+            print(f"{told:<22}{spent / (len(unit) * (many - few)):8.1f} instructions a byte")
 
 
 main()

@@ -1,16 +1,16 @@
 -- What the machine of a live host's elements has at each byte.
 use Rattle.std.proofs.Common.{◌≡◌, ◌≢◌, ℕ, ◌+◌, ◌<◌, List, [], ◌∷◌, ◌++◌, Bool, true, false, refl, sym, ap, ◌∙◌, subst}
-use Rattle.std.proofs.Common.{arith, inl, inr, ◌==◌, ◌||◌, not, append_assoc, take, drop, get_or}
+use Rattle.std.proofs.Common.{arith, inl, inr, ◌==◌, ◌||◌, not, take, drop, get_or}
 use Rattle.std.proofs.lemmas.Bool.{false≢true, or_cases}
-use Rattle.std.proofs.lemmas.List.{append_cancel_left, append-nil, get_or_default}
+use Rattle.std.proofs.lemmas.List.{get_or_default}
 use borrow.Author.Tests.{eqb-true}
 use Rattle.ws_code.specs.Code.{IsPrefix, IsUnfinished, Stands}
 use Rattle.ws_code.specs.DataByte.{is_order}
 use Rattle.ws_code.specs.Run.{reading}
 use Rattle.ws_code.specs.Step.{IsStep}
 use Rattle.ws_code.specs.declared.code.Push.{Push}
-use Rattle.ws_stream.specs.ElementLaws.{first, second}
-use Rattle.ws_stream.specs.Elements.{allows_orders, element_rules, spelling}
+use Rattle.ws_stream.specs.ElementLaws.{first}
+use Rattle.ws_stream.specs.Elements.{allows_orders, element_rules}
 use Rattle.ws_stream.specs.Reasons.{element_reason}
 use Rattle.ws_stream.specs.declared.command_code.TheConstants.{ESCAPE, WRITE_STRUCTURED_FIELD}
 use Rattle.ws_stream.specs.declared.element.Element.{Element}
@@ -21,7 +21,6 @@ use Rattle.ws_stream.specs.declared.place.Place.{Place}
 use Rattle.ws_stream.specs.declared.place.Place.TheVariants.{CommandsOnly, Anything}
 use Rattle.ws_screen.proofs.Applies.{cut_at, longer_by}
 use Rattle.ws_extended.specs.ExtendedElements.{extended_follows, extended_rules, extended_spelling, query_field}
-use Rattle.ws_extended.specs.ExtendedLaws.{by_code, other_code, own_code}
 use Rattle.ws_extended.specs.ExtendedMachine.{inner_place, fits_phase}
 use Rattle.ws_extended.specs.ExtendedReasons.{extended_reason, is_inner, takes_command, takes_first}
 use Rattle.ws_extended.specs.declared.ask.Ask.{Ask}
@@ -184,17 +183,6 @@ none_begins place b ne takes front = go place front.unit front.stands front.spel
     go (Asked before) (Text u) s e t = false≢true s.may_follow
     go (Asked before) RestoreScreen s e t = false≢true s.may_follow
     go (Asked before) WriteError s e t = false≢true s.may_follow
-
--- what goes on after the first two bytes of a query is one
-pub only_query : (u : ExtendedElement) (place : ExtendedPlace) (more : List ℕ) → Stands extended_rules place u
-    → extended_spelling u ≡ ESCAPE ∷ WRITE_STRUCTURED_FIELD ∷ more → more ≡ query_field
-only_query (Profile e) place more s same = absurd (false≢true (own_code e [] WRITE_STRUCTURED_FIELD more s.is_unit
-    (append-nil (spelling e) ∙ same)))
-only_query (Text e) place more s same = absurd (false≢true (own_code e [] WRITE_STRUCTURED_FIELD more s.is_unit
-    (append-nil (spelling e) ∙ same)))
-only_query u place more s same =
-    let is : u ≡ Asks Query = sym (other_code u tt) ∙ ap (λ (l : List ℕ). by_code (second l)) same in
-    ap (λ (l : List ℕ). drop 2 l) (sym same ∙ ap extended_spelling is)
 
 -- the query so far, and its next byte
 query_cut : (count : ℕ) → count < 5 → take count query_field

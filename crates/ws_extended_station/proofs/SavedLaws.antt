@@ -24,6 +24,7 @@ use Rattle.ws_extended.specs.Telling.{told_bytes}
 use Rattle.ws_extended.specs.declared.ask.Ask.TheVariants.{SaveScreen}
 use Rattle.ws_extended.specs.declared.extended_element.ExtendedElement.{ExtendedElement}
 use Rattle.ws_extended.specs.declared.extended_element.ExtendedElement.TheVariants.{Text, WriteError}
+use Rattle.ws_extended.proofs.ErrorRows.{error_row_is, row_again}
 use Rattle.ws_extended.proofs.ImageLaws.{image_unrefused}
 use Rattle.ws_extended.proofs.StateLaws.{ends_closed, error_resets, none_stands, plain, restored_row, restores}
 use Rattle.ws_extended.proofs.StateLaws.{saved_is_body}
@@ -37,7 +38,6 @@ use Rattle.ws_extended_station.specs.SavedScreens.{BringsBack, ComesBack, IsSave
 use Rattle.ws_extended_station.specs.declared.extended_key.ExtendedKey.TheVariants.{Reset}
 use Rattle.ws_extended_station.proofs.AlarmLaws.{alarms_behind_record, saved_silent}
 use Rattle.ws_extended_station.proofs.Beside.{asks_nothing, elements_alike}
-use Rattle.ws_extended_station.proofs.ErrorRows.{error_row_is, row_again}
 
 -- a record whose opcode does nothing
 after_idle : (state : ExtendedState) (r : Record ExtendedElement) (body : List ExtendedElement)
