@@ -118,21 +118,22 @@ euro_number France = 1147
 euro_number International = 1148
 euro_number Iceland = 1149
 
-abbrev pub number_of : CodePage → ℕ
-number_of page = if page.has_euro then euro_number page.country else national_number page.country
+-- the page's number
+abbrev pub page_number : CodePage → ℕ
+page_number page = if page.has_euro then euro_number page.country else national_number page.country
 
 -- what a display station tells a host of its page (RFC 4777, section 4): keyboard type, code page, character set
-abbrev pub keyboard_of : Country → List ℕ
-keyboard_of UnitedStates = codes "USB"
-keyboard_of Germany = codes "AGB"
-keyboard_of Denmark = codes "DMB"
-keyboard_of Finland = codes "FNB"
-keyboard_of Italy = codes "ITB"
-keyboard_of Spain = codes "SPB"
-keyboard_of UnitedKingdom = codes "UKB"
-keyboard_of France = codes "FAB"
-keyboard_of International = codes "BLI"
-keyboard_of Iceland = codes "ICB"
+abbrev pub page_keyboard : Country → List ℕ
+page_keyboard UnitedStates = codes "USB"
+page_keyboard Germany = codes "AGB"
+page_keyboard Denmark = codes "DMB"
+page_keyboard Finland = codes "FNB"
+page_keyboard Italy = codes "ITB"
+page_keyboard Spain = codes "SPB"
+page_keyboard UnitedKingdom = codes "UKB"
+page_keyboard France = codes "FAB"
+page_keyboard International = codes "BLI"
+page_keyboard Iceland = codes "ICB"
 
 abbrev pub national_digits : Country → List ℕ
 national_digits UnitedStates = codes "037"
@@ -158,8 +159,10 @@ euro_digits France = codes "1147"
 euro_digits International = codes "1148"
 euro_digits Iceland = codes "1149"
 
-abbrev pub digits_of : CodePage → List ℕ
-digits_of page = if page.has_euro then euro_digits page.country else national_digits page.country
+-- its number in digits
+abbrev pub page_digits : CodePage → List ℕ
+page_digits page = if page.has_euro then euro_digits page.country else national_digits page.country
 
-abbrev pub character_set_of : CodePage → List ℕ
-character_set_of page = if page.has_euro then codes "695" else codes "697"
+-- its character set, by number
+abbrev pub page_character_set : CodePage → List ℕ
+page_character_set page = if page.has_euro then codes "695" else codes "697"

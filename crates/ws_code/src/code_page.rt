@@ -1,6 +1,6 @@
 //! The code pages of twenty countries and languages, by which cells are characters.
 ghost use Rattle.std.specs.Prelude.{◌≡◌, ◌↔◌, ◌<◌, ◌⊎◌, ℕ, Some, IfSome};
-ghost use Rattle.ws_code.specs.CodePage.{IsOneToOne, char_on, byte_on, number_of, keyboard_of, digits_of, character_set_of};
+ghost use Rattle.ws_code.specs.CodePage.{IsOneToOne, char_on, byte_on, page_number, page_keyboard, page_digits, page_character_set};
 ghost use Rattle.ws_code.specs.declared.code_page.CodePage.{CodePage};
 
 use crate::Country;
@@ -19,7 +19,7 @@ impl CodePage {
     /// The page of a number: one of 37, 273, 277, 278, 280, 284, 285, 297, 500, 871 and 1140 to 1149.
     /// `None` for another.
     pub fn from_number(number: u16) -> Option<Self>
-        ensures { (page : CodePage) → (result ≡ Some page) ↔ (number_of page ≡ number) }
+        ensures { (page : CodePage) → (result ≡ Some page) ↔ (page_number page ≡ number) }
     {
         let (country, has_euro) = match number {
             37 => (Country::UnitedStates, false),
@@ -49,7 +49,7 @@ impl CodePage {
 
     /// Its number: 37 to 1149.
     pub fn number(self) -> u16
-        ensures { result ≡ number_of self }
+        ensures { result ≡ page_number self }
     {
         match (self.country, self.has_euro) {
             (Country::UnitedStates, false) => 37,
@@ -106,7 +106,7 @@ impl CodePage {
 
     /// What a display station says of its keyboard to a host (RFC 4777, KBDTYPE): three letters.
     pub fn keyboard_type(self) -> &'static str
-        ensures { result.now ≡ keyboard_of self.country }
+        ensures { result.now ≡ page_keyboard self.country }
     {
         match self.country {
             Country::UnitedStates => "USB",
@@ -124,7 +124,7 @@ impl CodePage {
 
     /// What a display station says of its code page to a host (RFC 4777, CODEPAGE): the number, in three digits at least.
     pub fn digits(self) -> &'static str
-        ensures { result.now ≡ digits_of self }
+        ensures { result.now ≡ page_digits self }
     {
         match (self.country, self.has_euro) {
             (Country::UnitedStates, false) => "037",
@@ -152,7 +152,7 @@ impl CodePage {
 
     /// What a display station says of its character set to a host (RFC 4777, CHARSET).
     pub fn character_set(self) -> &'static str
-        ensures { result.now ≡ character_set_of self }
+        ensures { result.now ≡ page_character_set self }
     {
         if self.has_euro { "695" } else { "697" }
     }
@@ -161,7 +161,7 @@ impl CodePage {
 impl Default for CodePage {
     // 037.
     fn default() -> Self
-        ensures { number_of result ≡ 37 }
+        ensures { page_number result ≡ 37 }
     {
         CodePage {
             country: Country::UnitedStates,
