@@ -3,8 +3,8 @@ use Rattle.ws_keys.specs.declared.answer.Answer.{Answer}
 use Rattle.ws_keys.specs.declared.answer.Answer.TheVariants.{Read, Attention, SystemRequest}
 use Rattle.ws_keys.specs.declared.key.Key.{Key}
 use Rattle.ws_keys.specs.declared.key.KeyRefusal.{KeyRefusal}
-use Rattle.ws_session.specs.station.Displays.{IsPressedOnDisplay, SideOn}
-use Rattle.ws_session.specs.station.StationSide.{profile, ProfileParts}
+use Rattle.ws_end.specs.station.Displays.{IsPressedOnDisplay, SideOn}
+use Rattle.ws_end.specs.station.StationSide.{profile, ProfileParts}
 use Rattle.rows_session.specs.SecondDisplay.{SecondParts, SecondHappened, SecondGives, second, second_key, second_side}
 use Rattle.rows_session.specs.SecondDisplay.{profile_side}
 

@@ -10,9 +10,9 @@ use Rattle.ws_stream.specs.declared.answer_place.AnswerPlace.{AnswerPlace}
 use Rattle.ws_stream.specs.AnswerParts.{answer_rules}
 use Rattle.ws_screen.specs.Events.{History}
 use Rattle.ws_keys.specs.declared.key.Key.{Key}
-use Rattle.ws_session.specs.station.Displays.{DisplayOf, SideOn, KeyReactionOn, RefusesKey, Silent, Answers, Signals}
-use Rattle.ws_session.specs.Reaction.{Reaction, GoesOn, empty_record}
-use Rattle.ws_session.specs.station.StationSide.{profile, ProfileParts, StationSide}
+use Rattle.ws_end.specs.station.Displays.{DisplayOf, SideOn, KeyReactionOn, RefusesKey, Silent, Answers, Signals}
+use Rattle.ws_end.specs.Reaction.{Reaction, GoesOn, empty_record}
+use Rattle.ws_end.specs.station.StationSide.{profile, ProfileParts, StationSide}
 
 -- what it keeps: the profile's display, the bytes of the last answer, and whether its bell rings
 pub record SecondParts : Type 0 where

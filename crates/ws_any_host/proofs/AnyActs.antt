@@ -4,13 +4,13 @@ use Rattle.ws_record.specs.Encode.{item_spelling}
 use Rattle.ws_record.specs.RawBody.{raw_rules}
 use Rattle.ws_record.specs.declared.record.Item.TheVariants.{Record as RecordItem}
 use Rattle.ws_record.specs.declared.record.Record.{Record}
-use Rattle.ws_session.specs.Acts.{Did}
-use Rattle.ws_session.specs.declared.host_end.send_fault.SendFault.{SendFault}
-use Rattle.ws_session.specs.declared.host_end.send_fault.SendFault.TheVariants as why
-use Rattle.ws_session.specs.driver.Conducting.{DriverGoes}
-use Rattle.ws_session.specs.driver.Driven.{TakesNoMore, manner_of}
-use Rattle.ws_session.proofs.EndDeeds.{deed_gone}
-use Rattle.ws_session.proofs.Shuts.{none_leads}
+use Rattle.ws_end.specs.Acts.{Did}
+use Rattle.ws_end.specs.declared.host_end.send_fault.SendFault.{SendFault}
+use Rattle.ws_end.specs.declared.host_end.send_fault.SendFault.TheVariants as why
+use Rattle.ws_end.specs.driver.Conducting.{DriverGoes}
+use Rattle.ws_end.specs.driver.Driven.{TakesNoMore, manner_of}
+use Rattle.ws_end.proofs.EndDeeds.{deed_gone}
+use Rattle.ws_end.proofs.Shuts.{none_leads}
 use Rattle.ws_any_host.specs.AnyLeads.{AnyLeads, AnyParts, AtAny, IsAnySendFault, IsAnySendRefusal, IsAnySendTaken}
 use Rattle.ws_any_host.specs.AnyOptions.{Negotiated}
 use Rattle.ws_any_host.specs.AnySide.{any_driving, send_fault}

@@ -1,7 +1,7 @@
 use Rattle.std.specs.Prelude.{Some}
 use Rattle.std.proofs.Common.{◌≡◌, ℕ, List, [], ◌∷◌, ◌++◌, false, refl, subst}
 use Rattle.ws_code.specs.Device.{Devices}
-use Rattle.ws_session.specs.attached.Attachments.{AttachedParts, HasHeard}
+use Rattle.ws_end.specs.attached.Attachments.{AttachedParts, HasHeard}
 use Rattle.ws_any_host.specs.AnyLeads.{AnyParts, any_conduct}
 use Rattle.ws_any_host.specs.AnyText.{HaveToldBeforeKey, is_by}
 use Rattle.ws_any_host.specs.declared.any_event.AnyEvent.{AnyEvent}

@@ -5,13 +5,13 @@ use Rattle.std.specs.declared.alloc.Global.{Global}
 use Rattle.std.specs.declared.vec.Vec.{Vec}
 use Rattle.ws_record.specs.declared.record.Item.{Item}
 use Rattle.ws_record.specs.declared.record.Record.{Record}
-use Rattle.ws_session.specs.Conduct.{Conduct}
-use Rattle.ws_session.specs.attached.Deeds.{Judged, judged}
-use Rattle.ws_session.specs.declared.host_end.send_fault.SendFault.{SendFault}
-use Rattle.ws_session.specs.declared.host_end.send_fault.SendFault.TheVariants.{Failed as SendFailed}
-use Rattle.ws_session.specs.declared.host_end.send_fault.SendFault.TheVariants.{Memory as SendMemory}
-use Rattle.ws_session.specs.driver.Conducting.{driver_conduct}
-use Rattle.ws_session.specs.driver.Driven.{AtDriver, Driven, LeadsTo, TakesNoMore}
+use Rattle.ws_end.specs.Conduct.{Conduct}
+use Rattle.ws_end.specs.attached.Deeds.{Judged, judged}
+use Rattle.ws_end.specs.declared.host_end.send_fault.SendFault.{SendFault}
+use Rattle.ws_end.specs.declared.host_end.send_fault.SendFault.TheVariants.{Failed as SendFailed}
+use Rattle.ws_end.specs.declared.host_end.send_fault.SendFault.TheVariants.{Memory as SendMemory}
+use Rattle.ws_end.specs.driver.Conducting.{driver_conduct}
+use Rattle.ws_end.specs.driver.Driven.{AtDriver, Driven, LeadsTo, TakesNoMore}
 use Rattle.ws_any_host.specs.AnyOptions.{Negotiated}
 use Rattle.ws_any_host.specs.AnySide.{any_driving, send_fault}
 use Rattle.ws_any_host.specs.declared.any_event.AnyEvent.{AnyEvent}

@@ -13,12 +13,12 @@ use Rattle.ws_record.specs.declared.record.Item.TheVariants.{Record as RecordIte
 use Rattle.std.specs.declared.alloc.Global.{Global}
 use Rattle.std.specs.declared.vec.Vec.{Vec}
 use Rattle.ws_code.specs.Keep.{list_keeper}
-use Rattle.ws_session.specs.Acts.{Doing, idle}
-use Rattle.ws_session.specs.Reaction.{Output, Reaction, Refuses, GoesOn}
-use Rattle.ws_session.specs.driver.Driven.{Driving, driving}
-use Rattle.ws_session.specs.driver.Reacting.{ReactingOf}
-use Rattle.ws_session.specs.declared.host_end.send_fault.SendFault.{SendFault}
-use Rattle.ws_session.specs.declared.host_end.send_fault.SendFault.TheVariants.{NotAllowed, TooBig}
+use Rattle.ws_end.specs.Acts.{Doing, idle}
+use Rattle.ws_end.specs.Reaction.{Output, Reaction, Refuses, GoesOn}
+use Rattle.ws_end.specs.driver.Driven.{Driving, driving}
+use Rattle.ws_end.specs.driver.Reacting.{ReactingOf}
+use Rattle.ws_end.specs.declared.host_end.send_fault.SendFault.{SendFault}
+use Rattle.ws_end.specs.declared.host_end.send_fault.SendFault.TheVariants.{NotAllowed, TooBig}
 use Rattle.ws_any_host.specs.AnyOptions.{Negotiated, any_answer}
 use Rattle.ws_any_host.specs.declared.any_event.AnyEvent.{AnyEvent}
 use Rattle.ws_any_host.specs.declared.any_event.AnyEvent.TheVariants.{Ready, Record as Came}

@@ -10,10 +10,10 @@ use Rattle.ws_code.specs.Device.{most_reads, Devices}
 use Rattle.ws_code.specs.declared.fault.Fault.{Fault}
 use Rattle.ws_code.specs.declared.fault.Fault.TheVariants as fault
 use Rattle.ws_record.specs.Grammar.{two_bytes, opcode_byte}
-use Rattle.ws_session.specs.attached.Attachments.{AttachedParts, HasHeard, IsHearFault}
-use Rattle.ws_session.specs.attached.Deeds.{HasActed}
-use Rattle.ws_session.specs.declared.attached.acted.Acted.{Acted}
-use Rattle.ws_session.specs.declared.host_end.send_fault.SendFault.{SendFault}
+use Rattle.ws_end.specs.attached.Attachments.{AttachedParts, HasHeard, IsHearFault}
+use Rattle.ws_end.specs.attached.Deeds.{HasActed}
+use Rattle.ws_end.specs.declared.attached.acted.Acted.{Acted}
+use Rattle.ws_end.specs.declared.host_end.send_fault.SendFault.{SendFault}
 use Rattle.ws_text.specs.ItemLines.{hex_behind_blank}
 use Rattle.ws_live.specs.live.LiveText.{LineResult, LinesDo, bad_outcome, bad_text, line_result}
 use Rattle.ws_live.specs.live.ServeText.{given_outcome, given_text, unheard_outcome, unheard_text}

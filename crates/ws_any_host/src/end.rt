@@ -1,8 +1,8 @@
 //! A host that takes any record, as an end of a session.
 ghost use Rattle.ws_record.specs.RawBody.{raw_rules};
-ghost use Rattle.ws_session.specs.ActLaws.{goes_none, goes_on};
-ghost use Rattle.ws_session.specs.Acts.{ways};
-ghost use Rattle.ws_session.specs.driver.Driven.{TakesNoMore, manner_of};
+ghost use Rattle.ws_end.specs.ActLaws.{goes_none, goes_on};
+ghost use Rattle.ws_end.specs.Acts.{ways};
+ghost use Rattle.ws_end.specs.driver.Driven.{TakesNoMore, manner_of};
 ghost use Rattle.ws_any_host.specs.AnyLeads.{AnyLeads, any_conduct, IsAnySendRefusal, IsAnySendTaken};
 ghost use Rattle.ws_any_host.specs.AnySide.{any_driving};
 

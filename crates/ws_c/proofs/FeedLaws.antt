@@ -8,14 +8,14 @@ use Rattle.std.proofs.Math.Seq.{take-add}
 use Rattle.std.proofs.lemmas.Bool.{cases_lt}
 use Rattle.std.proofs.lemmas.List.{append-nil, length-drop, length-take-le, take-take}
 use Rattle.ws_record.specs.declared.record.Item.{Item}
-use Rattle.ws_session.specs.ActLaws.{came_append, gone_on}
-use Rattle.ws_session.specs.Acts.{Act, HasGone, all_came, as_list, ways}
-use Rattle.ws_session.specs.declared.end_step.EndFed.{EndFed}
-use Rattle.ws_session.specs.declared.end_step.EndStep.{EndStep}
-use Rattle.ws_session.specs.driver.Driven.{AreSilent, AtDriver, Come, Driven, DriverFeeds, Driving, LeadsTo, TakesNoMore}
-use Rattle.ws_session.specs.driver.Driven.{manner_of}
-use Rattle.ws_session.specs.declared.refusal.Refusal.{Refusal}
-use Rattle.ws_session.proofs.Feedings.{none_come}
+use Rattle.ws_end.specs.ActLaws.{came_append, gone_on}
+use Rattle.ws_end.specs.Acts.{Act, HasGone, all_came, as_list, ways}
+use Rattle.ws_end.specs.declared.end_step.EndFed.{EndFed}
+use Rattle.ws_end.specs.declared.end_step.EndStep.{EndStep}
+use Rattle.ws_end.specs.driver.Driven.{AreSilent, AtDriver, Come, Driven, DriverFeeds, Driving, LeadsTo, TakesNoMore}
+use Rattle.ws_end.specs.driver.Driven.{manner_of}
+use Rattle.ws_end.specs.declared.refusal.Refusal.{Refusal}
+use Rattle.ws_end.proofs.Feedings.{none_come}
 use Rattle.ws_c.specs.Pushes.{BringsAtMost, FrontTaken, HasToldAlone, first_bytes, refused_step}
 
 module _ {R K Place U Deed Event Reply : Type 0} (d : Driving R K Place U Deed Event Reply) where

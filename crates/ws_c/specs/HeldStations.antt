@@ -10,12 +10,12 @@ use Rattle.ws_extended.specs.declared.extended_place.ExtendedPlace.{ExtendedPlac
 use Rattle.ws_extended_station.specs.ExtendedDisplays.{DisplayParts, on_extended, standing_row}
 use Rattle.ws_extended_station.specs.declared.extended_key.ExtendedKey.{ExtendedKey}
 use Rattle.ws_extended_station.specs.declared.extended_key.ExtendedKey.TheVariants.{Profile, Reset}
-use Rattle.ws_session.specs.Ends.{refused_byte}
-use Rattle.ws_session.specs.station.Displays.{OnDisplay}
-use Rattle.ws_session.specs.station.StationManners.{new_side_on}
-use Rattle.ws_session.specs.station.StationSide.{on_profile}
-use Rattle.ws_session.specs.station.Stations.{LeadsOn, PartsOn, station_driving}
-use Rattle.ws_session.specs.declared.station.key_fault.KeyFault.{KeyFault}
+use Rattle.ws_end.specs.Ends.{refused_byte}
+use Rattle.ws_end.specs.station.Displays.{OnDisplay}
+use Rattle.ws_end.specs.station.StationManners.{new_side_on}
+use Rattle.ws_end.specs.station.StationSide.{on_profile}
+use Rattle.ws_end.specs.station.Stations.{LeadsOn, PartsOn, station_driving}
+use Rattle.ws_end.specs.declared.station.key_fault.KeyFault.{KeyFault}
 use Rattle.ws_c.specs.Calls.{Crossed, IsKeyTold, StationKeyedOn, TellsOnly, beside_screen, row_number, state_of_screen}
 use Rattle.ws_c.specs.Calls.{told_length}
 use Rattle.ws_c.specs.Held.{OnStations}

@@ -11,14 +11,14 @@ use Rattle.ws_record.specs.declared.opcode.Opcode.TheVariants.{CancelInvite}
 use Rattle.ws_record.specs.declared.record.Item.{Item}
 use Rattle.ws_stream.specs.declared.answer_part.AnswerPart.{AnswerPart}
 use Rattle.ws_stream.specs.declared.element.Element.{Element}
-use Rattle.ws_session.specs.host_end.HostLeads.{HostParts, HostLeads, IsSent, IsSendFault}
-use Rattle.ws_session.specs.host_end.HostSide.{HostSide, RefusesSend, host_send, host_cancel}
-use Rattle.ws_session.specs.declared.host_end.send_fault.SendFault.{SendFault}
-use Rattle.ws_session.specs.declared.host_end.send_fault.SendFault.TheVariants.{Failed as SendFailed, NotAllowed}
-use Rattle.ws_session.specs.declared.host_end.send_fault.SendFault.TheVariants.{ReadOutstanding as IsOutstanding, BadSequence}
-use Rattle.ws_session.specs.declared.host_end.send_fault.SendFault.TheVariants.{NoReadToCancel as NoneToCancel}
-use Rattle.ws_session.specs.declared.host_end.send_fault.SendFault.TheVariants.{Screen as RefusedByScreen, TooBig as IsTooBig}
-use Rattle.ws_session.specs.declared.host_end.send_fault.SendFault.TheVariants.{Memory as SendMemory}
+use Rattle.ws_end.specs.host_end.HostLeads.{HostParts, HostLeads, IsSent, IsSendFault}
+use Rattle.ws_end.specs.host_end.HostSide.{HostSide, RefusesSend, host_send, host_cancel}
+use Rattle.ws_end.specs.declared.host_end.send_fault.SendFault.{SendFault}
+use Rattle.ws_end.specs.declared.host_end.send_fault.SendFault.TheVariants.{Failed as SendFailed, NotAllowed}
+use Rattle.ws_end.specs.declared.host_end.send_fault.SendFault.TheVariants.{ReadOutstanding as IsOutstanding, BadSequence}
+use Rattle.ws_end.specs.declared.host_end.send_fault.SendFault.TheVariants.{NoReadToCancel as NoneToCancel}
+use Rattle.ws_end.specs.declared.host_end.send_fault.SendFault.TheVariants.{Screen as RefusedByScreen, TooBig as IsTooBig}
+use Rattle.ws_end.specs.declared.host_end.send_fault.SendFault.TheVariants.{Memory as SendMemory}
 use Rattle.ws_c.specs.declared.host.HeldHost.{HeldHost}
 use Rattle.ws_record.specs.declared.body_reader.BodyFault.{BodyFault}
 use Rattle.ws_record.specs.declared.body_reader.BodyFault.TheVariants.{Bad, Memory as BodyMemory}

@@ -19,11 +19,11 @@ use Rattle.ws_extended.specs.ExtendedKeys.{waits_for_reset}
 use Rattle.ws_extended.specs.ExtendedStates.{ExtendedState, Kept, state_after_all, state_after_end}
 use Rattle.ws_extended.specs.declared.extended_element.ExtendedElement.TheVariants.{Profile}
 use Rattle.ws_extended.proofs.StateLaws.{plain, profile_acts, profile_faults}
-use Rattle.ws_session.specs.Reaction.{Reaction, Refuses, GoesOn}
-use Rattle.ws_session.specs.declared.station.key_fault.KeyFault.TheVariants.{NotReady, Key as Refused}
-use Rattle.ws_session.specs.station.Displays.{RefusesKey}
-use Rattle.ws_session.specs.station.StationManners.{key_on, takes_on}
-use Rattle.ws_session.specs.station.StationSide.{opcode_answer, profile, station_applies}
+use Rattle.ws_end.specs.Reaction.{Reaction, Refuses, GoesOn}
+use Rattle.ws_end.specs.declared.station.key_fault.KeyFault.TheVariants.{NotReady, Key as Refused}
+use Rattle.ws_end.specs.station.Displays.{RefusesKey}
+use Rattle.ws_end.specs.station.StationManners.{key_on, takes_on}
+use Rattle.ws_end.specs.station.StationSide.{opcode_answer, profile, station_applies}
 use Rattle.ws_extended_station.specs.BesideProfile.{NoErrorStands, as_reacted, item_there, record_there}
 use Rattle.ws_extended_station.specs.Bytewise.{by_bytes}
 use Rattle.ws_extended_station.specs.ExtendedDisplays.{ExtendedSide, as_profile, extended, extended_applies}

@@ -16,11 +16,11 @@ use Rattle.ws_keys.proofs.StepLemmas.{does_follow}
 use Rattle.ws_extended.specs.ErrorLine.{error_row}
 use Rattle.ws_extended.specs.ExtendedKeys.{waits_for_reset}
 use Rattle.ws_extended.specs.ExtendedViews.{ExtendedParts}
-use Rattle.ws_session.specs.declared.station.key_fault.KeyFault.TheVariants.{Key as Refused}
-use Rattle.ws_session.specs.station.Displays.{IsPressedOnDisplay, RefusesKey, Silent, Answers}
-use Rattle.ws_session.specs.station.StationSide.{KeyReaction, StationSide, answers_read, key_by_refusal, presses}
-use Rattle.ws_session.specs.station.StationSide.{profile, ProfileParts, screen_at}
-use Rattle.ws_session.proofs.ProfileKeys.{pressed}
+use Rattle.ws_end.specs.declared.station.key_fault.KeyFault.TheVariants.{Key as Refused}
+use Rattle.ws_end.specs.station.Displays.{IsPressedOnDisplay, RefusesKey, Silent, Answers}
+use Rattle.ws_end.specs.station.StationSide.{KeyReaction, StationSide, answers_read, key_by_refusal, presses}
+use Rattle.ws_end.specs.station.StationSide.{profile, ProfileParts, screen_at}
+use Rattle.ws_end.proofs.ProfileKeys.{pressed}
 use Rattle.ws_extended_station.specs.ExtendedDisplays.{DisplayParts, ExtendedGives, ExtendedSide, as_profile, extended}
 use Rattle.ws_extended_station.specs.ExtendedDisplays.{profile_side, with_profile}
 use Rattle.ws_extended_station.specs.declared.extended_key.ExtendedKey.TheVariants.{Profile}

@@ -27,8 +27,8 @@ use Rattle.ws_extended.specs.declared.extended_element.ExtendedElement.TheVarian
 use Rattle.ws_extended.proofs.ImageLaws.{image_unrefused}
 use Rattle.ws_extended.proofs.StateLaws.{ends_closed, error_resets, none_stands, plain, restored_row, restores}
 use Rattle.ws_extended.proofs.StateLaws.{saved_is_body}
-use Rattle.ws_session.specs.station.Displays.{KeyReactionOn, Silent}
-use Rattle.ws_session.specs.station.StationSide.{opcode_events}
+use Rattle.ws_end.specs.station.Displays.{KeyReactionOn, Silent}
+use Rattle.ws_end.specs.station.StationSide.{opcode_events}
 use Rattle.ws_extended_station.specs.BesideProfile.{NoErrorStands}
 use Rattle.ws_extended_station.specs.ExtendedAlarms.{extended_alarms_in}
 use Rattle.ws_extended_station.specs.ExtendedDisplays.{ExtendedHappened, ExtendedSide, extended, with_state}

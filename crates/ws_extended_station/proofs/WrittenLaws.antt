@@ -17,12 +17,12 @@ use Rattle.ws_extended.specs.Asking.{asks_in, first_ask}
 use Rattle.ws_extended.specs.ExtendedStates.{ExtendedState}
 use Rattle.ws_extended.specs.declared.ask.Ask.{Ask}
 use Rattle.ws_extended.specs.declared.extended_element.ExtendedElement.{ExtendedElement}
-use Rattle.ws_session.specs.Acts.{Arrives, Does, Happening, doing}
-use Rattle.ws_session.specs.Reaction.{Refuses, GoesOn}
-use Rattle.ws_session.specs.station.Displays.{KeyReactionOn, RefusesKey, Silent, Answers, Signals}
-use Rattle.ws_session.specs.station.StationManners.{at_key_on, key_on}
-use Rattle.ws_session.specs.station.StationReacting.{at_item_on, at_on, manner_on}
-use Rattle.ws_session.specs.station.StationSide.{opcode_answer}
+use Rattle.ws_end.specs.Acts.{Arrives, Does, Happening, doing}
+use Rattle.ws_end.specs.Reaction.{Refuses, GoesOn}
+use Rattle.ws_end.specs.station.Displays.{KeyReactionOn, RefusesKey, Silent, Answers, Signals}
+use Rattle.ws_end.specs.station.StationManners.{at_key_on, key_on}
+use Rattle.ws_end.specs.station.StationReacting.{at_item_on, at_on, manner_on}
+use Rattle.ws_end.specs.station.StationSide.{opcode_answer}
 use Rattle.ws_extended_station.specs.Bytewise.{by_bytes}
 use Rattle.ws_extended_station.specs.ExtendedDisplays.{ExtendedHappened, ExtendedSide, extended, extended_applies}
 use Rattle.ws_extended_station.specs.ExtendedDisplays.{with_state}

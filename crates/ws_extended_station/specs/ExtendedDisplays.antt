@@ -13,11 +13,11 @@ use Rattle.ws_extended.specs.ExtendedKeys.{waits_for_reset}
 use Rattle.ws_extended.specs.ExtendedStates.{ExtendedState, state_after_reset}
 use Rattle.ws_extended.specs.ExtendedViews.{ExtendedParts, Shows}
 use Rattle.ws_extended.specs.declared.extended_element.ExtendedElement.{ExtendedElement}
-use Rattle.ws_session.specs.station.Alarms.{alarm_count, alarms_of}
-use Rattle.ws_session.specs.declared.station.key_fault.KeyFault.TheVariants.{Key as Refused}
-use Rattle.ws_session.specs.station.Displays.{DisplayOf, SideOn, KeyReactionOn, RefusesKey, Silent, Answers, Signals}
-use Rattle.ws_session.specs.Reaction.{Reaction, Refuses, GoesOn}
-use Rattle.ws_session.specs.station.StationSide.{StationSide, answer_record, profile}
+use Rattle.ws_end.specs.station.Alarms.{alarm_count, alarms_of}
+use Rattle.ws_end.specs.declared.station.key_fault.KeyFault.TheVariants.{Key as Refused}
+use Rattle.ws_end.specs.station.Displays.{DisplayOf, SideOn, KeyReactionOn, RefusesKey, Silent, Answers, Signals}
+use Rattle.ws_end.specs.Reaction.{Reaction, Refuses, GoesOn}
+use Rattle.ws_end.specs.station.StationSide.{StationSide, answer_record, profile}
 use Rattle.ws_extended_station.specs.Bytewise.{by_bytes}
 use Rattle.ws_extended_station.specs.ExtendedRecords.{record_fault, record_writes, state_after_record}
 use Rattle.ws_extended_station.specs.declared.extended_key.ExtendedKey.{ExtendedKey}
@@ -25,7 +25,7 @@ use Rattle.ws_extended_station.specs.declared.extended_key.ExtendedKey.TheVarian
 use Rattle.ws_extended_station.specs.declared.extended_reply.ExtendedReply.{ExtendedReply}
 use Rattle.ws_extended_station.specs.declared.extended_reply.ExtendedReply.TheVariants.{Bytes, Kept as IsKept}
 use Rattle.ws_extended.specs.ExtendedElements.{extended_rules}
-use Rattle.ws_session.specs.station.Displays.{OnDisplay, on_display}
+use Rattle.ws_end.specs.station.Displays.{OnDisplay, on_display}
 
 -- a display that live hosts use, how many alarms have sounded, its terminal, and the bytes that its last record had it
 -- write

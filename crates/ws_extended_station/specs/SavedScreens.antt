@@ -14,9 +14,9 @@ use Rattle.ws_extended.specs.Image.{IsTyped}
 use Rattle.ws_extended.specs.Telling.{told_bytes}
 use Rattle.ws_extended.specs.declared.ask.Ask.TheVariants.{SaveScreen}
 use Rattle.ws_extended.specs.declared.extended_element.ExtendedElement.{ExtendedElement}
-use Rattle.ws_session.specs.station.Alarms.{alarms_of}
-use Rattle.ws_session.specs.station.Displays.{Silent}
-use Rattle.ws_session.specs.station.StationSide.{opcode_events}
+use Rattle.ws_end.specs.station.Alarms.{alarms_of}
+use Rattle.ws_end.specs.station.Displays.{Silent}
+use Rattle.ws_end.specs.station.StationSide.{opcode_events}
 use Rattle.ws_extended_station.specs.ExtendedDisplays.{ExtendedSide, extended, with_state}
 use Rattle.ws_extended_station.specs.declared.extended_key.ExtendedKey.TheVariants.{Reset}
 use Rattle.ws_extended_station.specs.ExtendedRecords.{record_fault, state_after_record}

@@ -1,7 +1,7 @@
 ghost use Rattle.std.specs.Prelude.{◌≡◌, ◌≤◌, ◌+◌, ◌++◌, ◌∷◌, [], ℕ, None, length, map};
 ghost use Rattle.ws_record.specs.Encode.{plain_spelling};
 ghost use Rattle.ws_record.specs.RawBody.{raw_rules};
-ghost use Rattle.ws_session.specs.station.StationSide.{answer_record, opcode_answer};
+ghost use Rattle.ws_end.specs.station.StationSide.{answer_record, opcode_answer};
 ghost use Rattle.ws_extended.specs.ExtendedStates.{ExtendedState};
 ghost use Rattle.ws_extended.specs.ExtendedViews.{Shows};
 ghost use Rattle.ws_extended_station.specs.Bytewise.{by_bytes, spelled_alike};

@@ -3,10 +3,10 @@ use Rattle.std.proofs.Common.{◌≡◌, ℕ, List, [], ◌∷◌, ◌++◌, fal
 use Rattle.std.proofs.Common.{subst}
 use Rattle.ws_code.specs.Device.{Devices}
 use Rattle.ws_code.specs.declared.fault.Fault.TheVariants as fault
-use Rattle.ws_session.specs.Conducts.{host_conduct}
-use Rattle.ws_session.specs.attached.Attachments.{AttachedParts, HasHeard}
-use Rattle.ws_session.specs.declared.host_end.host_event.HostEvent.{HostEvent}
-use Rattle.ws_session.specs.host_end.HostLeads.{HostParts}
+use Rattle.ws_end.specs.Conducts.{host_conduct}
+use Rattle.ws_end.specs.attached.Attachments.{AttachedParts, HasHeard}
+use Rattle.ws_end.specs.declared.host_end.host_event.HostEvent.{HostEvent}
+use Rattle.ws_end.specs.host_end.HostLeads.{HostParts}
 use Rattle.ws_live.specs.declared.live.serve_line.AnswerAwaited.{AnswerAwaited}
 use Rattle.ws_live.specs.live.ServeText.{is_awaited}
 use Rattle.ws_live.specs.live.ServeText.{HaveToldBeforeAnswer}

@@ -8,10 +8,10 @@ use Rattle.ws_nego.specs.Host.{opening}
 use Rattle.ws_record.specs.Encode.{plain_spelling}
 use Rattle.ws_record.specs.declared.record.Item.TheVariants.{Telnet}
 use Rattle.ws_stream.specs.Elements.{element_rules}
-use Rattle.ws_session.specs.attached.Attachments.{AttachedParts}
-use Rattle.ws_session.specs.host_end.HostLeads.{HostParts, HostLeads, unopened_host_side, side_after_open}
-use Rattle.ws_session.specs.station.StationManners.{new_side_on}
-use Rattle.ws_session.specs.station.Stations.{LeadsOn}
+use Rattle.ws_end.specs.attached.Attachments.{AttachedParts}
+use Rattle.ws_end.specs.host_end.HostLeads.{HostParts, HostLeads, unopened_host_side, side_after_open}
+use Rattle.ws_end.specs.station.StationManners.{new_side_on}
+use Rattle.ws_end.specs.station.Stations.{LeadsOn}
 use Rattle.ws_live.specs.declared.asked.live_asked.ConnectAsked.{ConnectAsked}
 use Rattle.ws_live.specs.declared.asked.live_asked.ServeAsked.{ServeAsked}
 use Rattle.ws_live.specs.declared.live.connect_line.StationLine.{StationLine}
@@ -26,7 +26,7 @@ use Rattle.ws_network.specs.Sessions.{AreFromScript, IsConnected, IsServed}
 use Rattle.ws_network.specs.SessionPrinting.{IsTextAndOn, session_lines}
 use Rattle.ws_network.specs.Times.{ConnectionReads, ConnectionWrites, no_reads, no_writes, timed, timed_waits}
 use Rattle.ws_network.specs.Times.{timed_writer}
-use Rattle.ws_session.specs.station.Stations.{StationOf}
+use Rattle.ws_end.specs.station.Stations.{StationOf}
 
 -- what follows from what a session came to, of what is told of it
 pub judged : {T E : Type 0} (P Q : T → Type 0) (outcome told : Result T E) → IfOk outcome P

@@ -8,11 +8,11 @@ use Rattle.ws_record.specs.Encode.{plain_spelling}
 use Rattle.ws_record.specs.declared.record.Item.TheVariants.{Telnet}
 use Rattle.ws_extended.specs.ExtendedElements.{extended_rules}
 use Rattle.ws_extended_station.specs.ExtendedDisplays.{extended}
-use Rattle.ws_session.specs.attached.Attachments.{AttachedParts}
-use Rattle.ws_session.specs.host_end.HostLeads.{HostParts, HostLeads, unopened_host_side, side_after_open}
-use Rattle.ws_session.specs.station.StationManners.{new_side_on}
-use Rattle.ws_session.specs.station.StationSide.{profile}
-use Rattle.ws_session.specs.station.Stations.{LeadsOn}
+use Rattle.ws_end.specs.attached.Attachments.{AttachedParts}
+use Rattle.ws_end.specs.host_end.HostLeads.{HostParts, HostLeads, unopened_host_side, side_after_open}
+use Rattle.ws_end.specs.station.StationManners.{new_side_on}
+use Rattle.ws_end.specs.station.StationSide.{profile}
+use Rattle.ws_end.specs.station.Stations.{LeadsOn}
 use Rattle.ws_stream.specs.Elements.{element_rules}
 use Rattle.ws_live.specs.live.ConnectLines.{station_language}
 use Rattle.ws_live.specs.live.ConnectText.{StationRunsInTime}
@@ -32,7 +32,7 @@ use Rattle.ws_network.specs.Times.{ConnectionReads, ConnectionWrites, no_reads, 
 use Rattle.ws_network.specs.Times.{timed_writer}
 use Rattle.ws_live.specs.declared.asked.live_asked.ConnectAsked.{ConnectAsked}
 use Rattle.ws_live.specs.declared.asked.live_asked.ServeAsked.{ServeAsked}
-use Rattle.ws_session.specs.station.Stations.{StationOf}
+use Rattle.ws_end.specs.station.Stations.{StationOf}
 
 -- where a script is named, the lines are those that its file, whatever it holds, means
 abbrev pub AreFromScript : {L : Type 0} → LineLanguage L → Option (Bor (List ℕ)) → List L → Type 0

@@ -7,14 +7,14 @@ use Rattle.ws_code.specs.Device.{most_reads, one_more}
 use Rattle.ws_code.specs.declared.fault.Fault.{Fault}
 use Rattle.ws_code.specs.declared.fault.Fault.TheVariants as fault
 use Rattle.ws_screen.specs.ScreenParts.{ScreenParts}
-use Rattle.ws_session.specs.Acts.{Did}
-use Rattle.ws_session.specs.attached.Attachments.{AttachedParts, HaveLedUnwritten, HasHeard, IsHearFault}
-use Rattle.ws_session.specs.attached.Deeds.{HasActed, is_done, key_judged}
-use Rattle.ws_session.specs.Conducts.{station_conduct}
-use Rattle.ws_session.specs.declared.attached.acted.Acted.{Acted}
-use Rattle.ws_session.specs.declared.attached.acted.Acted.TheVariants as acted
-use Rattle.ws_session.specs.declared.end_step.Applied.{Applied}
-use Rattle.ws_session.specs.declared.station.key_fault.KeyFault.{KeyFault}
+use Rattle.ws_end.specs.Acts.{Did}
+use Rattle.ws_end.specs.attached.Attachments.{AttachedParts, HaveLedUnwritten, HasHeard, IsHearFault}
+use Rattle.ws_end.specs.attached.Deeds.{HasActed, is_done, key_judged}
+use Rattle.ws_end.specs.Conducts.{station_conduct}
+use Rattle.ws_end.specs.declared.attached.acted.Acted.{Acted}
+use Rattle.ws_end.specs.declared.attached.acted.Acted.TheVariants as acted
+use Rattle.ws_end.specs.declared.end_step.Applied.{Applied}
+use Rattle.ws_end.specs.declared.station.key_fault.KeyFault.{KeyFault}
 use Rattle.ws_session.specs.declared.world.Event.TheVariants.{StationRefused}
 use Rattle.ws_live.specs.printing.FieldLines.{AreFieldLines}
 use Rattle.ws_live.specs.printing.PlayLines.{event_text, key_fault_name}
@@ -39,7 +39,7 @@ use Rattle.ws_live.specs.declared.printing.paint.Paint.{Paint}
 use Rattle.ws_live.specs.declared.live.Closing.TheVariants.{Nothing, Done, Declined, Late, Ended, Stopped}
 use Rattle.ws_live.specs.declared.live.watch.WaitSpan.{WaitSpan}
 use Rattle.ws_live.specs.declared.live.watch.WaitSpan.TheVariants.{Whole, AtOnce, Quiet as UntilQuiet}
-use Rattle.ws_session.specs.station.Stations.{StationOf}
+use Rattle.ws_end.specs.station.Stations.{StationOf}
 use Rattle.ws_live.specs.live.Operating.{KeyAt}
 
 -- how long a wait for this lasts

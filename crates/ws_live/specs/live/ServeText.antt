@@ -6,15 +6,15 @@ use Rattle.std.specs.List.{flat_map}
 use Rattle.ws_code.specs.Device.{most_reads, Devices}
 use Rattle.ws_code.specs.declared.fault.Fault.{Fault}
 use Rattle.ws_code.specs.declared.fault.Fault.TheVariants as fault
-use Rattle.ws_session.specs.attached.Attachments.{AttachedParts, HasHeard, IsHearFault}
-use Rattle.ws_session.specs.attached.Deeds.{HasActed, order_judged}
-use Rattle.ws_session.specs.host_end.HostLeads.{HostParts}
-use Rattle.ws_session.specs.Conducts.{host_conduct}
-use Rattle.ws_session.specs.declared.attached.acted.Acted.{Acted}
-use Rattle.ws_session.specs.declared.attached.acted.Acted.TheVariants as acted
-use Rattle.ws_session.specs.declared.host_end.host_event.HostEvent.{HostEvent}
-use Rattle.ws_session.specs.declared.host_end.host_event.HostEvent.TheVariants.{Answer}
-use Rattle.ws_session.specs.declared.host_end.send_fault.SendFault.{SendFault}
+use Rattle.ws_end.specs.attached.Attachments.{AttachedParts, HasHeard, IsHearFault}
+use Rattle.ws_end.specs.attached.Deeds.{HasActed, order_judged}
+use Rattle.ws_end.specs.host_end.HostLeads.{HostParts}
+use Rattle.ws_end.specs.Conducts.{host_conduct}
+use Rattle.ws_end.specs.declared.attached.acted.Acted.{Acted}
+use Rattle.ws_end.specs.declared.attached.acted.Acted.TheVariants as acted
+use Rattle.ws_end.specs.declared.host_end.host_event.HostEvent.{HostEvent}
+use Rattle.ws_end.specs.declared.host_end.host_event.HostEvent.TheVariants.{Answer}
+use Rattle.ws_end.specs.declared.host_end.send_fault.SendFault.{SendFault}
 use Rattle.ws_session.specs.declared.world.Event.TheVariants.{SendRefused, HostRefused}
 use Rattle.ws_live.specs.live.LiveText.{LineResult, LinesDo, bad_outcome, bad_text, line_result}
 use Rattle.ws_live.specs.live.Waits.{InTime, WatchTimes, WatchedDevices}

@@ -1,5 +1,5 @@
 ghost use Rattle.std.specs.Prelude.{◌≡◌, ◌++◌, [], ◌<◌, ℕ, List as Seq, true, length, codes, IfOk, IfErr, MatchOption};
-ghost use Rattle.ws_session.specs.declared.end_step.Order.TheVariants.{Send};
+ghost use Rattle.ws_end.specs.declared.end_step.Order.TheVariants.{Send};
 ghost use Rattle.ws_live.specs.live.LiveScript.{IsBlockFault};
 ghost use Rattle.ws_live.specs.live.ServeLines.{IsHostLine, IsOneLine, OpensHostBlock, host_language};
 ghost use Rattle.ws_live.specs.live.ServeLines as Spec;

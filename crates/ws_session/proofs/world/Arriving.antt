@@ -4,7 +4,7 @@ use C.{drop, ap, sym}
 use C.{arith, ◌^◌, min, inl, inr, length, append_assoc, add-zero, length-append, length-drop, length-take, ◌-◌}
 use C.{take-add, cases_lt, flat_map-append, length-take-le, append-nil, take_all, take-take, drop-drop}
 use C.{came_append, Act, all_came, Refusal, At, Event, Through, WireParts, reported, HasMemory, Comes, AreDelivered}
-use Rattle.ws_session.specs.Conduct.{Conduct}
+use Rattle.ws_end.specs.Conduct.{Conduct}
 use Rattle.ws_session.specs.world.Wires.{AtEnd, HasCome, Telling}
 use Rattle.ws_session.proofs.world.Crossed.{past}
 

@@ -12,18 +12,18 @@ use C.{station_gets, byte_to_station}
 use C.{up_bytes, host_did, host_gets, byte_to_host, events_with, bytes_to_station, bytes_to_host}
 use Rattle.ws_record.proofs.Flights.{byte_more, ByteMore}
 use Rattle.ws_stream.specs.AnswerLaws.{part_prefix_free, part_begins, part_bytes}
-use Rattle.ws_session.specs.Conducts.{host_conduct, profile_conduct}
-use Rattle.ws_session.specs.driver.Conducting.{DriverSilent}
+use Rattle.ws_end.specs.Conducts.{host_conduct, profile_conduct}
+use Rattle.ws_end.specs.driver.Conducting.{DriverSilent}
 use Rattle.ws_session.specs.world.Wires.{host_telling, station_telling}
 use Rattle.ws_session.proofs.Writables.{host_writes_well, answers_writable, WritesWell}
 use Rattle.ws_session.proofs.world.Bytes.{byte_down, byte_up}
 use Rattle.ws_session.proofs.world.OneByOne.{Later, gone_first, delivered, many_on, stop}
 use Rattle.ws_session.proofs.world.Reached.{station_writes, going_station, host_writes, going_host, is_sound, OfStation}
 use Rattle.ws_session.proofs.world.Reached.{OfHost}
-use Rattle.ws_session.specs.station.Stations.{station_driving}
-use Rattle.ws_session.specs.station.StationReacting.{StationStands}
-use Rattle.ws_session.specs.station.StationSide.{profile}
-use Rattle.ws_session.specs.station.StationSide.{on_profile}
+use Rattle.ws_end.specs.station.Stations.{station_driving}
+use Rattle.ws_end.specs.station.StationReacting.{StationStands}
+use Rattle.ws_end.specs.station.StationSide.{profile}
+use Rattle.ws_end.specs.station.StationSide.{on_profile}
 
 -- A byte comes to the station of a running session.
 

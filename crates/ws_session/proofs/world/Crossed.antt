@@ -5,7 +5,6 @@ use Rattle.ws_session.proofs.Common.{refl, Session, after_move, after_moves, ari
 use Rattle.ws_code.specs.Device.{Devices}
 use Rattle.ws_session.specs.declared.world.line.Line.{Line}
 use Rattle.ws_session.specs.world.Carried.{all_brought}
-use Rattle.ws_session.specs.world.Carrying.{passage}
 
 -- What has crossed a line.
 
@@ -30,7 +29,7 @@ module _ {S R : Type 0} (devices : Devices R S) where
 
   -- a stop behind pieces that crossed
   pub stop_behind : (a b c : Line S R) (cs : List Crossing) (fault : Fault) → HaveCrossed devices a cs b
-      → IsStopped (passage devices b c) fault → IsStopped (passage devices a c) fault
+      → IsStopped devices b c fault → IsStopped devices a c fault
   stop_behind a b c cs fault p q = record {
     crossings = cs ++ q.crossings;
     last = q.last;

@@ -5,11 +5,11 @@ use C.{length-drop, drop-cons, length-take, ◌⊎◌, true, add-suc, subst₂, 
 use C.{append-nil, drop-drop, Rules, Reason, plain_spelling, item_spelling, Item, bytes_came, all_came, Happening}
 use C.{doing, items_of, HasGone, Arrives, Manner, AllTaken, Happen, HoldsItems, Goes, Refusal, Event, HasRefusedIn}
 use C.{Through, WireParts, reported, HasMemory, AreDelivered, at_end, Session}
-use Rattle.ws_session.specs.Acts.{bytes_of}
-use Rattle.ws_session.specs.Conduct.{Conduct}
+use Rattle.ws_end.specs.Acts.{bytes_of}
+use Rattle.ws_end.specs.Conduct.{Conduct}
 use Rattle.ws_session.specs.world.Wires.{Telling}
-use Rattle.ws_session.proofs.EndSteps.{gone_none}
-use Rattle.ws_session.specs.Acts.{ways}
+use Rattle.ws_end.proofs.EndSteps.{gone_none}
+use Rattle.ws_end.specs.Acts.{ways}
 
 -- Bytes that come to an end, one by one.
 

@@ -15,15 +15,16 @@ use Rattle.ws_code.specs.Aid.{IsAid}
 use Rattle.ws_record.proofs.Flights.{writable_append, still_led, not_more}
 use Rattle.ws_keys.specs.declared.answer.Answer.{Answer}
 use Rattle.ws_keys.proofs.WholeLaws.{answer_whole, answer_short}
-use Rattle.ws_session.specs.declared.end_step.Order.{Order}
-use Rattle.ws_session.specs.declared.end_step.Order.TheVariants.{Send as Sending}
-use Rattle.ws_session.specs.declared.end_step.Sent.{Sent}
-use Rattle.ws_session.specs.host_end.HostLeads.{CarriesOut, sent_bytes}
-use Rattle.ws_session.specs.host_end.HostSide.{host_orders}
+use Rattle.ws_end.specs.declared.end_step.Order.{Order}
+use Rattle.ws_end.specs.declared.end_step.Order.TheVariants.{Send as Sending}
+use Rattle.ws_end.specs.declared.end_step.Sent.{Sent}
+use Rattle.ws_end.specs.host_end.HostLeads.{CarriesOut, sent_bytes}
+use Rattle.ws_end.specs.host_end.HostSide.{host_orders}
+use Rattle.ws_end.proofs.EndDeeds.{refrains}
 use Rattle.ws_session.proofs.world.Betweens.{Sound}
 use Rattle.ws_session.proofs.world.Worlds.{sound}
-use Rattle.ws_session.specs.station.Stations.{IsKeyedOn}
-use Rattle.ws_session.specs.station.StationSide.{on_profile}
+use Rattle.ws_end.specs.station.Stations.{IsKeyedOn}
+use Rattle.ws_end.specs.station.StationSide.{on_profile}
 
 -- A running session is a world that its moves lead to.
 
@@ -127,13 +128,6 @@ few_down {w = w} r few = omega (arith, few, ap (λ z. length z) r.down, length-t
 pub few_up : {t : TerminalType} {w : Session} {old : WorldParts} → Runs t old w → length old.up + 1 < 2 ^ 64
     → length (take w.at_host (up_bytes w)) + 1 < 2 ^ 64
 few_up {w = w} r few = omega (arith, few, ap (λ z. length z) r.up, length-take w.at_host (up_bytes w))
-
--- a send that is refused for another reason than want of memory
-pub refrains : (reaction : SendReaction) (fault : SendFault) → (fault ≡ NoMemory → ⊥) → IsSendFault reaction fault
-    → reaction ≡ RefusesSend fault
-refrains reaction SendFailed ne f = absurd f
-refrains reaction NoMemory ne f = absurd (ne refl)
-refrains reaction fault ne f = f
 
 module _ {t : TerminalType} {w : Session} {old : WorldParts} (r : Runs t old w) (move : Move)
     (order : Order) (moves_by : after_move w move ≡ after_send w (host_orders w.host order)) where

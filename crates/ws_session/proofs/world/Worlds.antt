@@ -10,8 +10,8 @@ use C.{Press, SendMove, sent_record, is_outstanding, SendReaction, RefusesSend, 
 use C.{host_sends_body, is_too_big, answers_in, answer_in, after_key, screen_at, RefusesKey, station_key, sends}
 use C.{answers_read, key_by_refusal, presses, Session, new_session, after_moves, after_move, byte_to_station, byte_to_host}
 use C.{bytes_to_station, bytes_to_host, station_pressed, host_sent, after_press, after_send}
-use Rattle.ws_session.specs.declared.end_step.Order.TheVariants.{Send as Sending}
-use Rattle.ws_session.specs.host_end.HostSide.{host_orders}
+use Rattle.ws_end.specs.declared.end_step.Order.TheVariants.{Send as Sending}
+use Rattle.ws_end.specs.host_end.HostSide.{host_orders}
 use Rattle.std.proofs.lemmas.Bool.{cases_Bool}
 use Rattle.ws_nego.proofs.Exchanges.{Exchanges}
 use Rattle.ws_record.proofs.Flights.{start_inside, InFlight, written}

@@ -8,11 +8,11 @@ use Rattle.ws_screen.specs.Formats.{fields}
 use Rattle.ws_stream.specs.AnswerParts.{answer_rules}
 use Rattle.ws_stream.specs.Elements.{element_rules}
 use Rattle.ws_session.specs.declared.world.Report.{Report}
-use Rattle.ws_session.specs.station.Alarms.{alarm_count, alarms_of}
-use Rattle.ws_session.specs.host_end.HostLeads.{HostLeads}
-use Rattle.ws_session.specs.host_end.HostSide.{asked_read}
-use Rattle.ws_session.specs.station.StationLeads.{StationLeads}
-use Rattle.ws_session.specs.station.StationSide.{screen_at}
+use Rattle.ws_end.specs.station.Alarms.{alarm_count, alarms_of}
+use Rattle.ws_end.specs.host_end.HostLeads.{HostLeads}
+use Rattle.ws_end.specs.host_end.HostSide.{asked_read}
+use Rattle.ws_end.specs.station.StationLeads.{StationLeads}
+use Rattle.ws_end.specs.station.StationSide.{screen_at}
 use Rattle.ws_session.specs.world.Session.{Session, down_bytes, up_bytes, to_station, to_host}
 
 -- What is reported of a session, its events, both ends, and the bytes in flight to the station and to the host end: it

@@ -13,16 +13,16 @@ use Rattle.ws_stream.specs.AnswerParts.{answer_rules}
 use Rattle.ws_stream.specs.Elements.{element_rules}
 use Rattle.ws_stream.specs.declared.answer_part.AnswerPart.{AnswerPart}
 use Rattle.ws_stream.specs.declared.element.Element.{Element}
-use Rattle.ws_session.specs.declared.end_step.Sent.{Sent}
-use Rattle.ws_session.specs.declared.host_end.send_fault.SendFault.{SendFault}
-use Rattle.ws_session.specs.declared.host_end.send_fault.SendFault.TheVariants.{Memory as SendMemory}
+use Rattle.ws_end.specs.declared.end_step.Sent.{Sent}
+use Rattle.ws_end.specs.declared.host_end.send_fault.SendFault.{SendFault}
+use Rattle.ws_end.specs.declared.host_end.send_fault.SendFault.TheVariants.{Memory as SendMemory}
 use Rattle.ws_session.specs.declared.world.Event.{Event}
 use Rattle.ws_session.specs.declared.world.Event.TheVariants.{SendRefused}
 use Rattle.ws_session.specs.declared.world.Move.{Move}
-use Rattle.ws_session.specs.host_end.HostLeads.{HostParts, HostLeads, sent_bytes}
-use Rattle.ws_session.specs.host_end.HostSide.{HostSide}
-use Rattle.ws_session.specs.station.StationSide.{StationSide}
-use Rattle.ws_session.specs.station.StationLeads.{StationParts, StationLeads}
+use Rattle.ws_end.specs.host_end.HostLeads.{HostParts, HostLeads, sent_bytes}
+use Rattle.ws_end.specs.host_end.HostSide.{HostSide}
+use Rattle.ws_end.specs.station.StationSide.{StationSide}
+use Rattle.ws_end.specs.station.StationLeads.{StationParts, StationLeads}
 use Rattle.ws_record.specs.Arrived.{arrived}
 use Rattle.ws_session.specs.world.Wires.{AtEnd, at_end}
 use Rattle.ws_session.specs.world.Session.{Session, new_session, after_moves, down_bytes, up_bytes}

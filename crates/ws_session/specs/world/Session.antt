@@ -15,21 +15,21 @@ use Rattle.ws_keys.specs.declared.key.Key.{Key}
 use Rattle.ws_keys.specs.declared.host_answer.HostAnswer.{HostAnswer}
 use Rattle.ws_stream.specs.AnswerParts.{answer_rules}
 use Rattle.ws_keys.specs.Splits.{answer_of}
-use Rattle.ws_session.specs.declared.end_step.Order.TheVariants.{Send as Sending, Cancel as Cancelling}
-use Rattle.ws_session.specs.declared.station.key_fault.KeyFault.TheVariants.{Failed as KeyFailed}
-use Rattle.ws_session.specs.declared.host_end.host_event.HostEvent.{HostEvent}
-use Rattle.ws_session.specs.declared.host_end.send_fault.SendFault.TheVariants.{Failed as SendFailed}
+use Rattle.ws_end.specs.declared.end_step.Order.TheVariants.{Send as Sending, Cancel as Cancelling}
+use Rattle.ws_end.specs.declared.station.key_fault.KeyFault.TheVariants.{Failed as KeyFailed}
+use Rattle.ws_end.specs.declared.host_end.host_event.HostEvent.{HostEvent}
+use Rattle.ws_end.specs.declared.host_end.send_fault.SendFault.TheVariants.{Failed as SendFailed}
 use Rattle.ws_session.specs.declared.world.Event.{Event}
 use Rattle.ws_session.specs.declared.world.Event.TheVariants.{Host, KeyRefused, SendRefused, StationRefused}
 use Rattle.ws_session.specs.declared.world.Event.TheVariants.{HostRefused}
 use Rattle.ws_session.specs.declared.world.Move.{Move}
 use Rattle.ws_session.specs.declared.world.Move.TheVariants.{Send, Cancel, ToStation, ToHost, Key as Press}
-use Rattle.ws_session.specs.Reaction.{Reaction, Refuses, GoesOn, empty_record}
-use Rattle.ws_session.specs.station.StationSide.{StationSide, new_station_side, screen_at, station_takes, KeyReaction}
-use Rattle.ws_session.specs.station.StationSide.{RefusesKey, Silent, Answers, Signals, station_key, answer_record}
-use Rattle.ws_session.specs.host_end.HostSide.{HostSide, new_host_side, HostOutput, host_takes, SendReaction}
-use Rattle.ws_session.specs.host_end.HostSide.{RefusesSend, Sends}
-use Rattle.ws_session.specs.host_end.HostSide.{host_orders}
+use Rattle.ws_end.specs.Reaction.{Reaction, Refuses, GoesOn, empty_record}
+use Rattle.ws_end.specs.station.StationSide.{StationSide, new_station_side, screen_at, station_takes, KeyReaction}
+use Rattle.ws_end.specs.station.StationSide.{RefusesKey, Silent, Answers, Signals, station_key, answer_record}
+use Rattle.ws_end.specs.host_end.HostSide.{HostSide, new_host_side, HostOutput, host_takes, SendReaction}
+use Rattle.ws_end.specs.host_end.HostSide.{RefusesSend, Sends}
+use Rattle.ws_end.specs.host_end.HostSide.{host_orders}
 
 -- a session in whole items: both ends, all items that each has written, how many of their bytes have arrived, and what
 -- was told

@@ -1,9 +1,9 @@
 -- An end after bytes that came: it goes on, or it has refused one of them
 
 use Rattle.std.specs.Prelude.{◌≡◌, ℕ, List, ◌∷◌, ◌++◌, Option, Some, None}
-use Rattle.ws_session.specs.declared.refusal.Refusal.{Refusal}
-use Rattle.ws_session.specs.Acts.{all_came}
-use Rattle.ws_session.specs.Conduct.{Conduct}
+use Rattle.ws_end.specs.declared.refusal.Refusal.{Refusal}
+use Rattle.ws_end.specs.Acts.{all_came}
+use Rattle.ws_end.specs.Conduct.{Conduct}
 
 module _ {E Deed Told : Type 0} (conduct : Conduct E Deed Told) where
   -- the bytes led on up to one that it refused; those after it changed nothing

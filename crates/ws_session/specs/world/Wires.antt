@@ -2,13 +2,13 @@
 
 use Rattle.std.specs.Prelude.{◌≡◌, ℕ, ◌+◌, ◌^◌, ◌<◌, List, [], ◌∷◌, ◌++◌, Option, Some, flat_map, length, take, drop}
 use Rattle.ws_code.specs.declared.reason.Reason.{Reason}
-use Rattle.ws_session.specs.declared.refusal.Refusal.{Refusal}
-use Rattle.ws_session.specs.declared.refusal.Refusal.TheVariants.{At, Memory}
-use Rattle.ws_session.specs.declared.end_step.Applied.{Applied}
-use Rattle.ws_session.specs.declared.host_end.host_event.HostEvent.{HostEvent}
+use Rattle.ws_end.specs.declared.refusal.Refusal.{Refusal}
+use Rattle.ws_end.specs.declared.refusal.Refusal.TheVariants.{At, Memory}
+use Rattle.ws_end.specs.declared.end_step.Applied.{Applied}
+use Rattle.ws_end.specs.declared.host_end.host_event.HostEvent.{HostEvent}
 use Rattle.ws_session.specs.declared.world.Event.{Event}
 use Rattle.ws_session.specs.declared.world.Event.TheVariants.{Host, StationRefused, HostRefused}
-use Rattle.ws_session.specs.Conduct.{Conduct}
+use Rattle.ws_end.specs.Conduct.{Conduct}
 use Rattle.ws_session.specs.world.Through.{Through}
 
 -- all that one end has written for the other, and how many bytes of it have arrived

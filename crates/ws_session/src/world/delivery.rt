@@ -1,15 +1,13 @@
 //! Bytes in flight that arrive at an end of a session.
 ghost use Rattle.std.specs.Prelude.{◌≡◌, ◌<◌, ◌≤◌, ◌++◌, ◌∷◌, [], flat_map, Some, length, take, IfErr, IfOk, OnOk};
-ghost use Rattle.ws_session.specs.Acts.{as_list};
+ghost use Rattle.ws_end.specs.Acts.{as_list};
 ghost use Rattle.ws_session.specs.world.Wires.{HasCome, HasMemory, AreDelivered, Telling, at_end, host_telling, reported, station_telling};
 ghost use Rattle.ws_session.specs.declared.world.Event.TheVariants.{Host as HostEventOf};
 
 use super::Event;
-use crate::end::End;
-use crate::end_step::{Applied, EndFed};
 use crate::world::wire::Wire;
-use crate::{HostEnd, HostEvent, Refusal, Station};
 use ws_code::{Fault, Reason};
+use ws_end::{Applied, End, EndFed, HostEnd, HostEvent, Refusal, Station};
 
 // An end of a session, and what a report tells of it.
 pub(crate) trait Reported: End {

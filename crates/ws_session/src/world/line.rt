@@ -23,8 +23,7 @@ impl<S: Sink, R: Source> Line<S, R> {
         ensures crossed { OnOk result ((crossings : Seq Crossing)
             × HaveCrossed (on_devices S.writer R.reader) self.old crossings self.new
             × (all_sent crossings ≡ bytes.old) × (all_read crossings ≡ bytes.new)) }
-        ensures fault { IfErr result (IsStopped
-            (passage (on_devices S.writer R.reader) self.old self.new)) }
+        ensures fault { IfErr result (IsStopped (on_devices S.writer R.reader) self.old self.new) }
     {
         let mut at = 0;
         while at < bytes.len() {

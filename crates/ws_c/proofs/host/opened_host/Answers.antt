@@ -1,6 +1,6 @@
 use Rattle.std.proofs.Common.{[], refl, sym, subst, ◌∙◌}
-use Rattle.ws_session.specs.host_end.HostLeads.{HostLeads, HostParts, unopened_host_side}
-use Rattle.ws_session.specs.host_end.HostSide.{new_host_side}
+use Rattle.ws_end.specs.host_end.HostLeads.{HostLeads, HostParts, unopened_host_side}
+use Rattle.ws_end.specs.host_end.HostSide.{new_host_side}
 use Rattle.ws_c.proofs.host.opened_host.Goals as goal
 
 pub returns-clause-host : goal.returns-clause-host

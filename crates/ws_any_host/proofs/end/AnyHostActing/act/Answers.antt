@@ -1,6 +1,6 @@
 use Rattle.std.proofs.Common.{rules, ◌≡◌, Err}
-use Rattle.ws_session.specs.declared.host_end.send_fault.SendFault.TheVariants.{Failed, Memory}
-use Rattle.ws_session.proofs.Shuts.{not_shut, shut_fails}
+use Rattle.ws_end.specs.declared.host_end.send_fault.SendFault.TheVariants.{Failed, Memory}
+use Rattle.ws_end.proofs.Shuts.{not_shut, shut_fails}
 use Rattle.ws_any_host.proofs.AnyActs.{sent_goes, sent_taken, refused_goes, refused_why, wanting}
 use Rattle.ws_any_host.proofs.end.AnyHostActing.act.Goals as goal
 

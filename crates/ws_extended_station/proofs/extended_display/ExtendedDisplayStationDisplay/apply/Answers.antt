@@ -6,9 +6,9 @@ use Rattle.ws_record.specs.Encode.{item_spelling, plain_spelling}
 use Rattle.ws_record.specs.RawBody.{raw_rules}
 use Rattle.ws_extended.specs.Asking.{asks_in, first_ask}
 use Rattle.ws_extended.specs.declared.ask.Ask.{Ask}
-use Rattle.ws_session.specs.station.Alarms.{alarm_count, alarms_of}
-use Rattle.ws_session.specs.station.StationSide.{opcode_answer}
-use Rattle.ws_session.proofs.AlarmLaws.{counts_added}
+use Rattle.ws_end.specs.station.Alarms.{alarm_count, alarms_of}
+use Rattle.ws_end.specs.station.StationSide.{opcode_answer}
+use Rattle.ws_end.proofs.AlarmLaws.{counts_added}
 use Rattle.ws_extended_station.specs.Bytewise.{by_bytes}
 use Rattle.ws_extended_station.specs.ExtendedAlarms.{extended_alarms_in}
 use Rattle.ws_extended_station.specs.ExtendedDisplays.{extended_applies, with_state}

@@ -1,7 +1,7 @@
 use Rattle.std.proofs.Common.{ap, length, refl, sym, ◌∙◌}
 use Rattle.ws_screen.specs.ScreenParts.{ScreenParts}
 use Rattle.ws_extended.specs.ExtendedStates.{state_after_reset}
-use Rattle.ws_session.specs.station.Alarms.{alarm_count}
+use Rattle.ws_end.specs.station.Alarms.{alarm_count}
 use Rattle.ws_extended_station.specs.ExtendedDisplays.{with_state}
 use Rattle.ws_extended_station.specs.contracts.extended_display.ExtendedDisplay.{the_view}
 use Rattle.ws_extended_station.proofs.AlarmLaws.{alarms_behind_reset}

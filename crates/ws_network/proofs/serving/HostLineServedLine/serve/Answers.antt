@@ -1,7 +1,7 @@
 use Rattle.std.specs.Option.{is_some}
 use Rattle.std.specs.Prelude.{MatchOption}
 use Rattle.std.proofs.Common.{◌≡◌, ◌∙◌, []}
-use Rattle.ws_session.specs.host_end.HostLeads.{unopened_host_side}
+use Rattle.ws_end.specs.host_end.HostLeads.{unopened_host_side}
 use Rattle.ws_network.proofs.SessionLaws.{judged, served}
 use Rattle.ws_live.specs.declared.live.serve_line.HostLine.TheVariants.{Await}
 use Rattle.ws_live.specs.live.ServeText.{HostRunsInTime}

@@ -1,0 +1,180 @@
+use Rattle.ws_end.proofs.Common as C
+use C.{is_ok, is_err, OnOk, ◌≡◌, ◌+◌, ◌≤◌, List, [], ◌∷◌, ◌++◌, refl, ◌∙◌, ℕ, Option, Some, None, ap, sym, arith}
+use C.{◌^◌, inl, inr, length, if◌then◌else◌, true, false, is_some, map, nat_lt, IsSome, Err, Ok}
+use C.{◌==◌, Result, both_ways, false≢true, nat_tests, eqb_tells, IsChain, spelling_of, Reason, AnswerMismatch}
+use C.{telnet_spelling, Telnet, host_allows_records, HostState, Answer, telnet_bytes, AnswersWith}
+use C.{plain_spelling, item_spelling, record_spelling, header}
+use C.{Opcode, CancelInvite, NoOperation, Item, RecordItem, TelnetItem, header_length}
+use C.{is_body, element_rules, AnswerPart, Element, after_elements, after_end, body_fault, cancelled, Gives, Follows}
+use C.{ScreenParts, ReadKind, one_screen, read_answer, HostAnswer, empty_record, Refuses, GoesOn, HostEvent}
+use C.{Answered, Cancelled, HostKept, IsReaction, host_reacting}
+use C.{HostLeads, HostParts, IsSent, HostStands, HostSide, sent_record, is_outstanding, after_read}
+use C.{event_output, ready_event, host_negotiates, host_reads, host_reads_by, host_ends_cancel, signal}
+use C.{host_takes_record, Sends, host_cancel, host_send, asked_read}
+use Rattle.ws_end.specs.declared.driver.halt.Halt.TheVariants as halt
+
+-- What a host end does at an item, and what it sends.
+
+host_tokens : (ts : List Telnet) → plain_spelling element_rules (map TelnetItem ts) ≡ telnet_bytes ts
+host_tokens [] = refl
+host_tokens (t ∷ ts) = ap (λ z. telnet_spelling t ++ z) (host_tokens ts)
+
+-- a token that isn't refused
+pub negotiated : (old : HostKept) (options : HostState) (side : HostSide) (answer : Option (Answer HostState))
+    (reply : List ℕ) (event : Option HostEvent) → HostStands old side → AnswersWith answer options reply
+    → event ≡ ready_event (host_allows_records old.options) options
+    → IsReaction host_reacting (record old { options = options }) [] (λ output. output) (host_negotiates side answer)
+    (Ok (record { reply = reply; event = event }))
+negotiated old options side None reply event h a e = absurd a
+negotiated old options side (Some answer) reply event h a e = (
+  record { options = answer.after; kept = side.kept; cancelling = side.cancelling },
+  record { items = map TelnetItem answer.reply; event = ready_event (host_allows_records side.options) answer.after },
+  refl,
+  a.1 ∙ sym (host_tokens _),
+  e ∙ ap (λ o. ready_event (host_allows_records o) options) h.options
+      ∙ ap (ready_event (host_allows_records side.options)) a.0,
+  record { options = a.0; given = h.given; cancelling = h.cancelling },
+)
+
+-- the end of a cancel
+pub cancel_ended : (old : HostKept) (screen : ScreenParts) (side : HostSide) → HostStands old side → old.cancelling ≡ true
+    → Follows cancelled old.screen screen
+    → IsReaction host_reacting (record old { screen = screen; cancelling = false }) [] (λ output. output)
+    (host_ends_cancel side side.cancelling) (Ok (record { reply = []; event = Some Cancelled }))
+cancel_ended old screen side h is f = (
+  after_read side false,
+  event_output _,
+  ap (host_ends_cancel side) (sym h.cancelling ∙ is),
+  refl,
+  refl,
+  record { options = h.options; given = f.after side.kept h.given; cancelling = refl },
+)
+
+-- an answer, by the asked read
+module _ (old : HostKept) (side : HostSide) (h : HostStands old side) (size : length old.screen.cells ≡ 1920)
+    (kind : ReadKind) (pends : old.screen.pending ≡ Some kind) (parts : List AnswerPart) where
+  reads_by : (answer : Option HostAnswer) → read_answer kind old.screen.fields parts ≡ answer
+      → host_reads_by side (asked_read side) parts ≡ host_reads side answer
+  reads_by answer is = ap (λ o. host_reads_by side o parts) (sym (ap (λ w. w.pending) h.given.state) ∙ pends)
+      ∙ ap (λ s. host_reads side (read_answer kind s.fields parts)) (sym (one_screen side.kept old.screen h.given size))
+      ∙ ap (host_reads side) is
+
+  pub answer_taken : (screen : ScreenParts) (answer : HostAnswer) → read_answer kind old.screen.fields parts ≡ Some answer
+      → Follows cancelled old.screen screen → IsReaction host_reacting (record old { screen = screen }) [] (λ output. output)
+      (host_reads_by side (asked_read side) parts) (Ok (record { reply = []; event = Some (Answered answer) }))
+  answer_taken screen answer a f = (
+    after_read side side.cancelling,
+    event_output _,
+    reads_by _ a,
+    refl,
+    refl,
+    record { options = h.options; given = f.after side.kept h.given; cancelling = h.cancelling },
+  )
+
+  pub answer_refused : (new : HostKept) (reason : Reason) → reason ≡ AnswerMismatch
+      → read_answer kind old.screen.fields parts ≡ None
+      → IsReaction host_reacting new [] (λ output. output) (host_reads_by side (asked_read side) parts) (Err (halt.Refused reason))
+  answer_refused new reason why none = reads_by None none ∙ ap (λ r. Refuses r) (sym why)
+
+  -- memory is wanting for one that is read
+  pub answer_wanting : (new : HostKept) → IsSome (read_answer kind old.screen.fields parts)
+      → IsReaction host_reacting new [] (λ output. output) (host_reads_by side (asked_read side) parts) (Err halt.Memory)
+  answer_wanting new some = by _ refl some where
+    by : (r : Option HostAnswer) → read_answer kind old.screen.fields parts ≡ r → IsSome r
+        → IsReaction host_reacting new [] (λ output. output) (host_reads_by side (asked_read side) parts) (Err halt.Memory)
+    by (Some answer) is s = (after_read side side.cancelling, event_output _, reads_by _ is, (answer, refl))
+    by None is s = absurd (false≢true s)
+
+some_parts : (p : AnswerPart) (ps : List AnswerPart) → (length (p ∷ ps) == 0) ≡ true → ⊥
+some_parts p ps e =
+    elim (eqb_tells (length (p ∷ ps)) 0) [ inl h ↦ omega (arith, h.1) | inr h ↦ both_ways (length (p ∷ ps) == 0) h.0 e ]
+
+-- an empty record without an opcode
+pub signalled : (host : HostKept) (side : HostSide) (flags : ℕ) (opcode : Opcode) (parts : List AnswerPart)
+    (event : Option HostEvent) → HostStands host side → opcode ≡ NoOperation → (length parts == 0) ≡ true
+    → event ≡ signal flags → IsReaction host_reacting host [] (λ output. output) (host_takes_record side flags opcode parts)
+    (Ok (record { reply = []; event = event }))
+signalled host side flags opcode [] event h is none s =
+    (side, event_output _, ap (λ o. host_takes_record side flags o []) is, refl, s, h)
+signalled host side flags opcode (p ∷ ps) event h is none s = absurd (some_parts p ps none)
+
+module _ (old : HostParts) (bytes : List ℕ) (items : List (Item AnswerPart)) (side : HostSide)
+    (l : HostLeads old bytes items side) where
+  pub cancel_sent : host_allows_records old.reacts.options ≡ true → is_some old.reacts.screen.pending ≡ true → old.reacts.cancelling ≡ false
+      → (text : List ℕ) → text ≡ item_spelling element_rules (empty_record 0 CancelInvite)
+      → IsSent (record old { reacts = record old.reacts { cancelling = true } }) bytes items (host_cancel side) text
+  cancel_sent allows pends answered text e =
+      let next : HostSide = record { options = side.options; kept = side.kept; cancelling = true } in
+      let allowed : host_allows_records side.options ≡ true = ap host_allows_records (sym l.stands.options) ∙ allows in
+      let asked : is_some (asked_read side) ≡ true = ap (λ w. is_some w.pending) (sym l.stands.given.state) ∙ pends in
+      let going : side.cancelling ≡ false = sym l.stands.cancelling ∙ answered in (
+        next,
+        empty_record 0 CancelInvite,
+        rw (allowed, asked, going),
+        e,
+        (record { chain = tt; ends = refl }, omega arith),
+        omega arith,
+        record {
+          so_far = l.so_far;
+          leads = l.leads;
+          kept = l.kept;
+          stands = record { options = l.stands.options; given = l.stands.given; cancelling = refl };
+          works = l.works;
+        },
+      )
+
+  module _ (opcode : Opcode) (body : List Element) where
+    abbrev pub sent_side : HostSide
+    sent_side = record {
+      options = side.options;
+      kept = after_end (after_elements side.kept body);
+      cancelling = side.cancelling;
+    }
+
+    -- a body that nothing forbids
+    pub sends_body : host_allows_records old.reacts.options ≡ true → is_outstanding side body ≡ false → is_body body ≡ true
+        → body_fault side.kept body ≡ None → length (spelling_of element_rules body) ≤ 65525
+        → host_send side opcode body ≡ Sends sent_side (RecordItem (sent_record opcode body))
+    sends_body allows free whole none fits =
+        let text : List ℕ = spelling_of element_rules body in
+        let all : length (header (10 + length text) 0 opcode ++ text) ≡ 10 + length text = header_length
+        (10 + length text) 0 opcode text in
+        let small : nat_lt (length (header (10 + length text) 0 opcode ++ text)) (2 ^ 16) ≡ true = grind
+        (arith, nat_tests, all, fits) in
+        let allowed : host_allows_records side.options ≡ true = ap host_allows_records (sym l.stands.options)
+        ∙ allows in
+        rw (allowed, free, whole, none, small)
+
+    pub body_sent : (screen : ScreenParts) → host_send side opcode body ≡ Sends sent_side
+        (RecordItem (sent_record opcode body)) → Gives (after_end (after_elements side.kept body)) screen → IsChain
+        element_rules element_rules.first body → length (spelling_of element_rules body) ≤ 65525 → (kept text : List ℕ)
+        → kept ≡ spelling_of element_rules body → text ≡ record_spelling (header (10 + length kept) 0 opcode ++ kept)
+        → IsSent (record old { reacts = record old.reacts { screen = screen } }) bytes items (host_send side opcode body) text
+    body_sent screen does g chain fits kept text is e = (
+      sent_side,
+      RecordItem (sent_record opcode body),
+      does,
+      e ∙ ap (λ z. record_spelling (header (10 + length z) 0 opcode ++ z)) is,
+      (
+        record { chain = chain; ends = refl },
+        (let all = header_length (10 + length (spelling_of element_rules body)) 0 opcode
+            (spelling_of element_rules body) in omega (arith, all, fits)),
+      ),
+      omega arith,
+      record {
+        so_far = l.so_far;
+        leads = l.leads;
+        kept = l.kept;
+        stands = record { options = l.stands.options; given = g; cancelling = l.stands.cancelling };
+        works = l.works;
+      },
+    )
+
+pub known_ok : {E : Type 0} {P : Type 0} (r : Result (Unit {0}) E) → is_err r ≡ false → OnOk r P → P
+known_ok (Ok u) e p = p
+known_ok (Err f) e p = absurd (false≢true (sym (let g : true ≡ false = e in g)))
+
+pub extended : {E X : Type 0} (r : Result (Unit {0}) E) (new more old : List X) → is_err r ≡ false
+    → new ≡ (if is_ok r then more else old) → new ≡ more
+extended (Ok u) new more old e is = is
+extended (Err f) new more old e is = absurd (false≢true (sym (let g : true ≡ false = e in g)))

@@ -1,0 +1,11 @@
+pub mod ActLaws
+pub mod Acts
+pub mod Conduct
+pub mod Conducts
+pub mod Ends
+pub mod Manners
+pub mod Reaction
+pub mod attached
+pub mod driver
+pub mod host_end
+pub mod station

@@ -1,0 +1,11 @@
+pub mod Alarms
+pub mod AnswerSpelling
+pub mod Displays
+pub mod Moments
+pub mod StationActs
+pub mod StationCounts
+pub mod StationLeads
+pub mod StationManners
+pub mod StationReacting
+pub mod StationSide
+pub mod Stations
