@@ -372,7 +372,7 @@ def cost_by_size(programs, folder, largest, runs, counts):
 
 
 DECODER = ["ws_code", "ws_telnet", "ws_record", "ws_stream"]
-STATION = [*DECODER, "ws_nego", "ws_screen", "ws_keys", "ws_extended", "ws_session", "ws_extended_station"]
+STATION = [*DECODER, "ws_nego", "ws_screen", "ws_keys", "ws_extended", "ws_end", "ws_session", "ws_extended_station"]
 
 
 def build(folder, name, below):

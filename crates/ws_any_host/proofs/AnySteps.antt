@@ -1,3 +1,5 @@
+-- What a host that takes any record makes of a token.
+
 use Rattle.std.proofs.Common.{◌≡◌, ℕ, ◌+◌, ◌<◌, ◌≤◌, ◌^◌, List, [], ◌∷◌, ◌++◌, Option, Some, None, Ok, true, false, map}
 use Rattle.std.proofs.Common.{length, nat_lt, refl, sym, ap, ◌∙◌, arith}
 use Rattle.std.proofs.lemmas.Bool.Decides.{nat_tests}
@@ -13,13 +15,11 @@ use Rattle.ws_record.specs.declared.record.Item.{Item}
 use Rattle.ws_record.specs.declared.record.Item.TheVariants.{Telnet as TelnetItem}
 use Rattle.ws_record.specs.declared.record.Record.{Record}
 use Rattle.ws_record.proofs.Headers.{header_length}
-use Rattle.ws_session.specs.declared.host_end.send_fault.SendFault.TheVariants.{TooBig}
-use Rattle.ws_session.specs.driver.Reacting.{IsReaction}
+use Rattle.ws_end.specs.declared.host_end.send_fault.SendFault.TheVariants.{TooBig}
+use Rattle.ws_end.specs.driver.Reacting.{IsReaction}
 use Rattle.ws_any_host.specs.AnyOptions.{Negotiated}
-use Rattle.ws_any_host.specs.AnySide.{any_negotiates, any_reacting, any_ready, send_fault}
+use Rattle.ws_any_host.specs.AnyEndState.{any_negotiates, any_reacting, any_ready, send_fault}
 use Rattle.ws_any_host.specs.declared.any_event.AnyEvent.{AnyEvent}
-
--- What a host that takes any record makes of a token.
 
 any_tokens : (ts : List Telnet) → plain_spelling raw_rules (map TelnetItem ts) ≡ telnet_bytes ts
 any_tokens [] = refl

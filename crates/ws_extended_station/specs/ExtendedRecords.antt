@@ -10,13 +10,12 @@ use Rattle.ws_record.specs.declared.record.Record.{Record}
 use Rattle.ws_record.specs.declared.record.Item.{Item}
 use Rattle.ws_record.specs.declared.record.Item.TheVariants.{Record as RecordItem}
 use Rattle.ws_extended.specs.Asking.{asks_in, first_ask, second_reason}
-use Rattle.ws_extended.specs.ExtendedStates.{ExtendedState, state_after, state_after_all, state_after_end}
-use Rattle.ws_extended.specs.ExtendedStates.{state_fault}
+use Rattle.ws_extended.specs.ExtendedStates.{ExtendedState, state_after, state_after_all, state_after_end, state_fault}
 use Rattle.ws_extended.specs.declared.ask.Ask.{Ask}
 use Rattle.ws_extended.specs.declared.ask.Ask.TheVariants.{Query, ReadScreen, ReadImmediate, ReadImmediateAlternate}
 use Rattle.ws_extended.specs.declared.ask.Ask.TheVariants.{SaveScreen as AskSave}
 use Rattle.ws_extended.specs.declared.extended_element.ExtendedElement.{ExtendedElement}
-use Rattle.ws_session.specs.station.StationSide.{opcode_answer, opcode_events}
+use Rattle.ws_end.specs.station.StationEndState.{opcode_answer, opcode_events}
 use Rattle.ws_extended_station.specs.Bytewise.{by_bytes}
 use Rattle.ws_extended.specs.Telling.{told_bytes}
 

@@ -1,3 +1,4 @@
+pub mod Answered
 pub mod Carried
 pub mod Carrying
 pub mod Crossings

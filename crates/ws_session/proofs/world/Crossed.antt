@@ -1,17 +1,16 @@
-use Rattle.ws_session.proofs.Common.{◌≡◌, List, [], ◌∷◌, ◌++◌, ◌∙◌, ℕ, zero, suc, take, drop, take-append-drop, ap}
-use Rattle.ws_session.proofs.Common.{sym, length, append_assoc, append-nil, drop-drop, ap₂, Fault, Move, Crossing}
+-- What has crossed a line.
+
+use Rattle.ws_session.proofs.Common.{◌≡◌, List, [], ◌∷◌, ◌++◌, ◌∙◌, ℕ, zero, suc, take, drop, take-append-drop, ap, sym}
+use Rattle.ws_session.proofs.Common.{length, append_assoc, append-nil, drop-drop, ap₂, Fault, Move, Crossing}
 use Rattle.ws_session.proofs.Common.{with_piece_at, AreFaithful, HaveCrossed, IsStopped, all_sent, all_read, WireParts}
 use Rattle.ws_session.proofs.Common.{refl, Session, after_move, after_moves, arith, min, cases_lt, take_all, inl, inr}
 use Rattle.ws_code.specs.Device.{Devices}
 use Rattle.ws_session.specs.declared.world.line.Line.{Line}
 use Rattle.ws_session.specs.world.Carried.{all_brought}
-use Rattle.ws_session.specs.world.Carrying.{passage}
 
--- What has crossed a line.
-
-pub faithful_front : (cs ds : List Crossing) → AreFaithful (cs ++ ds) → AreFaithful cs
-faithful_front [] ds f = tt
-faithful_front (c ∷ cs) ds f = (f.0, faithful_front cs ds f.1)
+pub faithful_prefix : (cs ds : List Crossing) → AreFaithful (cs ++ ds) → AreFaithful cs
+faithful_prefix [] ds f = tt
+faithful_prefix (c ∷ cs) ds f = (f.0, faithful_prefix cs ds f.1)
 
 pub faithful_back : (cs ds : List Crossing) → AreFaithful (cs ++ ds) → AreFaithful ds
 faithful_back [] ds f = f
@@ -30,7 +29,7 @@ module _ {S R : Type 0} (devices : Devices R S) where
 
   -- a stop behind pieces that crossed
   pub stop_behind : (a b c : Line S R) (cs : List Crossing) (fault : Fault) → HaveCrossed devices a cs b
-      → IsStopped (passage devices b c) fault → IsStopped (passage devices a c) fault
+      → IsStopped devices b c fault → IsStopped devices a c fault
   stop_behind a b c cs fault p q = record {
     crossings = cs ++ q.crossings;
     last = q.last;
@@ -52,11 +51,11 @@ pub kept : (wire : WireParts) (count : ℕ) (cs : List Crossing) → all_sent cs
     ≡ wire
 kept wire count cs sent f =
     let flight = drop wire.at wire.bytes in
-    let front = take wire.at wire.bytes in
+    let prefix = take wire.at wire.bytes in
     let more = take count flight in
     let same : with_piece_at wire.bytes wire.at more ≡ wire.bytes =
-    ap (λ z. front ++ (more ++ z)) (sym (drop-drop (length more) wire.at wire.bytes) ∙ past count flight)
-    ∙ ap (λ z. front ++ z) (take-append-drop count flight) ∙ take-append-drop wire.at wire.bytes in
+    ap (λ z. prefix ++ (more ++ z)) (sym (drop-drop (length more) wire.at wire.bytes) ∙ past count flight)
+    ∙ ap (λ z. prefix ++ z) (take-append-drop count flight) ∙ take-append-drop wire.at wire.bytes in
     ap (λ (l : List ℕ). let z : WireParts = record wire { bytes = l } in z)
     (ap (with_piece_at wire.bytes wire.at) (faithful_read cs f ∙ sent) ∙ same)
 

@@ -5,7 +5,7 @@ use Rattle.std.specs.List.{AllByRecursion}
 use Rattle.ws_code.specs.declared.fault.Fault.{Fault}
 use Rattle.ws_code.specs.Device.{Devices}
 use Rattle.ws_session.specs.declared.world.line.Line.{Line}
-use Rattle.ws_session.specs.world.Carrying.{Passage, passage, IsCarried, IsCarryFault}
+use Rattle.ws_session.specs.world.Carrying.{passage, IsCarried, IsCarryFault}
 
 -- a piece of a stream: the bytes that went into the sink, and as many that the source gave next
 pub record Crossing : Type 0 where
@@ -36,11 +36,11 @@ module _ {S R : Type 0} (devices : Devices R S) where
       × IsCarried (passage devices from next) c.sent c.read × (length c.sent ≤ 4096)
       × HaveCrossed next crossings to
 
--- some pieces crossed the line, and the next one did not, for this fault
-pub record IsStopped {S R : Type 0} (line : Passage S R) (fault : Fault) : Type 0 where
-  pub crossings : List Crossing
-  pub last : Line S R
-  pub crossed : HaveCrossed line.devices line.from crossings last
-  pub bytes : List ℕ
-  pub slice : List ℕ
-  pub failed : IsCarryFault (passage line.devices last line.to) bytes slice fault
+  -- some pieces crossed the line, and the next one did not, for this fault
+  pub record IsStopped (from to : Line S R) (fault : Fault) : Type 0 where
+    pub crossings : List Crossing
+    pub last : Line S R
+    pub crossed : HaveCrossed from crossings last
+    pub bytes : List ℕ
+    pub slice : List ℕ
+    pub failed : IsCarryFault (passage devices last to) bytes slice fault

@@ -1,7 +1,6 @@
 //! A session whose bytes go over a connection.
 ghost use Rattle.std.specs.Prelude.{◌≡◌, ◌⊎◌, List as Seq, IfOk, IfErr, OnOk, drop};
 ghost use Rattle.ws_session.specs.world.Carried.{HasRunOver, brought_down, brought_up};
-ghost use Rattle.ws_session.specs.world.Carrying.{passage};
 ghost use Rattle.ws_session.specs.world.Crossings.{Crossing, AreFaithful, HaveCrossed, IsStopped, all_sent};
 ghost use Rattle.ws_code.specs.Device.{on_devices};
 
@@ -32,8 +31,8 @@ impl World {
             (λ downs. HaveCrossed (on_devices S.writer R.reader) down.old downs down.new)
             (λ ups. HaveCrossed (on_devices T.writer Q.reader) up.old ups up.new)) }
         ensures fault { IfErr result (λ fault. (fault ≡ Fault.Memory)
-            ⊎ (IsStopped (passage (on_devices S.writer R.reader) down.old down.new) fault
-            ⊎ IsStopped (passage (on_devices T.writer Q.reader) up.old up.new) fault)) }
+            ⊎ (IsStopped (on_devices S.writer R.reader) down.old down.new fault
+            ⊎ IsStopped (on_devices T.writer Q.reader) up.old up.new fault)) }
     {
         let mut world = World::new(alloc, terminal)?;
         for step in moves {
@@ -57,8 +56,8 @@ impl World {
             × (all_sent ups ≡ brought_up (drop self.old.at_host self.old.up) step.now)
             × (AreFaithful downs → AreFaithful ups → self.new ≡ self.old)) }
         ensures fault { IfErr result (λ fault.
-            IsStopped (passage (on_devices S.writer R.reader) down.old down.new) fault
-            ⊎ IsStopped (passage (on_devices T.writer Q.reader) up.old up.new) fault) }
+            IsStopped (on_devices S.writer R.reader) down.old down.new fault
+            ⊎ IsStopped (on_devices T.writer Q.reader) up.old up.new fault) }
     {
         match step {
             Move::ToStation(count) => self.down.cross(down, *count),

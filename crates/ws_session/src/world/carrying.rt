@@ -1,6 +1,8 @@
+//! A piece of a stream over a connection.
 ghost use Rattle.std.specs.Prelude.{◌≡◌, ◌≤◌, Err, length, IfErr, OnOk};
 ghost use Rattle.ws_code.specs.Device.{on_devices};
-ghost use Rattle.ws_session.specs.world.Carrying.{IsCarried, IsCarryFault, line_with, passage};
+ghost use Rattle.ws_end.specs.attached.StationRun.{passing};
+ghost use Rattle.ws_session.specs.world.Carrying.{IsCarried, IsCarryFault};
 
 use ws_code::{DeviceFailed, Fault, Sink, Source, write_whole};
 
@@ -22,10 +24,10 @@ pub fn carry<S: Sink, R: Source>(
     requires one_length { length taken.old ≡ length bytes.now }
     requires piece { length bytes.now ≤ 4096 }
     // What crossed, or how far it came; behind a failed write nothing was read.
-    ensures carried { OnOk result (IsCarried (passage (on_devices S.writer R.reader)
-        (line_with sink.old source.old) (line_with sink.new source.new)) bytes.now taken.new) }
-    ensures fault { IfErr result (IsCarryFault (passage (on_devices S.writer R.reader)
-        (line_with sink.old source.old) (line_with sink.new source.new)) bytes.now taken.new) }
+    ensures carried { OnOk result (IsCarried (passing (on_devices S.writer R.reader)
+        sink.old sink.new source.old source.new) bytes.now taken.new) }
+    ensures fault { IfErr result (IsCarryFault (passing (on_devices S.writer R.reader)
+        sink.old sink.new source.old source.new) bytes.now taken.new) }
     ensures unread { result ≡ Err Fault.Write → taken.new ≡ taken.old }
 {
     write_whole(sink, bytes)?;

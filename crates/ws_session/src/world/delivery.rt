@@ -1,15 +1,13 @@
 //! Bytes in flight that arrive at an end of a session.
 ghost use Rattle.std.specs.Prelude.{◌≡◌, ◌<◌, ◌≤◌, ◌++◌, ◌∷◌, [], flat_map, Some, length, take, IfErr, IfOk, OnOk};
-ghost use Rattle.ws_session.specs.Acts.{as_list};
+ghost use Rattle.ws_end.specs.Acts.{as_list};
 ghost use Rattle.ws_session.specs.world.Wires.{HasCome, HasMemory, AreDelivered, Telling, at_end, host_telling, reported, station_telling};
 ghost use Rattle.ws_session.specs.declared.world.Event.TheVariants.{Host as HostEventOf};
 
 use super::Event;
-use crate::end::End;
-use crate::end_step::{Applied, EndFed};
 use crate::world::wire::Wire;
-use crate::{HostEnd, HostEvent, Refusal, Station};
 use ws_code::{Fault, Reason};
+use ws_end::{Applied, End, EndFed, HostEnd, HostEvent, Refusal, Station};
 
 // An end of a session, and what a report tells of it.
 pub(crate) trait Reported: End {
@@ -17,7 +15,7 @@ pub(crate) trait Reported: End {
 
     // What the end tells.
     fn event(event: Option<Self::Event>) -> Option<Event>
-        ensures told { as_list result ≡ flat_map telling.tells (as_list event) };
+        ensures reported { as_list result ≡ flat_map telling.tells (as_list event) };
 
     // That it has refused a byte.
     fn refused(place: u64, reason: Reason) -> Event
@@ -28,7 +26,7 @@ impl Reported for Station {
     ghost telling = { station_telling };
 
     fn event(_event: Option<Applied>) -> Option<Event>
-        ensures told { as_list result ≡ flat_map (λ applied. []) (as_list _event) }
+        ensures reported { as_list result ≡ flat_map (λ applied. []) (as_list _event) }
     {
         None
     }
@@ -42,8 +40,8 @@ impl Reported for HostEnd {
     ghost telling = { host_telling };
 
     fn event(event: Option<HostEvent>) -> Option<Event>
-        ensures told { as_list result
-            ≡ flat_map (λ told. HostEventOf told ∷ []) (as_list event) }
+        ensures reported { as_list result
+            ≡ flat_map (λ end_events. HostEventOf end_events ∷ []) (as_list event) }
     {
         match event {
             Some(event) => Some(Event::Host(event)),
@@ -64,7 +62,7 @@ pub(crate) fn deliver<E: Reported>(
     events: &mut Vec<Event>,
     count: usize,
 ) -> Result<(), Fault>
-    ensures come { OnOk result (AreDelivered E.conduct E.telling
+    ensures come { OnOk result (AreDelivered E.behaviour E.telling
         (at_end end.old from.old to.old events.old.items) count
         (at_end end.new from.new to.new events.new.items)) }
     ensures fault { IfErr result (λ fault. fault ≡ Fault.Memory) }
@@ -90,7 +88,7 @@ fn come<E: Reported>(
     ensures within { IfOk result (λ used. used ≤ length piece.now) }
     ensures some { IfOk result (λ used. 0 < used) }
     // What it brings; memory alone may be wanting.
-    ensures come { IfOk result (λ used. HasCome E.conduct E.telling
+    ensures come { IfOk result (λ used. HasCome E.behaviour E.telling
         end.old (take used piece.now) end.new to.old to.new events.old.items events.new.items) }
     ensures fault { IfErr result (λ fault. fault ≡ Fault.Memory) }
 {
@@ -110,8 +108,8 @@ fn come<E: Reported>(
 
 // What a report tells of a refusal. One for want of memory ends the session.
 fn refused<E: Reported>(refusal: Refusal) -> Result<Option<Event>, Fault>
-    ensures told { IfOk result (λ event. as_list event
-        ≡ reported E.conduct E.telling [] (Some refusal)) }
+    ensures reported { IfOk result (λ event. as_list event
+        ≡ reported E.behaviour E.telling [] (Some refusal)) }
     ensures memory { OnOk result (HasMemory (Some refusal)) }
     ensures fault { IfErr result (λ fault. fault ≡ Fault.Memory) }
 {
@@ -124,7 +122,7 @@ fn refused<E: Reported>(refusal: Refusal) -> Result<Option<Event>, Fault>
 
 // What a report tells, if anything.
 pub(crate) fn tell(events: &mut Vec<Event>, event: Option<Event>) -> Result<(), Fault>
-    ensures told { OnOk result (events.new.items ≡ events.old.items ++ as_list event) }
+    ensures reported { OnOk result (events.new.items ≡ events.old.items ++ as_list event) }
     ensures fault { IfErr result (λ fault. fault ≡ Fault.Memory) }
 {
     let Some(event) = event else {

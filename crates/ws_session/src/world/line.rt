@@ -1,3 +1,4 @@
+//! One direction of a connection.
 ghost use Rattle.std.specs.Prelude.{◌≡◌, ◌≤◌, List as Seq, length, IfErr, OnOk};
 ghost use Rattle.ws_code.specs.Device.{on_devices};
 ghost use Rattle.ws_session.specs.world.Carrying.{IsCarried, IsCarryFault, passage};
@@ -23,8 +24,7 @@ impl<S: Sink, R: Source> Line<S, R> {
         ensures crossed { OnOk result ((crossings : Seq Crossing)
             × HaveCrossed (on_devices S.writer R.reader) self.old crossings self.new
             × (all_sent crossings ≡ bytes.old) × (all_read crossings ≡ bytes.new)) }
-        ensures fault { IfErr result (IsStopped
-            (passage (on_devices S.writer R.reader) self.old self.new)) }
+        ensures fault { IfErr result (IsStopped (on_devices S.writer R.reader) self.old self.new) }
     {
         let mut at = 0;
         while at < bytes.len() {

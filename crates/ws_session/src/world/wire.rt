@@ -1,6 +1,6 @@
+//! What one end has written, and how much of it has arrived.
 ghost use Rattle.std.specs.Prelude.{[], ◌^◌, ◌≡◌, ◌<◌, ◌≤◌, ◌+◌, ◌++◌, List as Seq, length, take, drop, OnOk, IfErr};
 ghost use Rattle.ws_code.specs.Device.{on_devices};
-ghost use Rattle.ws_session.specs.world.Carrying.{passage};
 ghost use Rattle.ws_session.specs.world.Crossings.{Crossing, HaveCrossed, IsStopped, all_read, all_sent, with_piece_at};
 
 use crate::Line;
@@ -96,8 +96,7 @@ impl Wire {
             × (self.new ≡ record self.old {
               bytes = with_piece_at self.old.bytes self.old.at (all_read crossings);
             })) }
-        ensures fault { IfErr result (IsStopped
-            (passage (on_devices S.writer R.reader) line.old line.new)) }
+        ensures fault { IfErr result (IsStopped (on_devices S.writer R.reader) line.old line.new) }
     {
         let at = self.at;
         let end = at + count.min(self.in_flight());

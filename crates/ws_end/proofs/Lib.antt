@@ -1,0 +1,11 @@
+pub mod AlarmLaws
+pub mod CancelFaults
+pub mod Common
+pub mod EndRequests
+pub mod EndSteps
+pub mod Feedings
+pub mod HostSteps
+pub mod Reading
+pub mod ProfileKeys
+pub mod RecordCounts
+pub mod Shuts

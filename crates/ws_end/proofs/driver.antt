@@ -1,0 +1,2 @@
+pub mod DriverBehaviours
+pub mod Drivings

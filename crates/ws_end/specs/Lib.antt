@@ -1,0 +1,11 @@
+pub mod ActLaws
+pub mod Acts
+pub mod Behaviour
+pub mod Behaviours
+pub mod Ends
+pub mod EndTransitions
+pub mod Reaction
+pub mod attached
+pub mod driver
+pub mod host_end
+pub mod station

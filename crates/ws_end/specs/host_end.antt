@@ -1,0 +1,3 @@
+pub mod HostReached
+pub mod HostReacting
+pub mod HostEndState

@@ -1,0 +1,11 @@
+pub mod Alarms
+pub mod AnswerSpelling
+pub mod Displays
+pub mod Moments
+pub mod StationActs
+pub mod StationCounts
+pub mod StationReached
+pub mod StationTransitions
+pub mod StationReacting
+pub mod StationEndState
+pub mod Stations

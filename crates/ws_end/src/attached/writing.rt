@@ -1,0 +1,91 @@
+//! What an end does at bytes or a key, and writes at once into a sink: the steps of `Attached` and of `run_station`.
+ghost use Rattle.std.specs.Prelude.{◌≡◌, ◌<◌, ◌≤◌, [], true, length, take, IfOk, IfErr};
+ghost use Rattle.ws_end.specs.Acts.{all_came, as_list};
+ghost use Rattle.ws_end.specs.attached.Requests.{WritesRequest, key_judged};
+ghost use Rattle.ws_end.specs.attached.Attachments as spec;
+ghost use Rattle.ws_end.specs.attached.Attachments.{breaks, IfEvents, TellsAtLast};
+ghost use Rattle.ws_end.specs.attached.Written.{HasWritten, IsUnheard};
+ghost use Rattle.ws_end.specs.station.Displays.{on_display as on};
+
+use crate::end::End;
+use crate::end_step::EndFed;
+use crate::{Acted, KeyFault, Refusal, StationDisplay, StationOn, write_answer};
+use ws_code::{Fault, Sink, write_whole};
+
+// What a piece led to: how many bytes of it are gone, and what the end told, or why it stopped.
+#[derive(Drop)]
+pub(crate) struct Heard<T> {
+    pub(crate) used: usize,
+    pub(crate) event: Result<Option<T>, Fault>,
+}
+
+// Takes bytes of the piece as `End::feed` does, and writes what the end answers. An end that is shut refuses the first,
+// which is gone too.
+pub(crate) fn hear_piece<E: End, K: Sink>(
+    end: &mut E,
+    sink: &mut K,
+    piece: &[u8],
+) -> Heard<E::Event>
+    requires { 0 < length piece.now }
+    // How much of the piece is used.
+    ensures within { result.used ≤ length piece.now }
+    ensures some { 0 < result.used }
+    // What was written, and that nothing was told before the last byte.
+    ensures heard { IfOk result.event (λ event. HasWritten E.behaviour K.writer
+        end.old end.new sink.old sink.new (all_came (take result.used piece.now)) (as_list event)) }
+    ensures first { IfEvents result.event
+        (TellsAtLast E.behaviour end.old end.new (take result.used piece.now)) }
+    // What stopped it, which breaks the end.
+    ensures fault { IfErr result.event (IsUnheard E.behaviour K.writer
+        end.old end.new sink.old sink.new (take result.used piece.now)) }
+    ensures breaks { IfErr result.event (λ fault. breaks fault ≡ true) }
+{
+    let EndFed { used, step } = end.feed(piece);
+    match step {
+        Ok(step) => match write_whole(sink, end.bytes(&step.reply)) {
+            Ok(()) => Heard {
+                used,
+                event: Ok(step.event),
+            },
+            Err(fault) => Heard {
+                used,
+                event: Err(fault),
+            },
+        },
+        Err(refusal) => Heard {
+            used: used.max(1),
+            event: Err(fault_of(refusal)),
+        },
+    }
+}
+
+// A refusal as a fault.
+pub(crate) fn fault_of(refusal: Refusal) -> Fault
+    ensures { result ≡ spec.fault_of refusal }
+{
+    match refusal {
+        Refusal::At { place, reason } => Fault::Refused { place, reason },
+        Refusal::Failed => Fault::Failed,
+        Refusal::Memory => Fault::Memory,
+    }
+}
+
+// Presses a key, and writes what it sends. `Write` is the only fault: the key has had its effect, and a prefix of what
+// it sends went out.
+pub(crate) fn press_key<D: StationDisplay, K: Sink>(
+    station: &mut StationOn<D>,
+    sink: &mut K,
+    key: D::Key,
+) -> Result<Acted<KeyFault>, Fault>
+    ensures { WritesRequest K.writer (key_judged (on D.Commands.rules D.does) key)
+        station.old station.new sink.old sink.new result }
+{
+    match station.key(key) {
+        Ok(None) => Ok(Acted::Done),
+        Ok(Some(answer)) => {
+            write_answer(sink, &answer)?;
+            Ok(Acted::Done)
+        }
+        Err(fault) => Ok(Acted::Refused(fault)),
+    }
+}

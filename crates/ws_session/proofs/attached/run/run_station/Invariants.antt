@@ -1,8 +1,0 @@
-use Rattle.ws_session.proofs.Common.{[], TerminalType, StationLeads, new_station_side}
-use Rattle.ws_session.proofs.attached.PlayRuns.{Reading}
-use Rattle.ws_session.proofs.attached.run.run_station.Given as goal
-
-abbrev pub invariant-loop : goal.invariant-loop
-invariant-loop g l = (t : TerminalType) → StationLeads l.fn.station [] [] (new_station_side t)
-    → Reading g.R.Source.reader l.fn.source l.source l.counter g.S.Sink.writer t
-    l.keys l.fn.sink l.sink l.player

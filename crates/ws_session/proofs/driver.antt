@@ -1,2 +1,0 @@
-pub mod DriverConducts
-pub mod Drivings

@@ -1,4 +1,0 @@
-use Rattle.ws_session.proofs.driver.Driver.take_byte.Goals as goal
-
-pub returns : goal.returns
-returns g c = (c.feed.result.used, c.feed.ensures)

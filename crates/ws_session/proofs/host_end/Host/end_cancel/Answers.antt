@@ -1,7 +1,0 @@
-use Rattle.ws_session.specs.contracts.host_end.Host.{the_view}
-use Rattle.ws_session.proofs.HostSteps.{cancel_ended}
-use Rattle.ws_session.proofs.host_end.Host.end_cancel.Goals as goal
-
-pub returns-clause-reacted : goal.returns-clause-reacted
-returns-clause-reacted c = rw (← c.self.view_is) (λ side h. rw c.told.ensures
-    (cancel_ended (the_view c.self.inside) _ side h c.if-not-self.false c.cancel_read.ensures.event))

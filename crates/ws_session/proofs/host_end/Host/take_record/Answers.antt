@@ -1,7 +1,0 @@
-use Rattle.ws_session.proofs.Common.{◌∙◌, sym}
-use Rattle.ws_session.proofs.HostSteps.{signalled}
-use Rattle.ws_session.proofs.host_end.Host.take_record.Goals as goal
-
-pub returns-in-NoOperation-clause-reacted : goal.returns-in-NoOperation-clause-reacted
-returns-in-NoOperation-clause-reacted c = λ side h. rw c.told.ensures (signalled _ side c.args.flags _ _ _ h
-    c.in-NoOperation.is (sym c.is_empty.ensures ∙ c.if-not-is_empty.false) c.signal.ensures)

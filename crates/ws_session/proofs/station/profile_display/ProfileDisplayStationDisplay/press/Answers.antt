@@ -1,8 +1,0 @@
-use Rattle.ws_session.specs.contracts.station.profile_display.ProfileDisplay.{the_view}
-use Rattle.ws_session.proofs.ProfileKeys.{pressed}
-use Rattle.ws_session.proofs.station.profile_display.ProfileDisplayStationDisplay.press.Goals as goal
-
-pub returns-clause-pressed : goal.returns-clause-pressed
-returns-clause-pressed c = rw (← c.self.view_is) (λ side given. pressed (the_view c.self.inside) side given
-    c.known.ensures.legal.size c.args.key c.press.new.screen c.press.result c.press.ensures.pressed
-    c.press.ensures.events)

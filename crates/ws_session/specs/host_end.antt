@@ -1,3 +1,0 @@
-pub mod HostLeads
-pub mod HostReacting
-pub mod HostSide
