@@ -19,9 +19,9 @@ use Rattle.ws_stream.specs.declared.element.Element.{Element}
 use Rattle.ws_text.specs.Items.{EndsHere}
 use Rattle.ws_text.specs.Shown.{ShowsElements}
 use Rattle.ws_text.proofs.ShownBytes.{literal, line_from, lines_back}
-use Rattle.ws_live.specs.declared.printing.paint.Paint.{Paint}
-use Rattle.ws_live.specs.declared.printing.paint.Paint.TheVariants.{Plain}
-use Rattle.ws_live.specs.printing.ScreenLines.{state_line}
+use Rattle.ws_printing.specs.declared.paint.Paint.{Paint}
+use Rattle.ws_printing.specs.declared.paint.Paint.TheVariants.{Plain}
+use Rattle.ws_printing.specs.ScreenLines.{state_line}
 use Rattle.ws_program.specs.StreamText.{showing, View, Placed, items_without_places, AreShown, IsShown}
 use Rattle.ws_program.specs.Views.{host_view, IsScreenEnd}
 

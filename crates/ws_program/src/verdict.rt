@@ -4,7 +4,7 @@ ghost use Rattle.ws_program.specs.CheckLine.{verdict_by};
 ghost use Rattle.ws_text.specs.Printing.{Prints};
 
 use ws_code::{Fault, Reason, Sink};
-use ws_live::put_place_and_reason;
+use ws_printing::put_place_and_reason;
 use ws_text::{Output, put_number, put_text};
 
 /// What holds of a stream.
