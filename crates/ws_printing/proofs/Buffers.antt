@@ -1,3 +1,5 @@
+-- What goes out after a buffer.
+
 use Rattle.std.specs.Prelude.{Option, Some, None}
 use Rattle.std.proofs.Common.{◌≡◌, ℕ, List, [], ◌∷◌, ◌++◌, take, drop, sym, ap, ◌∙◌, subst, append_assoc}
 use Rattle.std.proofs.Common.{take-append-drop}
@@ -5,8 +7,6 @@ use Rattle.std.proofs.lemmas.List.{append-nil}
 use Rattle.ws_code.specs.Device.{Writer, Taken, bytes_taken, Writes, WentOut, FailedWithin, IsWriteFailure}
 use Rattle.ws_code.proofs.DeviceLaws.{went_out_none, went_out_both, failed_within_both}
 use Rattle.ws_printing.specs.Buffering.{Buffering, buffered_takes, buffered_writer}
-
--- What goes out behind a buffer.
 
 module _ {S : Type 0} (writer : Writer S) where
   -- what went out by some writes into it, and what it holds

@@ -1,8 +1,5 @@
 pub mod Buffers
 pub mod ColoredCells
-pub mod FieldTexts
+pub mod LastBlanks
 pub mod LiveDisplays
-pub mod ReportTexts
-pub mod Rows
 pub mod ShownTexts
-pub mod ToldTexts

@@ -1,3 +1,5 @@
+-- The bytes that a row has which shows a text.
+
 use Rattle.std.specs.Char.{encode_utf8}
 use Rattle.std.specs.List.{Contains, range_with_len}
 use Rattle.std.specs.Prelude.{◌==◌, ◌||◌}
@@ -19,8 +21,6 @@ use Rattle.ws_screen.specs.Lines.{attribute_at, row_chars, shown_at, shown_row, 
 use Rattle.ws_screen.specs.declared.lines.TheConstants.{DUP}
 use Rattle.ws_printing.specs.ReportLines.{row_bytes}
 use Rattle.ws_printing.specs.ShownTexts.{IsNeededBy, IsOnlyFor}
-
--- The bytes that a row has which shows a text.
 
 abbrev High : ℕ → Type 0
 High x = 0x80 ≤ x

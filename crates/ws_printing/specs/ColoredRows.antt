@@ -1,6 +1,6 @@
 -- The cells of a row in colour, by sequences that a terminal knows (ECMA-48, SGR: select graphic rendition).
 
-use Rattle.std.specs.Prelude.{◌≡◌, ◌≢◌, ℕ, List, [], ◌∷◌, ◌++◌, ◌==◌, Bool, false, Option, None, Some, All, codes}
+use Rattle.std.specs.Prelude.{ℕ, List, [], ◌∷◌, ◌++◌, ◌==◌, Bool, false, Option, None, Some, codes}
 use Rattle.std.specs.Prelude.{if◌then◌else◌, encode_utf8}
 use Rattle.ws_screen.specs.Colors.{style_of}
 use Rattle.ws_screen.specs.declared.shown.Shown.{Shown}
@@ -51,20 +51,6 @@ colored_behind before [] = []
 colored_behind before (cell ∷ cells) = sequence_behind before cell.attribute ++ encode_utf8 cell.character
     ++ colored_behind (Some cell.attribute) cells
 
--- what is printed of the cells of a row: nothing of none, and the reset after the last
+-- what is printed of the cells of a row, and the reset after the last
 abbrev pub colored_text : List Shown → List ℕ
-colored_text [] = []
-colored_text (cell ∷ cells) = colored_behind None (cell ∷ cells) ++ reset
-
--- cells without the blanks at their end: the last of them shows no blank, and after it there are only blanks
-pub record AreWithoutLastBlanks (cells shown : List Shown) : Type 0 where
-  pub blanks : List Shown
-  pub behind : cells ≡ shown ++ blanks
-  pub blank : All (λ s. s.character ≡ 0x20) blanks
-  pub last : (front : List Shown) (s : Shown) → shown ≡ front ++ s ∷ [] → s.character ≢ 0x20
-
--- a row in colour: its cells up to the last that shows no blank
-pub record IsColoredRow (cells : List Shown) (text : List ℕ) : Type 0 where
-  pub shown : List Shown
-  pub cut : AreWithoutLastBlanks cells shown
-  pub is : text ≡ colored_text shown
+colored_text cells = colored_behind None cells ++ reset

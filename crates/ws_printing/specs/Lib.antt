@@ -1,4 +1,5 @@
 pub mod Buffering
+pub mod Characters
 pub mod ColoredRows
 pub mod ErrorRow
 pub mod FieldLines

@@ -1,6 +1,6 @@
 -- The lines of a session's report, as texts in bytes. Numbers are in decimal, hex is in upper case.
 
-use Rattle.std.specs.Prelude.{◌≡◌, ℕ, List, [], ◌∷◌, ◌++◌, Bool, true, false, not, codes}
+use Rattle.std.specs.Prelude.{◌≡◌, ℕ, List, [], ◌∷◌, ◌++◌, Bool, true, false, not, codes, if◌then◌else◌}
 use Rattle.std.specs.List.{flat_map, list_all}
 use Rattle.std.specs.Fmt.{decimal}
 use Rattle.hex.specs.Hex.{encode_upper}
@@ -27,7 +27,7 @@ use Rattle.ws_session.specs.declared.world.Event.TheVariants.{Host, KeyRefused, 
 use Rattle.ws_session.specs.declared.world.Event.TheVariants.{HostRefused}
 use Rattle.ws_printing.specs.PlaceAndReason.{place_and_reason}
 use Rattle.ws_text.specs.ItemLines.{cell_text, hex_behind_blank}
-use Rattle.ws_printing.specs.ScreenLines.{IsScreenText}
+use Rattle.ws_printing.specs.ScreenLines.{screen_text}
 use Rattle.ws_printing.specs.declared.paint.Paint.{Paint}
 use Rattle.ws_printing.specs.declared.paint.Paint.TheVariants.{Plain}
 
@@ -92,17 +92,13 @@ abbrev pub events_text : List Event → List ℕ
 events_text events = flat_map event_text events
 
 -- the lines of a screen in a paint, where they are asked for
-abbrev pub AreScreenLines : Paint → Bool → ScreenParts → List ℕ → Type 0
-AreScreenLines paint true screen lines = IsScreenText paint screen lines
-AreScreenLines paint false screen lines = lines ≡ []
+abbrev pub screen_lines : Paint → Bool → ScreenParts → List ℕ
+screen_lines paint asked screen = if asked then screen_text paint screen else []
 
 -- the whole text of a session's report: the lines of its events, and after them the station's screen in a paint, where
 -- it is asked for
-pub record IsPaintedPlayText (paint : Paint) (events : List Event) (station : ScreenParts) (screen : Bool)
-    (text : List ℕ) : Type 0 where
-  pub lines : List ℕ
-  pub are : AreScreenLines paint screen station lines
-  pub all : text ≡ events_text events ++ lines
+abbrev pub IsPaintedPlayText : Paint → List Event → ScreenParts → Bool → List ℕ → Type 0
+IsPaintedPlayText paint events station screen text = text ≡ events_text events ++ screen_lines paint screen station
 
 -- the whole text of a session's report, with its screen in plain text
 abbrev pub IsPlayText : List Event → ScreenParts → Bool → List ℕ → Type 0

@@ -1,11 +1,12 @@
 -- The lines that tell a station's state and what is on its screen, as a text in bytes. Numbers are in decimal, bytes in
 -- upper case hex.
 
-use Rattle.std.specs.Prelude.{◌≡◌, ℕ, ◌+◌, ◌-◌, ◌*◌, ◌/◌, List, [], ◌++◌, Bool, Option, None, Some, codes, map, min, position}
+use Rattle.std.specs.Prelude.{◌≡◌, ℕ, ◌+◌, ◌-◌, ◌*◌, ◌/◌, List, [], ◌∷◌, ◌++◌, Bool, Option, None, Some, codes, position}
 use Rattle.std.specs.Prelude.{if◌then◌else◌, slice_range}
 use Rattle.std.specs.Fmt.{decimal}
+use Rattle.std.specs.List.{flat_map}
 use Rattle.hex.specs.Hex.{encode_upper}
-use Rattle.ws_code.specs.declared.address.TheConstants.{CELLS, COLUMNS}
+use Rattle.ws_code.specs.declared.address.TheConstants.{COLUMNS}
 use Rattle.ws_nego.specs.Station.{station_allows_records}
 use Rattle.ws_screen.specs.Lines.{shown_row}
 use Rattle.ws_screen.specs.ScreenParts.{ScreenParts, holds}
@@ -13,8 +14,9 @@ use Rattle.ws_screen.specs.declared.shown.Shown.{Shown}
 use Rattle.ws_session.specs.station.Displays.{DisplayOf}
 use Rattle.ws_session.specs.station.Stations.{PartsOn}
 use Rattle.ws_text.specs.ItemLines.{cell_text}
-use Rattle.ws_printing.specs.FieldLines.{text_of_cells}
-use Rattle.ws_printing.specs.ScreenLines.{IsWithoutLastBlanks, lock_name}
+use Rattle.ws_printing.specs.Characters.{characters_text, without_last_blanks}
+use Rattle.ws_printing.specs.FieldLines.{shown_from}
+use Rattle.ws_printing.specs.ScreenLines.{lock_name}
 use Rattle.ws_printing.specs.declared.report.Report.{Report}
 use Rattle.ws_printing.specs.declared.report.Span.{Span}
 use Rattle.ws_printing.specs.declared.report.Report.TheVariants.{Status, Cells, Text, Note}
@@ -62,26 +64,29 @@ row_bytes cells row = slice_range cells ((row - 1) * COLUMNS) ((row - 1) * COLUM
 
 -- the attributes under which cells show
 abbrev pub attributes_text : List Shown → List ℕ
-attributes_text shown = encode_upper (map (λ s. s.attribute) shown)
+attributes_text shown = flat_map (λ s. encode_upper (s.attribute ∷ [])) shown
 
 -- what the cells of a row hold, and the attributes under which they show: of the row in which a cell stands
 abbrev pub cells_line : List ℕ → ℕ → List ℕ
 cells_line cells cell = let row = cell / COLUMNS + 1 in codes "cells " ++ decimal row ++ codes " "
     ++ encode_upper (row_bytes cells row) ++ codes " " ++ attributes_text (shown_row cells row) ++ codes "\n"
 
--- what cells show without the blanks at its end: from one on so many, or up to the last of the screen
-abbrev pub IsTextLine : List ℕ → Span → List ℕ → Type 0
-IsTextLine cells span text = (shown : List ℕ)
-    × IsWithoutLastBlanks (text_of_cells cells span.at (min span.count (CELLS - span.at))) shown
-    × (text ≡ shown ++ codes "\n")
+-- what cells show, without the blanks at its end
+abbrev pub span_line : List ℕ → Span → List ℕ
+span_line cells span = characters_text (λ s. s.character)
+    (without_last_blanks (λ s. s.character) (shown_from cells span.at span.count)) ++ codes "\n"
 
 -- a note's line
 abbrev pub note_line : List ℕ → List ℕ
 note_line note = note ++ codes "\n"
 
 -- what a report tells of a station
+abbrev pub report_text : ReportedStation → Report → List ℕ
+report_text station Status = status_line station
+report_text station (Cells cell) = cells_line station.screen.cells cell
+report_text station (Text span) = span_line station.screen.cells span
+report_text station (Note note) = note_line note
+
+-- this is what a report tells of a station
 abbrev pub IsReportText : ReportedStation → Report → List ℕ → Type 0
-IsReportText station Status text = text ≡ status_line station
-IsReportText station (Cells cell) text = text ≡ cells_line station.screen.cells cell
-IsReportText station (Text span) text = IsTextLine station.screen.cells span text
-IsReportText station (Note note) text = text ≡ note_line note
+IsReportText station report text = text ≡ report_text station report

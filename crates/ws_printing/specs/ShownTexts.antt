@@ -1,12 +1,16 @@
 -- Whether a screen shows a text, which is in UTF-8.
 
-use Rattle.std.specs.Prelude.{◌≡◌, ℕ, ◌-◌, ◌%◌, ◌<◌, ◌≤◌, List, ◌++◌, Some}
-use Rattle.std.specs.List.{Contains}
+use Rattle.std.specs.Prelude.{◌≡◌, ℕ, ◌-◌, ◌%◌, ◌<◌, ◌≤◌, List, ◌++◌, Some, map}
+use Rattle.std.specs.List.{Contains, range_with_len}
 use Rattle.std.specs.Str.{encode_utf8_all}
 use Rattle.ws_code.specs.Ebcdic.{char_of}
 use Rattle.ws_code.specs.declared.address.TheConstants.{COLUMNS, ROWS}
-use Rattle.ws_screen.specs.Lines.{row_chars}
-use Rattle.ws_printing.specs.FieldLines.{text_of_cells}
+use Rattle.ws_screen.specs.Lines.{row_chars, shown_at}
+
+-- the text that cells show, so many from a place on
+abbrev pub text_of_cells : List ℕ → ℕ → ℕ → List ℕ
+text_of_cells cells place count =
+    encode_utf8_all (map (λ s. s.character) (map (shown_at cells) (range_with_len place count)))
 
 -- some row shows the text
 pub record ShowsText (cells text : List ℕ) : Type 0 where

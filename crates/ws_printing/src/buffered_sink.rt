@@ -1,3 +1,4 @@
+//! A buffer before a sink.
 ghost use Rattle.std.specs.Prelude.{◌≡◌, ◌≢◌, [], List, ℕ, OnOk, OnErr};
 ghost use Rattle.ws_code.specs.Device.{one_more, WentOut, FailedWithin};
 ghost use Rattle.ws_printing.specs.Buffering.{Buffering, buffered_writer};
@@ -52,6 +53,10 @@ impl<S> BufferedSink<S> {
 
 impl<S: Sink> BufferedSink<S> {
     /// Hands on all that is held. Where nothing is, it writes nothing.
+    ///
+    /// # Errors
+    ///
+    /// Where a write of the sink failed: what was held is dropped then.
     pub fn flush(&mut self) -> Result<(), DeviceFailed>
         ensures held { self.new.held ≡ [] }
         ensures none { self.old.held ≡ [] → self.new ≡ self.old }

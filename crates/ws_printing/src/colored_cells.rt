@@ -1,61 +1,45 @@
 //! Cells in colour: their characters, with sequences that tell a terminal how to show them (ECMA-48, SGR).
-ghost use Rattle.std.specs.Prelude.{◌≡◌, ◌++◌, None, codes, encode_utf8, if◌then◌else◌, []};
+ghost use Rattle.std.specs.Prelude.{◌≡◌, ◌++◌, codes, encode_utf8, if◌then◌else◌, []};
 ghost use Rattle.ws_printing.specs.ColoredRows as Spec;
 ghost use Rattle.ws_text.specs.Printing.{Prints};
 
 use ws_code::Sink;
 use ws_screen::{Attribute, Color, Shown, Style};
-use ws_text::{Output, put_text};
+use ws_text::{Character, Output, Text, texts};
 
-/// The cells up to the last that shows no blank.
-pub fn without_last_blanks(cells: &[Shown]) -> &[Shown]
-    ensures { Spec.AreWithoutLastBlanks cells.now result.now }
-{
-    let mut end = cells.len();
-    while end > 0 && cells[end - 1].character == ' ' {
-        end -= 1;
-    }
-    &cells[..end]
-}
+/// The characters of cells, and before each whose attribute isn't that of the cell before it the attribute's sequence;
+/// after the last the reset.
+#[derive(Clone, Copy)]
+pub struct ColoredCells<'a>(pub &'a [Shown]);
 
-/// Writes the characters of cells, and before each whose attribute isn't that of the cell before it the attribute's
-/// sequence.
-pub fn put_colored_cells<S: Sink>(sink: &mut S, output: Output, cells: &[Shown]) -> Output
-    ensures { Prints S.writer sink.old sink.new output result
-        (Spec.colored_behind None cells.now) }
-{
-    let mut output = output;
-    let mut before = None;
-    for cell in cells {
-        output = put_change(sink, output, before, cell.attribute);
-        output = put_char(sink, output, cell.character);
-        before = Some(cell.attribute);
-    }
-    output
-}
+impl Text for ColoredCells<'_> {
+    ghost text = { λ c. Spec.colored_text c.0.now };
 
-// Writes an attribute's sequence, where the one before is another.
-fn put_change<S: Sink>(
-    sink: &mut S,
-    output: Output,
-    before: Option<Attribute>,
-    attribute: Attribute,
-) -> Output
-    ensures { Prints S.writer sink.old sink.new output result
-        (Spec.sequence_behind before attribute) }
-{
-    if is_same(before, attribute) {
-        put_text(sink, output, "")
-    } else {
-        put_style(sink, output, attribute.color())
+    fn put_to<S: Sink>(&self, sink: &mut S, output: Output) -> Output {
+        let mut output = output;
+        let mut before = None;
+        for cell in self.0 {
+            let change = Change(before, cell.attribute);
+            output = texts!(change, Character(cell.character)).put_to(sink, output);
+            before = Some(cell.attribute);
+        }
+        "\x1b[0m".put_to(sink, output)
     }
 }
 
-/// Writes a character.
-pub fn put_char<S: Sink>(sink: &mut S, output: Output, character: char) -> Output
-    ensures { Prints S.writer sink.old sink.new output result (encode_utf8 character) }
-{
-    put_text(sink, output, character.encode_utf8(&mut [0; 4]))
+// An attribute's sequence, where the one before is another.
+#[derive(Clone, Copy)]
+struct Change(Option<Attribute>, Attribute);
+
+impl Text for Change {
+    ghost text = { λ c. Spec.sequence_behind c.0 c.1 };
+
+    fn put_to<S: Sink>(&self, sink: &mut S, output: Output) -> Output {
+        if is_same(self.0, self.1) {
+            return output;
+        }
+        put_style(sink, output, self.1.color())
+    }
 }
 
 // Whether the attribute before is this one.
@@ -73,12 +57,15 @@ fn put_style<S: Sink>(sink: &mut S, output: Output, style: Style) -> Output
     ensures { Prints S.writer sink.old sink.new output result
         (Spec.sequence (codes "0;" ++ Spec.style_codes style)) }
 {
-    let output = put_text(sink, output, "\x1b[0;");
-    let output = put_text(sink, output, color_codes(style.color));
-    let output = put_text(sink, output, code_if(style.is_reversed, ";7"));
-    let output = put_text(sink, output, code_if(style.is_underscored, ";4"));
-    let output = put_text(sink, output, code_if(style.is_blinking, ";5"));
-    put_text(sink, output, "m")
+    texts!(
+        "\x1b[0;",
+        color_codes(style.color),
+        code_if(style.is_reversed, ";7"),
+        code_if(style.is_underscored, ";4"),
+        code_if(style.is_blinking, ";5"),
+        "m"
+    )
+    .put_to(sink, output)
 }
 
 fn color_codes(color: Color) -> &'static str
@@ -99,4 +86,11 @@ fn code_if(is_on: bool, code: &'static str) -> &'static str
     ensures { result.now ≡ (if is_on then code.now else []) }
 {
     if is_on { code } else { "" }
+}
+
+/// Writes a character.
+pub fn put_char<S: Sink>(sink: &mut S, output: Output, character: char) -> Output
+    ensures { Prints S.writer sink.old sink.new output result (encode_utf8 character) }
+{
+    Character(character).put_to(sink, output)
 }

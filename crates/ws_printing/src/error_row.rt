@@ -1,3 +1,4 @@
+//! The line of the row on which an error stands, and the display that has one.
 ghost use Rattle.std.specs.Prelude.{◌≡◌};
 ghost use Rattle.ws_printing.specs.ErrorRow as Spec;
 ghost use Rattle.ws_printing.specs.ErrorRow.{operated_extended};
@@ -7,19 +8,15 @@ use crate::operated_display::OperatedDisplay;
 use ws_code::Sink;
 use ws_extended_station::ExtendedDisplay;
 use ws_session::StationDisplay;
-use ws_text::{Output, put_number, put_text};
+use ws_text::{Number, Output, Text, texts};
 
 /// Writes the line of the row on which an error stands, where one does (SC30-3533, Write Error Code command).
 pub fn put_error_row<S: Sink>(sink: &mut S, output: Output, row: Option<u8>) -> Output
     ensures { Prints S.writer sink.old sink.new output result (Spec.error_line row) }
 {
     match row {
-        Some(row) => {
-            let output = put_text(sink, output, "error row ");
-            let output = put_number(sink, output, row as u64);
-            put_text(sink, output, "\n")
-        }
-        None => put_text(sink, output, ""),
+        Some(row) => texts!("error row ", Number(row as u64), "\n").put_to(sink, output),
+        None => output,
     }
 }
 

@@ -2,6 +2,7 @@
 #![tactic(auto)]
 
 mod buffered_sink;
+mod characters;
 mod colored_cells;
 mod error_row;
 mod field_lines;
@@ -21,7 +22,7 @@ pub use error_row::put_error_row;
 pub use field_lines::put_field_lines;
 pub use operated_display::OperatedDisplay;
 pub use paint::Paint;
-pub use place_and_reason::put_place_and_reason;
+pub use place_and_reason::PlaceAndReason;
 pub use play::{play_painted_to, play_to, put_event, put_key_fault};
 pub use report::{Report, Span};
 pub use report_lines::{put_note, put_report};

@@ -1,10 +1,11 @@
+//! A display that an operator drives by lines.
 ghost use Rattle.std.specs.Prelude.{◌≡◌, true, false};
 ghost use Rattle.ws_printing.specs.Operating.{OperatedOn, operated_profile};
 ghost use Rattle.ws_text.specs.Printing.{Prints};
 
 use ws_code::Sink;
 use ws_session::{ProfileDisplay, StationDisplay};
-use ws_text::{Output, put_text};
+use ws_text::Output;
 
 /// A display that an operator drives by lines.
 pub trait OperatedDisplay: StationDisplay {
@@ -30,7 +31,7 @@ impl OperatedDisplay for ProfileDisplay {
         !self.screen().locked()
     }
 
-    fn put_behind<S: Sink>(&self, sink: &mut S, output: Output) -> Output {
-        put_text(sink, output, "")
+    fn put_behind<S: Sink>(&self, _sink: &mut S, output: Output) -> Output {
+        output
     }
 }

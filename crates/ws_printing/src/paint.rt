@@ -1,3 +1,5 @@
+//! In what paint rows are printed.
+
 /// How the rows of a screen are printed.
 #[derive(Clone, Copy, Debug, Default, PartialEq, Eq)]
 pub enum Paint {

@@ -1,23 +1,26 @@
-ghost use Rattle.ws_text.specs.Printing.{Prints};
+//! Where a byte is refused, and why, as a text.
 ghost use Rattle.ws_printing.specs.PlaceAndReason.{place_and_reason};
 
 use ws_code::{Reason, Sink};
-use ws_text::{Output, put_number, put_text};
+use ws_text::{Number, Output, Text, texts};
 
-/// Writes the place of a byte, and for what reason it is refused, up to the line's end.
-pub fn put_place_and_reason<S: Sink>(
-    sink: &mut S,
-    output: Output,
-    place: u64,
-    reason: Reason,
-) -> Output
-    ensures { Prints S.writer sink.old sink.new output result
-        (place_and_reason place reason) }
-{
-    let output = put_number(sink, output, place);
-    let output = put_text(sink, output, ": reason ");
-    let output = put_number(sink, output, reason.number() as u64);
-    let output = put_text(sink, output, " ");
-    let output = put_text(sink, output, reason.name());
-    put_text(sink, output, "\n")
+/// The place of a byte, and for what reason it is refused, up to the line's end.
+#[derive(Clone, Copy)]
+pub struct PlaceAndReason(pub u64, pub Reason);
+
+impl Text for PlaceAndReason {
+    ghost text = { λ r. place_and_reason r.0 r.1 };
+
+    fn put_to<S: Sink>(&self, sink: &mut S, output: Output) -> Output {
+        let number = Number(self.1.number() as u64);
+        texts!(
+            Number(self.0),
+            ": reason ",
+            number,
+            " ",
+            self.1.name(),
+            "\n"
+        )
+        .put_to(sink, output)
+    }
 }

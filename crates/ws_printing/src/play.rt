@@ -1,21 +1,30 @@
-ghost use Rattle.std.specs.Prelude.{◌≡◌, List, ℕ, IfOk, IfErr};
-ghost use Rattle.std.specs.List.{flat_map};
+//! The lines of a session's report.
+ghost use Rattle.std.specs.Prelude.{◌≡◌, ◌++◌, List, ℕ, IfOk, IfErr};
 ghost use Rattle.ws_code.specs.Device.{WentOut, FailedWithin};
-ghost use Rattle.ws_text.specs.Printing.{Prints};
+ghost use Rattle.ws_text.specs.Printing.{Prints, text_where};
+ghost use Rattle.ws_printing.specs.PlaceAndReason.{place_and_reason};
 ghost use Rattle.ws_printing.specs.PlayLines as Spec;
+ghost use Rattle.ws_printing.specs.ScreenLines.{screen_text};
 
 use crate::paint::Paint;
-use crate::place_and_reason::put_place_and_reason;
-use crate::screen_lines::put_screen_if;
+use crate::place_and_reason::PlaceAndReason;
+use crate::screen_lines::ScreenLines;
 use ws_code::{Fault, Reason, Sink};
 use ws_keys::{HostAnswer, KeyRefusal, ReadField};
+use ws_screen::Screen;
 use ws_session::{Event, HostEvent, KeyFault, Report, SendFault};
-use ws_text::{Output, put, put_cell, put_hex, put_hex_behind_blank, put_number, put_text};
+use ws_text::{
+    As, Bytes, Cell, EachAs, Hex, HexBehindBlank, Number, Output, Text, TextAs, print, texts,
+};
 
 /// Writes what a session tells, an event after another, and with `screen` the station's screen behind them: true
 /// where no end has refused a byte.
 ///
-/// It allocates no memory. `Write` is the only fault: the sink failed, and then a proper prefix of the text went out.
+/// It allocates no memory.
+///
+/// # Errors
+///
+/// `Write` where the sink failed; then a proper prefix of the text went out.
 pub fn play_to<S: Sink>(report: &Report, screen: bool, sink: &mut S) -> Result<bool, Fault>
     ensures printed { IfOk result (λ all_well. (text : List ℕ)
         × Spec.IsPlayText report.now.events report.now.station.reacts.screen.screen screen text
@@ -29,6 +38,10 @@ pub fn play_to<S: Sink>(report: &Report, screen: bool, sink: &mut S) -> Result<b
 }
 
 /// Does the same, with the screen in a paint.
+///
+/// # Errors
+///
+/// As `play_to`.
 pub fn play_painted_to<S: Sink>(
     report: &Report,
     paint: Paint,
@@ -46,10 +59,22 @@ pub fn play_painted_to<S: Sink>(
         × FailedWithin S.writer sink.old sink.new text)) }
 {
     let events = report.events.as_slice();
-    let output = put_events(sink, events);
-    match put_screen_if(sink, output, screen, paint, report.station.screen()) {
-        Output::Open => Ok(none_refuses(events)),
-        Output::Failed => Err(Fault::Write),
+    let lines = screen_if(screen, paint, report.station.screen());
+    match print(&texts!(EachAs(events, Play), lines), sink) {
+        Ok(()) => Ok(none_refuses(events)),
+        Err(fault) => Err(fault),
+    }
+}
+
+// The lines of a screen, where they are asked for.
+fn screen_if(is_asked: bool, paint: Paint, screen: &Screen) -> Option<ScreenLines>
+    ensures { text_where (λ l. screen_text l.0 l.1.now) result
+        ≡ Spec.screen_lines paint is_asked screen.now }
+{
+    if is_asked {
+        Some(ScreenLines(paint, screen))
+    } else {
+        None
     }
 }
 
@@ -57,12 +82,7 @@ pub fn play_painted_to<S: Sink>(
 fn none_refuses(events: &[Event]) -> bool
     ensures { result ≡ Spec.no_end_refuses events.now }
 {
-    for event in events {
-        if is_refusal(event) {
-            return false;
-        }
-    }
-    true
+    events.iter().all(|event| !is_refusal(event))
 }
 
 fn is_refusal(event: &Event) -> bool
@@ -74,104 +94,80 @@ fn is_refusal(event: &Event) -> bool
     )
 }
 
-// Writes all events in their order.
-fn put_events<S: Sink>(sink: &mut S, events: &[Event]) -> Output
-    ensures { Prints S.writer sink.old sink.new Output.Open result
-        (Spec.events_text events.now) }
-{
-    let mut output = Output::Open;
-    for event in events {
-        output = put_event(sink, output, event);
-    }
-    output
-}
-
 /// Writes the lines of an event.
 pub fn put_event<S: Sink>(sink: &mut S, output: Output, event: &Event) -> Output
     ensures { Prints S.writer sink.old sink.new output result
         (Spec.event_text event.now) }
 {
-    match event {
-        Event::Host(event) => put_host_event(sink, output, event),
-        Event::KeyRefused(fault) => {
-            let output = put_text(sink, output, "key refused ");
-            let output = put_key_fault(sink, output, *fault);
-            put_text(sink, output, "\n")
-        }
-        Event::SendRefused(fault) => {
-            let output = put_text(sink, output, "send refused ");
-            let output = put_send_fault(sink, output, *fault);
-            put_text(sink, output, "\n")
-        }
-        Event::StationRefused { place, reason } => {
-            let output = put_text(sink, output, "station");
-            put_refused(sink, output, *place, *reason)
-        }
-        Event::HostRefused { place, reason } => {
-            let output = put_text(sink, output, "host");
-            put_refused(sink, output, *place, *reason)
+    As(event, Play).put_to(sink, output)
+}
+
+/// The sense of a session's report.
+#[derive(Clone, Copy)]
+pub struct Play;
+
+impl TextAs<Play> for Event {
+    ghost text_as = { λ _. Spec.event_text };
+
+    fn put_as<S: Sink>(&self, _sense: &Play, sink: &mut S, output: Output) -> Output {
+        match self {
+            Event::Host(event) => As(event, Play).put_to(sink, output),
+            Event::KeyRefused(fault) => {
+                texts!("key refused ", key_fault_name(*fault), "\n").put_to(sink, output)
+            }
+            Event::SendRefused(fault) => {
+                texts!("send refused ", As(fault, Play), "\n").put_to(sink, output)
+            }
+            Event::StationRefused { place, reason } => {
+                texts!("station", refused(*place, *reason)).put_to(sink, output)
+            }
+            Event::HostRefused { place, reason } => {
+                texts!("host", refused(*place, *reason)).put_to(sink, output)
+            }
         }
     }
 }
 
-/// Writes what a host end tells.
-pub fn put_host_event<S: Sink>(sink: &mut S, output: Output, event: &HostEvent) -> Output
-    ensures { Prints S.writer sink.old sink.new output result
-        (Spec.host_event_text event.now) }
-{
-    match event {
-        HostEvent::Ready(terminal) => {
-            let output = put_text(sink, output, "host ready ");
-            let output = put(sink, output, terminal.name());
-            put_text(sink, output, "\n")
+// What a host end tells.
+impl TextAs<Play> for HostEvent {
+    ghost text_as = { λ _. Spec.host_event_text };
+
+    fn put_as<S: Sink>(&self, _sense: &Play, sink: &mut S, output: Output) -> Output {
+        match self {
+            HostEvent::Ready(terminal) => {
+                texts!("host ready ", Bytes(terminal.name()), "\n").put_to(sink, output)
+            }
+            HostEvent::Answer(answer) => {
+                let fields = EachAs(answer.fields.as_slice(), Play);
+                texts!(AnswerLine(answer), fields).put_to(sink, output)
+            }
+            HostEvent::Attention => "attention\n".put_to(sink, output),
+            HostEvent::SystemRequest => "system request\n".put_to(sink, output),
+            HostEvent::Cancelled => "cancelled\n".put_to(sink, output),
         }
-        HostEvent::Answer(answer) => put_answer(sink, output, answer),
-        HostEvent::Attention => put_text(sink, output, "attention\n"),
-        HostEvent::SystemRequest => put_text(sink, output, "system request\n"),
-        HostEvent::Cancelled => put_text(sink, output, "cancelled\n"),
     }
 }
 
-// Writes an answer's cursor and AID, and then its fields.
-fn put_answer<S: Sink>(sink: &mut S, output: Output, answer: &HostAnswer) -> Output
-    ensures { Prints S.writer sink.old sink.new output result
-        (Spec.host_event_text (HostEvent.Answer answer.now)) }
-{
-    let output = put_answer_line(sink, output, answer);
-    put_fields(sink, output, answer.fields.as_slice())
-}
+/// An answer's cursor and AID.
+#[derive(Clone, Copy)]
+pub struct AnswerLine<'a>(pub &'a HostAnswer);
 
-/// Writes an answer's cursor and AID.
-pub fn put_answer_line<S: Sink>(sink: &mut S, output: Output, answer: &HostAnswer) -> Output
-    ensures { Prints S.writer sink.old sink.new output result
-        (Spec.answer_line answer.now) }
-{
-    let output = put_text(sink, output, "answer ");
-    let output = put_cell(sink, output, answer.cursor);
-    let output = put_text(sink, output, " ");
-    let output = put_hex(sink, output, &[answer.aid.byte()]);
-    put_text(sink, output, "\n")
-}
+impl Text for AnswerLine<'_> {
+    ghost text = { λ a. Spec.answer_line a.0.now };
 
-fn put_fields<S: Sink>(sink: &mut S, output: Output, fields: &[ReadField]) -> Output
-    ensures { Prints S.writer sink.old sink.new output result
-        (flat_map Spec.read_field_text fields.now) }
-{
-    let mut output = output;
-    for field in fields {
-        output = put_field(sink, output, field);
+    fn put_to<S: Sink>(&self, sink: &mut S, output: Output) -> Output {
+        let aid = [self.0.aid.byte()];
+        texts!("answer ", Cell(self.0.cursor), " ", Hex(&aid), "\n").put_to(sink, output)
     }
-    output
 }
 
-fn put_field<S: Sink>(sink: &mut S, output: Output, field: &ReadField) -> Output
-    ensures { Prints S.writer sink.old sink.new output result
-        (Spec.read_field_text field.now) }
-{
-    let output = put_text(sink, output, "  field ");
-    let output = put_cell(sink, output, field.address);
-    let output = put_hex_behind_blank(sink, output, field.content.as_slice());
-    put_text(sink, output, "\n")
+impl TextAs<Play> for ReadField {
+    ghost text_as = { λ _. Spec.read_field_text };
+
+    fn put_as<S: Sink>(&self, _sense: &Play, sink: &mut S, output: Output) -> Output {
+        let content = HexBehindBlank(self.content.as_slice());
+        texts!("  field ", Cell(self.address), content, "\n").put_to(sink, output)
+    }
 }
 
 /// Writes why a key has no effect.
@@ -179,10 +175,17 @@ pub fn put_key_fault<S: Sink>(sink: &mut S, output: Output, fault: KeyFault) -> 
     ensures { Prints S.writer sink.old sink.new output result
         (Spec.key_fault_name fault) }
 {
+    key_fault_name(fault).put_to(sink, output)
+}
+
+// Why a key has no effect.
+fn key_fault_name(fault: KeyFault) -> &'static str
+    ensures { result.now ≡ Spec.key_fault_name fault }
+{
     match fault {
-        KeyFault::Failed => put_text(sink, output, "Failed"),
-        KeyFault::NotReady => put_text(sink, output, "NotReady"),
-        KeyFault::Key(refusal) => put_text(sink, output, refusal_name(refusal)),
+        KeyFault::Failed => "Failed",
+        KeyFault::NotReady => "NotReady",
+        KeyFault::Key(refusal) => refusal_name(refusal),
     }
 }
 
@@ -200,31 +203,30 @@ fn refusal_name(refusal: KeyRefusal) -> &'static str
     }
 }
 
-// Writes why a host end doesn't send.
-fn put_send_fault<S: Sink>(sink: &mut S, output: Output, fault: SendFault) -> Output
-    ensures { Prints S.writer sink.old sink.new output result
-        (Spec.send_fault_name fault) }
-{
-    match fault {
-        SendFault::Failed => put_text(sink, output, "Failed"),
-        SendFault::NotAllowed => put_text(sink, output, "NotAllowed"),
-        SendFault::ReadOutstanding => put_text(sink, output, "ReadOutstanding"),
-        SendFault::NoReadToCancel => put_text(sink, output, "NoReadToCancel"),
-        SendFault::BadSequence => put_text(sink, output, "BadSequence"),
-        SendFault::Screen(reason) => {
-            let output = put_text(sink, output, "Screen ");
-            put_number(sink, output, reason.number() as u64)
+// Why a host end doesn't send.
+impl TextAs<Play> for SendFault {
+    ghost text_as = { λ _. Spec.send_fault_name };
+
+    fn put_as<S: Sink>(&self, _sense: &Play, sink: &mut S, output: Output) -> Output {
+        match self {
+            SendFault::Failed => "Failed".put_to(sink, output),
+            SendFault::NotAllowed => "NotAllowed".put_to(sink, output),
+            SendFault::ReadOutstanding => "ReadOutstanding".put_to(sink, output),
+            SendFault::NoReadToCancel => "NoReadToCancel".put_to(sink, output),
+            SendFault::BadSequence => "BadSequence".put_to(sink, output),
+            SendFault::Screen(reason) => {
+                texts!("Screen ", Number(reason.number() as u64)).put_to(sink, output)
+            }
+            SendFault::TooBig => "TooBig".put_to(sink, output),
+            SendFault::Memory => "Memory".put_to(sink, output),
         }
-        SendFault::TooBig => put_text(sink, output, "TooBig"),
-        SendFault::Memory => put_text(sink, output, "Memory"),
     }
 }
 
-// Writes where an end refuses a byte, and for what reason.
-fn put_refused<S: Sink>(sink: &mut S, output: Output, place: u64, reason: Reason) -> Output
-    ensures { Prints S.writer sink.old sink.new output result
-        (Spec.refused_text place reason) }
+// Where an end refuses a byte, and for what reason.
+fn refused(place: u64, reason: Reason) -> (&'static str, PlaceAndReason)
+    ensures { result.0.now ++ place_and_reason result.1.0 result.1.1
+        ≡ Spec.refused_text place reason }
 {
-    let output = put_text(sink, output, " refused at ");
-    put_place_and_reason(sink, output, place, reason)
+    (" refused at ", PlaceAndReason(place, reason))
 }

@@ -1,3 +1,5 @@
+//! What a line asks to be told of a station.
+
 use ws_code::{Address, List};
 
 /// What a line of a script prints beside fields and screens.

@@ -1,16 +1,18 @@
 //! The lines that tell a station's state and what is on its screen.
-ghost use Rattle.std.specs.Prelude.{◌≡◌, ◌≤◌, ◌<◌, List, ℕ, IfSome, position};
+ghost use Rattle.std.specs.Prelude.{◌≡◌, ◌≤◌, ◌<◌, ◌∷◌, [], List, ℕ, IfSome, position};
+ghost use Rattle.hex.specs.Hex.{encode_upper};
 ghost use Rattle.ws_printing.specs.ReportLines as Spec;
 ghost use Rattle.ws_screen.specs.ScreenParts.{holds};
 ghost use Rattle.ws_text.specs.Printing.{Prints};
 
-use crate::field_lines::cells_text;
+use crate::characters::{Characters, without_last_blanks};
+use crate::field_lines::show_from;
 use crate::report::{Report, Span};
 use crate::screen_lines::lock_name;
 use ws_code::{Address, CELLS, COLUMNS, ROWS, Sink};
 use ws_screen::{Field, MAX_FIELDS, Screen, Shown};
 use ws_session::{StationDisplay, StationOn};
-use ws_text::{Output, put, put_cell, put_hex, put_number, put_text};
+use ws_text::{Bytes, Cell, EachAs, Hex, Number, Output, Text, TextAs, texts};
 
 /// Writes what a report tells of a station.
 pub fn put_report<D: StationDisplay, O: Sink>(
@@ -26,7 +28,7 @@ pub fn put_report<D: StationDisplay, O: Sink>(
     match report {
         Report::Status => put_status(out, output, station),
         Report::Cells(cell) => put_cells(out, output, station.screen(), *cell),
-        Report::Text(span) => put_text_at(out, output, station.screen(), *span),
+        Report::Text(span) => put_span(out, output, station.screen(), *span),
         Report::Note(note) => put_note(out, output, note.as_slice()),
     }
 }
@@ -39,24 +41,35 @@ fn put_status<D: StationDisplay, O: Sink>(
     ensures { Prints O.writer out.old out.new output result
         (Spec.status_line (Spec.reported_station D.does station.now)) }
 {
-    let output = put_operator(out, output, station.screen(), station.is_ready());
-    let output = put_text(out, output, " records ");
-    let output = put_number(out, output, station.records());
-    let output = put_text(out, output, " bytes ");
-    let output = put_number(out, output, station.taken());
-    put_text(out, output, "\n")
+    texts!(
+        Operator(station.screen(), station.is_ready()),
+        " records ",
+        Number(station.records()),
+        " bytes ",
+        Number(station.taken()),
+        "\n"
+    )
+    .put_to(out, output)
 }
 
-// Writes the lock, whether the station is ready, and the cursor with its field.
-fn put_operator<O: Sink>(out: &mut O, output: Output, screen: &Screen, is_ready: bool) -> Output
-    ensures { Prints O.writer out.old out.new output result
-        (Spec.operator_words screen.now is_ready) }
-{
-    let output = put_text(out, output, "status ");
-    let output = put_text(out, output, lock_name(screen.locked()));
-    let output = put_text(out, output, ready_name(is_ready));
-    let output = put_cell(out, output, screen.cursor());
-    put_field_number(out, output, field_number(screen))
+// The lock, whether the station is ready, and the cursor with its field.
+#[derive(Clone, Copy)]
+struct Operator<'a>(&'a Screen, bool);
+
+impl Text for Operator<'_> {
+    ghost text = { λ o. Spec.operator_words o.0.now o.1 };
+
+    fn put_to<S: Sink>(&self, sink: &mut S, output: Output) -> Output {
+        let screen = self.0;
+        texts!(
+            "status ",
+            lock_name(screen.locked()),
+            ready_name(self.1),
+            Cell(screen.cursor()),
+            FieldNumber(screen)
+        )
+        .put_to(sink, output)
+    }
 }
 
 fn ready_name(is_ready: bool) -> &'static str
@@ -65,16 +78,17 @@ fn ready_name(is_ready: bool) -> &'static str
     if is_ready { " ready " } else { " negotiating " }
 }
 
-// Writes the number of a field, counted from 1, by its index, where there is one.
-fn put_field_number<O: Sink>(out: &mut O, output: Output, index: Option<usize>) -> Output
-    requires { IfSome index (λ i. i < MAX_FIELDS) }
-    ensures { Prints O.writer out.old out.new output result (Spec.field_name index) }
-{
-    match index {
-        None => output,
-        Some(index) => {
-            let output = put_text(out, output, " field ");
-            put_number(out, output, index as u64 + 1)
+// The number of the field that holds the cursor, counted from 1, where one does.
+#[derive(Clone, Copy)]
+struct FieldNumber<'a>(&'a Screen);
+
+impl Text for FieldNumber<'_> {
+    ghost text = { λ s. Spec.field_name (position (λ f. holds f s.0.now.cursor) s.0.now.fields) };
+
+    fn put_to<S: Sink>(&self, sink: &mut S, output: Output) -> Output {
+        match field_number(self.0) {
+            None => output,
+            Some(index) => texts!(" field ", Number(index as u64 + 1)).put_to(sink, output),
         }
     }
 }
@@ -106,14 +120,19 @@ fn put_cells<O: Sink>(out: &mut O, output: Output, screen: &Screen, cell: Addres
         (Spec.cells_line screen.now.cells cell) }
 {
     let number = cell.row();
-    let output = put_text(out, output, "cells ");
-    let output = put_number(out, output, number as u64);
-    let output = put_text(out, output, " ");
-    let output = put_hex(out, output, row_bytes(screen, number));
-    let output = put_text(out, output, " ");
+    let held = Hex(row_bytes(screen, number));
     let shown = screen.row(number);
-    let output = put_attributes(out, output, &shown);
-    put_text(out, output, "\n")
+    let attributes = EachAs(&shown, Attributes);
+    texts!(
+        "cells ",
+        Number(number as u64),
+        " ",
+        held,
+        " ",
+        attributes,
+        "\n"
+    )
+    .put_to(out, output)
 }
 
 /// What the cells of a row hold.
@@ -128,33 +147,31 @@ pub fn row_bytes(screen: &Screen, row: u8) -> &[u8]
     &screen.cells()[first..first + columns]
 }
 
-// Writes the attributes of cells in hex.
-fn put_attributes<O: Sink>(out: &mut O, output: Output, shown: &[Shown]) -> Output
-    ensures { Prints O.writer out.old out.new output result
-        (Spec.attributes_text shown.now) }
-{
-    let mut output = output;
-    for cell in shown {
-        output = put_hex(out, output, &[cell.attribute.byte()]);
+// The sense of a cell as its attribute in hex.
+#[derive(Clone, Copy)]
+struct Attributes;
+
+impl TextAs<Attributes> for Shown {
+    ghost text_as = { λ _ s. encode_upper (s.attribute ∷ []) };
+
+    fn put_as<S: Sink>(&self, _sense: &Attributes, sink: &mut S, output: Output) -> Output {
+        Hex(&[self.attribute.byte()]).put_to(sink, output)
     }
-    output
 }
 
 // Writes what cells show, without the blanks at its end: from one on so many, or up to the last of the screen.
-fn put_text_at<O: Sink>(out: &mut O, output: Output, screen: &Screen, span: Span) -> Output
-    ensures { (text : List ℕ) × Spec.IsTextLine screen.now.cells span text
-        × Prints O.writer out.old out.new output result text }
+fn put_span<O: Sink>(out: &mut O, output: Output, screen: &Screen, span: Span) -> Output
+    ensures { Prints O.writer out.old out.new output result
+        (Spec.span_line screen.now.cells span) }
 {
-    let behind = CELLS - span.at.place();
-    let text = cells_text(screen, span.at, span.count.min(behind));
-    let output = put_text(out, output, text.as_str().trim_end_matches(' '));
-    put_text(out, output, "\n")
+    let mut all = [Shown::default(); CELLS as usize];
+    let shown = show_from(screen, span.at, span.count, &mut all);
+    texts!(Characters(without_last_blanks(shown)), "\n").put_to(out, output)
 }
 
 /// Writes a note.
 pub fn put_note<O: Sink>(out: &mut O, output: Output, note: &[u8]) -> Output
     ensures { Prints O.writer out.old out.new output result (Spec.note_line note.now) }
 {
-    let output = put(out, output, note);
-    put_text(out, output, "\n")
+    texts!(Bytes(note), "\n").put_to(out, output)
 }

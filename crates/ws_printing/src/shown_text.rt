@@ -1,19 +1,21 @@
 //! Whether a screen shows a text.
-ghost use Rattle.std.specs.Prelude.{◌≡◌, ◌≤◌, ℕ, true, false, length, All, IfSome};
+ghost use Rattle.std.specs.Prelude.{◌≡◌, ◌≤◌, ◌+◌, ℕ, true, false, length, map, All, IfSome};
 ghost use Rattle.std.specs.List.{Contains};
 ghost use Rattle.std.specs.Str.{encode_utf8_all};
 ghost use Rattle.std.specs.Str.Iter.{HasSubslice};
 ghost use Rattle.ws_screen.specs.Lines.{row_chars};
 ghost use Rattle.ws_printing.specs.ShownTexts as Spec;
 
-use crate::field_lines::cells_text;
 use crate::report_lines::row_bytes;
-use arrayvec::ArrayVec;
-use ws_code::{Address, COLUMNS, ROWS, ebcdic};
-use ws_screen::Screen;
+use arrayvec::{ArrayString, ArrayVec};
+use ws_code::{Address, CELLS, COLUMNS, ROWS, ebcdic};
+use ws_screen::{Screen, Shown};
 
 // Of how many characters of a text the bytes are looked for in a row, before the row's text is made.
 const MOST_NEEDED: usize = 8;
+
+// The most bytes of a text of cells: four for each cell of a screen.
+const MAX_TEXT: usize = 7680;
 
 /// Whether some row shows the text.
 pub fn shows(screen: &Screen, text: &str) -> bool
@@ -37,6 +39,29 @@ pub fn begins_at(screen: &Screen, cell: Address, text: &str) -> bool
     let columns = u16::from(COLUMNS);
     let behind = columns - cell.place() % columns;
     cells_text(screen, cell, behind).as_str().starts_with(text)
+}
+
+// What cells show: so many from one on, each looked at once.
+fn cells_text(screen: &Screen, first: Address, count: u16) -> ArrayString<MAX_TEXT>
+    requires { first + count ≤ CELLS }
+    ensures { result.bytes ≡ Spec.text_of_cells screen.now.cells first count }
+{
+    let mut all = [Shown::default(); CELLS as usize];
+    let shown = &mut all[..usize::from(count)];
+    screen.show_cells(first, shown);
+    characters(shown)
+}
+
+// The text of cells.
+fn characters(shown: &[Shown]) -> ArrayString<MAX_TEXT>
+    requires { length shown.now ≤ CELLS }
+    ensures { result.bytes ≡ encode_utf8_all (map (λ s. s.character) shown.now) }
+{
+    let mut text = ArrayString::new();
+    for cell in shown {
+        text.push(cell.character);
+    }
+    text
 }
 
 // Whether a row shows the text, of which it needs these bytes. Only a row that has them is made a text.
