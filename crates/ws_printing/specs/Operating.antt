@@ -1,7 +1,7 @@
 -- A display that an operator drives by lines.
 
 use Rattle.std.specs.Prelude.{◌≡◌, ℕ, List, [], false}
-use Rattle.ws_session.specs.station.StationSide.{ProfileParts}
+use Rattle.ws_end.specs.station.StationEndState.{ProfileParts}
 
 -- when it is the operator's turn, and what is printed after the lines of its screen
 pub record OperatedOn (D : Type 0) : Type 1 where

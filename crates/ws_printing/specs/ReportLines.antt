@@ -11,8 +11,8 @@ use Rattle.ws_nego.specs.Station.{station_allows_records}
 use Rattle.ws_screen.specs.Lines.{shown_row}
 use Rattle.ws_screen.specs.ScreenParts.{ScreenParts, holds}
 use Rattle.ws_screen.specs.declared.shown.Shown.{Shown}
-use Rattle.ws_session.specs.station.Displays.{DisplayOf}
-use Rattle.ws_session.specs.station.Stations.{PartsOn}
+use Rattle.ws_end.specs.station.Displays.{DisplayOf}
+use Rattle.ws_end.specs.station.Stations.{PartsOn}
 use Rattle.ws_text.specs.ItemLines.{cell_text}
 use Rattle.ws_printing.specs.Characters.{characters_text, without_last_blanks}
 use Rattle.ws_printing.specs.FieldLines.{shown_from}

@@ -1,8 +1,8 @@
 use Rattle.std.proofs.Common.{◌≡◌, refl}
 use Rattle.ws_keys.specs.declared.host_answer.HostAnswer.{HostAnswer}
-use Rattle.ws_session.specs.declared.host_end.host_event.HostEvent.{HostEvent}
-use Rattle.ws_session.specs.declared.host_end.host_event.HostEvent.TheVariants.{Ready, Answer, Attention, SystemRequest}
-use Rattle.ws_session.specs.declared.host_end.host_event.HostEvent.TheVariants.{Cancelled}
+use Rattle.ws_end.specs.declared.host_end.host_event.HostEvent.{HostEvent}
+use Rattle.ws_end.specs.declared.host_end.host_event.HostEvent.TheVariants.{Ready, Answer, Attention, SystemRequest}
+use Rattle.ws_end.specs.declared.host_end.host_event.HostEvent.TheVariants.{Cancelled}
 use Rattle.ws_text.proofs.Prints.{prints_same}
 use Rattle.ws_printing.specs.PlayLines.{host_event_text}
 use Rattle.ws_printing.specs.ToldLines.{told_text}
