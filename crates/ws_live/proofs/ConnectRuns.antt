@@ -3,7 +3,6 @@ use Rattle.std.proofs.Common.{◌≡◌, ℕ, suc, ◌+◌, ◌<◌, ◌≤◌, 
 use Rattle.std.proofs.Common.{take, drop, take-append-drop, inl, inr, refl, sym, ap, ◌∙◌, subst, arith, append_assoc}
 use Rattle.std.proofs.Common.{length-append}
 use Rattle.std.proofs.Math.Seq.{drop-cons}
-use Rattle.std.proofs.lemmas.Bool.{cases_lt}
 use Rattle.std.proofs.lemmas.List.{append-nil, take_more}
 use Rattle.ws_code.specs.Device.{one_more}
 use Rattle.ws_code.specs.declared.fault.Fault.{Fault}
@@ -18,16 +17,17 @@ use Rattle.ws_live.specs.declared.live.connect.Waited.{Waited}
 use Rattle.ws_live.specs.declared.live.connect.Waited.TheVariants as waits
 use Rattle.ws_live.specs.declared.live.connect_line.Awaited.{Awaited}
 use Rattle.ws_live.specs.declared.live.connect_line.Awaited.TheVariants as awaits
-use Rattle.ws_live.specs.declared.live.report.Report.{Report}
-use Rattle.ws_live.specs.declared.live.report.Report.TheVariants as reported
+use Rattle.ws_printing.specs.declared.report.Report.{Report}
+use Rattle.ws_printing.specs.declared.report.Report.TheVariants as reported
 use Rattle.ws_live.specs.declared.live.watch.WaitSpan.TheVariants.{AtOnce}
 use Rattle.ws_live.specs.live.ConnectText.{pressed, closing_of_both, IsMet, IsKeyPressed, KeyRuns}
 use Rattle.ws_live.specs.live.ConnectText.{ArePressed, KeysRun, Hears, HasWaited, HearsOne, HearsNone, WaitsFor}
 use Rattle.ws_live.specs.live.LiveText.{Account, LineResult, account, line_result}
 use Rattle.ws_live.specs.live.ConnectText.{IsWaited, IsKeyUnwritten, IsWorking, Reports, ShowsStation, more_ahead}
 use Rattle.ws_live.specs.live.ConnectText.{refusal_text, report_waits, rested}
-use Rattle.ws_live.specs.live.Operating.{AttachedDisplay, KeyedDisplay, OperatedOn, WatchedDisplay}
-use Rattle.ws_live.specs.printing.ReportLines.{IsReportText, reported_station}
+use Rattle.ws_printing.specs.Operating.{OperatedOn}
+use Rattle.ws_live.specs.live.Operating.{AttachedDisplay, KeyedDisplay, WatchedDisplay}
+use Rattle.ws_printing.specs.ReportLines.{IsReportText, reported_station}
 use Rattle.ws_end.specs.station.Stations.{StationOf}
 use Rattle.ws_live.specs.live.Operating.{KeyAt}
 
@@ -221,12 +221,3 @@ module _ {S K : Type 0} (display : WatchedDisplay S K) where
   hears_none from to waits.Late h other = h
   hears_none from to waits.Ended h other = h
   hears_none from to (waits.Failed why) h other = h
-
--- what no row up to one has, and that one neither
-pub below_next : (P : ℕ → Type 0) (at : ℕ) → ((row : ℕ) → 1 ≤ row → row < at → P row → ⊥) → (P at → ⊥) → (row : ℕ)
-    → 1 ≤ row → row < at + 1 → P row → ⊥
-below_next P at below here row low high p = elim (cases_lt row at) [
-  | inl less ↦ below row low less p
-  | inr more ↦ here
-      (subst P (let e : row ≡ at = omega (arith, high, more) in e) p)
-]

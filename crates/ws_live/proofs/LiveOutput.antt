@@ -3,8 +3,8 @@ use Rattle.ws_code.specs.Device.{Writer, WentOut, FailedWithin}
 use Rattle.ws_text.specs.Printing.{IsOut}
 use Rattle.ws_text.specs.declared.output.Output.{Output}
 use Rattle.ws_text.specs.declared.output.Output.TheVariants.{Open, Failed}
-use Rattle.ws_live.specs.printing.Buffering.{Buffering, buffered_writer}
-use Rattle.ws_live.proofs.Buffers.{flushed_out, flush_fails, fails_behind}
+use Rattle.ws_printing.specs.Buffering.{Buffering, buffered_writer}
+use Rattle.ws_printing.proofs.Buffers.{flushed_out, flush_fails, fails_behind}
 
 -- What a live session prints goes out behind a buffer, line by line.
 

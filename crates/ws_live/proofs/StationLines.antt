@@ -8,9 +8,9 @@ use Rattle.ws_live.specs.declared.live.connect_line.Awaited.{Awaited}
 use Rattle.ws_live.specs.declared.live.connect_line.StationLine.{StationLine}
 use Rattle.ws_live.specs.declared.live.connect_line.StationLine.TheVariants.{Nothing, Press, Await, Fields, Show, Bad}
 use Rattle.ws_live.specs.declared.live.connect_line.StationLine.TheVariants.{Stroke as StrokeLine, Report as ReportLine}
-use Rattle.ws_live.specs.declared.live.report.Report.{Report}
-use Rattle.ws_live.specs.declared.live.report.Report.TheVariants.{Status, Cells, Text as ShownText, Note}
-use Rattle.ws_live.specs.declared.live.report.Span.{Span}
+use Rattle.ws_printing.specs.declared.report.Report.{Report}
+use Rattle.ws_printing.specs.declared.report.Report.TheVariants.{Status, Cells, Text as ShownText, Note}
+use Rattle.ws_printing.specs.declared.report.Span.{Span}
 use Rattle.ws_live.specs.declared.live.stroke.Filling.{Filling}
 use Rattle.ws_live.specs.declared.live.stroke.Stroke.{Stroke}
 use Rattle.ws_live.specs.declared.live.stroke.Stroke.TheVariants.{Cursor, NewLine, EraseEof, Fill}

@@ -1,4 +1,3 @@
-pub mod printing
 pub mod script
 pub mod live
 pub mod cause

@@ -1,11 +1,10 @@
 //! Sessions by lines: scripts and their moves, what is asked of a live session and its lines at either end over any
-//! devices, what is printed of events, screens and fields, and why a line is bad or a run is at fault.
+//! devices, and why a line is bad or a run is at fault.
 #![tactic(auto)]
 
 mod asked;
 mod cause;
 mod live;
-mod printing;
 mod script;
 
 pub use asked::fault::{RunFault, ToldFault, Unconnected, no_connection};
@@ -21,9 +20,7 @@ pub use cause::{Cause, cause_text};
 pub use live::connect_line::{Awaited, StationLine};
 pub use live::host_closing::{put_given, put_unheard};
 pub use live::live_line::{LiveLine, is_indented, read_lines};
-pub use live::operated_display::OperatedDisplay;
 pub use live::repeated::carry_on;
-pub use live::report::{Report, Span};
 pub use live::serve::answer_on;
 pub use live::serve_line::{AnswerAwaited, HostLine};
 pub use live::stroke::{Filling, Stroke};
@@ -31,13 +28,8 @@ pub use live::watch::{WaitSpan, Watch};
 pub use live::wire_line::{WireLine, carry_wire};
 pub use live::wire_words::read_wire;
 pub use live::{Carried, Closing, LiveMove, Ran, carry_line, carry_lines, hand_on, put_bad};
-pub use printing::buffered_sink::BufferedSink;
-pub use printing::error_row::put_error_row;
-pub use printing::paint::Paint;
-pub use printing::place_and_reason::put_place_and_reason;
-pub use printing::play::{play_painted_to, play_to, put_event};
-pub use printing::screen_lines::{put_display, put_screen};
 pub use script::key_name::aid_named;
 pub use script::named_key::NamedKey;
 pub use script::script_line::LineFault;
 pub use script::{ScriptFault, read_script};
+pub use ws_printing::{BufferedSink, OperatedDisplay, Paint, play_to};

@@ -1,21 +1,19 @@
 ghost use Rattle.std.specs.Prelude.{◌≡◌, [], false, List, ℕ, Option, IfOk};
 ghost use Rattle.ws_end.specs.attached.Attachments.{AttachedParts};
-ghost use Rattle.ws_live.specs.printing.Buffering.{Buffering, buffered_writer};
+ghost use Rattle.ws_printing.specs.Buffering.{Buffering, buffered_writer};
 ghost use Rattle.ws_text.specs.Printed.{IsPrinted};
 ghost use Rattle.ws_text.specs.Printing.{IsOut, Prints};
 ghost use Rattle.ws_live.specs.live.LiveText as Spec;
 ghost use Rattle.ws_live.specs.live.Waits.{HasBegunIf, InTime, WatchTells};
-ghost use Rattle.ws_live.specs.declared.printing.paint.Paint.{Paint as APaint};
+ghost use Rattle.ws_printing.specs.declared.paint.Paint.{Paint as APaint};
 ghost use Rattle.ws_live.specs.declared.live.watch.WaitSpan.{WaitSpan as ASpan};
 
 pub(crate) mod connect;
 pub(crate) mod connect_line;
 pub(crate) mod host_closing;
 pub(crate) mod live_line;
-pub(crate) mod operated_display;
 pub(crate) mod pressing;
 pub(crate) mod repeated;
-pub(crate) mod report;
 pub(crate) mod report_words;
 pub(crate) mod serve;
 pub(crate) mod serve_line;
@@ -27,9 +25,8 @@ pub(crate) mod wire_words;
 
 use crate::live::live_line::LiveLine;
 use crate::live::watch::Watch;
-use crate::printing::buffered_sink::BufferedSink;
-use crate::printing::paint::Paint;
 use ws_code::{Fault, Sink};
+use ws_printing::{BufferedSink, Paint};
 use ws_session::Attached;
 use ws_text::{Output, put_text};
 

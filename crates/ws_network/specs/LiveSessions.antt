@@ -4,7 +4,7 @@ use Rattle.std.specs.Prelude.{ℕ, List, Bool, true, false, Option}
 use Rattle.std.specs.Borrow.{Bor}
 use Rattle.ws_any_host.specs.AnyLines.{any_language}
 use Rattle.ws_live.specs.live.ServeLines.{host_language}
-use Rattle.ws_live.specs.printing.Printouts.{Printout}
+use Rattle.ws_printing.specs.Printouts.{Printout}
 use Rattle.ws_network.specs.AnySessions.{IsAnyServed}
 use Rattle.ws_network.specs.ManySessions.{HasServedBy}
 use Rattle.ws_network.specs.Sessions.{HasConnected, IsServed}

@@ -5,7 +5,7 @@ use Rattle.std.specs.Borrow.{Bor}
 use Rattle.std.specs.Fmt.{decimal}
 use Rattle.ws_live.specs.live.LiveScript.{LineLanguage}
 use Rattle.ws_live.specs.live.LiveText.{Account, account}
-use Rattle.ws_live.specs.printing.Printouts.{IsPrintedOut, Printout}
+use Rattle.ws_printing.specs.Printouts.{IsPrintedOut, Printout}
 use Rattle.ws_network.specs.Sessions.{AreFromScript}
 use Rattle.ws_live.specs.declared.asked.live_asked.ServeAsked.{ServeAsked}
 

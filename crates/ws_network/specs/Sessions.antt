@@ -16,12 +16,13 @@ use Rattle.ws_end.specs.station.Stations.{ReachedOn}
 use Rattle.ws_stream.specs.Elements.{element_rules}
 use Rattle.ws_live.specs.live.ConnectLines.{station_language}
 use Rattle.ws_live.specs.live.ConnectText.{StationRunsInTime}
-use Rattle.ws_live.specs.printing.ErrorRow.{operated_extended}
-use Rattle.ws_live.specs.printing.Printouts.{IsPrintedOut, Printout}
+use Rattle.ws_printing.specs.ErrorRow.{operated_extended}
+use Rattle.ws_printing.specs.Printouts.{IsPrintedOut, Printout}
 use Rattle.ws_live.specs.script.ExtendedKeyNames.{extended_words}
 use Rattle.ws_live.specs.script.KeyWords.{profile_words}
 use Rattle.ws_live.specs.live.LiveScript.{AreLiveLines, LineLanguage}
-use Rattle.ws_live.specs.live.Operating.{LiveDisplay, live_display, operated_profile}
+use Rattle.ws_printing.specs.Operating.{operated_profile}
+use Rattle.ws_live.specs.live.Operating.{LiveDisplay, live_display}
 use Rattle.ws_live.specs.live.LiveText.{Account, IsLiveText, WithClosing, account}
 use Rattle.ws_live.specs.live.ServeText.{HostRunsInTime}
 use Rattle.ws_live.specs.declared.live.connect_line.StationLine.{StationLine}

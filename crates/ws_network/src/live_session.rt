@@ -4,7 +4,7 @@ ghost use Rattle.std.specs.Prelude.{◌≡◌, [], Some, IfOk, IsErr};
 ghost use Rattle.std.specs.Option.{is_none};
 ghost use Rattle.ws_live.specs.asked.OpenStreams.{missing};
 ghost use Rattle.ws_live.specs.live.Operating.{live_display};
-ghost use Rattle.ws_live.specs.printing.Printouts.{printout};
+ghost use Rattle.ws_printing.specs.Printouts.{printout};
 ghost use Rattle.ws_live.specs.declared.asked.fault.RunFault.{RunFault as AFault};
 ghost use Rattle.ws_network.specs.LiveSessions.{HasServedAs, HasRunLive, script_of};
 ghost use Rattle.ws_network.specs.Sessions.{HasConnected, HasConnectedOn};

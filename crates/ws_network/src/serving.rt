@@ -8,7 +8,7 @@ ghost use Rattle.ws_network.specs.ManySessions.{AreMany, HasServedBy, number_lin
 ghost use Rattle.ws_network.specs.Sessions.{IsServed};
 ghost use Rattle.ws_text.specs.Printing.{Prints};
 ghost use Rattle.ws_live.specs.live.LiveText.{Account, account};
-ghost use Rattle.ws_live.specs.printing.Printouts.{printout};
+ghost use Rattle.ws_printing.specs.Printouts.{printout};
 ghost use Rattle.ws_live.specs.asked.OpenStreams.{missing};
 ghost use Rattle.ws_live.specs.declared.asked.fault.RunFault.{RunFault as AFault};
 ghost use Rattle.ws_live.specs.declared.asked.live_asked.ServeAsked.{ServeAsked as AnAsked};

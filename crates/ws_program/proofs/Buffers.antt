@@ -2,8 +2,8 @@ use Rattle.std.specs.Prelude.{Result, Ok, Err}
 use Rattle.std.proofs.Common.{◌≡◌, ℕ, List, [], length, sym, ap, ◌∙◌, subst, arith, inl, inr}
 use Rattle.ws_code.specs.Device.{Writer, WentOut, FailedWithin}
 use Rattle.ws_text.specs.Printed.{Printing, IsPrinted}
-use Rattle.ws_live.specs.printing.Buffering.{Buffering, buffered_writer}
-use Rattle.ws_live.proofs.Buffers.{flushed_out, flush_fails, fails_behind}
+use Rattle.ws_printing.specs.Buffering.{Buffering, buffered_writer}
+use Rattle.ws_printing.proofs.Buffers.{flushed_out, flush_fails, fails_behind}
 use Rattle.ws_program.specs.Actions.{Action, IsCarriedOut}
 
 -- What is printed into a buffer, and then goes out.

@@ -4,6 +4,7 @@ use Rattle.std.specs.Str.Lines.{lines}
 use Rattle.std.proofs.Common.{◌≡◌, ℕ, ◌^◌, ◌<◌, List, [], ◌∷◌, ◌++◌, true, length, map, refl, sym, subst, ◌∙◌, ap}
 use Rattle.std.proofs.Common.{arith}
 use Rattle.ws_code.specs.Code.{Rules, IsChain}
+use Rattle.ws_code.specs.declared.address.TheConstants.{ROWS}
 use Rattle.ws_code.proofs.Lists.{AllByRecursion-append}
 use Rattle.ws_telnet.specs.Streams.{joined}
 use Rattle.ws_telnet.specs.Token.{token_rules, IsToken}
@@ -19,9 +20,9 @@ use Rattle.ws_stream.specs.declared.element.Element.{Element}
 use Rattle.ws_text.specs.Items.{EndsHere}
 use Rattle.ws_text.specs.Shown.{ShowsElements}
 use Rattle.ws_text.proofs.ShownBytes.{literal, line_from, lines_back}
-use Rattle.ws_live.specs.declared.printing.paint.Paint.{Paint}
-use Rattle.ws_live.specs.declared.printing.paint.Paint.TheVariants.{Plain}
-use Rattle.ws_live.specs.printing.ScreenLines.{state_line}
+use Rattle.ws_printing.specs.declared.paint.Paint.{Paint}
+use Rattle.ws_printing.specs.declared.paint.Paint.TheVariants.{Plain}
+use Rattle.ws_printing.specs.ScreenLines.{rows_text, state_line}
 use Rattle.ws_program.specs.StreamText.{showing, View, Placed, items_without_places, AreShown, IsShown}
 use Rattle.ws_program.specs.Views.{host_view, IsScreenEnd}
 
@@ -95,8 +96,8 @@ module _ {Place U : Type 0} (rules : Rules Place U) where
 screen_ends : (paint : Paint) (items : List (Item Element)) (text : List ℕ) → IsScreenEnd paint items text
     → EndsHere (lines text)
 screen_ends paint items text h =
-    let rest = h.2.0 ++ state_line h.0 in
-    let first : lines text ≡ codes "screen" ∷ lines rest = ap lines h.2.2
+    let rest = rows_text paint h.0.cells ROWS ++ state_line h.0 in
+    let first : lines text ≡ codes "screen" ∷ lines rest = ap lines h.2
     ∙ lines_back (codes "screen" ∷ []) rest (line_from (codes "screen") [] (literal (codes "screen") refl) tt, tt) in
     subst (λ (z : List (List ℕ)). EndsHere z) (sym first) refl
 

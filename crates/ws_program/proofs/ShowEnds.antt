@@ -11,7 +11,7 @@ use Rattle.ws_record.specs.Grammar.{IsInGrammar}
 use Rattle.ws_record.specs.Receiver.{Receiving}
 use Rattle.ws_record.specs.declared.record.Item.{Item}
 use Rattle.ws_text.specs.Printed.{IsPrinted}
-use Rattle.ws_live.specs.printing.Printouts.{printout}
+use Rattle.ws_printing.specs.Printouts.{printout}
 use Rattle.ws_program.specs.StreamText.{showing, View, Placed, items_without_places, IsComplete, IsShown, IsThrough}
 use Rattle.ws_program.specs.StreamText.{show_printing}
 use Rattle.ws_program.specs.CheckLine.{line_of, is_accepted}

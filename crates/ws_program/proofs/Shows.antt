@@ -17,7 +17,7 @@ use Rattle.ws_record.specs.Receiver.{Receiving, HasReceived, HasUnit, IsFeedFaul
 use Rattle.ws_record.specs.Refusal.{IsOpen, IsRefused, IsTruncated}
 use Rattle.ws_record.specs.declared.record.Item.{Item}
 use Rattle.ws_text.specs.Printed.{IsPrinted}
-use Rattle.ws_live.specs.printing.Printouts.{printout}
+use Rattle.ws_printing.specs.Printouts.{printout}
 use Rattle.ws_program.specs.StreamText.{showing}
 use Rattle.ws_program.specs.CheckLine.{line_of, verdict_by}
 use Rattle.ws_program.specs.StreamText.{IsStop, show_printing}

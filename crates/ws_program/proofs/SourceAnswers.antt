@@ -7,7 +7,7 @@ use Rattle.ws_code.specs.declared.fault.Fault.TheVariants as device
 use Rattle.ws_live.specs.declared.asked.fault.RunFault.{RunFault}
 use Rattle.ws_live.specs.declared.asked.fault.RunFault.TheVariants.{Read, Write}
 use Rattle.ws_live.specs.declared.asked.sender.Sender.{Sender}
-use Rattle.ws_live.specs.printing.Buffering.{Buffering, buffered_writer}
+use Rattle.ws_printing.specs.Buffering.{Buffering, buffered_writer}
 use Rattle.ws_text.specs.Printed.{Printing, IsPrinted}
 use Rattle.ws_program.specs.Actions.{IsCarriedOut}
 use Rattle.ws_program.specs.Answering.{sender_parts, of_bytes, run_outcome}

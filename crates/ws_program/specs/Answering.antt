@@ -30,7 +30,7 @@ use Rattle.ws_program.specs.Making.{make_action}
 use Rattle.ws_program.specs.StreamBytes.{AreBytesOf, IsFormFault}
 use Rattle.ws_program.specs.ExtendedView.{extended_view}
 use Rattle.ws_program.specs.Views.{painted_host_view, answer_view, told_view}
-use Rattle.ws_live.specs.declared.printing.paint.Paint.{Paint}
+use Rattle.ws_printing.specs.declared.paint.Paint.{Paint}
 use Rattle.ws_program.specs.declared.words.command_line.Asked.{Asked}
 use Rattle.ws_program.specs.declared.words.command_line.Asked.TheVariants.{Check, Show, Play, Make}
 use Rattle.ws_live.specs.declared.asked.sender.Sender.{Sender}
@@ -45,7 +45,7 @@ use Rattle.ws_session.specs.world.Session.{Session, new_session, after_moves}
 use Rattle.ws_end.specs.station.StationEndState.{screen_at}
 use Rattle.ws_live.specs.script.Script.{IsScript, IsFirstBad}
 use Rattle.ws_live.specs.script.ScriptFaults.{IsReadSoFar}
-use Rattle.ws_live.specs.printing.PlayLines.{IsPaintedPlayText, no_end_refuses}
+use Rattle.ws_printing.specs.PlayLines.{IsPaintedPlayText, no_end_refuses}
 
 -- what is told of a session, and its screen in a paint where it is asked for
 abbrev pub IsSessionText : Paint → Session → Bool → List ℕ → Type 0

@@ -9,7 +9,7 @@ use Rattle.ws_record.specs.declared.record.Item.{Item}
 use Rattle.ws_record.specs.declared.record.Item.TheVariants.{Record, Telnet}
 use Rattle.ws_record.specs.Grammar.{IsInGrammar}
 use Rattle.ws_record.specs.Refusal.{IsRefused, IsTruncated}
-use Rattle.ws_live.specs.printing.PlaceAndReason.{place_and_reason}
+use Rattle.ws_printing.specs.PlaceAndReason.{place_and_reason}
 use Rattle.ws_program.specs.declared.verdict.Verdict.{Verdict}
 use Rattle.ws_program.specs.declared.verdict.Verdict.TheVariants.{Accepted, Refused, Truncated}
 

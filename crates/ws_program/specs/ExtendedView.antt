@@ -10,9 +10,9 @@ use Rattle.ws_extended.specs.declared.extended_element.ExtendedElement.{Extended
 use Rattle.ws_extended_station.specs.ExtendedDisplays.{standing_row}
 use Rattle.ws_extended_station.specs.ExtendedRecords.{record_fault, state_after_record}
 use Rattle.ws_text.specs.ExtendedLines.{extended_item_text}
-use Rattle.ws_live.specs.printing.ErrorRow.{error_line}
-use Rattle.ws_live.specs.printing.ScreenLines.{IsDisplayText}
-use Rattle.ws_live.specs.declared.printing.paint.Paint.{Paint}
+use Rattle.ws_printing.specs.ErrorRow.{error_line}
+use Rattle.ws_printing.specs.ScreenLines.{IsDisplayText}
+use Rattle.ws_printing.specs.declared.paint.Paint.{Paint}
 use Rattle.ws_program.specs.StreamText.{View}
 
 -- a display to which nothing has happened

@@ -2,7 +2,7 @@
 
 use Rattle.std.specs.Prelude.{◌≡◌, ℕ, List, Bool, Option, None, Some, Ok, Err, ◌⊎◌}
 use Rattle.std.specs.Option.{is_none}
-use Rattle.ws_live.specs.printing.Printouts.{Printout}
+use Rattle.ws_printing.specs.Printouts.{Printout}
 use Rattle.ws_live.specs.declared.asked.fault.RunFault.{RunFault}
 use Rattle.ws_live.specs.declared.asked.fault.RunFault.TheVariants.{Read, Memory}
 use Rattle.ws_live.specs.declared.asked.fault.ToldFault.{ToldFault}

@@ -15,7 +15,7 @@ use Rattle.ws_record.specs.declared.record.Item.{Item}
 use Rattle.ws_record.specs.declared.record.Item.TheVariants.{Record as RecordItem, Telnet as TelnetItem}
 pub use Rattle.ws_end.specs.Acts.{HoldsItems}
 use Rattle.ws_text.specs.Printed.{Printing, IsPrinted}
-use Rattle.ws_live.specs.printing.Printouts.{IsPrintedOut, Printout}
+use Rattle.ws_printing.specs.Printouts.{IsPrintedOut, Printout}
 use Rattle.ws_program.specs.CheckLine.{line_of, is_accepted}
 use Rattle.ws_program.specs.declared.verdict.Verdict.{Verdict}
 use Rattle.ws_program.specs.declared.verdict.Verdict.TheVariants.{Refused, Truncated}

@@ -15,9 +15,9 @@ use Rattle.ws_extended.specs.declared.extended_answer_part.ExtendedAnswerPart.{E
 use Rattle.ws_text.specs.AnswerLines.{answer_text}
 use Rattle.ws_text.specs.ExtendedAnswerLines.{told_item_text}
 use Rattle.ws_text.specs.ItemLines.{item_text}
-use Rattle.ws_live.specs.printing.ScreenLines.{IsScreenText}
-use Rattle.ws_live.specs.declared.printing.paint.Paint.{Paint}
-use Rattle.ws_live.specs.declared.printing.paint.Paint.TheVariants.{Plain}
+use Rattle.ws_printing.specs.ScreenLines.{IsScreenText}
+use Rattle.ws_printing.specs.declared.paint.Paint.{Paint}
+use Rattle.ws_printing.specs.declared.paint.Paint.TheVariants.{Plain}
 use Rattle.ws_program.specs.StreamText.{View}
 
 -- the events so far, and those of an item: a record is applied as a station does, a Telnet command has no effect

@@ -1,13 +1,13 @@
 ghost use Rattle.std.specs.Prelude.{◌≡◌, ◌++◌, ◌∷◌, [], List, ℕ, OnOk};
 ghost use Rattle.ws_extended_station.specs.ExtendedDisplays.{standing_row as a_standing_row};
 ghost use Rattle.ws_program.specs.ExtendedView.{extended_view, IsExtendedEnd, MakesDisplay};
-ghost use Rattle.ws_live.specs.declared.printing.paint.Paint.TheVariants.{Plain};
+ghost use Rattle.ws_printing.specs.declared.paint.Paint.TheVariants.{Plain};
 
 use crate::extended_record::apply_extended_record;
 use crate::shown::Shown;
 use ws_code::{Reason, Sink};
 use ws_extended::{ExtendedCommands, ExtendedElement, ExtendedScreen};
-use ws_live::{Paint, put_error_row, put_screen};
+use ws_printing::{Paint, put_error_row, put_screen};
 use ws_record::Item;
 use ws_text::{Output, put_item};
 

@@ -1,6 +1,6 @@
 //! What the program does by the words of its command line.
 ghost use Rattle.std.specs.Prelude.{◌≡◌, [], IfOk, IfErr};
-ghost use Rattle.ws_live.specs.printing.Printouts.{printout};
+ghost use Rattle.ws_printing.specs.Printouts.{printout};
 ghost use Rattle.ws_program.specs.Runs.{HasRunInput, HasRunTask, IsFaultOfInput, IsFaultOfRun, IsFaultOfTask};
 ghost use Rattle.ws_program.specs.declared.words.command_line.Task.{Task as ATask};
 

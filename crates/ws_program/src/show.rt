@@ -4,13 +4,13 @@ ghost use Rattle.ws_record.specs.Grammar.{IsInGrammar};
 ghost use Rattle.ws_record.specs.declared.record.Item.{Item as AnItem};
 ghost use Rattle.ws_stream.specs.Elements.{element_rules};
 ghost use Rattle.ws_stream.specs.declared.element.Element.{Element as AnElement};
-ghost use Rattle.ws_live.specs.printing.Printouts.{printout};
+ghost use Rattle.ws_printing.specs.Printouts.{printout};
 ghost use Rattle.ws_program.specs.StreamText.{showing, show_printing, IsShown, AreFirstLines, IsStop, IsThrough};
 ghost use Rattle.ws_program.specs.StreamText.{HasBegunStream, IsNext, IsNextFault};
 ghost use Rattle.ws_text.specs.Printed.{IsPrinted};
 ghost use Rattle.ws_text.specs.Shown.{ShowsElements};
 ghost use Rattle.ws_program.specs.CheckLine.{verdict_by};
-ghost use Rattle.ws_live.specs.declared.printing.paint.Paint.{Paint as APaint};
+ghost use Rattle.ws_printing.specs.declared.paint.Paint.{Paint as APaint};
 ghost use Rattle.ws_program.specs.Views.{host_view, in_paint};
 
 use crate::shown::Shown;

@@ -4,11 +4,11 @@ ghost use Rattle.ws_screen.specs.Faults.{refusal};
 ghost use Rattle.ws_text.specs.Printing.{Prints};
 ghost use Rattle.ws_program.specs.StreamText.{View, IsWholeItem};
 ghost use Rattle.ws_program.specs.Views.{host_view, answer_view, told_view, IsNoEnd, IsScreenEnd, MakesScreen};
-ghost use Rattle.ws_live.specs.declared.printing.paint.Paint.{Paint as APaint};
+ghost use Rattle.ws_printing.specs.declared.paint.Paint.{Paint as APaint};
 
 use ws_code::{Body, Reason, Sink};
 use ws_extended::{ExtendedAnswerPart, ExtendedAnswers};
-use ws_live::{Paint, put_screen};
+use ws_printing::{Paint, put_screen};
 use ws_record::Item;
 use ws_screen::Screen;
 use ws_session::apply_record;

@@ -1,11 +1,10 @@
 ghost use Rattle.std.specs.Prelude.{◌≡◌, ◌<◌, ◌≢◌, List, ℕ, length, IfOk, IfErr};
 ghost use Rattle.ws_code.specs.Device.{WentOut, FailedWithin};
-ghost use Rattle.ws_program.specs.CheckLine.{verdict_by};
-ghost use Rattle.ws_text.specs.Printing.{Prints};
+ghost use Rattle.ws_program.specs.CheckLine.{line_of, verdict_by};
 
 use ws_code::{Fault, Reason, Sink};
-use ws_live::put_place_and_reason;
-use ws_text::{Output, put_number, put_text};
+use ws_printing::PlaceAndReason;
+use ws_text::{Number, Output, Text, print, texts};
 
 /// What holds of a stream.
 #[derive(Clone, Copy)]
@@ -19,7 +18,7 @@ pub enum Verdict {
 }
 
 impl Verdict {
-    ghost use Rattle.ws_program.specs.CheckLine.{line_of, is_accepted};
+    ghost use Rattle.ws_program.specs.CheckLine.{is_accepted};
 
     /// Whether the stream is accepted.
     pub fn is_accepted(self) -> bool
@@ -37,34 +36,37 @@ impl Verdict {
         ensures fault { IfErr result (λ fault. (fault ≡ Fault.Write)
             × FailedWithin S.writer sink.old sink.new (line_of self size)) }
     {
-        match self.put_line(size, sink) {
-            Output::Open => Ok(self.is_accepted()),
-            Output::Failed => Err(Fault::Write),
+        match print(&VerdictLine(self, size as u64), sink) {
+            Ok(()) => Ok(self.is_accepted()),
+            Err(fault) => Err(fault),
         }
     }
+}
 
-    fn put_line<S: Sink>(self, size: usize, sink: &mut S) -> Output
-        ensures { Prints S.writer sink.old sink.new Output.Open result
-            (line_of self size) }
-    {
-        match self {
-            Verdict::Accepted { records, commands } => {
-                let output = put_text(sink, Output::Open, "accepted: ");
-                let output = put_number(sink, output, records);
-                let output = put_text(sink, output, " records, ");
-                let output = put_number(sink, output, commands);
-                let output = put_text(sink, output, " commands, ");
-                let output = put_number(sink, output, size as u64);
-                put_text(sink, output, " bytes\n")
-            }
+// The line that says it, of a stream of so many bytes.
+#[derive(Clone, Copy)]
+struct VerdictLine(Verdict, u64);
+
+impl Text for VerdictLine {
+    ghost text = { λ l. line_of l.0 l.1 };
+
+    fn put_to<S: Sink>(&self, sink: &mut S, output: Output) -> Output {
+        match self.0 {
+            Verdict::Accepted { records, commands } => texts!(
+                "accepted: ",
+                Number(records),
+                " records, ",
+                Number(commands),
+                " commands, ",
+                Number(self.1),
+                " bytes\n"
+            )
+            .put_to(sink, output),
             Verdict::Refused { place, reason } => {
-                let output = put_text(sink, Output::Open, "refused at ");
-                put_place_and_reason(sink, output, place, reason)
+                texts!("refused at ", PlaceAndReason(place, reason)).put_to(sink, output)
             }
             Verdict::Truncated { at } => {
-                let output = put_text(sink, Output::Open, "truncated at ");
-                let output = put_number(sink, output, at);
-                put_text(sink, output, "\n")
+                texts!("truncated at ", Number(at), "\n").put_to(sink, output)
             }
         }
     }

@@ -26,6 +26,8 @@ mod reading;
 mod run_name;
 mod runs;
 mod telnet_words;
+mod text;
+mod text_values;
 mod worded;
 mod words;
 
@@ -37,4 +39,6 @@ pub use lines::first_line;
 pub use number::read_number;
 pub use output::{Output, put, put_cell, put_hex, put_hex_behind_blank, put_number, put_text};
 pub use run_name::RunName;
+pub use text::{As, EachAs, Text, TextAs, print};
+pub use text_values::{Bytes, Cell, Character, Hex, HexBehindBlank, Number};
 pub use worded::Worded;

@@ -16,11 +16,11 @@ use Rattle.ws_end.specs.declared.attached.acted.Acted.TheVariants as acted
 use Rattle.ws_end.specs.declared.end_step.Applied.{Applied}
 use Rattle.ws_end.specs.declared.station.key_fault.KeyFault.{KeyFault}
 use Rattle.ws_session.specs.declared.world.Event.TheVariants.{StationRefused}
-use Rattle.ws_live.specs.printing.FieldLines.{AreFieldLines}
-use Rattle.ws_live.specs.printing.PlayLines.{event_text, key_fault_name}
-use Rattle.ws_live.specs.printing.ReportLines.{IsReportText, note_line, reported_station}
-use Rattle.ws_live.specs.printing.ScreenLines.{IsDisplayText}
-use Rattle.ws_live.specs.printing.ShownTexts.{BeginsAt, ShowsText}
+use Rattle.ws_printing.specs.FieldLines.{AreFieldLines}
+use Rattle.ws_printing.specs.PlayLines.{event_text, key_fault_name}
+use Rattle.ws_printing.specs.ReportLines.{IsReportText, note_line, reported_station}
+use Rattle.ws_printing.specs.ScreenLines.{IsDisplayText}
+use Rattle.ws_printing.specs.ShownTexts.{BeginsAt, ShowsText}
 use Rattle.ws_live.specs.declared.live.connect.Waited.{Waited}
 use Rattle.ws_live.specs.declared.live.connect.Waited.TheVariants.{Met, Late as WasLate, Ended as HasEnded, Failed}
 use Rattle.ws_live.specs.declared.live.connect_line.StationLine.{StationLine}
@@ -28,14 +28,15 @@ use Rattle.ws_live.specs.declared.live.connect_line.StationLine.TheVariants.{Not
 use Rattle.ws_live.specs.declared.live.connect_line.StationLine.TheVariants.{Fields, Show, Report, Bad}
 use Rattle.ws_live.specs.declared.live.connect_line.Awaited.{Awaited}
 use Rattle.ws_live.specs.declared.live.connect_line.Awaited.TheVariants.{Turn, Record, Text, At, Quiet}
-use Rattle.ws_live.specs.declared.live.report.Report.{Report as AReport}
-use Rattle.ws_live.specs.declared.live.report.Report.TheVariants.{Note}
+use Rattle.ws_printing.specs.declared.report.Report.{Report as AReport}
+use Rattle.ws_printing.specs.declared.report.Report.TheVariants.{Note}
 use Rattle.ws_live.specs.live.LiveText.{Account, LineResult, LinesDo, account, bad_outcome, bad_text, line_result}
-use Rattle.ws_live.specs.live.Operating.{AttachedDisplay, KeyedDisplay, LiveDisplay, OperatedOn, WatchedDisplay}
+use Rattle.ws_printing.specs.Operating.{OperatedOn}
+use Rattle.ws_live.specs.live.Operating.{AttachedDisplay, KeyedDisplay, LiveDisplay, WatchedDisplay}
 use Rattle.ws_live.specs.live.Stroking.{no_field_text, stroke_keys}
 use Rattle.ws_live.specs.live.Waits.{InTime, WatchTimes, WatchedDevices}
 use Rattle.ws_live.specs.declared.live.Closing.{Closing}
-use Rattle.ws_live.specs.declared.printing.paint.Paint.{Paint}
+use Rattle.ws_printing.specs.declared.paint.Paint.{Paint}
 use Rattle.ws_live.specs.declared.live.Closing.TheVariants.{Nothing, Done, Declined, Late, Ended, Stopped}
 use Rattle.ws_live.specs.declared.live.watch.WaitSpan.{WaitSpan}
 use Rattle.ws_live.specs.declared.live.watch.WaitSpan.TheVariants.{Whole, AtOnce, Quiet as UntilQuiet}

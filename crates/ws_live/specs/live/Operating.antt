@@ -1,21 +1,11 @@
--- A display that an operator drives by lines.
+-- A display at which lines are carried out.
 
-use Rattle.std.specs.Prelude.{◌≡◌, ℕ, List, [], false}
 use Rattle.ws_code.specs.Code.{Rules}
 use Rattle.ws_code.specs.Device.{Devices}
 use Rattle.ws_end.specs.station.Displays.{DisplayOf, OnDisplay, on_display}
-use Rattle.ws_end.specs.station.StationEndState.{ProfileParts}
+use Rattle.ws_printing.specs.Operating.{OperatedOn}
 use Rattle.ws_live.specs.live.Waits.{WatchTells}
 use Rattle.ws_live.specs.script.KeyWords.{KeyWords}
-
--- when it is the operator's turn, and what is printed after the lines of its screen
-pub record OperatedOn (D : Type 0) : Type 1 where
-  pub IsTurn : D → Type 0
-  pub behind : D → List ℕ
-
--- the profile: the keyboard is unlocked, and nothing is printed after the screen
-abbrev pub operated_profile : OperatedOn ProfileParts
-operated_profile = record { IsTurn = λ d. d.screen.locked ≡ false; behind = λ d. [] }
 
 -- a display at which lines are carried out: what a station stands on, what an operator sees of it, and the words for
 -- its keys

@@ -18,9 +18,9 @@ use Rattle.ws_end.specs.declared.host_end.send_fault.SendFault.{SendFault}
 use Rattle.ws_session.specs.declared.world.Event.TheVariants.{SendRefused, HostRefused}
 use Rattle.ws_live.specs.live.LiveText.{LineResult, LinesDo, bad_outcome, bad_text, line_result}
 use Rattle.ws_live.specs.live.Waits.{InTime, WatchTimes, WatchedDevices}
-use Rattle.ws_live.specs.printing.PlayLines.{event_text}
-use Rattle.ws_live.specs.printing.ToldLines.{told_text}
-use Rattle.ws_live.specs.printing.ScreenLines.{IsScreenText}
+use Rattle.ws_printing.specs.PlayLines.{event_text}
+use Rattle.ws_printing.specs.ToldLines.{told_text}
+use Rattle.ws_printing.specs.ScreenLines.{IsScreenText}
 use Rattle.ws_live.specs.live.WireLines.{WireRuns}
 use Rattle.ws_live.specs.declared.live.serve_line.AnswerAwaited.{AnswerAwaited}
 use Rattle.ws_live.specs.declared.live.serve_line.AnswerAwaited.TheVariants.{Any, By}
@@ -28,7 +28,7 @@ use Rattle.ws_live.specs.declared.live.serve_line.HostLine.{HostLine}
 use Rattle.ws_live.specs.declared.live.serve_line.HostLine.TheVariants.{Nothing as NoLine, Give, Await, AwaitAnswer}
 use Rattle.ws_live.specs.declared.live.serve_line.HostLine.TheVariants.{Show, Wire, Bad}
 use Rattle.ws_live.specs.declared.live.Closing.{Closing}
-use Rattle.ws_live.specs.declared.printing.paint.Paint.TheVariants.{Plain}
+use Rattle.ws_printing.specs.declared.paint.Paint.TheVariants.{Plain}
 use Rattle.ws_live.specs.declared.live.watch.WaitSpan.{WaitSpan}
 use Rattle.ws_live.specs.declared.live.watch.WaitSpan.TheVariants.{Whole}
 use Rattle.ws_live.specs.declared.live.Closing.TheVariants.{Nothing, Done, Declined, Late, Ended, Stopped}

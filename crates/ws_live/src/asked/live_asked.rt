@@ -1,6 +1,6 @@
 use crate::asked::live_address::HostPort;
-use crate::printing::paint::Paint;
 use ws_nego::TerminalType;
+use ws_printing::Paint;
 
 /// A live session that a command line asks for.
 #[derive(Clone, Copy, Debug, PartialEq, Eq)]

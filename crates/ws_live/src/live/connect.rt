@@ -9,19 +9,15 @@ ghost use Rattle.ws_text.specs.Printing.{Prints};
 ghost use Rattle.ws_code.specs.Device.{on_devices};
 
 use crate::live::connect_line::{Awaited, StationLine};
-use crate::live::operated_display::OperatedDisplay;
 use crate::live::pressing::{press_key, press_stroke};
-use crate::live::report::Report;
 use crate::live::watch::{WaitSpan, Watch};
 use crate::live::{Carried, Closing, LiveMove, put_bad};
-use crate::printing::field_lines::put_field_lines;
-use crate::printing::paint::Paint;
-use crate::printing::play::put_event;
-use crate::printing::report_lines::{put_note, put_report};
-use crate::printing::screen_lines::put_display;
-use crate::printing::shown_text::{begins_at, shows};
 use crate::script::named_key::NamedKey;
 use ws_code::{Fault, Sink, Source};
+use ws_printing::{
+    OperatedDisplay, Paint, Report, begins_at, put_display, put_event, put_field_lines, put_note,
+    put_report, shows,
+};
 use ws_session::{Attached, Event, StationOn};
 use ws_text::Output;
 

@@ -5,7 +5,6 @@ ghost use Rattle.ws_live.specs.live.ConnectLines.{IsStationLine, IsStationSoFar,
 ghost use Rattle.ws_live.specs.script.ScriptFaults.{IsLineFault, IsNoComment, has_no_blank};
 
 use crate::live::live_line::LiveLine;
-use crate::live::report::Report;
 use crate::live::report_words::{read_note, read_placed, read_row, read_span};
 use crate::live::stroke::Stroke;
 use crate::live::stroke_words::{read_cell, read_filling};
@@ -18,6 +17,7 @@ use crate::script::script_move::split_word;
 use std::alloc::Global;
 use std::str;
 use ws_code::{Address, List};
+use ws_printing::Report;
 
 /// A line of a script for a station at a host, whose display has keys of this type.
 #[derive(Drop)]

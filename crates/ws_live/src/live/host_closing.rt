@@ -6,8 +6,8 @@ ghost use Rattle.ws_text.specs.Printing.{Prints};
 
 use crate::live::watch::Watch;
 use crate::live::{Carried, Closing};
-use crate::printing::play::put_event;
 use ws_code::{Fault, Sink};
+use ws_printing::put_event;
 use ws_session::{Acted, Event, SendFault};
 use ws_text::Output;
 

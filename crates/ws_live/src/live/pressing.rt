@@ -10,11 +10,10 @@ ghost use Rattle.ws_code.specs.Device.{on_devices};
 
 use crate::live::stroke::Stroke;
 use crate::live::{Carried, Closing};
-use crate::printing::colored_cells::put_char;
-use crate::printing::play::put_key_fault;
 use crate::script::named_key::NamedKey;
 use ws_code::{Sink, Source};
 use ws_keys::KeyRun;
+use ws_printing::{put_char, put_key_fault};
 use ws_session::{Acted, Attached, KeyFault, StationDisplay, StationOn};
 use ws_text::{Output, put_text};
 

@@ -7,9 +7,8 @@ ghost use Rattle.ws_text.specs.Printed.{IsPrinted};
 
 use crate::live::watch::Watch;
 use crate::live::{Closing, LiveMove, hand_on};
-use crate::printing::buffered_sink::BufferedSink;
-use crate::printing::paint::Paint;
 use ws_code::{Fault, Sink};
+use ws_printing::{BufferedSink, Paint};
 use ws_session::Attached;
 use ws_text::Output;
 

@@ -3,12 +3,12 @@ ghost use Rattle.std.specs.Prelude.{◌≡◌, List as Seq, ℕ, IfOk, IfErr};
 ghost use Rattle.ws_live.specs.live.ConnectLines as Spec;
 ghost use Rattle.ws_live.specs.script.ScriptFaults.{IsLineFault};
 
-use crate::live::report::Span;
 use crate::live::stroke_words::{read_place, read_small};
 use crate::script::script_line::LineFault;
 use crate::script::script_move::split_word;
 use std::alloc::Global;
 use ws_code::{Address, CELLS, List};
+use ws_printing::Span;
 use ws_text::read_number;
 
 /// The first cell of the row of this number.

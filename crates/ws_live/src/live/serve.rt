@@ -15,11 +15,8 @@ use crate::live::serve_line::{AnswerAwaited, HostLine};
 use crate::live::watch::{WaitSpan, Watch};
 use crate::live::wire_line::carry_wire;
 use crate::live::{Carried, Closing, LiveMove, put_bad};
-use crate::printing::buffered_sink::BufferedSink;
-use crate::printing::paint::Paint;
-use crate::printing::screen_lines::put_screen;
-use crate::printing::told_event::put_told;
 use ws_code::{Fault, Sink, Source};
+use ws_printing::{BufferedSink, Paint, put_screen, put_told};
 use ws_session::{Attached, HostEnd, HostEvent};
 use ws_text::Output;
 

@@ -1,5 +1,5 @@
 use Rattle.std.proofs.Common.{ap}
-use Rattle.ws_live.specs.printing.Buffering.{Buffering}
+use Rattle.ws_printing.specs.Buffering.{Buffering}
 use Rattle.ws_live.proofs.LiveOutput.{handed_on, not_handed_on}
 use Rattle.ws_live.proofs.live.hand_on.Goals as goal
 

@@ -1,6 +1,6 @@
 use Rattle.std.proofs.Common.{Bool, subst, sym}
 use Rattle.std.specs.Result.{IfOk}
-use Rattle.ws_live.specs.printing.Printouts.{printout}
+use Rattle.ws_printing.specs.Printouts.{printout}
 use Rattle.ws_network.specs.LiveSessions.{HasServedAs}
 use Rattle.ws_network.proofs.live_session.serve.Goals as goal
 

@@ -1,5 +1,5 @@
 use Rattle.std.proofs.Common.{ap}
-use Rattle.ws_live.specs.printing.Buffering.{Buffering}
+use Rattle.ws_printing.specs.Buffering.{Buffering}
 use Rattle.ws_live.specs.declared.asked.fault.RunFault.TheVariants.{Write}
 use Rattle.ws_program.specs.Answering.{answer_action}
 use Rattle.ws_program.proofs.Buffers.{carried_flushed, carried_unflushed}

@@ -2,7 +2,7 @@ use Rattle.std.proofs.Common.{refl}
 use Rattle.std.proofs.lemmas.Result.{err_from_is_err_and}
 use Rattle.ws_live.specs.declared.asked.open_streams.OpenStreams.{OpenStreams}
 use Rattle.ws_code.specs.Device.{Writer}
-use Rattle.ws_live.specs.printing.Printouts.{printout}
+use Rattle.ws_printing.specs.Printouts.{printout}
 use Rattle.ws_program.specs.Runs.{IsWordsFault, IsFaultOfRun}
 use Rattle.ws_program.specs.declared.command_fault.CommandFault.{CommandFault}
 use Rattle.ws_program.specs.declared.command_fault.CommandFault.TheVariants.{Words, Run, Told}

@@ -2,7 +2,7 @@ use Rattle.std.specs.Prelude.{Result}
 use Rattle.std.proofs.Common.{sym, subst}
 use Rattle.std.proofs.lemmas.Result.{err_from_is_err_and}
 use Rattle.ws_code.specs.declared.fault.Fault.{Fault}
-use Rattle.ws_live.specs.printing.Printouts.{printout}
+use Rattle.ws_printing.specs.Printouts.{printout}
 use Rattle.ws_program.specs.StreamText.{showing, IsStop}
 use Rattle.ws_program.specs.Views.{in_paint}
 use Rattle.ws_program.specs.declared.verdict.Verdict.{Verdict}

@@ -1,7 +1,7 @@
 use Rattle.std.proofs.Common.{[], sym, arith}
 use Rattle.std.proofs.lemmas.Result.{err_from_is_err_and}
 use Rattle.ws_code.proofs.DeviceLaws.{went_out_none}
-use Rattle.ws_live.specs.declared.printing.paint.Paint.TheVariants.{Plain}
+use Rattle.ws_printing.specs.declared.paint.Paint.TheVariants.{Plain}
 use Rattle.ws_program.specs.StreamText.{items_without_places}
 use Rattle.ws_program.specs.Views.{in_paint}
 use Rattle.ws_program.proofs.Shows.{shows_none, next_is, none_next, fewer_left, goes_on, stops_next, stops_early}

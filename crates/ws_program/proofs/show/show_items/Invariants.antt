@@ -1,6 +1,6 @@
 use Rattle.std.proofs.Common.{List, ℕ, ◌-◌, length}
 use Rattle.ws_code.specs.Device.{WentOut}
-use Rattle.ws_live.specs.declared.printing.paint.Paint.{Paint}
+use Rattle.ws_printing.specs.declared.paint.Paint.{Paint}
 use Rattle.ws_program.specs.Views.{in_paint}
 use Rattle.ws_program.proofs.Shows.{Shows}
 use Rattle.ws_program.proofs.show.show_items.Given as goal

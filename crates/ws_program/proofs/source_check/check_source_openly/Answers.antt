@@ -1,5 +1,5 @@
 use Rattle.std.proofs.Common.{None, ap}
-use Rattle.ws_live.specs.printing.Buffering.{Buffering}
+use Rattle.ws_printing.specs.Buffering.{Buffering}
 use Rattle.ws_program.proofs.SourceAnswers.{settled, unsettled}
 use Rattle.ws_program.proofs.source_check.check_source_openly.Goals as goal
 

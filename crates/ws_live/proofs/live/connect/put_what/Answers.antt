@@ -3,11 +3,11 @@ use Rattle.std.proofs.Common.{◌++◌, true, refl, sym, ap, ◌∙◌, subst}
 use Rattle.ws_code.specs.Device.{on_devices}
 use Rattle.ws_text.proofs.Prints.{prints_both, prints_same}
 use Rattle.ws_live.specs.declared.live.Closing.TheVariants.{Done}
-use Rattle.ws_live.specs.declared.live.report.Report.{Report}
+use Rattle.ws_printing.specs.declared.report.Report.{Report}
 use Rattle.ws_live.specs.declared.live.watch.WaitSpan.{WaitSpan}
 use Rattle.ws_live.specs.live.ConnectText.{Reports, rested, waited_outcome, waited_text}
 use Rattle.ws_live.specs.live.Waits.{HasBegunIf}
-use Rattle.ws_live.specs.printing.ReportLines.{IsReportText, note_line, reported_station}
+use Rattle.ws_printing.specs.ReportLines.{IsReportText, note_line, reported_station}
 use Rattle.ws_live.specs.live.LiveText.{line_result}
 use Rattle.ws_live.specs.live.Operating.{watched}
 use Rattle.ws_live.proofs.ConnectRuns.{report_span, reports}

@@ -2,7 +2,7 @@ use Rattle.std.proofs.Common.{◌≡◌, [], true, false, refl, sym, ◌∙◌, 
 use Rattle.ws_code.specs.Device.{most_reads}
 use Rattle.ws_code.proofs.DeviceLaws.{went_out_none}
 use Rattle.ws_text.specs.Printed.{IsPrinted}
-use Rattle.ws_live.specs.declared.printing.paint.Paint.TheVariants.{Plain}
+use Rattle.ws_printing.specs.declared.paint.Paint.TheVariants.{Plain}
 use Rattle.ws_live.specs.live.CarryingOn.{is_told}
 use Rattle.ws_live.specs.live.LiveText.{line_printing}
 use Rattle.ws_live.specs.live.Waits.{InTime}

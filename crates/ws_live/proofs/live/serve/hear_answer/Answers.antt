@@ -4,7 +4,7 @@ use Rattle.std.proofs.lemmas.List.{append-nil, flat_map_more, length-append}
 use Rattle.ws_code.specs.Device.{most_reads, on_devices}
 use Rattle.ws_text.proofs.Prints.{prints_none, prints_both, prints_same}
 use Rattle.ws_live.specs.live.ServeText.{is_awaited, unheard_text}
-use Rattle.ws_live.specs.printing.ToldLines.{told_text}
+use Rattle.ws_printing.specs.ToldLines.{told_text}
 use Rattle.ws_live.proofs.ServeRuns.{told_behind}
 use Rattle.ws_live.proofs.live.serve.hear_answer.Goals as goal
 

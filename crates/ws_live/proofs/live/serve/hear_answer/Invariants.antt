@@ -4,7 +4,7 @@ use Rattle.ws_code.specs.Device.{on_devices}
 use Rattle.ws_text.specs.Printing.{Prints}
 use Rattle.ws_end.specs.declared.host_end.host_event.HostEvent.{HostEvent}
 use Rattle.ws_live.specs.live.ServeText.{HaveToldBeforeAnswer}
-use Rattle.ws_live.specs.printing.ToldLines.{told_text}
+use Rattle.ws_printing.specs.ToldLines.{told_text}
 use Rattle.ws_live.proofs.live.serve.hear_answer.Given as goal
 
 -- what was told and printed so far, none of which is the answer

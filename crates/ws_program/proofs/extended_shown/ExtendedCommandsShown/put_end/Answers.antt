@@ -2,9 +2,9 @@ use Rattle.std.proofs.Common.{◌++◌, List, ℕ, ap, subst}
 use Rattle.ws_screen.specs.ScreenParts.{ScreenParts}
 use Rattle.ws_text.proofs.Prints.{prints_both, prints_same}
 use Rattle.ws_extended_station.specs.ExtendedDisplays.{standing_row}
-use Rattle.ws_live.specs.printing.ErrorRow.{error_line}
-use Rattle.ws_live.specs.printing.ScreenLines.{IsScreenText}
-use Rattle.ws_live.proofs.LiveDisplays.{display_text}
+use Rattle.ws_printing.specs.ErrorRow.{error_line}
+use Rattle.ws_printing.specs.ScreenLines.{IsScreenText}
+use Rattle.ws_printing.proofs.LiveDisplays.{display_text}
 use Rattle.ws_program.proofs.extended_shown.ExtendedCommandsShown.put_end.Goals as goal
 
 pub returns : goal.returns

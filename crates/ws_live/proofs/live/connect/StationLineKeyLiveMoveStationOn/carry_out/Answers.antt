@@ -6,8 +6,8 @@ use Rattle.ws_live.specs.live.ConnectText.{KeysRun, ShowsStation, StationRuns, r
 use Rattle.ws_live.specs.live.LiveText.{line_result}
 use Rattle.ws_live.specs.live.Operating.{keyed, live_display, watched}
 use Rattle.ws_live.specs.live.Waits.{watched_devices}
-use Rattle.ws_live.specs.printing.FieldLines.{AreFieldLines}
-use Rattle.ws_live.specs.printing.ScreenLines.{IsDisplayText}
+use Rattle.ws_printing.specs.FieldLines.{AreFieldLines}
+use Rattle.ws_printing.specs.ScreenLines.{IsDisplayText}
 use Rattle.ws_live.proofs.live.connect.StationLineKeyLiveMoveStationOn.carry_out.Goals as goal
 
 pub returns-in-Press-clause-runs : goal.returns-in-Press-clause-runs

@@ -1,0 +1,5 @@
+pub mod Buffers
+pub mod ColoredCells
+pub mod LastBlanks
+pub mod LiveDisplays
+pub mod ShownTexts

@@ -1,0 +1,23 @@
+use Rattle.std.specs.Prelude.{encode_utf8}
+use Rattle.std.proofs.Common.{◌++◌, ◌∙◌, ap, sym, take}
+use Rattle.std.proofs.lemmas.List.{take_all}
+use Rattle.ws_text.proofs.Prints.{prints_none, prints_both, prints_same}
+use Rattle.ws_text.proofs.Texts.{flat_map_more}
+use Rattle.ws_printing.specs.Characters.{characters_text}
+use Rattle.ws_printing.proofs.characters.CharactersText.put_to.Goals as goal
+
+pub loop-one-init : goal.loop-one-init
+loop-one-init g c = prints_none g.S.Sink.writer c.args.sink.now c.args.output
+
+pub loop-one-preserved : goal.loop-one-preserved
+loop-one-preserved g c =
+    let shows = g.T.Showing.shows in
+    let all = c.args.self.now.0.now in
+    let i = c.loop-one.one-index in
+    prints_same (ap (λ k. characters_text shows (take i all) ++ encode_utf8 k) (c.character.ensures ∙ ap shows c.one-item.is)
+    ∙ sym (flat_map_more (λ x. encode_utf8 (shows x)) all i c.one-item.result c.loop-one-test.true))
+    (prints_both c.loop-one.invariant c.put_to-output.ensures)
+
+pub returns : goal.returns
+returns g c = prints_same (ap (characters_text g.T.Showing.shows) (take_all _ _ c.loop-one-test.false))
+    c.loop-one.invariant

@@ -1,0 +1,49 @@
+use Rattle.std.specs.Char.{len_utf8}
+use Rattle.std.specs.Prelude.{encode_utf8}
+use Rattle.std.specs.Str.{encode_utf8_all}
+use Rattle.std.proofs.Common.{◌≡◌, ◌+◌, ◌<◌, ◌≤◌, [], ◌∷◌, ◌++◌, ℕ, length, map, take, arith, lit<, sym, ◌∙◌, ap}
+use Rattle.std.proofs.Common.{length-append, Bool, cond, nat_lt, true, false}
+use Rattle.std.proofs.lemmas.List.{map_more}
+use Rattle.std.proofs.lemmas.Str.{length-encode}
+use Rattle.ws_screen.specs.declared.shown.Shown.{Shown}
+use Rattle.ws_screen.proofs.LineLemmas.{text-more}
+use Rattle.ws_printing.proofs.shown_text.characters.Goals as goal
+
+-- a character takes at most four bytes
+four_bytes : (c : ℕ) → length (encode_utf8 c) ≤ 4
+four_bytes c = let short : len_utf8 c ≤ 4 = go (nat_lt c 0x80) (nat_lt c 0x800) (nat_lt c 0x1_0000) in
+    omega (arith, length-encode c)
+  where
+    go : (a b d : Bool) → cond a 1 (cond b 2 (cond d 3 4)) ≤ 4
+    go true b d = omega arith
+    go false true d = omega arith
+    go false false true = omega arith
+    go false false false = omega arith
+
+pub push-requires : goal.push-requires
+push-requires c =
+    let fits : length c.loop-cell.text.bytes + length (encode_utf8 c.cell-item.result.character) ≤ 7680 =
+    omega (arith, c.loop-cell.invariant.short, four_bytes c.cell-item.result.character, c.requires) in
+    (lit< tt, fits)
+
+pub loop-cell-preserved : goal.loop-cell-preserved
+loop-cell-preserved c =
+    let shown = c.args.shown.now in
+    let index = c.loop-cell.cell-index in
+    let item = c.cell-item.result in
+    let character : Shown → ℕ = λ s. s.character in
+    let front = map character (take index shown) in
+    let small : index < length shown = omega arith in
+    let more : map character (take (index + 1) shown) ≡ front ++ item.character ∷ [] =
+    map_more character shown index item small ∙ ap (λ s. front ++ s.character ∷ []) (sym c.cell-item.is) in
+    record {
+      so_far = c.push.ensures.bytes ∙ ap (λ text. text ++ encode_utf8 item.character) c.loop-cell.invariant.so_far
+          ∙ sym (text-more front item.character) ∙ ap encode_utf8_all (sym more);
+      short = omega (
+        arith,
+        c.loop-cell.invariant.short,
+        ap length c.push.ensures.bytes,
+        length-append c.loop-cell.text.bytes (encode_utf8 item.character),
+        four_bytes item.character,
+      );
+    }

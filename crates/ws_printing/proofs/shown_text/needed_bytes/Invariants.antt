@@ -1,0 +1,7 @@
+use Rattle.std.proofs.Common.{All}
+use Rattle.ws_printing.specs.ShownTexts.{IsNeededBy}
+use Rattle.ws_printing.proofs.shown_text.needed_bytes.Given as goal
+
+-- the bytes so far
+abbrev pub invariant-loop-character : goal.invariant-loop-character
+invariant-loop-character l = All (IsNeededBy l.text) l.needed.items

@@ -1,0 +1,31 @@
+use Rattle.std.specs.Str.{encode_utf8_all}
+use Rattle.std.specs.Str.Iter.{HasSubslice}
+use Rattle.std.proofs.Common.{sym, ◌∙◌, arith, append_assoc}
+use Rattle.ws_screen.specs.Lines.{row_chars}
+use Rattle.ws_printing.proofs.ShownTexts.{below_next}
+use Rattle.ws_printing.proofs.shown_text.shows.Goals as goal
+
+pub loop-row-init : goal.loop-row-init
+loop-row-init c = λ row low high found. absurd (omega arith)
+
+pub returns-then-row_shows-clause-shown : goal.returns-then-row_shows-clause-shown
+returns-then-row_shows-clause-shown c = λ yes.
+    let at = c.row_shows.ensures.shown c.if-row_shows.true in
+    record {
+      row = c.loop-row.row;
+      low = omega (arith, c.loop-row.auto.row);
+      high = omega (arith, c.loop-row-test.true, c.loop-row.auto.row-end);
+      front = at.0;
+      back = at.1;
+      is = at.2 ∙ sym (append_assoc at.0 c.args.text.now at.1);
+    }
+
+pub loop-row-preserved : goal.loop-row-preserved
+loop-row-preserved c =
+    below_next (λ row. HasSubslice (encode_utf8_all (row_chars c.args.screen.now.cells row)) c.args.text.now)
+    c.loop-row.row c.loop-row.invariant (c.row_shows.ensures.unshown c.if-row_shows.false)
+
+pub returns-clause-unshown : goal.returns-clause-unshown
+returns-clause-unshown c = λ no shown.
+    c.loop-row.invariant shown.row shown.low (omega (arith, shown.high, c.loop-row-test.false, c.loop-row.auto.row-end))
+    (shown.front, shown.back, shown.is ∙ append_assoc shown.front c.args.text.now shown.back)

@@ -1,0 +1,13 @@
+pub mod Buffering
+pub mod Characters
+pub mod ColoredRows
+pub mod ErrorRow
+pub mod FieldLines
+pub mod Operating
+pub mod PlaceAndReason
+pub mod PlayLines
+pub mod Printouts
+pub mod ReportLines
+pub mod ScreenLines
+pub mod ShownTexts
+pub mod ToldLines

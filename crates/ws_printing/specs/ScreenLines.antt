@@ -1,0 +1,63 @@
+-- The lines of a screen, as a text in bytes.
+
+use Rattle.std.specs.Prelude.{◌≡◌, ℕ, zero, suc, List, [], ◌∷◌, ◌++◌, Bool, codes, if◌then◌else◌, nat_lt, length}
+use Rattle.std.specs.Fmt.{decimal}
+use Rattle.ws_code.specs.declared.address.TheConstants.{ROWS}
+use Rattle.ws_screen.specs.Lines.{shown_row}
+use Rattle.ws_screen.specs.ScreenParts.{ScreenParts}
+use Rattle.ws_screen.specs.declared.shown.Shown.{Shown}
+use Rattle.ws_text.specs.ItemLines.{cell_text}
+use Rattle.ws_printing.specs.Characters.{without_last_blanks, characters_text}
+use Rattle.ws_printing.specs.ColoredRows.{colored_text}
+use Rattle.ws_printing.specs.declared.paint.Paint.{Paint}
+use Rattle.ws_printing.specs.declared.paint.Paint.TheVariants.{Plain, Color}
+
+-- what is printed of cells: their characters, plain or in colour
+abbrev pub painted : Paint → List Shown → List ℕ
+painted Plain cells = characters_text (λ s. s.character) cells
+painted Color cells = colored_text cells
+
+-- what stands before a row's number
+abbrev pub indent : ℕ → List ℕ
+indent row = if nat_lt row 10 then codes " " else []
+
+-- the line of a row: its number right in two places, a blank, and what it shows; a row that is all blank has none
+abbrev pub row_line : Paint → ℕ → List Shown → List ℕ
+row_line paint row [] = []
+row_line paint row (cell ∷ shown) = indent row ++ decimal row ++ codes " " ++ painted paint (cell ∷ shown) ++ 10 ∷ []
+
+-- the line of a row of a screen: of its cells up to the last that shows no blank
+abbrev pub line_of_row : Paint → List ℕ → ℕ → List ℕ
+line_of_row paint cells row = row_line paint row (without_last_blanks (λ s. s.character) (shown_row cells row))
+
+-- the lines of the first rows, so many
+unfoldable pub rows_text : Paint → List ℕ → ℕ → List ℕ
+rows_text paint cells zero = []
+rows_text paint cells (suc n) = rows_text paint cells n ++ line_of_row paint cells (suc n)
+
+-- the word for the keyboard's lock
+abbrev pub lock_name : Bool → List ℕ
+lock_name locked = if locked then codes "locked" else codes "unlocked"
+
+-- the word for a light
+abbrev pub on_or_off : Bool → List ℕ
+on_or_off on = if on then codes "on" else codes "off"
+
+-- the line of a screen's state: the cursor, the keyboard's lock, the message light, the blinking cursor, the number of
+-- fields
+abbrev pub state_line : ScreenParts → List ℕ
+state_line s = codes "cursor " ++ cell_text s.cursor ++ codes ", " ++ lock_name s.locked ++ codes ", message "
+    ++ on_or_off s.message ++ codes ", blink " ++ on_or_off s.blink ++ codes ", fields " ++ decimal (length s.fields)
+    ++ 10 ∷ []
+
+-- the lines of a whole screen, in a paint: its rows and its state
+abbrev pub screen_text : Paint → ScreenParts → List ℕ
+screen_text paint s = codes "screen\n" ++ rows_text paint s.cells ROWS ++ state_line s
+
+-- these are the lines of a whole screen
+abbrev pub IsScreenText : Paint → ScreenParts → List ℕ → Type 0
+IsScreenText paint s text = text ≡ screen_text paint s
+
+-- these are the lines of a display, in a paint: its screen's, and those after them, if there are any
+abbrev pub IsDisplayText : Paint → ScreenParts → List ℕ → List ℕ → Type 0
+IsDisplayText paint s behind text = text ≡ screen_text paint s ++ behind

@@ -1,0 +1,25 @@
+//! What a line asks to be told of a station.
+
+use ws_code::{Address, List};
+
+/// What a line of a script prints beside fields and screens.
+#[derive(Drop)]
+pub enum Report {
+    /// The station's state.
+    Status,
+    /// What the cells of a row hold, and the attributes under which they show: of the row in which this cell stands.
+    Cells(Address),
+    /// What cells show.
+    Text(Span),
+    /// These bytes.
+    Note(List<u8>),
+}
+
+/// Cells along the rows: one and those behind it, so many or up to the last of the screen.
+#[derive(Clone, Copy)]
+pub struct Span {
+    /// The first cell.
+    pub at: Address,
+    /// How many.
+    pub count: u16,
+}

@@ -1,0 +1,177 @@
+//! The lines that tell a station's state and what is on its screen.
+ghost use Rattle.std.specs.Prelude.{◌≡◌, ◌≤◌, ◌<◌, ◌∷◌, [], List, ℕ, IfSome, position};
+ghost use Rattle.hex.specs.Hex.{encode_upper};
+ghost use Rattle.ws_printing.specs.ReportLines as Spec;
+ghost use Rattle.ws_screen.specs.ScreenParts.{holds};
+ghost use Rattle.ws_text.specs.Printing.{Prints};
+
+use crate::characters::{Characters, without_last_blanks};
+use crate::field_lines::show_from;
+use crate::report::{Report, Span};
+use crate::screen_lines::lock_name;
+use ws_code::{Address, CELLS, COLUMNS, ROWS, Sink};
+use ws_screen::{Field, MAX_FIELDS, Screen, Shown};
+use ws_session::{StationDisplay, StationOn};
+use ws_text::{Bytes, Cell, EachAs, Hex, Number, Output, Text, TextAs, texts};
+
+/// Writes what a report tells of a station.
+pub fn put_report<D: StationDisplay, O: Sink>(
+    out: &mut O,
+    output: Output,
+    station: &StationOn<D>,
+    report: &Report,
+) -> Output
+    ensures { (text : List ℕ)
+        × Spec.IsReportText (Spec.reported_station D.does station.now) report.now text
+        × Prints O.writer out.old out.new output result text }
+{
+    match report {
+        Report::Status => put_status(out, output, station),
+        Report::Cells(cell) => put_cells(out, output, station.screen(), *cell),
+        Report::Text(span) => put_span(out, output, station.screen(), *span),
+        Report::Note(note) => put_note(out, output, note.as_slice()),
+    }
+}
+
+fn put_status<D: StationDisplay, O: Sink>(
+    out: &mut O,
+    output: Output,
+    station: &StationOn<D>,
+) -> Output
+    ensures { Prints O.writer out.old out.new output result
+        (Spec.status_line (Spec.reported_station D.does station.now)) }
+{
+    texts!(
+        Operator(station.screen(), station.is_ready()),
+        " records ",
+        Number(station.records()),
+        " bytes ",
+        Number(station.taken()),
+        "\n"
+    )
+    .put_to(out, output)
+}
+
+// The lock, whether the station is ready, and the cursor with its field.
+#[derive(Clone, Copy)]
+struct Operator<'a>(&'a Screen, bool);
+
+impl Text for Operator<'_> {
+    ghost text = { λ o. Spec.operator_words o.0.now o.1 };
+
+    fn put_to<S: Sink>(&self, sink: &mut S, output: Output) -> Output {
+        let screen = self.0;
+        texts!(
+            "status ",
+            lock_name(screen.locked()),
+            ready_name(self.1),
+            Cell(screen.cursor()),
+            FieldNumber(screen)
+        )
+        .put_to(sink, output)
+    }
+}
+
+fn ready_name(is_ready: bool) -> &'static str
+    ensures { result.now ≡ Spec.ready_name is_ready }
+{
+    if is_ready { " ready " } else { " negotiating " }
+}
+
+// The number of the field that holds the cursor, counted from 1, where one does.
+#[derive(Clone, Copy)]
+struct FieldNumber<'a>(&'a Screen);
+
+impl Text for FieldNumber<'_> {
+    ghost text = { λ s. Spec.field_name (position (λ f. holds f s.0.now.cursor) s.0.now.fields) };
+
+    fn put_to<S: Sink>(&self, sink: &mut S, output: Output) -> Output {
+        match field_number(self.0) {
+            None => output,
+            Some(index) => texts!(" field ", Number(index as u64 + 1)).put_to(sink, output),
+        }
+    }
+}
+
+// The index of the field that holds the cursor.
+fn field_number(screen: &Screen) -> Option<usize>
+    ensures value { result ≡ position (λ f. holds f screen.now.cursor) screen.now.fields }
+    ensures few { IfSome result (λ i. i < MAX_FIELDS) }
+{
+    let fields = screen.fields();
+    let cursor = screen.cursor();
+    fields
+        .as_slice()
+        .iter()
+        .position(|field| has_cell(field, cursor))
+}
+
+// Whether a cell is one of the field's.
+fn has_cell(field: &Field, cell: Address) -> bool
+    ensures { result ≡ holds field.now cell }
+{
+    let (start, place) = (u32::from(field.start.place()), u32::from(cell.place()));
+    start <= place && place < start + u32::from(field.length)
+}
+
+// Writes what a row's cells hold, and the attributes under which they show: of the row in which a cell stands.
+fn put_cells<O: Sink>(out: &mut O, output: Output, screen: &Screen, cell: Address) -> Output
+    ensures { Prints O.writer out.old out.new output result
+        (Spec.cells_line screen.now.cells cell) }
+{
+    let number = cell.row();
+    let held = Hex(row_bytes(screen, number));
+    let shown = screen.row(number);
+    let attributes = EachAs(&shown, Attributes);
+    texts!(
+        "cells ",
+        Number(number as u64),
+        " ",
+        held,
+        " ",
+        attributes,
+        "\n"
+    )
+    .put_to(out, output)
+}
+
+/// What the cells of a row hold.
+pub fn row_bytes(screen: &Screen, row: u8) -> &[u8]
+    requires low { 1 ≤ row }
+    requires high { row ≤ ROWS }
+    ensures { result.now ≡ Spec.row_bytes screen.now.cells row }
+{
+    screen.known();
+    let columns = usize::from(COLUMNS);
+    let first = (usize::from(row) - 1) * columns;
+    &screen.cells()[first..first + columns]
+}
+
+// The sense of a cell as its attribute in hex.
+#[derive(Clone, Copy)]
+struct Attributes;
+
+impl TextAs<Attributes> for Shown {
+    ghost text_as = { λ _ s. encode_upper (s.attribute ∷ []) };
+
+    fn put_as<S: Sink>(&self, _sense: &Attributes, sink: &mut S, output: Output) -> Output {
+        Hex(&[self.attribute.byte()]).put_to(sink, output)
+    }
+}
+
+// Writes what cells show, without the blanks at its end: from one on so many, or up to the last of the screen.
+fn put_span<O: Sink>(out: &mut O, output: Output, screen: &Screen, span: Span) -> Output
+    ensures { Prints O.writer out.old out.new output result
+        (Spec.span_line screen.now.cells span) }
+{
+    let mut all = [Shown::default(); CELLS as usize];
+    let shown = show_from(screen, span.at, span.count, &mut all);
+    texts!(Characters(without_last_blanks(shown)), "\n").put_to(out, output)
+}
+
+/// Writes a note.
+pub fn put_note<O: Sink>(out: &mut O, output: Output, note: &[u8]) -> Output
+    ensures { Prints O.writer out.old out.new output result (Spec.note_line note.now) }
+{
+    texts!(Bytes(note), "\n").put_to(out, output)
+}
