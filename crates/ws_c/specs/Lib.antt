@@ -15,3 +15,4 @@ pub mod Pushes
 pub mod Sends
 pub mod Strokes
 pub mod Texts
+pub mod Wire
