@@ -7,8 +7,8 @@ ghost use Rattle.ws_c.specs.Calls.{HasStatus, TellsOnly, crossed, status_number}
 ghost use Rattle.ws_c.specs.Held.{HoldsNone, IsDecoderFreed, OnDecoders};
 ghost use Rattle.ws_c.specs.Decoding.{DecoderFinishedOn, IsDecode, IsDecodeOn, IsDecoderNew, IsStreamEnd, IsEndTold, IsExtendedDecode, IsExtendedDecoderNew, IsExtendedStreamEnd, IsStepToldOn, plain_step};
 
+use crate::buffer::put_front;
 use crate::held::{on_decoders, on_two};
-use crate::push::put_front;
 use crate::{Handle, Machine, Status};
 use arrayvec::ArrayVec;
 use std::alloc::Global;

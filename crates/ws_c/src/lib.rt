@@ -3,6 +3,7 @@
 #![tactic(auto)]
 
 mod attribute_look;
+mod buffer;
 mod cell_fields;
 mod code_page;
 mod decoder;
@@ -20,6 +21,8 @@ mod loose;
 mod machine;
 mod owned;
 mod push;
+mod reason_text;
+mod spelling;
 mod state_told;
 mod station;
 mod station_cells;
@@ -40,6 +43,7 @@ pub use held_end::HeldEnd;
 pub use host::{EventTold, HeldHost};
 pub use host_answer::{AnswerTold, ReadFieldTold};
 pub use machine::Machine;
+pub use spelling::{ElementKind, GivenElement};
 pub use state_told::{NO_FIELD, StateTold};
 pub use station_cells::CellTold;
 pub use status::Status;
