@@ -4,6 +4,7 @@
 
 mod attribute_look;
 mod buffer;
+mod byte_put;
 mod cell_fields;
 mod code_page;
 mod decoder;
@@ -36,7 +37,7 @@ mod told;
 mod wire;
 
 pub use attribute_look::LookTold;
-pub use decoder::StepTold;
+pub use decoder::{StepTold, UNIT_ROOM};
 pub use field_told::FieldTold;
 pub use handle::Handle;
 pub use held_end::HeldEnd;
