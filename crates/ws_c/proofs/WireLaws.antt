@@ -13,7 +13,7 @@ use Rattle.ws_record.specs.Grammar.{header}
 use Rattle.ws_record.specs.declared.opcode.Opcode.TheVariants.{PutGet}
 use Rattle.ws_keys.specs.declared.answer.Answer.{Answer}
 use Rattle.ws_keys.specs.declared.answer.Answer.TheVariants.{Read, Attention, SystemRequest}
-use Rattle.ws_session.specs.station.AnswerSpelling.{answer_spelling, IsShortAnswer}
+use Rattle.ws_end.specs.station.AnswerSpelling.{answer_spelling, IsShortAnswer}
 use Rattle.ws_c.specs.Wire.{array_takes, array_writer}
 use Rattle.ws_c.specs.declared.wire.TheConstants.{ANSWER_ROOM}
 

@@ -1,6 +1,6 @@
 //! The bytes of an answer, in an array that has room for the longest.
 ghost use Rattle.std.specs.Prelude.{◌≡◌, [], ℕ, List};
-ghost use Rattle.ws_session.specs.station.AnswerSpelling.{answer_spelling};
+ghost use Rattle.ws_end.specs.station.AnswerSpelling.{answer_spelling};
 ghost use Rattle.ws_c.specs.Wire.{array_writer};
 
 use arrayvec::ArrayVec;
