@@ -1,13 +1,11 @@
-/* Bodies of records, element by element (SC30-3533, commands and orders): each call appends one, or a text. What they
- * spell, and whether each may stand where it does, is checked by ribbon_host_send. */
+/* Bodies of records, element by element (SC30-3533, commands and orders): each call appends one, as the proved library
+ * spells it, or a text. Whether each may stand where it does is checked by ribbon_host_send. */
 #include "ribbonscarp.h"
 
 #include "exports.h"
 #include "utf8.h"
 
 #include <string.h>
-
-enum { ESCAPE = 0x04, MAX_HEADER = 7 };
 
 /* The first call that fails is told by all further ones. */
 static ribbon_status fails(ribbon_body *body, ribbon_status status)
@@ -40,50 +38,17 @@ static ribbon_status refuse(ribbon_body *body, ribbon_status status)
     return body->status != RIBBON_DONE ? body->status : fails(body, status);
 }
 
-static bool is_cell(uint8_t row, uint8_t column)
+/* An element is spelled by the proved function, and then appended. `list` is what a header or an erase has of bytes. */
+static ribbon_status append_element(ribbon_body *body, ribbon_element element, const uint8_t *list, size_t count)
 {
-    return row >= 1 && row <= RIBBON_ROWS && column >= 1 && column <= RIBBON_COLUMNS;
+    static const uint8_t none[1] = {0};
+    uint8_t spelled[SPELLED_ROOM];
+    ribbon_told told;
+    ribbon_status status = ws_c_spell(&element, list != NULL ? list : none, count, spelled, sizeof spelled, &told);
+    return status == RIBBON_DONE ? append(body, spelled, told.length) : refuse(body, status);
 }
 
-static bool is_attribute(uint8_t byte)
-{
-    return byte >= 0x20 && byte <= 0x3f;
-}
-
-static bool is_order(uint8_t byte)
-{
-    return (byte >= 0x01 && byte <= 0x04) || (byte >= 0x10 && byte <= 0x15) || byte == 0x1d;
-}
-
-static bool is_format(uint16_t format)
-{
-    uint16_t shift = format & RIBBON_FORMAT_SHIFT;
-    return format >= 0x4000 && format < 0x8000 && shift != 0x0400 && shift != 0x0600;
-}
-
-/* A command without control characters, or with two. */
-static ribbon_status append_command(ribbon_body *body, uint8_t code)
-{
-    const uint8_t bytes[] = {ESCAPE, code};
-    return append(body, bytes, sizeof bytes);
-}
-
-static ribbon_status append_controls(ribbon_body *body, uint8_t code, uint8_t cc1, uint8_t cc2)
-{
-    const uint8_t bytes[] = {ESCAPE, code, cc1, cc2};
-    return append(body, bytes, sizeof bytes);
-}
-
-/* An order with an address, and `count` bytes behind it. */
-static ribbon_status append_order(ribbon_body *body, uint8_t code, uint8_t row, uint8_t column, const uint8_t *behind,
-                                  size_t count)
-{
-    uint8_t bytes[8] = {code, row, column};
-    if (!is_cell(row, column))
-        return refuse(body, RIBBON_BAD_ARGUMENT);
-    memcpy(bytes + 3, behind, count);
-    return append(body, bytes, 3 + count);
-}
+#define APPEND(body, ...) append_element((body), (ribbon_element){__VA_ARGS__}, NULL, 0)
 
 void ribbon_body_begin(ribbon_body *body, uint8_t *bytes, size_t room)
 {
@@ -93,89 +58,77 @@ void ribbon_body_begin(ribbon_body *body, uint8_t *bytes, size_t room)
 
 ribbon_status ribbon_body_clear_unit(ribbon_body *body)
 {
-    return append_command(body, 0x40);
+    return APPEND(body, .kind = ELEMENT_CLEAR_UNIT);
 }
 
 ribbon_status ribbon_body_clear_format(ribbon_body *body)
 {
-    return append_command(body, 0x50);
+    return APPEND(body, .kind = ELEMENT_CLEAR_FORMAT);
 }
 
 ribbon_status ribbon_body_write(ribbon_body *body, uint8_t cc1, uint8_t cc2)
 {
-    return append_controls(body, 0x11, cc1, cc2);
+    return APPEND(body, .kind = ELEMENT_WRITE, .cc1 = cc1, .cc2 = cc2);
 }
 
 ribbon_status ribbon_body_read(ribbon_body *body, uint8_t read, uint8_t cc1, uint8_t cc2)
 {
-    switch (read) {
-    case RIBBON_READ_INPUT:
-        return append_controls(body, 0x42, cc1, cc2);
-    case RIBBON_READ_MDT:
-        return append_controls(body, 0x52, cc1, cc2);
-    case RIBBON_READ_MDT_ALTERNATE:
-        return append_controls(body, 0x82, cc1, cc2);
-    default:
-        return refuse(body, RIBBON_BAD_ARGUMENT);
-    }
+    static const uint32_t kinds[] = {
+        [RIBBON_READ_INPUT] = ELEMENT_READ_INPUT,
+        [RIBBON_READ_MDT] = ELEMENT_READ_MDT,
+        [RIBBON_READ_MDT_ALTERNATE] = ELEMENT_READ_MDT_ALTERNATE,
+    };
+    uint32_t kind = read < sizeof kinds / sizeof kinds[0] ? kinds[read] : ELEMENT_NONE;
+    return APPEND(body, .kind = kind, .cc1 = cc1, .cc2 = cc2);
 }
 
 ribbon_status ribbon_body_header(ribbon_body *body, const uint8_t *header, size_t count)
 {
-    uint8_t bytes[2 + MAX_HEADER] = {0x01, (uint8_t)count};
     if (header == NULL && count > 0)
         return refuse(body, RIBBON_NULL);
-    if (count > MAX_HEADER || (count > 2 && header[2] != 0))
-        return refuse(body, RIBBON_BAD_ARGUMENT);
-    if (count > 0)
-        memcpy(bytes + 2, header, count);
-    return append(body, bytes, 2 + count);
+    return append_element(body, (ribbon_element){.kind = ELEMENT_HEADER}, header, count);
 }
 
 ribbon_status ribbon_body_address(ribbon_body *body, uint8_t row, uint8_t column)
 {
-    return append_order(body, 0x11, row, column, (const uint8_t *)"", 0);
+    return APPEND(body, .kind = ELEMENT_SET_ADDRESS, .row = row, .column = column);
 }
 
 ribbon_status ribbon_body_insert_cursor(ribbon_body *body, uint8_t row, uint8_t column)
 {
-    return append_order(body, 0x13, row, column, (const uint8_t *)"", 0);
+    return APPEND(body, .kind = ELEMENT_INSERT_CURSOR, .row = row, .column = column);
 }
 
 ribbon_status ribbon_body_move_cursor(ribbon_body *body, uint8_t row, uint8_t column)
 {
-    return append_order(body, 0x14, row, column, (const uint8_t *)"", 0);
+    return APPEND(body, .kind = ELEMENT_MOVE_CURSOR, .row = row, .column = column);
 }
 
 ribbon_status ribbon_body_repeat(ribbon_body *body, uint8_t row, uint8_t column, uint8_t byte)
 {
-    return is_order(byte) ? refuse(body, RIBBON_BAD_ARGUMENT) : append_order(body, 0x02, row, column, &byte, 1);
+    return APPEND(body, .kind = ELEMENT_REPEAT, .row = row, .column = column, .byte = byte);
 }
 
 ribbon_status ribbon_body_erase(ribbon_body *body, uint8_t row, uint8_t column)
 {
-    static const uint8_t all[] = {0x02, 0xff};
-    return append_order(body, 0x03, row, column, all, sizeof all);
+    static const uint8_t all[] = {0xff};
+    ribbon_element element = {.kind = ELEMENT_ERASE, .row = row, .column = column};
+    return append_element(body, element, all, sizeof all);
 }
 
 ribbon_status ribbon_body_field(ribbon_body *body, uint16_t format, uint8_t attribute, uint16_t length)
 {
-    const uint8_t bytes[] = {0x1d,      (uint8_t)(format >> 8), (uint8_t)format,
-                             attribute, (uint8_t)(length >> 8), (uint8_t)length};
-    if (!is_format(format) || !is_attribute(attribute))
-        return refuse(body, RIBBON_BAD_ARGUMENT);
-    return append(body, bytes, sizeof bytes);
+    return APPEND(body, .kind = ELEMENT_FIELD, .format = format, .byte = attribute, .length = length);
 }
 
 ribbon_status ribbon_body_output_field(ribbon_body *body, uint8_t attribute, uint16_t length)
 {
-    const uint8_t bytes[] = {0x1d, attribute, (uint8_t)(length >> 8), (uint8_t)length};
-    return is_attribute(attribute) ? append(body, bytes, sizeof bytes) : refuse(body, RIBBON_BAD_ARGUMENT);
+    return APPEND(body, .kind = ELEMENT_OUTPUT_FIELD, .byte = attribute, .length = length);
 }
 
 ribbon_status ribbon_body_attribute(ribbon_body *body, uint8_t attribute)
 {
-    return is_attribute(attribute) ? append(body, &attribute, 1) : refuse(body, RIBBON_BAD_ARGUMENT);
+    return APPEND(body, .kind = ELEMENT_ATTRIBUTE, .byte = attribute);
 }
 
 /* The text's characters are counted first, so that all of it is appended or nothing. */

@@ -4,6 +4,39 @@
 
 #include "ribbonscarp.h"
 
+/* An element and its operands, as ws_c_spell takes it. */
+enum {
+    ELEMENT_NONE = 0,
+    ELEMENT_CLEAR_UNIT = 1,
+    ELEMENT_CLEAR_FORMAT = 2,
+    ELEMENT_WRITE = 3,
+    ELEMENT_READ_INPUT = 4,
+    ELEMENT_READ_MDT = 5,
+    ELEMENT_READ_MDT_ALTERNATE = 6,
+    ELEMENT_HEADER = 7,
+    ELEMENT_REPEAT = 8,
+    ELEMENT_ERASE = 9,
+    ELEMENT_SET_ADDRESS = 10,
+    ELEMENT_INSERT_CURSOR = 11,
+    ELEMENT_MOVE_CURSOR = 12,
+    ELEMENT_FIELD = 13,
+    ELEMENT_OUTPUT_FIELD = 14,
+    ELEMENT_ATTRIBUTE = 15
+};
+
+enum { SPELLED_ROOM = 32 };
+
+typedef struct {
+    uint32_t kind;
+    uint16_t format;
+    uint16_t length;
+    uint8_t row;
+    uint8_t column;
+    uint8_t cc1;
+    uint8_t cc2;
+    uint8_t byte;
+} ribbon_element;
+
 ribbon_status ws_c_station_new(ribbon_handle *handle, const uint8_t *name, size_t size);
 ribbon_status ws_c_station_new_extended(ribbon_handle *handle, const uint8_t *name, size_t size);
 void ws_c_station_free(ribbon_handle *handle);
@@ -46,5 +79,8 @@ ribbon_status ws_c_decoder_finish(ribbon_handle *handle, uint64_t *place);
 ribbon_status ws_c_attribute_look(uint8_t attribute, bool is_color, ribbon_look *look);
 ribbon_status ws_c_from_037(uint8_t byte, uint32_t *character);
 ribbon_status ws_c_to_037(uint32_t character, uint8_t *byte);
+ribbon_status ws_c_reason_text(uint8_t reason, uint8_t *text, size_t room, ribbon_told *told);
+ribbon_status ws_c_spell(const ribbon_element *element, const uint8_t *list, size_t count, uint8_t *spelled, size_t room,
+                         ribbon_told *told);
 
 #endif

@@ -138,8 +138,8 @@ extern "C" {
 #endif
 
 /* The version of this header. ribbon_version tells that of the library. */
-#define RIBBON_VERSION "3.0.0"
-#define RIBBON_VERSION_MAJOR 3
+#define RIBBON_VERSION "4.0.0"
+#define RIBBON_VERSION_MAJOR 4
 #define RIBBON_VERSION_MINOR 0
 #define RIBBON_VERSION_PATCH 0
 
@@ -173,7 +173,7 @@ enum {
     RIBBON_ROW_ROOM = 160,     /* bytes: a row of 80 characters in UTF-8 */
     RIBBON_FIELD_ROOM = 3838,  /* bytes: the longest field's characters in UTF-8 */
     RIBBON_CHARACTER_ROOM = 2, /* bytes: a character of code page 037 in UTF-8 */
-    RIBBON_UNIT_ROOM = 133,    /* bytes: what a decoder gives at one byte */
+    RIBBON_UNIT_ROOM = 133,    /* bytes: what a decoder gives at one byte, beside cells */
     RIBBON_CANCEL_ROOM = 12,   /* bytes: what a cancel sends */
     RIBBON_ROWS = 24,          /* of a screen */
     RIBBON_COLUMNS = 80,       /* of a screen: the cells of a row */
@@ -341,7 +341,7 @@ typedef struct {
     uint8_t reason; /* why: RIBBON_REASON_...; 0 where none is refused */
 } ribbon_pushed;
 
-/* What is complete in a host's stream. */
+/* What is complete in a host's stream, beside cells. */
 enum {
     RIBBON_STEP_MORE = 0,    /* nothing */
     RIBBON_STEP_HEADER = 1,  /* a record's header: `flags`, `record_length` and `opcode` are set */
@@ -352,7 +352,8 @@ enum {
 
 typedef struct {
     size_t taken;           /* how many bytes were taken */
-    size_t length;          /* how many bytes of the buffer were set */
+    size_t length;          /* how many bytes of the buffer a spelling has; they stand after those of cells */
+    size_t cells;           /* how many bytes at the buffer's front are cells: an element of the record's body each */
     uint64_t place;         /* where a byte is refused; places count from 0 */
     uint32_t kind;          /* RIBBON_STEP_... */
     uint16_t flags;         /* of a header, all 16 bits */
@@ -807,7 +808,12 @@ RIBBON_API ribbon_status ribbon_decoder_new_extended(ribbon_decoder *decoder);
 RIBBON_API void ribbon_decoder_free(ribbon_decoder *decoder);
 
 /* Takes bytes up to the first with which something is complete, and tells what; `step->taken` says how many, and the
- * rest is pushed by a further call. RIBBON_STEP_MORE where all were taken and nothing is complete.
+ * rest is pushed by a further call. RIBBON_STEP_MORE where nothing is complete but cells.
+ *
+ * Cells, elements that are one byte for a cell, a character or an attribute, are handed out as a run: the first
+ * `step->cells` bytes of `unit`. A run ends with the last byte, before an order, a command or an FF, and where fewer
+ * than RIBBON_UNIT_ROOM bytes of `unit` are left; `taken` then counts the bytes up to its last cell. What follows it is
+ * told by the next call, but for a refusal of the byte after it, which is told with it.
  *
  * RIBBON_REFUSED at the first byte after which the bytes begin no stream, with its place and the reason: `taken` counts
  * the bytes before it. RIBBON_FAILED from then on. RIBBON_NO_ROOM where `unit` has fewer than RIBBON_UNIT_ROOM bytes:

@@ -1,6 +1,10 @@
 /* Sentences for a person, without their full stops. */
 #include "ribbonscarp.h"
 
+#include "exports.h"
+
+#include <pthread.h>
+
 #define COUNT(list) (sizeof(list) / sizeof((list)[0]))
 
 const char *ribbon_version(void)
@@ -32,56 +36,25 @@ const char *ribbon_status_text(ribbon_status status)
     return status < COUNT(texts) ? texts[status] : "no such status";
 }
 
+/* The proved sentences, each with a zero after it: one of no byte where no reason has the number. */
+enum { REASONS = 64, REASON_ROOM = 96 };
+static char reason_texts[REASONS][REASON_ROOM];
+
+static void fetch_reasons(void)
+{
+    for (uint8_t reason = 1; reason < REASONS; reason++) {
+        ribbon_told told;
+        ws_c_reason_text(reason, (uint8_t *)reason_texts[reason], REASON_ROOM - 1, &told);
+    }
+}
+
 const char *ribbon_reason_text(uint8_t reason)
 {
-    static const char *const texts[] = {
-        [RIBBON_REASON_NONE] = "nothing is refused",
-        [RIBBON_REASON_BAD_COMMAND] = "1: no Telnet command has the byte that stands after FF",
-        [RIBBON_REASON_STRAY_SE] = "2: a subnegotiation is ended that was never begun",
-        [RIBBON_REASON_BAD_SUB] = "3: a single FF stands in a subnegotiation and doesn't end it",
-        [RIBBON_REASON_SUB_TOO_LONG] = "4: a subnegotiation has more than 64 bytes",
-        [RIBBON_REASON_LENGTH_BELOW_HEADER] = "10: a record's length is less than its ten header bytes",
-        [RIBBON_REASON_BAD_TYPE] = "11: a record's type isn't 12A0",
-        [RIBBON_REASON_BAD_RESERVED] = "12: the reserved bytes of a record's header aren't 0000",
-        [RIBBON_REASON_BAD_VARIABLE_LENGTH] = "13: the variable part of a record's header isn't 4 bytes long",
-        [RIBBON_REASON_UNKNOWN_OPCODE] = "14: a record's opcode isn't known",
-        [RIBBON_REASON_TOO_LONG] = "15: a record is longer than its header says",
-        [RIBBON_REASON_TOO_SHORT] = "16: a record is shorter than its header says",
-        [RIBBON_REASON_NO_ESCAPE] = "20: a command must begin here, but the byte isn't its escape (04)",
-        [RIBBON_REASON_UNKNOWN_COMMAND] = "21: the command after the escape (04) isn't known",
-        [RIBBON_REASON_BAD_ADDRESS] = "24: a row or a column is outside the screen",
-        [RIBBON_REASON_BAD_SOH_LENGTH] = "25: a start of header has more than 7 bytes",
-        [RIBBON_REASON_RESEQUENCING] = "26: resequencing of fields isn't part of the profile",
-        [RIBBON_REASON_BAD_ERASE_LIST] = "27: an erase to address lists attribute types that aren't taken",
-        [RIBBON_REASON_BAD_REPEAT] = "28: a repeat to address repeats an order code",
-        [RIBBON_REASON_BAD_FORMAT_BYTE] = "29: a byte can't stand where it does in a start of field",
-        [RIBBON_REASON_STRUCTURED_FIELD] = "30: structured fields aren't part of the profile",
-        [RIBBON_REASON_ALTERNATE_SIZE] = "31: the screen of 27 by 132 isn't part of the profile",
-        [RIBBON_REASON_SAVE_RESTORE] = "32: saving and restoring of screens aren't part of the profile",
-        [RIBBON_REASON_ROLL] = "33: rolling of the screen isn't part of the profile",
-        [RIBBON_REASON_ERROR_CODE] = "34: error codes that a host writes aren't part of the profile",
-        [RIBBON_REASON_READ_SCREEN] = "35: reads of the whole screen aren't part of the profile",
-        [RIBBON_REASON_READ_IMMEDIATE] = "36: reads that wait for no key aren't part of the profile",
-        [RIBBON_REASON_EXTENDED_ATTRIBUTE] = "38: extended attributes aren't part of the profile",
-        [RIBBON_REASON_TRANSPARENT_DATA] = "39: transparent data isn't part of the profile",
-        [RIBBON_REASON_DISPLAY_STRUCTURED_FIELD] = "40: structured fields of a display aren't part of the profile",
-        [RIBBON_REASON_TOO_MANY_FCWS] = "41: a field has more than 8 control words",
-        [RIBBON_REASON_LEFT_OUT_SHIFT] = "42: the shift of a field isn't part of the profile",
-        [RIBBON_REASON_BAD_AID] = "43: no key has the byte that tells which key was pressed",
-        [RIBBON_REASON_ENDED_INSIDE] = "44: a record ends in the middle of a command or an order",
-        [RIBBON_REASON_BAD_ANSWER_BYTE] = "45: an order code stands in a station's answer",
-        [RIBBON_REASON_BACKWARD_ADDRESS] = "50: an order goes up to an address before the one where it starts",
-        [RIBBON_REASON_PAST_END] = "51: a write goes past the last cell of the screen",
-        [RIBBON_REASON_ZERO_LENGTH] = "52: an input field has no cells",
-        [RIBBON_REASON_FIELD_PAST_END] = "53: a field goes past the last cell of the screen",
-        [RIBBON_REASON_FIELD_OVERLAP] = "54: an input field shares a cell with another",
-        [RIBBON_REASON_TABLE_FULL] = "55: the screen has more than 256 input fields",
-        [RIBBON_REASON_RECORD_BEFORE_NEGOTIATION] = "60: a record came before both ends had agreed on records",
-        [RIBBON_REASON_UNSUPPORTED_TERMINAL] = "61: the type of terminal isn't supported",
-        [RIBBON_REASON_UNASKED_ANSWER] = "62: a station sent a record that nobody asked for",
-        [RIBBON_REASON_ANSWER_MISMATCH] = "63: an answer doesn't fit the read that asked for it",
-    };
-    return reason < COUNT(texts) && texts[reason] != NULL ? texts[reason] : "no such reason";
+    static pthread_once_t once = PTHREAD_ONCE_INIT;
+    if (reason == RIBBON_REASON_NONE)
+        return "nothing is refused";
+    pthread_once(&once, fetch_reasons);
+    return reason < REASONS && reason_texts[reason][0] != 0 ? reason_texts[reason] : "no such reason";
 }
 
 const char *ribbon_refusal_text(uint8_t refusal)

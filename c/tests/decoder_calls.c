@@ -63,8 +63,55 @@ static void test_decoder(void)
     ribbon_decoder_free(&decoder);
 }
 
+/* What a push has taken, and the cells at the front of what it gave. */
+static int is_run(ribbon_decoder *decoder, const uint8_t *bytes, size_t count, size_t room, size_t taken, const char *cells)
+{
+    uint8_t unit[256];
+    ribbon_step step;
+    FILL(unit);
+    return ribbon_decoder_push(decoder, bytes, count, unit, room, &step) == RIBBON_DONE && step.kind == RIBBON_STEP_MORE
+           && step.taken == taken && step.length == 0 && step.cells == strlen(cells)
+           && memcmp(unit, cells, step.cells) == 0 && all_are(unit + step.cells, sizeof unit - step.cells, 0xa5);
+}
+
+/* Cells are handed out in runs, which end where something else begins, and where the buffer has no room. */
+static void test_cells(void)
+{
+    static const uint8_t stream[] = {0x00, 0x17, 0x12, 0xa0, 0x00, 0x00, 0x04, 0x00, 0x00, 0x03, 0x04, 0x11, 0x00, 0x08,
+                                     0xc1, 0xc2, 0x40, 0x11, 0x01, 0x01, 0xc3, 0xff, 0xff, 0xc4, 0xff, 0xef};
+    static const uint8_t long_one[] = {0x00, 0x12, 0x12, 0xa0, 0x00, 0x00, 0x04, 0x00, 0x00, 0x03,
+                                       0x04, 0x11, 0x00, 0x08, 0xc1, 0xc2, 0xc3, 0xc4, 0xc5};
+    ribbon_decoder decoder = RIBBON_DECODER_NONE;
+    ribbon_step step;
+    uint8_t unit[256];
+    for (int is_extended = 0; is_extended < 2; is_extended++) {
+        CHECK((is_extended ? ribbon_decoder_new_extended : ribbon_decoder_new)(&decoder) == RIBBON_DONE);
+        for (size_t at = 0; at < 14; at += step.taken)
+            CHECK(ribbon_decoder_push(&decoder, stream + at, sizeof stream - at, unit, sizeof unit, &step) == RIBBON_DONE
+                  && step.cells == 0 && step.taken > 0);
+        CHECK(is_run(&decoder, stream + 14, sizeof stream - 14, 134, 2, "\xc1\xc2"));
+        CHECK(is_run(&decoder, stream + 16, sizeof stream - 16, 133, 1, "\x40"));
+        CHECK(ribbon_decoder_push(&decoder, stream + 17, sizeof stream - 17, unit, sizeof unit, &step) == RIBBON_DONE
+              && is_step(&step, 3, RIBBON_STEP_ELEMENT, 3, 0, 0) && step.cells == 0);
+        CHECK(is_run(&decoder, stream + 20, sizeof stream - 20, sizeof unit, 1, "\xc3"));
+        CHECK(is_run(&decoder, stream + 21, sizeof stream - 21, sizeof unit, 3, "\xff\xc4"));
+        CHECK(ribbon_decoder_push(&decoder, stream + 24, 2, unit, sizeof unit, &step) == RIBBON_DONE
+              && is_step(&step, 2, RIBBON_STEP_RECORD, 0, 0, 0));
+        for (size_t at = 0; at < 14; at += step.taken)
+            CHECK(ribbon_decoder_push(&decoder, long_one + at, sizeof long_one - at, unit, sizeof unit, &step)
+                  == RIBBON_DONE);
+        FILL(unit);
+        CHECK(ribbon_decoder_push(&decoder, long_one + 14, sizeof long_one - 14, unit, sizeof unit, &step)
+                  == RIBBON_REFUSED
+              && is_step(&step, 4, 0, 0, sizeof stream + 18, RIBBON_REASON_TOO_LONG) && step.cells == 4
+              && memcmp(unit, long_one + 14, 4) == 0 && all_are(unit + 4, sizeof unit - 4, 0xa5));
+        ribbon_decoder_free(&decoder);
+    }
+}
+
 int main(void)
 {
     test_decoder();
+    test_cells();
     return check_end();
 }

@@ -7,7 +7,7 @@ from .any_host import AnyHost
 from .body import Body
 from .cells import Cell, Color, Style
 from .codes import TERMINALS, Key, KeyRefusal, Opcode, Read, Reason, Status
-from .decoder import Command, Decoder, Element, Header, RecordEnd, Step
+from .decoder import Cells, Command, Decoder, Element, Header, RecordEnd, Step
 from .errors import (
     ConnectionEnded,
     FieldNotFound,
@@ -39,6 +39,7 @@ __all__ = [
     "AnyHost",
     "Body",
     "Cell",
+    "Cells",
     "Color",
     "Command",
     "ConnectionEnded",

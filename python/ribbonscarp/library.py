@@ -63,6 +63,7 @@ class StepTold(Structure):
     _fields_ = [
         ("taken", c_size_t),
         ("length", c_size_t),
+        ("cells", c_size_t),
         ("place", c_uint64),
         ("kind", c_uint32),
         ("flags", c_uint16),

@@ -84,7 +84,7 @@ class TestStream(Runs):
                 name = f"{[word[:20] for word in words]} without {closed}"
                 self.expect(name, done, status, "" if 1 in closed else out, "" if 2 in closed else err)
             # No input is asked for, or nothing at all.
-            others = (["--help"], 0, None, ""), (["--version"], 0, "t5250 3.0.0\n", ""), (["other"], 2, "", None)
+            others = (["--help"], 0, None, ""), (["--version"], 0, "t5250 4.0.0\n", ""), (["other"], 2, "", None)
             for words, status, out, err in others:
                 if 1 in closed and status == 0:
                     status, out, err = 2, "", "cannot write\n"

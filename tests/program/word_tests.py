@@ -101,7 +101,7 @@ RUNS = [
     (["make", "--help"], "", 0, None, ""),
     (["play", "--help"], "", 0, None, ""),
     (["help"], "", 0, None, ""),
-    (["--version"], "", 0, "t5250 3.0.0\n", ""),
+    (["--version"], "", 0, "t5250 4.0.0\n", ""),
     # wrong command lines
     ([], INVITE, 2, "", None),
     (["other"], INVITE, 2, "", None),

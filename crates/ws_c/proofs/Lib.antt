@@ -5,3 +5,4 @@ mod HeldLaws
 mod PushLaws
 mod StrokeLaws
 mod Values
+mod WireLaws

@@ -12,6 +12,9 @@ pub mod Keys
 pub mod Looks
 pub mod Owned
 pub mod Pushes
+pub mod Reasons
 pub mod Sends
+pub mod Spelled
 pub mod Strokes
 pub mod Texts
+pub mod Wire

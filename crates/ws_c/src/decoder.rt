@@ -1,20 +1,23 @@
 //! Decoders of a host's stream.
-ghost use Rattle.std.specs.Prelude.{◌≡◌, ◌≤◌, ◌<◌, length, Result};
+ghost use Rattle.std.specs.Prelude.{◌≡◌, ◌≤◌, ◌<◌, ◌+◌, ◌++◌, ◌≢◌, ◌⊎◌, false, IfNone, IfSome, List as Seq, ℕ, true, length, Result};
 ghost use Rattle.ws_code.specs.declared.fault.Fault.{Fault as AFault};
 ghost use Rattle.ws_record.specs.Grammar.{opcode_byte};
-ghost use Rattle.ws_record.specs.declared.live.Step.{Step as AStep};
-ghost use Rattle.ws_c.specs.Calls.{HasStatus, TellsOnly, crossed, status_number};
+ghost use Rattle.ws_c.specs.Calls.{HasStatus, TellsOnly, crossed, holds_front, status_number};
 ghost use Rattle.ws_c.specs.Held.{HoldsNone, IsDecoderFreed, OnDecoders};
-ghost use Rattle.ws_c.specs.Decoding.{DecoderFinishedOn, IsDecode, IsDecodeOn, IsDecoderNew, IsStreamEnd, IsEndTold, IsExtendedDecode, IsExtendedDecoderNew, IsExtendedStreamEnd, IsStepToldOn, plain_step};
+ghost use Rattle.ws_c.specs.Decoding.{DecoderFinishedOn, DecoderPushedOn, DecoderTakesOn, IsDecode, IsDecodeOn, IsDecoderNew, IsStreamEnd, IsEndTold, IsExtendedDecode, IsExtendedDecoderNew, IsExtendedStreamEnd, IsSpellingTold, IsStepToldOn, MayBeCell, plain_step, tells_something};
 
+use crate::buffer::put_behind;
+use crate::byte_put::PutsBytes;
 use crate::held::{on_decoders, on_two};
-use crate::push::put_front;
 use crate::{Handle, Machine, Status};
 use arrayvec::ArrayVec;
 use std::alloc::Global;
-use ws_code::{Body, Fault};
+use ws_code::{Body, DataByte, Fault};
 use ws_record::{Head, Live, Step};
-use ws_telnet::{Telnet, Token, spell};
+use ws_telnet::{IAC, Token, spell};
+
+/// How many bytes the longest spelling of an element or of a Telnet command has.
+pub const UNIT_ROOM: usize = 133;
 
 /// What bytes complete.
 #[repr(C)]
@@ -24,6 +27,8 @@ pub struct StepTold {
     pub taken: usize,
     /// How many bytes of the buffer were set: the spelling of an element or of a Telnet command.
     pub length: usize,
+    /// How many bytes of the buffer before these were set: a run of cells, one byte of each.
+    pub cells: usize,
     /// Where a byte is refused; places count from 0.
     pub place: u64,
     /// 0 nothing, 1 a record's header, 2 an element of its body, 3 the record, 4 a Telnet command.
@@ -46,6 +51,7 @@ impl StepTold {
         StepTold {
             taken,
             length: 0,
+            cells: 0,
             place: 0,
             kind,
             flags: 0,
@@ -66,6 +72,7 @@ impl StepTold {
         StepTold {
             taken,
             length: 0,
+            cells: 0,
             place: 0,
             kind: 1,
             flags: head.flags,
@@ -147,102 +154,146 @@ pub extern "C" fn ws_c_decoder_free(alloc: Global, handle: &mut Handle)
     }
 }
 
-// Puts an element's spelling into the buffer, and tells it.
-fn tell_unit<C: Body>(
-    unit: &C::Unit,
+// Puts a spelling into the buffer behind the cells that stand there, and tells it.
+fn tell_spelling(
+    spelling: &[u8],
+    kind: u32,
     before: usize,
+    cells: usize,
     buffer: &mut [u8],
     told: &mut StepTold,
 ) -> Status
-    requires room { 133 ≤ length buffer.old }
+    requires room { cells + length spelling.now ≤ length buffer.old }
     requires count { before < usize.MAX }
-    ensures { IsStepToldOn C.rules (AStep.Unit unit.now) before
-        (crossed buffer.old buffer.new result told.new) }
+    ensures { (run front : Seq ℕ) → length run ≡ cells → buffer.old ≡ holds_front run front
+        → IsSpellingTold run spelling.now (before + 1) kind
+        (crossed front buffer.new result told.new) }
 {
-    let mut spelling = ArrayVec::new();
-    C::spell(unit, &mut spelling);
-    *told = StepTold::plain(before + 1, 2);
-    told.length = put_front(buffer, spelling.as_slice());
+    put_behind(buffer, cells, spelling);
+    *told = StepTold::plain(before + 1, kind);
+    told.length = spelling.len();
+    told.cells = cells;
     Status::Done
 }
 
-// Puts a command's spelling into the buffer, and tells it.
-fn tell_telnet<C: Body>(
-    telnet: Telnet,
-    before: usize,
-    buffer: &mut [u8],
-    told: &mut StepTold,
-) -> Status
-    requires room { 133 ≤ length buffer.old }
-    requires count { before < usize.MAX }
-    ensures { IsStepToldOn C.rules (AStep.Telnet telnet) before
-        (crossed buffer.old buffer.new result told.new) }
-{
-    let mut spelling = ArrayVec::new();
-    spell(&Token::Telnet(telnet), &mut spelling);
-    *told = StepTold::plain(before + 1, 4);
-    told.length = put_front(buffer, spelling.as_slice());
-    Status::Done
-}
-
-// What a step crosses as.
+// What a step crosses as behind the cells that stand at the buffer's front.
 fn tell_step<C: Body>(
     step: Step<C::Unit>,
     before: usize,
+    cells: usize,
     buffer: &mut [u8],
     told: &mut StepTold,
 ) -> Status
-    requires room { 133 ≤ length buffer.old }
+    requires room { cells + UNIT_ROOM ≤ length buffer.old }
     requires count { before < usize.MAX }
-    ensures { IsStepToldOn C.rules step before (crossed buffer.old buffer.new result told.new) }
+    ensures { (run front : Seq ℕ) → length run ≡ cells → buffer.old ≡ holds_front run front
+        → IsStepToldOn C.rules run step before (crossed front buffer.new result told.new) }
 {
     match step {
-        Step::More => {
-            *told = StepTold::plain(before + 1, 0);
-            Status::Done
+        Step::More => tell_plain(StepTold::plain(before + 1, 0), cells, told),
+        Step::Open(head) => tell_plain(StepTold::header(before + 1, head), cells, told),
+        Step::Unit(unit) => {
+            let mut spelling = ArrayVec::new();
+            C::spell(&unit, &mut spelling);
+            tell_spelling(spelling.as_slice(), 2, before, cells, buffer, told)
         }
-        Step::Open(head) => {
-            *told = StepTold::header(before + 1, head);
-            Status::Done
+        Step::Close => tell_plain(StepTold::plain(before + 1, 3), cells, told),
+        Step::Telnet(telnet) => {
+            let mut spelling = ArrayVec::new();
+            spell(&Token::Telnet(telnet), &mut spelling);
+            tell_spelling(spelling.as_slice(), 4, before, cells, buffer, told)
         }
-        Step::Unit(unit) => tell_unit::<C>(&unit, before, buffer, told),
-        Step::Close => {
-            *told = StepTold::plain(before + 1, 3);
-            Status::Done
-        }
-        Step::Telnet(telnet) => tell_telnet::<C>(telnet, before, buffer, told),
         Step::Refused { place, reason } => {
-            *told = StepTold::plain(before, 0);
+            tell_plain(StepTold::plain(before, 0), cells, told);
             told.place = place;
             told.reason = reason.number();
             Status::Refused
         }
         Step::Failed => {
-            *told = StepTold::plain(before, 0);
+            tell_plain(StepTold::plain(before, 0), cells, told);
             Status::Failed
         }
     }
 }
 
-// Pushes bytes into a decoder, up to the first with which something is complete.
-fn push_all<C: Body>(
+// Tells this and how many cells stand at the buffer's front.
+fn tell_plain(plain: StepTold, cells: usize, told: &mut StepTold) -> Status
+    ensures status { result ≡ Status.Done }
+    ensures told { told.new ≡ record plain { cells = cells } }
+{
+    *told = plain;
+    told.cells = cells;
+    Status::Done
+}
+
+// Whether a run of so many cells ends before a byte, in a buffer of so many.
+fn ends_run(cells: usize, byte: u8, room: usize) -> bool
+    requires { cells ≤ room }
+    ensures ends { result ≡ true
+        → (cells ≢ 0) × (MayBeCell byte → cells + UNIT_ROOM ≤ room → ⊥) }
+    ensures on { result ≡ false → (cells ≡ 0) ⊎ (MayBeCell byte × (cells + UNIT_ROOM ≤ room)) }
+{
+    if cells == 0 {
+        return false;
+    }
+    byte == IAC || DataByte::new(byte).is_none() || room - cells < UNIT_ROOM
+}
+
+// Pushes a byte. A cell's goes into the buffer, behind those that stand there; another step is given back.
+#[inline(always)]
+fn take_byte<C: PutsBytes>(
+    decoder: &mut Live<C>,
+    byte: u8,
+    cells: &mut usize,
+    buffer: &mut [u8],
+) -> Option<Step<C::Unit>>
+    requires { cells.old < length buffer.old }
+    ensures none { IfNone result ((brought : Seq ℕ)
+        × DecoderTakesOn C.rules C.put_by decoder.old byte brought decoder.new
+        × (cells.new ≡ cells.old + length brought)
+        × (length brought ≤ 1) × ((front before : Seq ℕ) → length front ≡ cells.old
+        → buffer.old ≡ holds_front front before
+        → buffer.new ≡ holds_front (front ++ brought) before)) }
+    ensures some { IfSome result (λ step. DecoderPushedOn C.rules decoder.old decoder.new byte step
+        × (tells_something C.put_by step ≡ true)
+        × (cells.new ≡ cells.old) × (buffer.new ≡ buffer.old)) }
+{
+    match decoder.push(byte) {
+        Step::More => None,
+        Step::Unit(unit) => match C::byte_put(&unit) {
+            Some(cell) => {
+                put_behind(buffer, *cells, &[cell]);
+                *cells += 1;
+                None
+            }
+            None => Some(Step::Unit(unit)),
+        },
+        step => Some(step),
+    }
+}
+
+// Pushes bytes into a decoder, up to the end of a run of cells, or to the first with which something else is complete.
+fn push_all<C: PutsBytes>(
     decoder: &mut Live<C>,
     bytes: &[u8],
     buffer: &mut [u8],
     told: &mut StepTold,
 ) -> Status
-    requires { 133 ≤ length buffer.old }
-    ensures { IsDecodeOn C.rules bytes.now
+    requires { UNIT_ROOM ≤ length buffer.old }
+    ensures { IsDecodeOn C.rules C.put_by bytes.now
         (crossed buffer.old buffer.new result told.new) decoder.old decoder.new }
 {
+    let mut cells = 0;
     for (at, byte) in bytes.iter().enumerate() {
-        match decoder.push(*byte) {
-            Step::More => {}
-            step => return tell_step::<C>(step, at, buffer, told),
+        if ends_run(cells, *byte, buffer.len()) {
+            return tell_plain(StepTold::plain(at, 0), cells, told);
+        }
+        match take_byte(decoder, *byte, &mut cells, buffer) {
+            None => {}
+            Some(step) => return tell_step::<C>(step, at, cells, buffer, told),
         }
     }
-    *told = StepTold::plain(bytes.len(), 0);
-    Status::Done
+    tell_plain(StepTold::plain(bytes.len(), 0), cells, told)
 }
 
 // Pushes bytes into the decoder that a handle holds.
@@ -253,7 +304,7 @@ fn push(
     buffer: &mut [u8],
     told: &mut StepTold,
 ) -> Status
-    requires room { 133 ≤ length buffer.old }
+    requires room { UNIT_ROOM ≤ length buffer.old }
     requires untold { told.old ≡ plain_step 0 0 }
     ensures { let call = crossed buffer.old buffer.new result told.new in
         OnDecoders handle.old.owned.value handle.new.owned.value (IsDecode bytes.now call)
@@ -266,8 +317,13 @@ fn push(
     )
 }
 
-/// Pushes bytes into a decoder, up to the first with which something is complete: `told` says what, and how many bytes
-/// were taken; `buffer` gets the spelling of an element or of a Telnet command.
+/// Pushes bytes into a decoder, up to the first with which something is complete, or to the end of a run of cells: `told`
+/// says what, and how many bytes were taken; `buffer` gets the bytes of the cells, and behind them the spelling of an
+/// element or of a Telnet command.
+///
+/// A cell is an element that puts one byte into the next cell. A run of them ends before an order, a command or an FF,
+/// with the last byte, and where fewer than 133 bytes are left of the buffer; it is told with what is complete behind it,
+/// where nothing of these stands between, as a refusal.
 ///
 /// `Refused` at the first byte after which the bytes begin no stream, `Failed` from then on; `NothingHeld` where the
 /// handle holds no decoder; `NoRoom` where the buffer has fewer than 133 bytes: no byte is then taken. Where nothing is
@@ -280,15 +336,15 @@ pub extern "C" fn ws_c_decoder_push(
     buffer: &mut [u8],
     told: &mut StepTold,
 ) -> u32
-    ensures room { length buffer.old < 133 → (result ≡ status_number Status.NoRoom)
+    ensures room { length buffer.old < UNIT_ROOM → (result ≡ status_number Status.NoRoom)
         × (handle.new ≡ handle.old) × (buffer.new ≡ buffer.old) × (told.new ≡ plain_step 0 0) }
-    ensures pushed { 133 ≤ length buffer.old → HasStatus result (λ status.
+    ensures pushed { UNIT_ROOM ≤ length buffer.old → HasStatus result (λ status.
         let call = crossed buffer.old buffer.new status told.new in
         OnDecoders handle.old.owned.value handle.new.owned.value (IsDecode bytes.now call)
         (IsExtendedDecode bytes.now call) (TellsOnly call Status.NothingHeld (plain_step 0 0))) }
 {
     *told = StepTold::plain(0, 0);
-    if buffer.len() < 133 {
+    if buffer.len() < UNIT_ROOM {
         return Status::NoRoom.number();
     }
     push(alloc, handle, bytes, buffer, told).number()

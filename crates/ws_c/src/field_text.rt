@@ -8,8 +8,8 @@ ghost use Rattle.ws_c.specs.Calls.{HasStatus, TellsOnly, crossed, told_length};
 ghost use Rattle.ws_c.specs.Held.{OnScreen};
 ghost use Rattle.ws_c.specs.Texts.{IsFieldTextTold, IsTextTold, field_text};
 
+use crate::buffer::put_front;
 use crate::held::{on_screen, on_stations, on_two};
-use crate::push::put_front;
 use crate::{Handle, Machine, Status, Told};
 use arrayvec::ArrayString;
 use std::alloc::Global;

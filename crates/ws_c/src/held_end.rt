@@ -4,7 +4,7 @@ ghost use Rattle.ws_end.specs.driver.Driven.{driving};
 ghost use Rattle.ws_c.specs.HeldEnds.{HandsOut, filling, waiting};
 
 use crate::PushedTold;
-use crate::push::put_behind;
+use crate::buffer::put_behind;
 use ws_session::{Driver, Reacts};
 
 /// An end of a session, and what it wrote last.

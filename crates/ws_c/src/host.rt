@@ -5,9 +5,10 @@ ghost use Rattle.ws_c.specs.Held.{IsHostFreed, OnHost};
 ghost use Rattle.ws_c.specs.Hosts.{IsHostNew, IsHostPush, IsNewHost, answer_after, event_told, host_told, number_of_terminal, opening_bytes};
 ghost use Rattle.ws_c.specs.Pushes.{nothing_pushed};
 
+use crate::buffer::put_front;
 use crate::held::{on_held, on_host};
 use crate::held_end::holding;
-use crate::push::{push_all, put_front};
+use crate::push::push_all;
 use crate::{Handle, HeldEnd, Machine, PushedTold, REPLY_ROOM, Status, Told};
 use std::alloc::Global;
 use ws_code::List;

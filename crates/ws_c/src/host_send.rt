@@ -10,8 +10,8 @@ ghost use Rattle.ws_c.specs.Calls.{HasStatus, TellsOnly, crossed, returned, stat
 ghost use Rattle.ws_c.specs.Held.{HoldsNone, OnHost};
 ghost use Rattle.ws_c.specs.Sends.{HostCancelled, HostSent, IsCancel, IsCancelTold, IsFetched, IsOpcodeFrom, IsReadFrom, IsSend, IsSendFaultTold, IsSendFrom, IsSendGiven, IsSentTold};
 
+use crate::buffer::{fetch_bytes, put_front};
 use crate::held::{on_held, on_host};
-use crate::push::put_front;
 use crate::{Handle, HeldHost, Machine, Status, Told};
 use std::alloc::Global;
 use ws_code::{ByteList, List};
@@ -184,19 +184,6 @@ pub extern "C" fn ws_c_host_send(
     send_given(alloc, handle, given, body, told).number()
 }
 
-// Puts the bytes that were sent last into a buffer.
-fn fetch_host(host: &HeldHost, buffer: &mut [u8], told: &mut Told) -> Status
-    requires { told.old ≡ told_length 0 }
-    ensures { IsFetched host.now.sent (crossed buffer.old buffer.new result told.new) }
-{
-    let bytes = host.sent.as_slice();
-    if buffer.len() < bytes.len() {
-        return Status::NoRoom;
-    }
-    *told = Told::length(put_front(buffer, bytes));
-    Status::Done
-}
-
 // Puts the bytes that were sent last into a buffer, from what a handle holds.
 fn fetch(alloc: Global, handle: &mut Handle, buffer: &mut [u8], told: &mut Told) -> Status
     ensures { let call = crossed buffer.old buffer.new result told.new in
@@ -205,7 +192,11 @@ fn fetch(alloc: Global, handle: &mut Handle, buffer: &mut [u8], told: &mut Told)
         (TellsOnly call Status.NothingHeld (told_length 0)) }
 {
     *told = Told::length(0);
-    on_host!(alloc, handle, |host| fetch_host(host, buffer, told))
+    on_host!(
+        alloc,
+        handle,
+        |host| fetch_bytes(host.sent.as_slice(), buffer, told)
+    )
 }
 
 /// Puts the bytes of the record that was sent last into a buffer: none before the first. `told` says how many.

@@ -3,6 +3,8 @@
 #![tactic(auto)]
 
 mod attribute_look;
+mod buffer;
+mod byte_put;
 mod cell_fields;
 mod code_page;
 mod decoder;
@@ -20,6 +22,8 @@ mod loose;
 mod machine;
 mod owned;
 mod push;
+mod reason_text;
+mod spelling;
 mod state_told;
 mod station;
 mod station_cells;
@@ -33,13 +37,14 @@ mod told;
 mod wire;
 
 pub use attribute_look::LookTold;
-pub use decoder::StepTold;
+pub use decoder::{StepTold, UNIT_ROOM};
 pub use field_told::FieldTold;
 pub use handle::Handle;
 pub use held_end::HeldEnd;
 pub use host::{EventTold, HeldHost};
 pub use host_answer::{AnswerTold, ReadFieldTold};
 pub use machine::Machine;
+pub use spelling::{ElementKind, GivenElement};
 pub use state_told::{NO_FIELD, StateTold};
 pub use station_cells::CellTold;
 pub use status::Status;

@@ -9,30 +9,6 @@ use crate::held_end::{hand_out, keep_nothing, rest};
 use crate::{HeldEnd, PushedTold, REPLY_ROOM, Status};
 use ws_session::{Driver, EndFed, Reacts, Refusal};
 
-/// Puts bytes at a buffer's front, and gives how many.
-pub(crate) fn put_front(buffer: &mut [u8], bytes: &[u8]) -> usize
-    requires { length bytes.now ≤ length buffer.old }
-    ensures value { result ≡ length bytes.now }
-    ensures buffer { buffer.new ≡ holds_front bytes.now buffer.old }
-{
-    buffer[..bytes.len()].copy_from_slice(bytes);
-    bytes.len()
-}
-
-/// Puts bytes into a buffer behind those that stand at its front.
-pub(crate) fn put_behind(buffer: &mut [u8], at: usize, bytes: &[u8])
-    requires { at + length bytes.now ≤ length buffer.old }
-    ensures { (front before : List ℕ) → length front ≡ at
-        → buffer.old ≡ holds_front front before
-        → buffer.new ≡ holds_front (front ++ bytes.now) before }
-{
-    // Most records bring no reply.
-    if bytes.is_empty() {
-        return;
-    }
-    buffer[at..at + bytes.len()].copy_from_slice(bytes);
-}
-
 // The status of a refusal, and what is told of it beside the counts.
 fn tell_push_refusal(refusal: Refusal, told: &mut PushedTold) -> Status
     requires { told.old ≡ pushed_told told.old.taken told.old.replied }

@@ -8,10 +8,10 @@ ghost use Rattle.ws_c.specs.Held.{OnStations};
 ghost use Rattle.ws_c.specs.HeldStations.{IsAnyKeyFrom, IsPress, IsPressFrom, IsProfilePress, status_without};
 ghost use Rattle.ws_c.specs.Keys.{IsKeyFrom, IsKeyOfKind};
 
+use crate::buffer::put_front;
 use crate::held::on_two;
 use crate::held_end::{keep_nothing, rest};
 use crate::key_kind::{KeyKind, RESET_KIND, refusal_number};
-use crate::push::put_front;
 use crate::wire::answer_bytes;
 use crate::{Handle, HeldEnd, Machine, Status, Told};
 use std::alloc::Global;

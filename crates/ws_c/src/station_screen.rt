@@ -7,8 +7,8 @@ ghost use Rattle.ws_extended.specs.ErrorLine.{IsRow};
 ghost use Rattle.ws_c.specs.HeldStations.{extended_state_told};
 ghost use Rattle.ws_c.specs.Held.{HoldsNone, OnScreen, OnStations};
 
+use crate::buffer::put_front;
 use crate::held::{on_screen, on_stations, on_two};
-use crate::push::put_front;
 use crate::{FieldTold, Handle, Machine, NO_FIELD, StateTold, Status, Told};
 use std::alloc::Global;
 use ws_code::{Address, Reason};

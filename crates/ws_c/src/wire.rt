@@ -1,64 +1,50 @@
-//! The bytes of an answer.
-ghost use Rattle.std.specs.Prelude.{◌≡◌, ◌≤◌, ◌+◌, ◌*◌, ◌++◌, length};
-ghost use Rattle.std.specs.List.{flat_map};
-ghost use Rattle.ws_telnet.specs.Token.{doubled};
-ghost use Rattle.ws_record.specs.Grammar.{header};
-ghost use Rattle.ws_record.specs.Encode.{record_spelling};
+//! The bytes of an answer, in an array that has room for the longest.
+ghost use Rattle.std.specs.Prelude.{◌≡◌, [], ℕ, List};
 ghost use Rattle.ws_end.specs.station.AnswerSpelling.{answer_spelling};
+ghost use Rattle.ws_c.specs.Wire.{array_writer};
 
 use arrayvec::ArrayVec;
+use std::marker::Model;
+use ws_code::{DeviceFailed, Sink};
 use ws_keys::Answer;
-use ws_record::{Opcode, header_bytes};
-use ws_session::{ATN, SRQ};
-use ws_telnet::{EOR, IAC};
+use ws_session::write_answer;
 
-// A byte, doubled if it is FF (RFC 854).
-fn push_doubled(into: &mut ArrayVec<u8, 5404>, byte: u8)
-    requires { length into.old.items + 2 ≤ 5404 }
-    ensures items { into.new.items ≡ into.old.items ++ doubled byte }
-    ensures size { length into.new.items ≤ length into.old.items + 2 }
-{
-    into.push(byte);
-    if byte == IAC {
-        into.push(IAC);
-    }
+/// How many bytes the longest answer has: each of its 2,701 doubled, and its IAC EOR.
+pub(crate) const ANSWER_ROOM: usize = 5404;
+
+// Keeps what is written in an array, which takes what it has room for.
+#[derive(Drop)]
+struct AnswerSink {
+    bytes: ArrayVec<u8, ANSWER_ROOM>,
 }
 
-// Bytes, each FF doubled.
-fn push_all_doubled(into: &mut ArrayVec<u8, 5404>, bytes: &[u8])
-    requires { length into.old.items + 2 * length bytes.now ≤ 5404 }
-    ensures items { into.new.items ≡ into.old.items ++ flat_map doubled bytes.now }
-    ensures size { length into.new.items ≤ length into.old.items + 2 * length bytes.now }
-{
-    for byte in bytes {
-        push_doubled(into, *byte);
-    }
+impl Model for AnswerSink {
+    ghost use Rattle.std.specs.Prelude.{ℕ, List};
+
+    ghost Value = { List ℕ };
+
+    ghost view = { λ s. s.bytes.items };
 }
 
-// A record with its IAC EOR.
-fn record_bytes(flags: u16, opcode: Opcode, body: &[u8]) -> ArrayVec<u8, 5404>
-    requires { length body.now ≤ 2691 }
-    ensures { result.items ≡ record_spelling
-        (header (10 + length body.now) flags opcode ++ body.now) }
-{
-    let mut bytes = ArrayVec::new();
-    push_all_doubled(
-        &mut bytes,
-        &header_bytes(10 + body.len() as u16, flags, opcode),
-    );
-    push_all_doubled(&mut bytes, body);
-    bytes.push(IAC);
-    bytes.push(EOR);
-    bytes
+impl Sink for AnswerSink {
+    ghost writer = { array_writer };
+
+    fn write(&mut self, bytes: &[u8]) -> Result<usize, DeviceFailed> {
+        let taken = bytes.len().min(self.bytes.remaining_capacity());
+        match self.bytes.try_extend_from_slice(&bytes[..taken]) {
+            Ok(()) => Ok(taken),
+            Err(_) => Ok(0),
+        }
+    }
 }
 
 /// The record that a key sends, with its IAC EOR (RFC 1205, section 3).
-pub fn answer_bytes(answer: &Answer) -> ArrayVec<u8, 5404>
+pub(crate) fn answer_bytes(answer: &Answer) -> ArrayVec<u8, ANSWER_ROOM>
     ensures { result.items ≡ answer_spelling answer.now }
 {
-    match answer {
-        Answer::Read(body) => record_bytes(0, Opcode::PutGet, body.as_slice()),
-        Answer::Attention => record_bytes(ATN, Opcode::NoOperation, &[]),
-        Answer::SystemRequest => record_bytes(SRQ, Opcode::NoOperation, &[]),
-    }
+    let mut sink = AnswerSink {
+        bytes: ArrayVec::new(),
+    };
+    let _written = write_answer(&mut sink, answer);
+    sink.bytes
 }

@@ -103,7 +103,7 @@ fn program<'a>(alloc: Global) -> Result<Command<'a>, AllocError> {
 
 fn bare_program<'a>(alloc: Global) -> Command<'a> {
     Command::new(alloc, "t5250")
-        .version("3.0.0")
+        .version("4.0.0")
         .about("Reads recorded IBM 5250 streams over Telnet (RFC 1205)")
         .after_help(HEX_AND_STATUS)
         .subcommand_required(true)

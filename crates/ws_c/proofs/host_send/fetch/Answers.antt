@@ -4,4 +4,7 @@ use Rattle.ws_c.proofs.host_send.fetch.Goals as goal
 
 pub returns-in-Host : goal.returns-in-Host
 returns-in-Host c = on_host _ _ c.in-Host.host _ _ _ (c.in-Some.ensures.some ∙ ap Some
-    (sym c.deref_mut.ensures.value ∙ c.in-Host.is)) c.put.ensures (refl, c.fetch_host-status.ensures)
+    (sym c.deref_mut.ensures.value ∙ c.in-Host.is)) c.put.ensures (
+      refl,
+      rw (sym c.as_slice.ensures) c.fetch_bytes-status.ensures,
+    )
