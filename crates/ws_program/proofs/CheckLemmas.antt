@@ -133,14 +133,6 @@ pub front_on : (bytes : List ℕ) (at end used : ℕ) → used ≤ length (take 
 front_on bytes at end used within =
     ap (λ x. take at bytes ++ x) (same_front (drop at bytes) used (end - at) within) ∙ sym (take-add at used bytes)
 
--- a byte that is refused at the end of a front is refused in the whole list
-pub refused_on : {Place U : Type 0} (rules : Rules Place U) (bytes front : List ℕ) (n place : ℕ) (reason : Reason)
-    → front ≡ take n bytes → IsRefused rules front place reason → IsRefused rules bytes place reason
-refused_on rules bytes front n place reason e r =
-    subst (λ (x : List ℕ). IsRefused rules x place reason) (take-append-drop n bytes)
-    (refused_append rules (take n bytes) (drop n bytes) place reason
-    (subst (λ (x : List ℕ). IsRefused rules x place reason) e r))
-
 -- a front of a piece, behind bytes and the front before it
 pub front_behind : (bytes piece : List ℕ) (at used : ℕ) → used ≤ length (take (length piece - at) (drop at piece))
     → (bytes ++ take at piece) ++ take used (take (length piece - at) (drop at piece)) ≡ bytes ++ take (at + used) piece
@@ -155,10 +147,3 @@ refused_behind rules bytes piece n place reason r =
     subst (λ (x : List ℕ). IsRefused rules x place reason)
     (append_assoc bytes (take n piece) (drop n piece) ∙ ap (λ x. bytes ++ x) (take-append-drop n piece))
     (refused_append rules (bytes ++ take n piece) (drop n piece) place reason r)
-
--- a piece of a list, behind what stands before it
-pub piece_on : (bytes : List ℕ) (at end : ℕ) → at ≤ end → take at bytes ++ take (end - at) (drop at bytes)
-    ≡ take end bytes
-piece_on bytes at end h =
-    let same : at + (end - at) ≡ end = omega (arith, h) in
-    sym (take-add at (end - at) bytes) ∙ ap (λ n. take n bytes) same

@@ -163,26 +163,13 @@ fn verdict_of<B: Body>(bytes: &[u8], cut: u16) -> Verdict
     ensures { IsVerdict B.rules bytes.now result }
 {
     let mut checker = Checker::<B>::new();
-    let mut at = 0;
-    while at < bytes.len() {
-        let end = piece_end(at, cut, bytes.len());
-        match checker.take(&bytes[at..end]) {
+    for piece in bytes.chunks(usize::from(cut)) {
+        match checker.take(piece) {
             Some(refusal) => return refusal.verdict(),
-            None => at = end,
+            None => {}
         }
     }
     checker.finish()
-}
-
-// Where the piece ends that begins at a place.
-#[inline(always)]
-fn piece_end(at: usize, cut: u16, size: usize) -> usize
-    requires cut { cut ≢ 0 }
-    requires at { at < size }
-    ensures behind { at < result }
-    ensures within { result ≤ size }
-{
-    size.min(at.saturating_add(usize::from(cut)))
 }
 
 // What holds of the bytes that a source gives, and how many it gave. They are read into the slice.
