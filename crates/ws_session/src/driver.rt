@@ -4,6 +4,7 @@ ghost use Rattle.ws_session.specs.Ends.{refused_byte};
 ghost use Rattle.ws_session.specs.driver.Driven.{AtDriver, DriverFeeds, DriverFronts, DriverPushes, DriverTakes, IsNewsTaken, IsSettled, IsSilent, LeadsTo, TakesNoMore, driving};
 ghost use Rattle.ws_session.specs.driver.Reacting.{Settles};
 
+mod anew;
 pub(crate) mod halt;
 pub(crate) mod reacts;
 
