@@ -13,13 +13,13 @@ use Rattle.ws_record.specs.Grammar.{Holds}
 use Rattle.ws_record.specs.declared.record.Item.{Item}
 use Rattle.ws_record.specs.declared.record.Item.TheVariants.{Record as RecordItem, Telnet as TelnetItem}
 use Rattle.ws_record.proofs.Encodings.{holds_data, holds_more, holds_command, holds_record}
-use Rattle.ws_session.specs.Acts.{Act, Came, Did, AllTaken, Doing, Arrives, Does, Happen, Happening, doing}
-use Rattle.ws_session.specs.Reaction.{Reaction, Refuses, GoesOn, goes_on}
-use Rattle.ws_session.specs.declared.end_step.Applied.{Applied}
-use Rattle.ws_session.specs.station.Displays.{DisplayOf, KeyReactionOn, SideOn, on_display}
-use Rattle.ws_session.specs.station.Displays.{RefusesKey, Silent, Answers, Signals}
-use Rattle.ws_session.specs.station.StationManners.{at_key_on, key_on, takes_on}
-use Rattle.ws_session.specs.station.StationReacting.{applied_by, at_item_on, manner_on}
+use Rattle.ws_end.specs.Acts.{Act, Came, Did, AllTaken, Doing, Arrives, Does, Happen, Happening, doing}
+use Rattle.ws_end.specs.Reaction.{Reaction, Refuses, GoesOn, goes_on}
+use Rattle.ws_end.specs.declared.end_step.Applied.{Applied}
+use Rattle.ws_end.specs.station.Displays.{DisplayOf, KeyReactionOn, EndStateOn, on_display}
+use Rattle.ws_end.specs.station.Displays.{RefusesKey, Silent, Answers, Signals}
+use Rattle.ws_end.specs.station.StationTransitions.{at_key_on, key_on, takes_on}
+use Rattle.ws_end.specs.station.StationReacting.{applied_by, at_item_on, transitions_on}
 use Rattle.ws_lasting.specs.AsStation.{all_carried_out}
 use Rattle.ws_lasting.specs.Lasting.{Footing, IsAtByte, Lasts}
 use Rattle.ws_lasting.specs.declared.record_event.RecordEvent.{RecordEvent}
@@ -32,10 +32,10 @@ use Rattle.ws_lasting.proofs.TokenSteps.{token_step}
 
 module _ {D P U H PlaceV V K R : Type 0} (rules : Rules P U) (d : DisplayOf D U H PlaceV V K R)
     (free : IsPrefixFree rules) (begins : Begins rules) where
-  abbrev Stood : SideOn H → List ℕ → List ℕ → Footing H
+  abbrev Stood : EndStateOn H → List ℕ → List ℕ → Footing H
   Stood side so_far begun = record { side = side; so_far = so_far; begun = begun }
 
-  module _ {bytes : List ℕ} {items : List (Item U)} {so_far begun left over : List ℕ} (side : SideOn H) (b : ℕ)
+  module _ {bytes : List ℕ} {items : List (Item U)} {so_far begun left over : List ℕ} (side : EndStateOn H) (b : ℕ)
       (h : Holds rules bytes items so_far begun) where
     -- the byte completes no item
     none_complete : Holds rules (bytes ++ b ∷ []) items left over
@@ -60,7 +60,7 @@ module _ {D P U H PlaceV V K R : Type 0} (rules : Rules P U) (d : DisplayOf D U 
 
     -- the byte completes one, at which the station goes on so
     one_complete : (item : Item U) → Holds rules (bytes ++ b ∷ []) (items ++ item ∷ []) left over
-        → (next : SideOn H) (writes : List (Item V)) → takes_on d side item ≡ GoesOn next writes
+        → (next : EndStateOn H) (writes : List (Item V)) → takes_on d side item ≡ GoesOn next writes
         → IsAtByte (on_display rules d) (Stood side so_far begun) b (Stood next left over)
         (plain_spelling d.out writes) (all_carried_out (applied_by item))
     one_complete item k next writes goes = elim (token_step b h.cut k.cut) [
@@ -104,25 +104,25 @@ module _ {D P U H PlaceV V K R : Type 0} (rules : Rules P U) (d : DisplayOf D U 
           )
 
   -- a key tells nothing
-  key_untold : (side : SideOn H) (r : KeyReactionOn H) → (at_key_on d side r).told ≡ []
+  key_untold : (side : EndStateOn H) (r : KeyReactionOn H) → (at_key_on d side r).told ≡ []
   key_untold side (RefusesKey fault) = refl
   key_untold side (Silent next) = refl
   key_untold side (Answers next kind aid) = refl
   key_untold side (Signals opcode flags) = refl
 
   -- what a station does at what happens, one that no record ends does at the acts
-  pub as_station : (acts : List (Act K)) (bytes : List ℕ) (items : List (Item U)) (side : SideOn H)
+  pub as_station : (acts : List (Act K)) (bytes : List ℕ) (items : List (Item U)) (side : EndStateOn H)
       (so_far begun : List ℕ) → Holds rules bytes items so_far begun → (hs : List (Happening U K))
-      → Happen rules bytes items acts hs → AllTaken (manner_on d) side hs → (next : Footing H)
+      → Happen rules bytes items acts hs → AllTaken (transitions_on d) side hs → (next : Footing H)
       × Lasts (on_display rules d) (Stood side so_far begun) acts next
-      (plain_spelling d.out (doing (manner_on d) side hs).written)
-      (all_carried_out (doing (manner_on d) side hs).told)
+      (plain_spelling d.out (doing (transitions_on d) side hs).written)
+      (all_carried_out (doing (transitions_on d) side hs).told)
   as_station [] bytes items side so_far begun h hs happen taken =
       rw happen (Stood side so_far begun, (refl, refl, refl))
   as_station (Did key ∷ acts) bytes items side so_far begun h hs happen taken =
       let done = at_key_on d side (key_on d side key) in
       let rest = as_station acts bytes items done.side so_far begun h happen.0 happen.2 (rw happen.1 at taken).1 in
-      let both = doing (manner_on d) done.side happen.0 in
+      let both = doing (transitions_on d) done.side happen.0 in
       rw happen.1 (
         rest.0,
         (
@@ -137,21 +137,21 @@ module _ {D P U H PlaceV V K R : Type 0} (rules : Rules P U) (d : DisplayOf D U 
   as_station (Came b ∷ acts) bytes items side so_far begun h hs (inr p) taken =
       rw p.3 (arrives (takes_on d side p.0) refl (rw p.3 at taken).0 (rw p.3 at taken).1
       (λ next t. as_station acts (bytes ++ b ∷ []) (items ++ p.0 ∷ []) next p.2.0 p.2.1 p.2.2 p.1 p.4 t)) where
-        arrives : (r : Reaction (SideOn H) (List (Item V))) → takes_on d side p.0 ≡ r → goes_on (takes_on d side p.0) ≡ true
-            → AllTaken (manner_on d) (at_item_on d side p.0 (takes_on d side p.0)).side p.1
-            → ((next : SideOn H) → AllTaken (manner_on d) next p.1 → (last : Footing H)
-            × Lasts (on_display rules d) (Stood next p.2.0 p.2.1) acts last
-            (plain_spelling d.out (doing (manner_on d) next p.1).written)
-            (all_carried_out (doing (manner_on d) next p.1).told))
+        arrives : (r : Reaction (EndStateOn H) (List (Item V))) → takes_on d side p.0 ≡ r → goes_on
+            (takes_on d side p.0) ≡ true → AllTaken (transitions_on d) (at_item_on d side p.0
+            (takes_on d side p.0)).side p.1 → ((next : EndStateOn H) → AllTaken (transitions_on d) next p.1 →
+            (last : Footing H) × Lasts (on_display rules d) (Stood next p.2.0 p.2.1) acts last
+            (plain_spelling d.out (doing (transitions_on d) next p.1).written)
+            (all_carried_out (doing (transitions_on d) next p.1).told))
             → (next : Footing H) × Lasts (on_display rules d) (Stood side so_far begun) (Came b ∷ acts) next
             (plain_spelling d.out ((at_item_on d side p.0 (takes_on d side p.0)).written
-            ++ (doing (manner_on d) (at_item_on d side p.0 (takes_on d side p.0)).side p.1).written))
+            ++ (doing (transitions_on d) (at_item_on d side p.0 (takes_on d side p.0)).side p.1).written))
             (all_carried_out ((at_item_on d side p.0 (takes_on d side p.0)).told
-            ++ (doing (manner_on d) (at_item_on d side p.0 (takes_on d side p.0)).side p.1).told))
+            ++ (doing (transitions_on d) (at_item_on d side p.0 (takes_on d side p.0)).side p.1).told))
         arrives (Refuses reason) is goes taken rest_from = (let no = rw is at goes in cc)
         arrives (GoesOn next writes) is goes taken rest_from =
             let rest = rest_from next (rw is at taken) in
-            let then = doing (manner_on d) next p.1 in
+            let then = doing (transitions_on d) next p.1 in
             rw is (
               rest.0,
               (

@@ -3,15 +3,15 @@ use Rattle.std.proofs.lemmas.Bool.{cases_lt}
 use Rattle.std.specs.Result.{OnErr}
 use Rattle.ws_code.proofs.CodeLaws.{no_end}
 use Rattle.ws_code.proofs.Lists.{same_last}
-use Rattle.ws_session.specs.Conduct.{TakesSome}
-use Rattle.ws_session.specs.Ends.{IsShut}
-use Rattle.ws_session.specs.declared.end_step.EndFed.{EndFed}
-use Rattle.ws_session.specs.declared.end_step.EndStep.{EndStep}
-use Rattle.ws_session.specs.declared.refusal.Refusal.{Refusal}
-use Rattle.ws_session.specs.declared.refusal.Refusal.TheVariants.{Failed}
-use Rattle.ws_session.specs.station.Displays.{OnDisplay}
-use Rattle.ws_session.proofs.Feedings.{value_at}
-use Rattle.ws_lasting.specs.Conduct.{AreQuiet, AreTakenSo, IsLast, LastingRefuses, lasting_conduct}
+use Rattle.ws_end.specs.Behaviour.{TakesSome}
+use Rattle.ws_end.specs.Ends.{IsShut}
+use Rattle.ws_end.specs.declared.end_step.EndFed.{EndFed}
+use Rattle.ws_end.specs.declared.end_step.EndStep.{EndStep}
+use Rattle.ws_end.specs.declared.refusal.Refusal.{Refusal}
+use Rattle.ws_end.specs.declared.refusal.Refusal.TheVariants.{Failed}
+use Rattle.ws_end.specs.station.Displays.{OnDisplay}
+use Rattle.ws_end.proofs.Feedings.{value_at}
+use Rattle.ws_lasting.specs.Behaviour.{AreQuiet, AreTakenSo, IsLast, LastingRefuses, lasting_conduct}
 use Rattle.ws_lasting.specs.Footings.{AtLasting, LastingOf}
 use Rattle.ws_lasting.specs.declared.record_event.RecordEvent.{RecordEvent}
 

@@ -13,11 +13,11 @@ use Rattle.ws_record.specs.declared.record.Item.TheVariants.{Record as RecordIte
 use Rattle.ws_record.specs.declared.record.Record.{Record}
 use Rattle.ws_record.proofs.Encodings.{record_bytes_are}
 use Rattle.ws_record.proofs.Reading.{one_record}
-use Rattle.ws_session.specs.station.Displays.{DisplayOf, SideOn, on_display}
-use Rattle.ws_session.specs.station.StationManners.{takes_on}
+use Rattle.ws_end.specs.station.Displays.{DisplayOf, EndStateOn, on_display}
+use Rattle.ws_end.specs.station.StationTransitions.{takes_on}
 use Rattle.std.proofs.Common.{Bool, if◌then◌else◌, ◌⊎◌}
 use Rattle.ws_code.specs.declared.reason.Reason.TheVariants.{RecordBeforeNegotiation}
-use Rattle.ws_session.specs.Reaction.{Refuses, GoesOn}
+use Rattle.ws_end.specs.Reaction.{Refuses, GoesOn}
 use Rattle.ws_lasting.specs.Lasting.{IsPerformed, IsRefusedFor, IsDeclined}
 use Rattle.ws_lasting.specs.Records.{IsUnfit, IsSpoilt}
 use Rattle.ws_lasting.specs.declared.record_event.RefusedRecord.{RefusedRecord}
@@ -64,13 +64,13 @@ module _ {P U : Type 0} (rules : Rules P U) (law : SpellsBytes rules) (r : Recor
 
 module _ {D P U H PlaceV V K R : Type 0} (rules : Rules P U) (d : DisplayOf D U H PlaceV V K R)
     (free : IsPrefixFree rules) (begins : Begins rules) (law : SpellsBytes rules) where
-  not_declined : (side next : SideOn H) (bytes written : List ℕ) (reason : Reason)
+  not_declined : (side next : EndStateOn H) (bytes written : List ℕ) (reason : Reason)
       → IsPerformed (on_display rules d) side bytes next written → IsDeclined (on_display rules d) side bytes reason → ⊥
   not_declined side next bytes written reason c n =
       let same = one_record rules free begins c.0 n.0 c.1 n.1 (sym c.2 ∙ n.2) in
       let e = sym c.4 ∙ ap (λ z. takes_on d side (RecordItem z)) same ∙ n.3 in cc
 
-  pub judged_one_way : (side next : SideOn H) (bytes written : List ℕ) (why : RefusedRecord)
+  pub judged_one_way : (side next : EndStateOn H) (bytes written : List ℕ) (why : RefusedRecord)
       → IsPerformed (on_display rules d) side bytes next written
       → IsRefusedFor (on_display rules d) side bytes why → ⊥
   judged_one_way side next bytes written why c (inl s) = not_spoilt rules law c.0 c.1 bytes c.2 why s

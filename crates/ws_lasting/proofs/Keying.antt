@@ -9,13 +9,13 @@ use Rattle.ws_record.specs.declared.opcode.Opcode.TheVariants.{PutGet}
 use Rattle.ws_record.specs.declared.record.Item.{Item}
 use Rattle.ws_keys.specs.declared.answer.Answer.{Answer}
 use Rattle.ws_keys.specs.declared.answer.Answer.TheVariants.{Read, Attention, SystemRequest}
-use Rattle.ws_session.specs.Acts.{Did}
-use Rattle.ws_session.specs.Ends.{IsShut}
-use Rattle.ws_session.specs.declared.station.key_fault.KeyFault.{KeyFault}
-use Rattle.ws_session.proofs.EndDeeds.{SpellsOn}
-use Rattle.ws_session.specs.station.Displays.{DisplayOf, SideOn, on_display}
-use Rattle.ws_session.specs.station.Stations.{LeadsOn, IsKeyedOn, AtStationOn}
-use Rattle.ws_lasting.specs.Conduct.{LastingGoes, LeadsOnFrom, sent_by}
+use Rattle.ws_end.specs.Acts.{Did}
+use Rattle.ws_end.specs.Ends.{IsShut}
+use Rattle.ws_end.specs.declared.station.key_fault.KeyFault.{KeyFault}
+use Rattle.ws_end.proofs.EndRequests.{SpellsOn}
+use Rattle.ws_end.specs.station.Displays.{DisplayOf, EndStateOn, on_display}
+use Rattle.ws_end.specs.station.Stations.{ReachedOn, IsKeyedOn, AtStationOn}
+use Rattle.ws_lasting.specs.Behaviour.{LastingGoes, LeadsOnFrom, sent_by}
 use Rattle.ws_lasting.specs.Counting.{IsCounted}
 use Rattle.ws_lasting.specs.Footings.{AtLasting, LastingParts, ReadsOrPasses, StandsAt, IsKeyHeard}
 use Rattle.ws_lasting.specs.LastingLaws.{counted_none}
@@ -30,7 +30,7 @@ module _ {D P U H PlaceV V K R : Type 0} (rules : Rules P U) (d : DisplayOf D U 
     (free : IsPrefixFree rules) (begins : Begins rules) (old new : LastingParts D P) (at : Footing H) (key : K)
     (same : new ≡ record old { station = new.station }) where
   pressed_so : (bytes : List ℕ) (items : List (Item U)) (result : Result (Option Answer) KeyFault)
-      → ((next : SideOn H) → LeadsOn (on_display rules d) new.station bytes items next
+      → ((next : EndStateOn H) → ReachedOn (on_display rules d) new.station bytes items next
       → StandsAt (on_display rules d) new (record at { side = next }))
       → IsKeyedOn (on_display rules d) old.station new.station bytes items at.side key result
       → IsKeyHeard (on_display rules d) old new at key result

@@ -12,10 +12,10 @@ use Rattle.ws_telnet.specs.declared.token.Token.TheVariants.{Data, Eor, Telnet a
 use Rattle.ws_nego.specs.Options.{telnet_bytes}
 use Rattle.ws_nego.specs.Station.{station_answer, station_allows_records}
 use Rattle.ws_record.proofs.Encodings.{holds_nothing}
-use Rattle.ws_session.specs.declared.end_step.EndStep.{EndStep}
-use Rattle.ws_session.specs.declared.refusal.Refusal.TheVariants.{At}
-use Rattle.ws_session.specs.station.Displays.{DisplayOf, SideOn, on_display}
-use Rattle.ws_session.specs.station.Stations.{LeadsOn, PartsOn}
+use Rattle.ws_end.specs.declared.end_step.EndStep.{EndStep}
+use Rattle.ws_end.specs.declared.refusal.Refusal.TheVariants.{At}
+use Rattle.ws_end.specs.station.Displays.{DisplayOf, EndStateOn, on_display}
+use Rattle.ws_end.specs.station.Stations.{ReachedOn, PartsOn}
 use Rattle.ws_lasting.specs.Counting.{IsCounted}
 use Rattle.ws_lasting.specs.Footings.{LastingParts, IsReading, IsPassingOver, ReadsOrPasses, StandsAt, IsWordHeard}
 use Rattle.ws_lasting.specs.Lasting.{Footing, IsTokenStep}
@@ -37,7 +37,7 @@ both_true false b e f = cc
 module _ {D P U H PlaceV V K R : Type 0} (rules : Rules P U) (d : DisplayOf D U H PlaceV V K R) where
   -- a station to which no byte has come reads
   pub reads_anew : IsPrefixFree rules → Begins rules → (station : PartsOn D P) (taken : ℕ) (at : Footing H)
-      → at.so_far ≡ [] → at.begun ≡ [] → LeadsOn (on_display rules d) station [] [] at.side
+      → at.so_far ≡ [] → at.begun ≡ [] → ReachedOn (on_display rules d) station [] [] at.side
       → IsReading (on_display rules d) station taken at
   reads_anew free begins station taken at none between l =
       let same = one_holds rules free begins l.leads.holds (holds_nothing rules) in
@@ -83,8 +83,8 @@ module _ {D P U H PlaceV V K R : Type 0} (rules : Rules P U) (d : DisplayOf D U 
     }
 
   -- what was answered leaves it so
-  pub answered : (station : PartsOn D P) (side : SideOn H) (t : Telnet) → LeadsOn (on_display rules d) station [] [] side
-      → LeadsOn (on_display rules d) (record station {
+  pub answered : (station : PartsOn D P) (side : EndStateOn H) (t : Telnet) → ReachedOn
+      (on_display rules d) station [] [] side → ReachedOn (on_display rules d) (record station {
         reacts = record station.reacts { options = (station_answer station.reacts.options t).after };
       }) [] [] (record { options = (station_answer side.options t).after; happened = side.happened })
   answered station side t l = record {
@@ -144,7 +144,7 @@ module _ {D P U H PlaceV V K R : Type 0} (rules : Rules P U) (d : DisplayOf D U 
       (refl, refl, written ∙ ap (λ z. telnet_bytes (station_answer z t).reply) p.leads.stands.options, refl),
       stands_passing new _ (ap (λ (z : LastingParts _ _). z.ended) same ∙ works) refl why
           (ap (λ (z : LastingParts _ _). z.passing) same ∙ passing) (record {
-            leads = subst (λ (z : PartsOn D P). LeadsOn (on_display rules d) z [] []
+            leads = subst (λ (z : PartsOn D P). ReachedOn (on_display rules d) z [] []
                 (record { options = (station_answer at.side.options t).after; happened = at.side.happened }))
                 (sym (ap (λ (z : LastingParts _ _). z.station) same)) (answered old.station at.side t p.leads);
             of_record = p.of_record;
@@ -176,7 +176,7 @@ module _ {D P U H PlaceV V K R : Type 0} (rules : Rules P U) (d : DisplayOf D U 
       stands_reading new _ (ap (λ (z : LastingParts _ _). z.ended) same ∙ works) refl
           (ap (λ (z : LastingParts _ _). z.passing) same)
           (reads_anew free begins new.station new.taken _ refl (ap (λ (z : LastingParts _ _). z.begun) same ∙ between)
-          (subst (λ (z : PartsOn D P). LeadsOn (on_display rules d) z [] [] at.side)
+          (subst (λ (z : PartsOn D P). ReachedOn (on_display rules d) z [] [] at.side)
           (sym (ap (λ (z : LastingParts _ _). z.station) same)) p.leads))
           (ap (λ (z : LastingParts _ _). z.size) same),
       counted,

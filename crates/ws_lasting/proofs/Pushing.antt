@@ -3,18 +3,19 @@ use Rattle.std.proofs.Common.{Option, Some, None, Ok, Err, Result, true, false, 
 use Rattle.ws_code.specs.Code.{Rules}
 use Rattle.ws_record.specs.Encode.{plain_spelling}
 use Rattle.ws_record.specs.declared.record.Item.{Item}
-use Rattle.ws_session.specs.Acts.{Arrives, HasGone, as_list, ways}
-use Rattle.ws_session.specs.Reaction.{goes_on}
-use Rattle.ws_session.specs.Reaction.{Reaction, Refuses, GoesOn}
-use Rattle.ws_session.specs.declared.end_step.EndFed.{EndFed}
-use Rattle.ws_session.specs.declared.end_step.EndStep.{EndStep}
-use Rattle.ws_session.specs.declared.refusal.Refusal.{Refusal}
-use Rattle.ws_session.specs.declared.refusal.Refusal.TheVariants.{At, Failed, Memory}
-use Rattle.ws_session.specs.driver.Driven.{Driven, Driving, LeadsTo, Come, DriverFeeds, DriverPushes, GoesOnAt, IsWhy, manner_of}
-use Rattle.ws_session.specs.driver.Driven.{TakesNoMore}
-use Rattle.ws_session.specs.driver.Reacting.{at_reaction}
-use Rattle.ws_session.proofs.EndSteps.{gone_none}
-use Rattle.ws_session.proofs.Shuts.{none_leads}
+use Rattle.ws_end.specs.Acts.{Arrives, IsTrace, as_list, ways}
+use Rattle.ws_end.specs.Reaction.{goes_on}
+use Rattle.ws_end.specs.Reaction.{Reaction, Refuses, GoesOn}
+use Rattle.ws_end.specs.declared.end_step.EndFed.{EndFed}
+use Rattle.ws_end.specs.declared.end_step.EndStep.{EndStep}
+use Rattle.ws_end.specs.declared.refusal.Refusal.{Refusal}
+use Rattle.ws_end.specs.declared.refusal.Refusal.TheVariants.{At, Failed, Memory}
+use Rattle.ws_end.specs.driver.Driven.{Driven, Driving, IsReached, Come, DriverFeeds, DriverPushes, GoesOnAt, IsWhy}
+use Rattle.ws_end.specs.driver.Driven.{transitions_of}
+use Rattle.ws_end.specs.driver.Driven.{TakesNoMore}
+use Rattle.ws_end.specs.driver.Reacting.{at_reaction}
+use Rattle.ws_end.proofs.EndSteps.{gone_none}
+use Rattle.ws_end.proofs.Shuts.{none_reached}
 
 -- What a byte alone gives a driver.
 
@@ -28,7 +29,7 @@ module _ {R K Place U Deed Event Reply : Type 0} (d : Driving R K Place U Deed E
     (b : ℕ) (bytes : List ℕ) (items : List (Item U)) (side : d.does.Side) where
   -- a byte that brings this completes no item, or one
   came_one : (step : EndStep Event Reply)
-      → Come d (LeadsTo d new) bytes items side (b ∷ []) (d.does.written new.reacts step.reply) (as_list step.event)
+      → Come d (IsReached d new) bytes items side (b ∷ []) (d.does.written new.reacts step.reply) (as_list step.event)
       → GoesOnAt d new (bytes ++ b ∷ []) items side step
   came_one step g = elim g.happen [
     | inl h ↦ (let wrote = rw h.1 at g.wrote in
@@ -44,7 +45,7 @@ module _ {R K Place U Deed Event Reply : Type 0} (d : Driving R K Place U Deed E
         → d.does.written new.reacts step.reply
         ≡ plain_spelling d.does.out ((at_reaction (d.does.puts item) side (d.does.takes side item)).written ++ [])
         → as_list step.event ≡ (at_reaction (d.does.puts item) side (d.does.takes side item)).told ++ []
-        → LeadsTo d new (bytes ++ b ∷ []) (items ++ item ∷ []) (at_reaction (d.does.puts item) side
+        → IsReached d new (bytes ++ b ∷ []) (items ++ item ∷ []) (at_reaction (d.does.puts item) side
         (d.does.takes side item)).side → GoesOnAt d new (bytes ++ b ∷ []) items side step
     arrives item (Refuses reason) is goes wrote tells leads = (let no = rw is at goes in cc)
     arrives item (GoesOn next made) is goes wrote tells leads = inr (
@@ -58,9 +59,9 @@ module _ {R K Place U Deed Event Reply : Type 0} (d : Driving R K Place U Deed E
       rw is at leads,
     )
 
-  module _ (l : LeadsTo d old bytes items side) (few : length bytes + 1 < 2 ^ 64) where
+  module _ (l : IsReached d old bytes items side) (few : length bytes + 1 < 2 ^ 64) where
     works : TakesNoMore old → ⊥
-    works = none_leads old.ended old.live.taken (length bytes) l.works l.leads.count few
+    works = none_reached old.ended old.live.taken (length bytes) l.works l.leads.count few
 
     pub pushed : (step : EndStep Event Reply) → DriverPushes d old b new (Ok step)
         → GoesOnAt d new (bytes ++ b ∷ []) items side step

@@ -22,16 +22,16 @@ use Rattle.ws_record.specs.Refusal.{IsRefused}
 use Rattle.ws_record.specs.declared.record.Item.{Item}
 use Rattle.ws_record.specs.declared.record.Item.TheVariants.{Record as RecordItem, Telnet as TelnetItem}
 use Rattle.ws_record.proofs.Encodings.{holds_data, holds_more, holds_command, holds_record}
-use Rattle.ws_session.specs.Acts.{as_list}
-use Rattle.ws_session.specs.Reaction.{Reaction, Refuses, GoesOn}
-use Rattle.ws_session.specs.declared.end_step.Applied.{Applied}
-use Rattle.ws_session.specs.declared.end_step.EndStep.{EndStep}
-use Rattle.ws_session.specs.declared.refusal.Refusal.{Refusal}
-use Rattle.ws_session.specs.declared.refusal.Refusal.TheVariants.{At, Failed, Memory}
-use Rattle.ws_session.specs.driver.Driven.{Completes, GoesOnAt, IsWhy}
-use Rattle.ws_session.specs.station.Displays.{DisplayOf, SideOn, on_display}
-use Rattle.ws_session.specs.station.StationManners.{takes_on}
-use Rattle.ws_session.specs.station.Stations.{LeadsOn, PartsOn, station_driving}
+use Rattle.ws_end.specs.Acts.{as_list}
+use Rattle.ws_end.specs.Reaction.{Reaction, Refuses, GoesOn}
+use Rattle.ws_end.specs.declared.end_step.Applied.{Applied}
+use Rattle.ws_end.specs.declared.end_step.EndStep.{EndStep}
+use Rattle.ws_end.specs.declared.refusal.Refusal.{Refusal}
+use Rattle.ws_end.specs.declared.refusal.Refusal.TheVariants.{At, Failed, Memory}
+use Rattle.ws_end.specs.driver.Driven.{Completes, GoesOnAt, IsWhy}
+use Rattle.ws_end.specs.station.Displays.{DisplayOf, EndStateOn, on_display}
+use Rattle.ws_end.specs.station.StationTransitions.{takes_on}
+use Rattle.ws_end.specs.station.Stations.{ReachedOn, PartsOn, station_driving}
 use Rattle.ws_lasting.specs.Counting.{IsCounted}
 use Rattle.ws_lasting.specs.Footings.{LastingParts, IsFollowed, IsReading, StandsAt, IsWordHeard}
 use Rattle.ws_lasting.specs.Lasting.{may_pass_over, Footing, IsTokenStep, IsTokenRefused}
@@ -79,9 +79,9 @@ module _ {D P U H PlaceV V K R : Type 0} (rules : Rules P U) (d : DisplayOf D U 
     module _ (mid : LastingParts D P) (passing : mid.passing ≡ None) (works : mid.ended ≡ None)
         (few : taken + 1 ≤ mid.taken) (size : mid.size ≡ length at.so_far) (here : ℕ) (gave : EndStep Applied R) where
       -- the station is led so far
-      reads_on : (next : SideOn H) (items : List (Item U)) (left : List ℕ) (n : ℕ) (o : Option RefusedRecord)
+      reads_on : (next : EndStateOn H) (items : List (Item U)) (left : List ℕ) (n : ℕ) (o : Option RefusedRecord)
           (counts : RecordCounts)
-          (l : LeadsOn (on_display rules d) mid.station (r.bytes ++ b ∷ []) items next) → l.so_far.bytes ≡ left
+          (l : ReachedOn (on_display rules d) mid.station (r.bytes ++ b ∷ []) items next) → l.so_far.bytes ≡ left
           → mid.station.live.begun ≡ mid.begun → o ≡ None → n ≡ length left
           → StandsAt (on_display rules d) (record mid { size = n; passing = o; counts = counts })
           (record { side = next; so_far = left; begun = mid.begun })
@@ -193,7 +193,7 @@ module _ {D P U H PlaceV V K R : Type 0} (rules : Rules P U) (d : DisplayOf D U 
 
         -- what is told of it, and how the station stands then
         module _ (new : LastingParts D P) (works : new.ended ≡ None)
-            (anew : LeadsOn (on_display rules d) new.station [] [] at.side)
+            (anew : ReachedOn (on_display rules d) new.station [] [] at.side)
             (may : may_pass_over (on_display rules d) at.side reason ≡ true) (here size : ℕ)
             (long : size ≡ length at.so_far) (step : EndStep RecordEvent R) where
           abbrev Why : RefusedRecord

@@ -3,10 +3,10 @@ use Rattle.ws_code.specs.declared.code.Push.{Push}
 use Rattle.ws_code.specs.declared.code.Push.TheVariants.{More, Unit as Whole, Bad}
 use Rattle.ws_telnet.specs.declared.token.Token.{Token}
 use Rattle.ws_telnet.specs.declared.token.Token.TheVariants.{Data, Eor, Telnet as TelnetToken}
-use Rattle.ws_session.specs.declared.end_step.EndStep.{EndStep}
-use Rattle.ws_session.specs.declared.refusal.Refusal.{Refusal}
-use Rattle.ws_session.specs.declared.refusal.Refusal.TheVariants.{At, Failed, Memory}
-use Rattle.ws_session.specs.station.Displays.{OnDisplay}
+use Rattle.ws_end.specs.declared.end_step.EndStep.{EndStep}
+use Rattle.ws_end.specs.declared.refusal.Refusal.{Refusal}
+use Rattle.ws_end.specs.declared.refusal.Refusal.TheVariants.{At, Failed, Memory}
+use Rattle.ws_end.specs.station.Displays.{OnDisplay}
 use Rattle.ws_lasting.specs.Footings.{LastingOf, IsByteTaken, IsFollowed, IsWordHeard}
 use Rattle.ws_lasting.specs.Lasting.{FootingOn, IsTokenStep}
 use Rattle.ws_lasting.specs.declared.record_event.RecordEvent.{RecordEvent}

@@ -2,14 +2,14 @@
 
 use Rattle.std.specs.Prelude.{◌≡◌, ℕ, ◌+◌, ◌-◌, ◌^◌, ◌<◌, List, [], ◌∷◌, ◌++◌, Option, Some, None, Result, Ok, Err, IsSome, length, take}
 use Rattle.ws_keys.specs.declared.answer.Answer.{Answer}
-use Rattle.ws_session.specs.Acts.{Act, ComesToNothing, all_came, as_list, bytes_of}
-use Rattle.ws_session.specs.Conduct.{Conduct}
-use Rattle.ws_session.specs.Ends.{IsShut}
-use Rattle.ws_session.specs.declared.end_step.EndStep.{EndStep}
-use Rattle.ws_session.specs.declared.refusal.Refusal.{Refusal}
-use Rattle.ws_session.specs.declared.refusal.Refusal.TheVariants.{At, Failed, Memory}
-use Rattle.ws_session.specs.station.AnswerSpelling.{answer_spelling}
-use Rattle.ws_session.specs.station.Displays.{OnDisplay}
+use Rattle.ws_end.specs.Acts.{Act, ComesToNothing, all_came, as_list, bytes_of}
+use Rattle.ws_end.specs.Behaviour.{Behaviour}
+use Rattle.ws_end.specs.Ends.{IsShut}
+use Rattle.ws_end.specs.declared.end_step.EndStep.{EndStep}
+use Rattle.ws_end.specs.declared.refusal.Refusal.{Refusal}
+use Rattle.ws_end.specs.declared.refusal.Refusal.TheVariants.{At, Failed, Memory}
+use Rattle.ws_end.specs.station.AnswerSpelling.{answer_spelling}
+use Rattle.ws_end.specs.station.Displays.{OnDisplay}
 use Rattle.ws_lasting.specs.Counting.{IsCounted}
 use Rattle.ws_lasting.specs.Footings.{AtLasting, LastingOf, StandsAt}
 use Rattle.ws_lasting.specs.Lasting.{FootingOn, IsFatal, Lasts}
@@ -67,7 +67,7 @@ module _ (on : OnDisplay) where
     pub shut : IsShut old.ended old.taken → came ≡ []
 
   -- how it conducts itself
-  abbrev pub lasting_conduct : Conduct (LastingOf on) on.Pressed RecordEvent
+  abbrev pub lasting_conduct : Behaviour (LastingOf on) on.Pressed RecordEvent
   lasting_conduct = record {
     goes = LastingGoes;
     refuses = LastingRefuses;

@@ -10,15 +10,15 @@ use Rattle.ws_screen.specs.declared.read_kind.ReadKind.{ReadKind}
 use Rattle.ws_keys.specs.Contents.{answer_bytes}
 use Rattle.ws_keys.specs.declared.answer.Answer.{Answer}
 use Rattle.ws_keys.specs.declared.answer.Answer.TheVariants.{Read, Attention, SystemRequest}
-use Rattle.ws_session.specs.Acts.{as_list}
-use Rattle.ws_session.specs.declared.end_step.EndStep.{EndStep}
-use Rattle.ws_session.specs.declared.station.answer.TheConstants.{ATN, SRQ}
-use Rattle.ws_session.specs.declared.station.key_fault.KeyFault.{KeyFault}
-use Rattle.ws_session.specs.declared.refusal.Refusal.{Refusal}
-use Rattle.ws_session.specs.declared.refusal.Refusal.TheVariants.{At, Failed}
-use Rattle.ws_session.specs.station.Displays.{OnDisplay, RefusesKey, Silent, Answers, Signals}
-use Rattle.ws_session.specs.station.StationManners.{key_on}
-use Rattle.ws_session.specs.station.Stations.{ItemsOf, LeadsOn, PartsOn, SideOf, StationOf}
+use Rattle.ws_end.specs.Acts.{as_list}
+use Rattle.ws_end.specs.declared.end_step.EndStep.{EndStep}
+use Rattle.ws_end.specs.declared.station.answer.TheConstants.{ATN, SRQ}
+use Rattle.ws_end.specs.declared.station.key_fault.KeyFault.{KeyFault}
+use Rattle.ws_end.specs.declared.refusal.Refusal.{Refusal}
+use Rattle.ws_end.specs.declared.refusal.Refusal.TheVariants.{At, Failed}
+use Rattle.ws_end.specs.station.Displays.{OnDisplay, RefusesKey, Silent, Answers, Signals}
+use Rattle.ws_end.specs.station.StationTransitions.{key_on}
+use Rattle.ws_end.specs.station.Stations.{ItemsOf, ReachedOn, PartsOn, EndStateOf, StationOf}
 use Rattle.ws_lasting.specs.Counting.{IsCounted}
 use Rattle.ws_lasting.specs.Lasting.{FootingOn, IsAtByte, IsAtWord, IsFatal, IsFatalWord}
 use Rattle.ws_lasting.specs.Negative.{is_of_record}
@@ -48,14 +48,14 @@ module _ (on : OnDisplay) where
   pub record IsReading (station : StationOf on) (taken : ℕ) (at : FootingOn on) : Type 0 where
     pub bytes : List ℕ
     pub items : ItemsOf on
-    pub leads : LeadsOn on station bytes items at.side
+    pub leads : ReachedOn on station bytes items at.side
     pub is_open : leads.so_far.bytes ≡ at.so_far
     pub is_begun : station.live.begun ≡ at.begun
     pub few : length bytes ≤ taken
 
   -- it passes over a record that has these bytes, and stands itself as a new one
   pub record IsPassingOver (station : StationOf on) (at : FootingOn on) (why : RefusedRecord) : Type 0 where
-    pub leads : LeadsOn on station [] [] at.side
+    pub leads : ReachedOn on station [] [] at.side
     pub of_record : is_of_record why.reason ≡ true
     pub spoilt : IsSpoilt on.rules at.so_far why
 
@@ -119,9 +119,9 @@ module _ (on : OnDisplay) where
   -- what a key gives: its refusal, with the station as it was; or what it sends
   abbrev pub IsKeyHeard : LastingOf → LastingOf → FootingOn on → on.Pressed → Result (Option Answer) KeyFault → Type 0
   IsKeyHeard old new at key (Err fault) = (key_on on.does at.side key ≡ RefusesKey fault) × (new ≡ old)
-  IsKeyHeard old new at key (Ok None) = (next : SideOf on) × (key_on on.does at.side key ≡ Silent next)
+  IsKeyHeard old new at key (Ok None) = (next : EndStateOf on) × (key_on on.does at.side key ≡ Silent next)
       × StandsAt new (record at { side = next })
-  IsKeyHeard old new at key (Ok (Some (Read body))) = (next : SideOf on) × (kind : ReadKind) × (aid : ℕ)
+  IsKeyHeard old new at key (Ok (Some (Read body))) = (next : EndStateOf on) × (kind : ReadKind) × (aid : ℕ)
       × (key_on on.does at.side key ≡ Answers next kind aid)
       × (body ≡ answer_bytes kind (on.does.shows at.side.happened) aid) × StandsAt new (record at { side = next })
   IsKeyHeard old new at key (Ok (Some Attention)) =

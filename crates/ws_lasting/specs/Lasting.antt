@@ -17,12 +17,12 @@ use Rattle.ws_record.specs.declared.record.Item.TheVariants.{Record as RecordIte
 use Rattle.ws_record.specs.declared.record.Record.{Record}
 use Rattle.ws_record.specs.Encode.{plain_spelling}
 use Rattle.ws_record.specs.Grammar.{IsRecord, record_bytes}
-use Rattle.ws_session.specs.Acts.{Act, Came, Did, Doing}
-use Rattle.ws_session.specs.Reaction.{Refuses, GoesOn}
-use Rattle.ws_session.specs.declared.end_step.Applied.{Applied}
-use Rattle.ws_session.specs.station.Displays.{OnDisplay, SideOn}
-use Rattle.ws_session.specs.station.StationManners.{takes_on, key_on, at_key_on}
-use Rattle.ws_session.specs.station.Stations.{SideOf}
+use Rattle.ws_end.specs.Acts.{Act, Came, Did, Doing}
+use Rattle.ws_end.specs.Reaction.{Refuses, GoesOn}
+use Rattle.ws_end.specs.declared.end_step.Applied.{Applied}
+use Rattle.ws_end.specs.station.Displays.{OnDisplay, EndStateOn}
+use Rattle.ws_end.specs.station.StationTransitions.{takes_on, key_on, at_key_on}
+use Rattle.ws_end.specs.station.Stations.{EndStateOf}
 use Rattle.ws_lasting.specs.Negative.{is_of_record, negative}
 use Rattle.ws_lasting.specs.Records.{IsUnfit, IsSpoilt}
 use Rattle.ws_lasting.specs.declared.record_event.RecordEvent.{RecordEvent}
@@ -31,7 +31,7 @@ use Rattle.ws_lasting.specs.declared.record_event.RefusedRecord.{RefusedRecord}
 
 -- Where a station stands: on this side, after these bytes of an open record and these of an unfinished token.
 pub record Footing (H : Type 0) : Type 0 where
-  pub side : SideOn H
+  pub side : EndStateOn H
   pub so_far : List ℕ
   pub begun : List ℕ
 
@@ -47,35 +47,35 @@ module _ (on : OnDisplay) where
   FootingOn = Footing on.Happened
 
   -- the station goes on after a record that is refused for this reason
-  abbrev pub may_pass_over : SideOf on → Reason → Bool
+  abbrev pub may_pass_over : EndStateOf on → Reason → Bool
   may_pass_over side reason = is_of_record reason && station_allows_records side.options
 
   -- the record that has these bytes is carried out: the side that the station comes to, and what it writes
-  abbrev pub IsPerformed : SideOf on → List ℕ → SideOf on → List ℕ → Type 0
+  abbrev pub IsPerformed : EndStateOf on → List ℕ → EndStateOf on → List ℕ → Type 0
   IsPerformed side bytes next written = (r : Record on.Reads) × IsRecord on.rules r × (bytes ≡ record_bytes on.rules r)
       × (writes : List (Item on.Writes)) × (takes_on on.does side (RecordItem r) ≡ GoesOn next writes)
       × (written ≡ plain_spelling on.does.out writes)
 
   -- the record that has these bytes is refused, by the screen before it
-  abbrev pub IsDeclined : SideOf on → List ℕ → Reason → Type 0
+  abbrev pub IsDeclined : EndStateOf on → List ℕ → Reason → Type 0
   IsDeclined side bytes reason = (r : Record on.Reads) × IsRecord on.rules r × (bytes ≡ record_bytes on.rules r)
       × (takes_on on.does side (RecordItem r) ≡ Refuses reason)
 
   -- a token is refused after these bytes of a record, of which none is
-  abbrev pub IsTokenRefused : SideOf on → List ℕ → Token → Reason → Type 0
+  abbrev pub IsTokenRefused : EndStateOf on → List ℕ → Token → Reason → Type 0
   IsTokenRefused side so_far (Data b) reason = IsUnfit on.rules so_far (Data b) reason
   IsTokenRefused side so_far Eor reason = IsUnfit on.rules so_far Eor reason ⊎ IsDeclined side so_far reason
       ⊎ ((station_allows_records side.options ≡ false) × (reason ≡ RecordBeforeNegotiation))
   IsTokenRefused side so_far (TelnetToken t) reason = ⊥
 
   -- a record that has these bytes is refused: at one of them, or at its end
-  abbrev pub IsRefusedFor : SideOf on → List ℕ → RefusedRecord → Type 0
+  abbrev pub IsRefusedFor : EndStateOf on → List ℕ → RefusedRecord → Type 0
   IsRefusedFor side bytes why =
       IsSpoilt on.rules bytes why ⊎ (IsTokenRefused side bytes Eor why.reason × (why.place ≡ length bytes))
 
   -- What a token makes of a station that stands on this side, after these bytes of a record: the side that it comes
   -- to, the bytes of the record then, what it writes, and what it tells.
-  abbrev pub IsAtToken : SideOf on → List ℕ → Token → SideOf on → List ℕ → List ℕ → List RecordEvent → Type 0
+  abbrev pub IsAtToken : EndStateOf on → List ℕ → Token → EndStateOf on → List ℕ → List ℕ → List RecordEvent → Type 0
   IsAtToken side so_far (Data b) next left written told =
       (next ≡ side) × (left ≡ so_far ++ b ∷ []) × (written ≡ []) × (told ≡ [])
   IsAtToken side so_far (TelnetToken t) next left written told =
@@ -104,7 +104,7 @@ module _ (on : OnDisplay) where
       × IsAtByte at byte mid first now × Lasts mid acts next rest later
       × (written ≡ first ++ rest) × (told ≡ now ++ later)
   Lasts at (Did key ∷ acts) next written told =
-      let done : Doing (SideOf on) on.Writes Applied = at_key_on on.does at.side (key_on on.does at.side key) in
+      let done : Doing (EndStateOf on) on.Writes Applied = at_key_on on.does at.side (key_on on.does at.side key) in
       (rest : List ℕ) × Lasts (record { side = done.side; so_far = at.so_far; begun = at.begun }) acts next rest told
       × (written ≡ plain_spelling on.does.out done.written ++ rest)
 

@@ -1,11 +1,11 @@
 -- Laws of what a station that no record ends does at acts, one after another.
 
 use Rattle.std.proofs.Common.{◌≡◌, ℕ, List, [], ◌∷◌, ◌++◌, refl, sym, ap, ◌∙◌, subst, append_assoc, arith, length, length-append, ◌<◌, ◌+◌, ◌^◌, Option}
-use Rattle.ws_session.specs.ActLaws.{bytes_append}
-use Rattle.ws_session.specs.Acts.{Act, Came, Did, bytes_of}
-use Rattle.ws_session.specs.Ends.{IsShut}
-use Rattle.ws_session.specs.station.Displays.{OnDisplay}
-use Rattle.ws_lasting.specs.Conduct.{LastingGoes, LeadsOnFrom}
+use Rattle.ws_end.specs.ActLaws.{bytes_append}
+use Rattle.ws_end.specs.Acts.{Act, Came, Did, bytes_of}
+use Rattle.ws_end.specs.Ends.{IsShut}
+use Rattle.ws_end.specs.station.Displays.{OnDisplay}
+use Rattle.ws_lasting.specs.Behaviour.{LastingGoes, LeadsOnFrom}
 use Rattle.ws_lasting.specs.Counting.{IsCounted, carried_out_in, refused_in, last_refused}
 use Rattle.ws_lasting.specs.Footings.{LastingOf, StandsAt}
 use Rattle.ws_lasting.specs.Lasting.{FootingOn, Lasts}

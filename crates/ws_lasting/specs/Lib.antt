@@ -1,5 +1,5 @@
 pub mod AsStation
-pub mod Conduct
+pub mod Behaviour
 pub mod Counting
 pub mod Lasting
 pub mod LastingLaws

@@ -1,7 +1,7 @@
 //! A station that no record ends, as an end of a session.
-ghost use Rattle.ws_lasting.specs.Conduct.{lasting_conduct};
+ghost use Rattle.ws_lasting.specs.Behaviour.{lasting_conduct};
 ghost use Rattle.ws_lasting.specs.LastingLaws.{lasting_follows, lasting_stays};
-ghost use Rattle.ws_session.specs.station.Displays.{on_display as on};
+ghost use Rattle.ws_end.specs.station.Displays.{on_display as on};
 
 use crate::{LastingStation, RecordEvent};
 use ws_code::Code;

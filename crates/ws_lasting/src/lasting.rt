@@ -1,13 +1,13 @@
 //! A station that no record ends.
 ghost use Rattle.std.specs.Prelude.{◌≡◌, ◌&&◌, ◌≢◌, ◌≤◌, ◌<◌, ◌+◌, ◌-◌, ◌^◌, ◌∷◌, ℕ, [], None, Some, Err, IfOk, IsSome, OnErr, OnOk};
-ghost use Rattle.ws_lasting.specs.Conduct.{LastingGoes, sent_by};
+ghost use Rattle.ws_lasting.specs.Behaviour.{LastingGoes, sent_by};
 ghost use Rattle.ws_lasting.specs.Footings.{AtLasting, IsByteTaken, IsKeyHeard, IsPushedSo, StandsAt};
-ghost use Rattle.ws_session.specs.Acts.{Did};
-ghost use Rattle.ws_session.specs.Ends.{IsShut};
-ghost use Rattle.ws_session.specs.declared.refusal.Refusal.{Refusal as ARefusal};
-ghost use Rattle.ws_session.specs.declared.station.key_fault.KeyFault.{KeyFault as AKeyFault};
-ghost use Rattle.ws_session.specs.station.Displays.{on_display as on};
-ghost use Rattle.ws_session.specs.station.StationManners.{new_side_on};
+ghost use Rattle.ws_end.specs.Acts.{Did};
+ghost use Rattle.ws_end.specs.Ends.{IsShut};
+ghost use Rattle.ws_end.specs.declared.refusal.Refusal.{Refusal as ARefusal};
+ghost use Rattle.ws_end.specs.declared.station.key_fault.KeyFault.{KeyFault as AKeyFault};
+ghost use Rattle.ws_end.specs.station.Displays.{on_display as on};
+ghost use Rattle.ws_end.specs.station.StationTransitions.{new_state_on};
 
 mod feeding;
 mod hearing;
@@ -41,7 +41,7 @@ pub struct LastingStation<D: StationDisplay> {
 impl<D: StationDisplay> Model for LastingStation<D> {
     ghost use Rattle.std.specs.Prelude.{◌≤◌};
     ghost use Rattle.ws_code.specs.Code.{IsUnfinished};
-    ghost use Rattle.ws_lasting.specs.Conduct.{LastingGoes, sent_by};
+    ghost use Rattle.ws_lasting.specs.Behaviour.{LastingGoes, sent_by};
     ghost use Rattle.ws_lasting.specs.Footings.{LastingParts};
     ghost use Rattle.ws_telnet.specs.Machine.{unfinished_token};
     ghost use Rattle.ws_telnet.specs.Token.{token_rules};
@@ -66,7 +66,7 @@ impl<D: StationDisplay> LastingStation<D> {
     /// A station that has taken no byte and no key.
     pub fn new(terminal: TerminalType) -> Self
         ensures stands { StandsAt (on D.Commands.rules D.does) result
-            (record { side = new_side_on D.does terminal; so_far = []; begun = [] }) }
+            (record { side = new_state_on D.does terminal; so_far = []; begun = [] }) }
         ensures counts { result.counts ≡ record { carried_out = 0; refused = 0; last = None } }
         ensures taken { result.taken ≡ 0 }
     {

@@ -1,9 +1,9 @@
 //! Bytes that come to a station that no record ends, in pieces.
 ghost use Rattle.std.specs.Prelude.{◌≡◌, ◌≢◌, ◌≤◌, ◌<◌, ◌+◌, ◌^◌, [], ℕ, None, Err, IfErr, IfOk, IsSome, OnErr, OnOk, length, take, true};
-ghost use Rattle.ws_lasting.specs.Conduct.{AreQuiet, AreTakenSo};
+ghost use Rattle.ws_lasting.specs.Behaviour.{AreQuiet, AreTakenSo};
 ghost use Rattle.ws_lasting.specs.Footings.{AtLasting};
-ghost use Rattle.ws_session.specs.Ends.{IsShut};
-ghost use Rattle.ws_session.specs.station.Displays.{on_display as on};
+ghost use Rattle.ws_end.specs.Ends.{IsShut};
+ghost use Rattle.ws_end.specs.station.Displays.{on_display as on};
 
 use super::hearing::silence;
 use crate::{LastingStation, RecordEvent};

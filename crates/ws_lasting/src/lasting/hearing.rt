@@ -2,7 +2,7 @@
 ghost use Rattle.std.specs.Prelude.{◌≡◌, ◌≢◌, ◌<◌, ◌-◌, ◌^◌, [], ℕ, None, Some, IsSome, OnErr, length, true, false};
 ghost use Rattle.ws_lasting.specs.Footings.{IsFollowed, IsReading, IsWordHeard};
 ghost use Rattle.ws_lasting.specs.Lasting.{Footing, IsTokenStep};
-ghost use Rattle.ws_session.specs.station.Displays.{on_display as on};
+ghost use Rattle.ws_end.specs.station.Displays.{on_display as on};
 
 use crate::negative::negative;
 use crate::{LastingStation, RecordEvent};

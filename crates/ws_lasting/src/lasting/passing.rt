@@ -2,7 +2,7 @@
 ghost use Rattle.std.specs.Prelude.{◌≡◌, ◌<◌, ◌-◌, ℕ, Some, None, IsSome, OnErr};
 ghost use Rattle.ws_lasting.specs.Footings.{IsPassingOver, IsWordHeard};
 ghost use Rattle.ws_lasting.specs.Lasting.{Footing, IsTokenStep};
-ghost use Rattle.ws_session.specs.station.Displays.{on_display as on};
+ghost use Rattle.ws_end.specs.station.Displays.{on_display as on};
 
 use super::hearing::silence;
 use crate::negative::negative;

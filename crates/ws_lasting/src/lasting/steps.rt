@@ -6,12 +6,12 @@ ghost use Rattle.ws_lasting.specs.Negative.{is_of_record as spec_of_record};
 ghost use Rattle.ws_nego.specs.Options.{telnet_bytes};
 ghost use Rattle.ws_nego.specs.Station.{station_answer, station_allows_records};
 ghost use Rattle.ws_record.specs.declared.record.Item.{Item};
-ghost use Rattle.ws_session.specs.declared.refusal.Refusal.{Refusal as ARefusal};
-ghost use Rattle.ws_session.specs.driver.Driven.{DriverPushes};
-ghost use Rattle.ws_session.specs.station.Displays.{SideOn};
-ghost use Rattle.ws_session.specs.station.Displays.{on_display as on};
-ghost use Rattle.ws_session.specs.station.StationReacting.{StationStands, station_driving};
-ghost use Rattle.ws_session.specs.station.Stations.{AtStationOn, IsKeyedOn, LeadsOn};
+ghost use Rattle.ws_end.specs.declared.refusal.Refusal.{Refusal as ARefusal};
+ghost use Rattle.ws_end.specs.driver.Driven.{DriverPushes};
+ghost use Rattle.ws_end.specs.station.Displays.{EndStateOn};
+ghost use Rattle.ws_end.specs.station.Displays.{on_display as on};
+ghost use Rattle.ws_end.specs.station.StationReacting.{StationStands, station_driving};
+ghost use Rattle.ws_end.specs.station.Stations.{AtStationOn, IsKeyedOn, ReachedOn};
 
 use crate::negative::is_of_record;
 use crate::{LastingStation, RecordEvent, RefusedRecord};
@@ -64,9 +64,9 @@ impl<D: StationDisplay> LastingStation<D> {
 
     // Has the station begin anew.
     pub(super) fn revive(&mut self)
-        ensures led { (items : List (Item D.Commands.Unit)) (side : SideOn D.Happened)
+        ensures led { (items : List (Item D.Commands.Unit)) (side : EndStateOn D.Happened)
             → StationStands D.does self.old.station.reacts items side
-            → LeadsOn (on D.Commands.rules D.does) self.new.station [] [] side }
+            → ReachedOn (on D.Commands.rules D.does) self.new.station [] [] side }
         ensures same { self.new ≡ record self.old { station = self.new.station } }
     {
         self.station.revive();

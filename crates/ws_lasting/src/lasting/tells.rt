@@ -2,8 +2,8 @@
 ghost use Rattle.std.specs.Prelude.{IsTrue, ◌↔◌, ◌≡◌, ◌+◌, ◌^◌, ◌<◌, [], Err, IfErr, IsSome, OnOk};
 ghost use Rattle.ws_lasting.specs.Footings.{AtLasting};
 ghost use Rattle.ws_nego.specs.Station.{station_allows_records};
-ghost use Rattle.ws_session.specs.Ends.{IsShut, refused_byte};
-ghost use Rattle.ws_session.specs.station.Displays.{on_display as on};
+ghost use Rattle.ws_end.specs.Ends.{IsShut, refused_byte};
+ghost use Rattle.ws_end.specs.station.Displays.{on_display as on};
 
 use crate::{LastingStation, RefusedRecord};
 use ws_code::{Code, Fault, Reason};

@@ -3,10 +3,10 @@ use Rattle.std.specs.Prelude.{◌&&◌}
 use Rattle.ws_code.specs.declared.code.Push.TheVariants.{Unit as Whole}
 use Rattle.ws_telnet.specs.declared.token.Token.TheVariants.{Eor}
 use Rattle.ws_nego.specs.Station.{station_allows_records}
-use Rattle.ws_session.specs.declared.refusal.Refusal.{Refusal}
-use Rattle.ws_session.specs.declared.refusal.Refusal.TheVariants.{At, Failed, Memory}
-use Rattle.ws_session.specs.station.Displays.{on_display}
-use Rattle.ws_session.specs.station.Stations.{LeadsOn, station_driving}
+use Rattle.ws_end.specs.declared.refusal.Refusal.{Refusal}
+use Rattle.ws_end.specs.declared.refusal.Refusal.TheVariants.{At, Failed, Memory}
+use Rattle.ws_end.specs.station.Displays.{on_display}
+use Rattle.ws_end.specs.station.Stations.{ReachedOn, station_driving}
 use Rattle.ws_lasting.specs.Footings.{LastingParts, IsWordHeard}
 use Rattle.ws_lasting.specs.Lasting.{IsTokenStep}
 use Rattle.ws_lasting.specs.Counting.{IsCounted}
@@ -113,7 +113,7 @@ returns-then-is_end g c =
           code.prefix_free code.begins g.met.D.Commands.Body.can_end code.bytes c.args.self.now.station
           (c.args.self.now.taken - 1) at r c.args.byte c.in-Err-At.reason _ why.0
           c.close.new.self (ap (λ (z : LastingParts _ _). z.ended) closed ∙ ap (λ (z : LastingParts _ _). z.ended) same ∙ works)
-          (subst (λ x. LeadsOn on x [] [] at.side) (sym (ap (λ (z : LastingParts _ _). z.station) closed))
+          (subst (λ x. ReachedOn on x [] [] at.side) (sym (ap (λ (z : LastingParts _ _). z.station) closed))
           (c.revive.ensures.led _ _ why.1)) (subst (λ o. (is_of_record c.in-Err-At.reason && station_allows_records o) ≡ true) why.1.options
           (sym c.may_pass_over.ensures ∙ search (rules, c.if-not-may_pass_over.false)))
           (c.args.self.now.taken - 1) c.hear.new.self.size
@@ -151,8 +151,8 @@ returns g c =
           code.prefix_free code.begins g.met.D.Commands.Body.can_end code.bytes c.args.self.now.station
           (c.args.self.now.taken - 1) at r c.args.byte c.in-Err-At.reason _ why.0
           c.pass_over.new.self (ap (λ (z : LastingParts _ _). z.ended) same ∙ works)
-          (subst (λ x. LeadsOn on x [] [] at.side) (sym (ap (λ (z : LastingParts _ _). z.station) same)) (c.revive.ensures.led _ _ why.1))
-          (subst (λ o. (is_of_record c.in-Err-At.reason && station_allows_records o) ≡ true) why.1.options
+          (subst (λ x. ReachedOn on x [] [] at.side) (sym (ap (λ (z : LastingParts _ _). z.station) same))
+          (c.revive.ensures.led _ _ why.1)) (subst (λ o. (is_of_record c.in-Err-At.reason && station_allows_records o) ≡ true) why.1.options
           (sym c.may_pass_over.ensures ∙ search (rules, c.if-not-may_pass_over.false)))
           (c.args.self.now.taken - 1) c.hear.new.self.size
           (ap (λ (z : LastingParts _ _). z.size) c.hear.ensures.same ∙ size) c.silence.result c.args.word

@@ -1,8 +1,8 @@
 use Rattle.std.proofs.Common.{rules, arith, ◌≡◌, ◌<◌, ◌≤◌, ◌+◌, ◌^◌, ℕ, List, [], ◌∷◌, ◌++◌, Option, None, Ok, Err, sym, subst₂, take, length}
 use Rattle.std.proofs.lemmas.List.{take_more}
-use Rattle.ws_session.specs.Acts.{all_came, as_list}
-use Rattle.ws_session.specs.station.Displays.{on_display}
-use Rattle.ws_lasting.specs.Conduct.{LeadsOnFrom}
+use Rattle.ws_end.specs.Acts.{all_came, as_list}
+use Rattle.ws_end.specs.station.Displays.{on_display}
+use Rattle.ws_lasting.specs.Behaviour.{LeadsOnFrom}
 use Rattle.ws_lasting.specs.declared.record_event.RecordEvent.{RecordEvent}
 use Rattle.ws_lasting.specs.LastingLaws.{leads_none}
 use Rattle.ws_lasting.proofs.Feeding.{ends_so, one_more, one_quiet, quiet_at, room}

@@ -1,7 +1,7 @@
 use Rattle.std.proofs.Common.{◌≡◌, ◌-◌, ◌≤◌, List, [], ℕ, take}
-use Rattle.ws_session.specs.Acts.{all_came}
-use Rattle.ws_session.specs.station.Displays.{on_display}
-use Rattle.ws_lasting.specs.Conduct.{LeadsOnFrom}
+use Rattle.ws_end.specs.Acts.{all_came}
+use Rattle.ws_end.specs.station.Displays.{on_display}
+use Rattle.ws_lasting.specs.Behaviour.{LeadsOnFrom}
 use Rattle.ws_lasting.specs.Footings.{StandsAt}
 use Rattle.ws_lasting.specs.Lasting.{Footing}
 use Rattle.ws_lasting.proofs.lasting.LastingStation.take.Given as goal

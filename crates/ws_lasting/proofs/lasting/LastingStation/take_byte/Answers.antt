@@ -1,5 +1,5 @@
 use Rattle.std.proofs.Common.{rules, ◌≡◌, ◌+◌, ◌-◌, ◌^◌, ◌<◌, ℕ, List, [], None, Some, Option, Ok, Err, Result, sym, ap, ◌∙◌, subst, subst₂, arith}
-use Rattle.ws_session.specs.station.Displays.{on_display}
+use Rattle.ws_end.specs.station.Displays.{on_display}
 use Rattle.ws_lasting.specs.Footings.{LastingParts, ReadsOrPasses, IsReading, IsPassingOver, IsWordHeard}
 use Rattle.ws_lasting.specs.Lasting.{IsTokenStep}
 use Rattle.ws_lasting.specs.declared.record_counts.RecordCounts.{RecordCounts}
