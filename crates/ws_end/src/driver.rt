@@ -4,6 +4,7 @@ ghost use Rattle.ws_end.specs.Ends.{refused_byte};
 ghost use Rattle.ws_end.specs.driver.Driven.{AtDriver, DriverFeeds, TakesPrefix, DriverPushes, DriverTakes, IsNewsTaken, IsSettled, IsSilent, IsReached, TakesNoMore, driving};
 ghost use Rattle.ws_end.specs.driver.Reacting.{Settles};
 
+mod anew;
 pub(crate) mod halt;
 pub(crate) mod reacts;
 

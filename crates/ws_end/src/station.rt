@@ -12,6 +12,7 @@ pub(crate) mod apply;
 pub(crate) mod body;
 pub(crate) mod body_bytes;
 pub(crate) mod key_fault;
+mod outlasting;
 pub(crate) mod profile_display;
 mod reactions;
 pub(crate) mod station_display;

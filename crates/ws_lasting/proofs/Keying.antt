@@ -1,0 +1,129 @@
+use Rattle.std.proofs.Common.{◌≡◌, ℕ, List, [], ◌∷◌, ◌++◌, append-nil, subst, refl, sym, ap, ◌∙◌, length, arith, ◌≤◌, ◌+◌, ◌<◌, ◌^◌}
+use Rattle.std.proofs.Common.{Option, Some, None, Ok, Err, Result}
+use Rattle.ws_code.specs.Code.{Rules, IsPrefixFree}
+use Rattle.ws_code.proofs.CodeLaws.{Begins}
+use Rattle.std.specs.Prelude.{IfOk}
+use Rattle.ws_record.specs.Encode.{record_spelling}
+use Rattle.ws_record.specs.Grammar.{header}
+use Rattle.ws_record.specs.declared.opcode.Opcode.TheVariants.{PutGet}
+use Rattle.ws_record.specs.declared.record.Item.{Item}
+use Rattle.ws_keys.specs.declared.answer.Answer.{Answer}
+use Rattle.ws_keys.specs.declared.answer.Answer.TheVariants.{Read, Attention, SystemRequest}
+use Rattle.ws_end.specs.Acts.{Did}
+use Rattle.ws_end.specs.Ends.{IsShut}
+use Rattle.ws_end.specs.declared.station.key_fault.KeyFault.{KeyFault}
+use Rattle.ws_end.proofs.EndRequests.{SpellsOn}
+use Rattle.ws_end.specs.station.Displays.{DisplayOf, EndStateOn, on_display}
+use Rattle.ws_end.specs.station.Stations.{ReachedOn, IsKeyedOn, AtStationOn}
+use Rattle.ws_lasting.specs.Behaviour.{LastingGoes, LeadsOnFrom, sent_by}
+use Rattle.ws_lasting.specs.Counting.{IsCounted}
+use Rattle.ws_lasting.specs.Footings.{AtLasting, LastingParts, ReadsOrPasses, StandsAt, IsKeyHeard}
+use Rattle.ws_lasting.specs.LastingLaws.{counted_none}
+use Rattle.ws_lasting.specs.Lasting.{Footing}
+use Rattle.ws_lasting.specs.declared.record_event.RefusedRecord.{RefusedRecord}
+use Rattle.ws_lasting.proofs.Holdings.{one_holds}
+use Rattle.ws_lasting.proofs.Passing.{stands_passing, stands_reading}
+
+-- What comes of a key.
+
+module _ {D P U H PlaceV V K R : Type 0} (rules : Rules P U) (d : DisplayOf D U H PlaceV V K R)
+    (free : IsPrefixFree rules) (begins : Begins rules) (old new : LastingParts D P) (at : Footing H) (key : K)
+    (same : new ≡ record old { station = new.station }) where
+  pressed_so : (bytes : List ℕ) (items : List (Item U)) (result : Result (Option Answer) KeyFault)
+      → ((next : EndStateOn H) → ReachedOn (on_display rules d) new.station bytes items next
+      → StandsAt (on_display rules d) new (record at { side = next }))
+      → IsKeyedOn (on_display rules d) old.station new.station bytes items at.side key result
+      → IsKeyHeard (on_display rules d) old new at key result
+  pressed_so bytes items (Err fault) stands k = (k.0, same ∙ ap (λ z. (record old { station = z })) k.1)
+  pressed_so bytes items (Ok None) stands k = (k.0, k.1, stands _ k.2)
+  pressed_so bytes items (Ok (Some (Read body))) stands k = (k.0, k.1, k.2, k.3, k.4, stands _ k.5)
+  pressed_so bytes items (Ok (Some Attention)) stands k = (k.0, stands _ k.1)
+  pressed_so bytes items (Ok (Some SystemRequest)) stands k = (k.0, stands _ k.1)
+
+  pub key_pressed : (result : Result (Option Answer) KeyFault) → StandsAt (on_display rules d) old at
+      → old.taken + 1 < 2 ^ 64
+      → AtStationOn (on_display rules d) old.station (λ bytes items side. length bytes + 1 < 2 ^ 64
+      → IsKeyedOn (on_display rules d) old.station new.station bytes items side key result)
+      → IsKeyHeard (on_display rules d) old new at key result
+  key_pressed result st few keyed = go old.passing refl st.within where
+    begun : new.begun ≡ at.begun
+    begun = ap (λ (z : LastingParts _ _). z.begun) same ∙ st.is_begun
+
+    works : new.ended ≡ None
+    works = ap (λ (z : LastingParts _ _). z.ended) same ∙ st.works
+
+    go : (o : Option RefusedRecord) → old.passing ≡ o → ReadsOrPasses (on_display rules d) old at o
+        → IsKeyHeard (on_display rules d) old new at key result
+    go None is (r, size) = pressed_so r.bytes r.items result (λ next l. (
+        let one = one_holds rules free begins l.leads.holds r.leads.leads.holds in
+        stands_reading rules d new (record at { side = next }) works begun
+        (ap (λ (z : LastingParts _ _). z.passing) same ∙ is) (record {
+          bytes = r.bytes;
+          items = r.items;
+          leads = l;
+          is_open = one.1 ∙ r.is_open;
+          is_begun = one.2 ∙ r.is_begun;
+          few = (let t = ap (λ (z : LastingParts _ _). z.taken) same in let n = r.few in omega (arith, n, t));
+        }) (ap (λ (z : LastingParts _ _). z.size) same ∙ size)))
+        (keyed r.bytes r.items at.side r.leads (let n = r.few in omega (arith, n, few)))
+    go (Some why) is p = pressed_so [] [] result (λ next l. (
+        stands_passing rules d new (record at { side = next }) works begun why
+        (ap (λ (z : LastingParts _ _). z.passing) same ∙ is)
+        (record { leads = l; of_record = p.of_record; spoilt = p.spoilt })))
+        (keyed [] [] at.side p.leads (omega arith))
+
+-- A key is an act.
+
+module _ {D P U H PlaceV V K R : Type 0} (rules : Rules P U) (d : DisplayOf D U H PlaceV V K R)
+    (spells : SpellsOn d) (old new : LastingParts D P) (key : K) (same : new ≡ record old { station = new.station }) where
+  kept : IsCounted old.counts [] new.counts
+  kept = subst (λ (z : LastingParts D P). IsCounted old.counts [] z.counts) (sym same) (counted_none old.counts)
+
+  unread : new.taken ≡ old.taken + 0
+  unread = let t = ap (λ (z : LastingParts _ _). z.taken) same in omega (arith, t)
+
+  key_leads : (at : Footing H) (answer : Option Answer) → IsKeyHeard (on_display rules d) old new at key (Ok answer)
+      → LeadsOnFrom (on_display rules d) old new at (Did key ∷ []) (sent_by answer) []
+  key_leads at None k = (
+    record at { side = k.0 },
+    rw k.1 ([], (refl, refl, refl), refl),
+    k.2,
+    kept,
+    unread,
+  )
+  key_leads at (Some (Read body)) k = (
+    record at { side = k.0 },
+    rw k.3 (
+      [],
+      (refl, refl, refl),
+      ap (λ z. record_spelling (header (10 + length z) 0 PutGet ++ z)) k.4
+          ∙ sym (append-nil _) ∙ sym (spells (d.shows at.side.happened) k.1 k.2) ∙ sym (append-nil _),
+    ),
+    k.5,
+    kept,
+    unread,
+  )
+  key_leads at (Some Attention) k = (
+    at,
+    rw k.0 ([], (refl, refl, refl), refl),
+    k.1,
+    kept,
+    unread,
+  )
+  key_leads at (Some SystemRequest) k = (
+    at,
+    rw k.0 ([], (refl, refl, refl), refl),
+    k.1,
+    kept,
+    unread,
+  )
+
+  pub key_acts : (result : Result (Option Answer) KeyFault) → (IsShut old.ended old.taken → ⊥)
+      → AtLasting (on_display rules d) old (λ at. old.taken + 1 < 2 ^ 64
+      → IsKeyHeard (on_display rules d) old new at key result)
+      → IfOk result (λ answer. LastingGoes (on_display rules d) old (Did key ∷ []) (sent_by answer) [] new)
+  key_acts (Ok answer) works keyed = record {
+    led = λ at st few. key_leads at answer (keyed at st (omega (arith, few)));
+    shut = λ shut. absurd (works shut);
+  }
+  key_acts (Err fault) works keyed = tt

@@ -1,0 +1,11 @@
+pub mod AsStation
+pub mod Conducting
+pub mod Feeding
+pub mod Holdings
+pub mod Judging
+pub mod Keying
+pub mod Passing
+pub mod Pushing
+pub mod ReadingOn
+pub mod Taking
+pub mod TokenSteps

@@ -1,0 +1,190 @@
+use Rattle.std.proofs.Common.{◌≡◌, ℕ, List, [], ◌∷◌, ◌++◌, refl, sym, ap, ◌∙◌, inl, inr, subst, append_assoc, length, arith, ◌≤◌, ◌+◌, ◌^◌, ◌<◌}
+use Rattle.std.proofs.Common.{Option, Some, None, Ok, Err, true, false, Bool}
+use Rattle.std.specs.Prelude.{◌&&◌}
+use Rattle.ws_code.specs.Code.{Rules, IsPrefixFree}
+use Rattle.ws_code.specs.declared.code.Push.{Push}
+use Rattle.ws_code.specs.declared.code.Push.TheVariants.{More, Unit as Whole, Bad}
+use Rattle.ws_code.specs.declared.reason.Reason.{Reason}
+use Rattle.ws_code.specs.declared.reason.Reason.TheVariants.{RecordBeforeNegotiation}
+use Rattle.ws_code.proofs.CodeLaws.{Begins}
+use Rattle.ws_telnet.specs.declared.token.Telnet.{Telnet}
+use Rattle.ws_telnet.specs.declared.token.Token.TheVariants.{Data, Eor, Telnet as TelnetToken}
+use Rattle.ws_nego.specs.Options.{telnet_bytes}
+use Rattle.ws_nego.specs.Station.{station_answer, station_allows_records}
+use Rattle.ws_record.proofs.Encodings.{holds_nothing}
+use Rattle.ws_end.specs.declared.end_step.EndStep.{EndStep}
+use Rattle.ws_end.specs.declared.refusal.Refusal.TheVariants.{At}
+use Rattle.ws_end.specs.station.Displays.{DisplayOf, EndStateOn, on_display}
+use Rattle.ws_end.specs.station.Stations.{ReachedOn, PartsOn}
+use Rattle.ws_lasting.specs.Counting.{IsCounted}
+use Rattle.ws_lasting.specs.Footings.{LastingParts, IsReading, IsPassingOver, ReadsOrPasses, StandsAt, IsWordHeard}
+use Rattle.ws_lasting.specs.Lasting.{Footing, IsTokenStep}
+use Rattle.ws_lasting.specs.Negative.{is_of_record, negative}
+use Rattle.ws_lasting.specs.Records.{IsSpoilt}
+use Rattle.ws_lasting.specs.declared.record_counts.RecordCounts.{RecordCounts}
+use Rattle.ws_lasting.specs.declared.record_event.RecordEvent.{RecordEvent}
+use Rattle.ws_lasting.specs.declared.record_event.RecordEvent.TheVariants.{Refused}
+use Rattle.ws_lasting.specs.declared.record_event.RefusedRecord.{RefusedRecord}
+use Rattle.ws_lasting.specs.LastingLaws.{counted_none}
+use Rattle.ws_lasting.proofs.Holdings.{one_holds}
+
+-- What comes of a byte where a record is passed over.
+
+both_true : (a b : Bool) → a ≡ true → b ≡ true → (a && b) ≡ true
+both_true true b e f = f
+both_true false b e f = cc
+
+module _ {D P U H PlaceV V K R : Type 0} (rules : Rules P U) (d : DisplayOf D U H PlaceV V K R) where
+  -- a station to which no byte has come reads
+  pub reads_anew : IsPrefixFree rules → Begins rules → (station : PartsOn D P) (taken : ℕ) (at : Footing H)
+      → at.so_far ≡ [] → at.begun ≡ [] → ReachedOn (on_display rules d) station [] [] at.side
+      → IsReading (on_display rules d) station taken at
+  reads_anew free begins station taken at none between l =
+      let same = one_holds rules free begins l.leads.holds (holds_nothing rules) in
+      record {
+        bytes = [];
+        items = [];
+        leads = l;
+        is_open = same.1 ∙ sym none;
+        is_begun = same.2 ∙ sym between;
+        few = omega arith;
+      }
+
+  pub spoilt_more : (so_far : List ℕ) (b : ℕ) (why : RefusedRecord) → IsSpoilt rules so_far why
+      → IsSpoilt rules (so_far ++ b ∷ []) why
+  spoilt_more so_far b why s = record {
+    front = s.front;
+    byte = s.byte;
+    rest = s.rest ++ b ∷ [];
+    split = ap (λ x. x ++ b ∷ []) s.split ∙ append_assoc s.front (s.byte ∷ s.rest) (b ∷ []);
+    at_place = s.at_place;
+    framed = s.framed;
+    begins = s.begins;
+    unfit = s.unfit;
+  }
+
+  module _ (new : LastingParts D P) (at : Footing H) (works : new.ended ≡ None) (is_begun : new.begun ≡ at.begun) where
+    -- it passes over a record
+    pub stands_passing : (why : RefusedRecord) → new.passing ≡ Some why
+        → IsPassingOver (on_display rules d) new.station at why → StandsAt (on_display rules d) new at
+    stands_passing why passing p = record {
+      works = works;
+      is_begun = is_begun;
+      within = subst (λ (o : Option RefusedRecord). ReadsOrPasses (on_display rules d) new at o) (sym passing) p;
+    }
+
+    pub stands_reading : new.passing ≡ None → IsReading (on_display rules d) new.station new.taken at
+        → new.size ≡ length at.so_far → StandsAt (on_display rules d) new at
+    stands_reading passing p size = record {
+      works = works;
+      is_begun = is_begun;
+      within = subst (λ (o : Option RefusedRecord). ReadsOrPasses (on_display rules d) new at o) (sym passing)
+          (p, size);
+    }
+
+  -- what was answered leaves it so
+  pub answered : (station : PartsOn D P) (side : EndStateOn H) (t : Telnet) → ReachedOn
+      (on_display rules d) station [] [] side → ReachedOn (on_display rules d) (record station {
+        reacts = record station.reacts { options = (station_answer station.reacts.options t).after };
+      }) [] [] (record { options = (station_answer side.options t).after; happened = side.happened })
+  answered station side t l = record {
+    so_far = l.so_far;
+    leads = l.leads;
+    kept = l.kept;
+    stands = record {
+      options = ap (λ z. (station_answer z t).after) l.stands.options;
+      given = l.stands.given;
+      counted = l.stands.counted;
+    };
+    works = l.works;
+  }
+
+  -- at each word
+  module _ (old : LastingParts D P) (at : Footing H) (why : RefusedRecord) (here : ℕ)
+      (p : IsPassingOver (on_display rules d) old.station at why) (passing : old.passing ≡ Some why)
+      (works : old.ended ≡ None) (step : EndStep RecordEvent R) where
+    module _ (silent : d.written old.station.reacts.screen step.reply ≡ []) (untold : step.event ≡ None) where
+      pub passes_more : IsWordHeard (on_display rules d) old.counts old at here More (Ok step)
+      passes_more = rw untold (
+        record { side = at.side; so_far = at.so_far; begun = old.begun },
+        (refl, refl, silent, refl),
+        stands_passing old _ works refl why passing
+            (record { leads = p.leads; of_record = p.of_record; spoilt = p.spoilt }),
+        counted_none old.counts,
+      )
+
+      pub passes_data : (b : ℕ) → IsWordHeard (on_display rules d) old.counts old at here (Whole (Data b)) (Ok step)
+      passes_data b = rw untold (
+        record { side = at.side; so_far = at.so_far ++ b ∷ []; begun = old.begun },
+        (refl, refl, silent, refl),
+        stands_passing old _ works refl why passing (record {
+          leads = p.leads;
+          of_record = p.of_record;
+          spoilt = spoilt_more at.so_far b why p.spoilt;
+        }),
+        counted_none old.counts,
+      )
+
+    pub passes_telnet : (new : LastingParts D P) (t : Telnet)
+        → d.written new.station.reacts.screen step.reply
+        ≡ telnet_bytes (station_answer old.station.reacts.options t).reply → step.event ≡ None
+        → new ≡ record old {
+          station = record old.station {
+            reacts = record old.station.reacts {
+              options = (station_answer old.station.reacts.options t).after;
+            };
+          };
+        } → IsWordHeard (on_display rules d) old.counts new at here (Whole (TelnetToken t)) (Ok step)
+    passes_telnet new t written untold same = rw untold (
+      record {
+        side = record { options = (station_answer at.side.options t).after; happened = at.side.happened };
+        so_far = at.so_far;
+        begun = new.begun;
+      },
+      (refl, refl, written ∙ ap (λ z. telnet_bytes (station_answer z t).reply) p.leads.stands.options, refl),
+      stands_passing new _ (ap (λ (z : LastingParts _ _). z.ended) same ∙ works) refl why
+          (ap (λ (z : LastingParts _ _). z.passing) same ∙ passing) (record {
+            leads = subst (λ (z : PartsOn D P). ReachedOn (on_display rules d) z [] []
+                (record { options = (station_answer at.side.options t).after; happened = at.side.happened }))
+                (sym (ap (λ (z : LastingParts _ _). z.station) same)) (answered old.station at.side t p.leads);
+            of_record = p.of_record;
+            spoilt = p.spoilt;
+          }),
+      subst (λ (z : LastingParts D P). IsCounted old.counts [] z.counts) (sym same) (counted_none old.counts),
+    )
+
+    pub passes_eor : IsPrefixFree rules → Begins rules → (new : LastingParts D P)
+        → station_allows_records old.station.reacts.options ≡ true
+        → old.begun ≡ [] → d.written new.station.reacts.screen step.reply ≡ negative why.reason
+        → step.event ≡ Some (Refused why)
+        → new ≡ record old { size = 0; passing = None; counts = new.counts }
+        → IsCounted old.counts (Refused why ∷ []) new.counts
+        → IsWordHeard (on_display rules d) old.counts new at here (Whole Eor) (Ok step)
+    passes_eor free begins new allows between written told same counted = rw told (
+      record { side = at.side; so_far = []; begun = new.begun },
+      (
+        refl,
+        inr (
+          refl,
+          why,
+          both_true _ _ p.of_record (ap station_allows_records (sym p.leads.stands.options) ∙ allows),
+          inl p.spoilt,
+          written,
+          refl,
+        ),
+      ),
+      stands_reading new _ (ap (λ (z : LastingParts _ _). z.ended) same ∙ works) refl
+          (ap (λ (z : LastingParts _ _). z.passing) same)
+          (reads_anew free begins new.station new.taken _ refl (ap (λ (z : LastingParts _ _). z.begun) same ∙ between)
+          (subst (λ (z : PartsOn D P). ReachedOn (on_display rules d) z [] [] at.side)
+          (sym (ap (λ (z : LastingParts _ _). z.station) same)) p.leads))
+          (ap (λ (z : LastingParts _ _). z.size) same),
+      counted,
+    )
+
+    pub passes_late : (new : LastingParts D P) → station_allows_records old.station.reacts.options ≡ false
+        → IsWordHeard (on_display rules d) old.counts new at here (Whole Eor) (Err (At here RecordBeforeNegotiation))
+    passes_late new forbids = (
+      refl,
+      (inr (inr (ap station_allows_records (sym p.leads.stands.options) ∙ forbids, refl)), refl),
+    )

@@ -1,0 +1,32 @@
+use Rattle.std.proofs.Common.{◌≡◌, ℕ, List, [], refl, sym, subst, Ok, Err, Result, Option}
+use Rattle.ws_code.specs.declared.code.Push.{Push}
+use Rattle.ws_code.specs.declared.code.Push.TheVariants.{More, Unit as Whole, Bad}
+use Rattle.ws_telnet.specs.declared.token.Token.{Token}
+use Rattle.ws_telnet.specs.declared.token.Token.TheVariants.{Data, Eor, Telnet as TelnetToken}
+use Rattle.ws_end.specs.declared.end_step.EndStep.{EndStep}
+use Rattle.ws_end.specs.declared.refusal.Refusal.{Refusal}
+use Rattle.ws_end.specs.declared.refusal.Refusal.TheVariants.{At, Failed, Memory}
+use Rattle.ws_end.specs.station.Displays.{OnDisplay}
+use Rattle.ws_lasting.specs.Footings.{LastingOf, IsByteTaken, IsFollowed, IsWordHeard}
+use Rattle.ws_lasting.specs.Lasting.{FootingOn, IsTokenStep}
+use Rattle.ws_lasting.specs.declared.record_event.RecordEvent.{RecordEvent}
+
+module _ (on : OnDisplay) (old new : LastingOf on) (at : FootingOn on) (byte : ℕ) (word : Push Token) where
+  -- what comes of a byte is what comes of its word
+  pub taken_so : (result : Result (EndStep RecordEvent on.Replied) Refusal)
+      → IsTokenStep at.begun byte new.begun word → IsWordHeard on old.counts new at old.taken word result
+      → IsByteTaken on old new at byte result
+  taken_so (Ok step) t h =
+      (h.0, (word, subst (λ x. IsTokenStep at.begun byte x word) h.2.is_begun t, h.1), h.2, h.3)
+  taken_so (Err (At place reason)) t h = (h.0, (word, new.begun, t, h.1))
+  taken_so (Err Failed) t h = h
+  taken_so (Err Memory) t h = h
+
+-- what is followed takes no byte
+pub followed : (on : OnDisplay) (old new : LastingOf on) (word : Push Token) (event : Option RecordEvent)
+    → IsFollowed on old new word event → (new.begun ≡ old.begun) × (new.taken ≡ old.taken)
+followed on old new More event f = rw f.0 (refl, refl)
+followed on old new (Whole (Data b)) event f = rw f.0 (refl, refl)
+followed on old new (Whole Eor) event f = rw f.1 (refl, refl)
+followed on old new (Whole (TelnetToken t)) event f = rw f.0 (refl, refl)
+followed on old new (Bad reason) event f = rw f.0 (refl, refl)

@@ -1,0 +1,27 @@
+-- Where a station refuses no record, one that no record ends does as it
+
+use Rattle.std.specs.Prelude.{ℕ, List, [], map}
+use Rattle.ws_end.specs.Acts.{Act, IsTrace, ways}
+use Rattle.ws_end.specs.declared.end_step.Applied.{Applied}
+use Rattle.ws_end.specs.station.Displays.{OnDisplay}
+use Rattle.ws_end.specs.station.StationReacting.{transitions_on}
+use Rattle.ws_end.specs.station.Stations.{EndStateOf}
+use Rattle.ws_lasting.specs.Lasting.{FootingOn, Lasts}
+use Rattle.ws_lasting.specs.declared.record_event.RecordEvent.{RecordEvent}
+use Rattle.ws_lasting.specs.declared.record_event.RecordEvent.TheVariants.{CarriedOut}
+
+-- of each record that was applied it is told that it was carried out
+abbrev pub all_carried_out : List Applied → List RecordEvent
+all_carried_out told = map (λ applied. CarriedOut) told
+
+-- from this side on the acts lead a station of whose items it refuses none, and this is written and told
+abbrev pub LeadsAsStation : (on : OnDisplay) → EndStateOf on → List (Act on.Pressed) → List ℕ → List Applied → Type 0
+LeadsAsStation on side acts written told =
+    IsTrace (ways on.rules on.does.out (transitions_on on.does)) (λ bytes items next. Unit {0}) [] [] side acts written
+        told
+
+-- one that no record ends then writes and tells the same
+abbrev pub LastsAsStation : (on : OnDisplay) → Type 0
+LastsAsStation on = (side : EndStateOf on) (acts : List (Act on.Pressed)) (written : List ℕ) (told : List Applied)
+    → LeadsAsStation on side acts written told → (next : FootingOn on)
+    × Lasts on (record { side = side; so_far = []; begun = [] }) acts next written (all_carried_out told)

@@ -1,0 +1,76 @@
+-- A station that no record ends, as whoever attaches it to a line sees it
+
+use Rattle.std.specs.Prelude.{◌≡◌, ℕ, ◌+◌, ◌-◌, ◌^◌, ◌<◌, List, [], ◌∷◌, ◌++◌, Option, Some, None, Result, Ok, Err, IsSome, length, take}
+use Rattle.ws_keys.specs.declared.answer.Answer.{Answer}
+use Rattle.ws_end.specs.Acts.{Act, ComesToNothing, all_came, as_list, bytes_of}
+use Rattle.ws_end.specs.Behaviour.{Behaviour}
+use Rattle.ws_end.specs.Ends.{IsShut}
+use Rattle.ws_end.specs.declared.end_step.EndStep.{EndStep}
+use Rattle.ws_end.specs.declared.refusal.Refusal.{Refusal}
+use Rattle.ws_end.specs.declared.refusal.Refusal.TheVariants.{At, Failed, Memory}
+use Rattle.ws_end.specs.station.AnswerSpelling.{answer_spelling}
+use Rattle.ws_end.specs.station.Displays.{OnDisplay}
+use Rattle.ws_lasting.specs.Counting.{IsCounted}
+use Rattle.ws_lasting.specs.Footings.{AtLasting, LastingOf, StandsAt}
+use Rattle.ws_lasting.specs.Lasting.{FootingOn, IsFatal, Lasts}
+use Rattle.ws_lasting.specs.declared.record_event.RecordEvent.{RecordEvent}
+
+-- the bytes of what a key sends
+abbrev pub sent_by : Option Answer → List ℕ
+sent_by None = []
+sent_by (Some answer) = answer_spelling answer
+
+module _ (on : OnDisplay) where
+  -- the acts lead from where it stands to there, and the station to one that stands there
+  abbrev pub LeadsOnFrom : LastingOf on → LastingOf on → FootingOn on → List (Act on.Pressed) → List ℕ
+      → List RecordEvent → Type 0
+  LeadsOnFrom old new at acts written told = (next : FootingOn on) × Lasts on at acts next written told
+      × StandsAt on new next × IsCounted old.counts told new.counts
+      × (new.taken ≡ old.taken + length (bytes_of acts))
+
+  -- nothing is written or told at these bytes
+  abbrev pub AreQuiet : FootingOn on → List ℕ → Type 0
+  AreQuiet at came = (next : FootingOn on) × Lasts on at (all_came came) next [] []
+
+  -- the byte after these, at which nothing is written or told, ends the session for this reason
+  abbrev pub IsLast : FootingOn on → ℕ → List ℕ → ℕ → Refusal → Type 0
+  IsLast at taken front byte (At place reason) = (mid : FootingOn on) × Lasts on at (all_came front) mid [] []
+      × (place ≡ taken + length front) × IsFatal on mid byte reason
+  IsLast at taken front byte Failed = ⊥
+  IsLast at taken front byte Memory = ⊥
+
+  -- what comes of bytes that are taken: they lead on, or the last of them ends the session
+  abbrev pub AreTakenSo : LastingOf on → LastingOf on → FootingOn on → List ℕ
+      → Result (EndStep RecordEvent on.Replied) Refusal → Type 0
+  AreTakenSo old new at came (Ok step) = LeadsOnFrom old new at (all_came came)
+      (on.does.written new.station.reacts.screen step.reply) (as_list step.event)
+  AreTakenSo old new at came (Err why) = (front : List ℕ) × (byte : ℕ) × (came ≡ front ++ byte ∷ [])
+      × IsLast at old.taken front byte why
+
+  -- the acts lead from the one station to the other, which wrote and told this in them
+  pub record LastingGoes (old : LastingOf on) (acts : List (Act on.Pressed)) (written : List ℕ)
+      (told : List RecordEvent) (new : LastingOf on) : Type 0 where
+    pub led : AtLasting on old (λ at. old.taken + length (bytes_of acts) + 1 < 2 ^ 64
+        → LeadsOnFrom old new at acts written told)
+    pub shut : IsShut old.ended old.taken → ComesToNothing old acts written told new
+
+  -- It takes these bytes, writes and tells nothing at them, and refuses the one after them. One that is shut refuses
+  -- the first, for that alone.
+  pub record LastingRefuses (old : LastingOf on) (front : List ℕ) (byte : ℕ) (why : Refusal) (new : LastingOf on)
+      : Type 0 where
+    pub led : AtLasting on old (λ at. old.taken + length front + 1 < 2 ^ 64 → IsLast at old.taken front byte why)
+    pub shut : IsShut old.ended old.taken → (front ≡ []) × (why ≡ Failed)
+
+  -- it takes these bytes, and writes and tells nothing at them; where it is shut, none
+  pub record LastingSilent (old : LastingOf on) (came : List ℕ) : Type 0 where
+    pub led : AtLasting on old (λ at. old.taken + length came + 1 < 2 ^ 64 → AreQuiet at came)
+    pub shut : IsShut old.ended old.taken → came ≡ []
+
+  -- how it conducts itself
+  abbrev pub lasting_conduct : Behaviour (LastingOf on) on.Pressed RecordEvent
+  lasting_conduct = record {
+    goes = LastingGoes;
+    refuses = LastingRefuses;
+    silent = LastingSilent;
+    over = λ station. IsSome station.ended;
+  }

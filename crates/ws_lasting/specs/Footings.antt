@@ -1,0 +1,130 @@
+-- What a station that no record ends keeps, where it stands, and what bytes and keys make of it
+
+use Rattle.std.specs.Prelude.{◌≡◌, ℕ, ◌+◌, ◌^◌, ◌<◌, ◌≤◌, List, [], ◌∷◌, Option, Some, None, Result, Ok, Err, OnOk, OnErr, IsSome, true, length}
+use Rattle.ws_code.specs.declared.code.Push.{Push}
+use Rattle.ws_code.specs.declared.code.Push.TheVariants.{More, Unit as Whole, Bad}
+use Rattle.ws_telnet.specs.declared.token.Token.{Token}
+use Rattle.ws_telnet.specs.declared.token.Token.TheVariants.{Data, Eor, Telnet as TelnetToken}
+use Rattle.ws_record.specs.declared.opcode.Opcode.TheVariants.{NoOperation}
+use Rattle.ws_screen.specs.declared.read_kind.ReadKind.{ReadKind}
+use Rattle.ws_keys.specs.Contents.{answer_bytes}
+use Rattle.ws_keys.specs.declared.answer.Answer.{Answer}
+use Rattle.ws_keys.specs.declared.answer.Answer.TheVariants.{Read, Attention, SystemRequest}
+use Rattle.ws_end.specs.Acts.{as_list}
+use Rattle.ws_end.specs.declared.end_step.EndStep.{EndStep}
+use Rattle.ws_end.specs.declared.station.answer.TheConstants.{ATN, SRQ}
+use Rattle.ws_end.specs.declared.station.key_fault.KeyFault.{KeyFault}
+use Rattle.ws_end.specs.declared.refusal.Refusal.{Refusal}
+use Rattle.ws_end.specs.declared.refusal.Refusal.TheVariants.{At, Failed}
+use Rattle.ws_end.specs.station.Displays.{OnDisplay, RefusesKey, Silent, Answers, Signals}
+use Rattle.ws_end.specs.station.StationTransitions.{key_on}
+use Rattle.ws_end.specs.station.Stations.{ItemsOf, ReachedOn, PartsOn, EndStateOf, StationOf}
+use Rattle.ws_lasting.specs.Counting.{IsCounted}
+use Rattle.ws_lasting.specs.Lasting.{FootingOn, IsAtByte, IsAtWord, IsFatal, IsFatalWord}
+use Rattle.ws_lasting.specs.Negative.{is_of_record}
+use Rattle.ws_lasting.specs.Records.{IsSpoilt}
+use Rattle.ws_lasting.specs.declared.record_counts.RecordCounts.{RecordCounts}
+use Rattle.ws_lasting.specs.declared.record_event.RecordEvent.{RecordEvent}
+use Rattle.ws_lasting.specs.declared.record_event.RecordEvent.TheVariants.{CarriedOut}
+use Rattle.ws_lasting.specs.declared.record_event.RefusedRecord.{RefusedRecord}
+
+-- What such a station keeps: a station, the bytes of the token that has begun, how many bytes the open record has, why
+-- it is refused if it is passed over, what the session has come to, how many bytes it has taken, and why it takes no
+-- more.
+pub record LastingParts (D P : Type 0) : Type 0 where
+  pub station : PartsOn D P
+  pub begun : List ℕ
+  pub size : ℕ
+  pub passing : Option RefusedRecord
+  pub counts : RecordCounts
+  pub taken : ℕ
+  pub ended : Option Refusal
+
+module _ (on : OnDisplay) where
+  abbrev pub LastingOf : Type 0
+  LastingOf = LastingParts on.Parts on.Place
+
+  -- the station reads: these bytes of an open record have come to it
+  pub record IsReading (station : StationOf on) (taken : ℕ) (at : FootingOn on) : Type 0 where
+    pub bytes : List ℕ
+    pub items : ItemsOf on
+    pub leads : ReachedOn on station bytes items at.side
+    pub is_open : leads.so_far.bytes ≡ at.so_far
+    pub is_begun : station.live.begun ≡ at.begun
+    pub few : length bytes ≤ taken
+
+  -- it passes over a record that has these bytes, and stands itself as a new one
+  pub record IsPassingOver (station : StationOf on) (at : FootingOn on) (why : RefusedRecord) : Type 0 where
+    pub leads : ReachedOn on station [] [] at.side
+    pub of_record : is_of_record why.reason ≡ true
+    pub spoilt : IsSpoilt on.rules at.so_far why
+
+  abbrev pub ReadsOrPasses : LastingOf → FootingOn on → Option RefusedRecord → Type 0
+  ReadsOrPasses lasting at None = IsReading lasting.station lasting.taken at × (lasting.size ≡ length at.so_far)
+  ReadsOrPasses lasting at (Some why) = IsPassingOver lasting.station at why
+
+  -- The station stands there.
+  pub record StandsAt (lasting : LastingOf) (at : FootingOn on) : Type 0 where
+    pub works : lasting.ended ≡ None
+    pub is_begun : lasting.begun ≡ at.begun
+    pub within : ReadsOrPasses lasting at lasting.passing
+
+  -- this holds of wherever the station stands
+  abbrev pub AtLasting : LastingOf → (FootingOn on → Type 0) → Type 0
+  AtLasting lasting Holds = (at : FootingOn on) → StandsAt lasting at → Holds at
+
+  -- what comes of a byte: what it makes of a station, or why it ends the session
+  abbrev pub IsByteTaken : LastingOf → LastingOf → FootingOn on → ℕ → Result (EndStep RecordEvent on.Replied) Refusal → Type 0
+  IsByteTaken old new at byte (Ok step) = (next : FootingOn on)
+      × IsAtByte on at byte next (on.does.written new.station.reacts.screen step.reply) (as_list step.event)
+      × StandsAt new next × IsCounted old.counts (as_list step.event) new.counts
+  IsByteTaken old new at byte (Err (At place reason)) = (place ≡ old.taken) × IsFatal on at byte reason
+  IsByteTaken old new at byte (Err why) = ⊥
+
+  -- what a byte gives
+  pub record TakesByte (old : LastingOf) (byte : ℕ) (new : LastingOf) (result : Result (EndStep RecordEvent on.Replied) Refusal)
+      : Type 0 where
+    pub taken : AtLasting old (λ at. old.taken + 1 < 2 ^ 64 → IsByteTaken old new at byte result)
+    pub counted : OnOk result (new.taken ≡ old.taken + 1)
+    pub after : OnErr result (IsSome new.ended)
+    pub full : old.taken + 1 ≡ 2 ^ 64 → result ≡ Err Failed
+    pub failed : IsSome old.ended → result ≡ Err Failed
+
+  -- the reply of what a byte gives, or why it ends the session
+  abbrev pub replied_by : Result (EndStep RecordEvent on.Replied) Refusal → Result on.Replied Refusal
+  replied_by (Ok step) = Ok step.reply
+  replied_by (Err why) = Err why
+
+  abbrev pub IsPushedSo : LastingOf → ℕ → LastingOf → Result on.Replied Refusal → Type 0
+  IsPushedSo old byte new result = (gave : Result (EndStep RecordEvent on.Replied) Refusal)
+      × TakesByte old byte new gave × (result ≡ replied_by gave)
+
+  -- what comes of the last byte taken, by what it makes of tokens
+  abbrev pub IsWordHeard : RecordCounts → LastingOf → FootingOn on → ℕ → Push Token
+      → Result (EndStep RecordEvent on.Replied) Refusal → Type 0
+  IsWordHeard counts new at here word (Ok step) = (next : FootingOn on)
+      × IsAtWord on at word next (on.does.written new.station.reacts.screen step.reply) (as_list step.event)
+      × StandsAt new next × IsCounted counts (as_list step.event) new.counts
+  IsWordHeard counts new at here word (Err (At place reason)) = (place ≡ here) × IsFatalWord on at word reason
+  IsWordHeard counts new at here word (Err why) = ⊥
+
+  -- what becomes of a station that reads, where the last byte isn't refused, and what it tells
+  abbrev pub IsFollowed : LastingOf → LastingOf → Push Token → Option RecordEvent → Type 0
+  IsFollowed old new (Whole (Data b)) event = (new ≡ record old { size = old.size + 1 }) × (event ≡ None)
+  IsFollowed old new (Whole Eor) event = (counts : RecordCounts)
+      × (new ≡ record old { size = 0; passing = None; counts = counts })
+      × IsCounted old.counts (CarriedOut ∷ []) counts × (event ≡ Some CarriedOut)
+  IsFollowed old new other event = (new ≡ old) × (event ≡ None)
+
+  -- what a key gives: its refusal, with the station as it was; or what it sends
+  abbrev pub IsKeyHeard : LastingOf → LastingOf → FootingOn on → on.Pressed → Result (Option Answer) KeyFault → Type 0
+  IsKeyHeard old new at key (Err fault) = (key_on on.does at.side key ≡ RefusesKey fault) × (new ≡ old)
+  IsKeyHeard old new at key (Ok None) = (next : EndStateOf on) × (key_on on.does at.side key ≡ Silent next)
+      × StandsAt new (record at { side = next })
+  IsKeyHeard old new at key (Ok (Some (Read body))) = (next : EndStateOf on) × (kind : ReadKind) × (aid : ℕ)
+      × (key_on on.does at.side key ≡ Answers next kind aid)
+      × (body ≡ answer_bytes kind (on.does.shows at.side.happened) aid) × StandsAt new (record at { side = next })
+  IsKeyHeard old new at key (Ok (Some Attention)) =
+      (key_on on.does at.side key ≡ Signals NoOperation ATN) × StandsAt new at
+  IsKeyHeard old new at key (Ok (Some SystemRequest)) =
+      (key_on on.does at.side key ≡ Signals NoOperation SRQ) × StandsAt new at

@@ -1,0 +1,32 @@
+//! A station that no record ends, as an end of a session.
+ghost use Rattle.ws_lasting.specs.Behaviour.{lasting_conduct};
+ghost use Rattle.ws_lasting.specs.LastingLaws.{lasting_follows, lasting_stays};
+ghost use Rattle.ws_end.specs.station.Displays.{on_display as on};
+
+use crate::{LastingStation, RecordEvent};
+use ws_code::Code;
+use ws_session::{End, EndFed, StationDisplay};
+
+impl<D: StationDisplay> End for LastingStation<D> {
+    type Deed = D::Key;
+
+    type Event = RecordEvent;
+
+    type Reply = D::Reply;
+
+    ghost conduct = { lasting_conduct (on D.Commands.rules D.does) };
+
+    ghost written = { λ station reply. D.does.written station.station.reacts.screen reply };
+
+    fn feed(&mut self, piece: &[u8]) -> EndFed<RecordEvent, D::Reply> {
+        LastingStation::feed(self, piece)
+    }
+
+    fn bytes<'a>(&'a self, reply: &'a D::Reply) -> &'a [u8] {
+        self.display().bytes(reply)
+    }
+
+    ghost stays = { lasting_stays (on D.Commands.rules D.does) };
+
+    ghost follows = { lasting_follows (on D.Commands.rules D.does) };
+}

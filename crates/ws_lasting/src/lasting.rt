@@ -1,0 +1,150 @@
+//! A station that no record ends.
+ghost use Rattle.std.specs.Prelude.{◌≡◌, ◌&&◌, ◌≢◌, ◌≤◌, ◌<◌, ◌+◌, ◌-◌, ◌^◌, ◌∷◌, ℕ, [], None, Some, Err, IfOk, IsSome, OnErr, OnOk};
+ghost use Rattle.ws_lasting.specs.Behaviour.{LastingGoes, sent_by};
+ghost use Rattle.ws_lasting.specs.Footings.{AtLasting, IsByteTaken, IsKeyHeard, IsPushedSo, StandsAt};
+ghost use Rattle.ws_end.specs.Acts.{Did};
+ghost use Rattle.ws_end.specs.Ends.{IsShut};
+ghost use Rattle.ws_end.specs.declared.refusal.Refusal.{Refusal as ARefusal};
+ghost use Rattle.ws_end.specs.declared.station.key_fault.KeyFault.{KeyFault as AKeyFault};
+ghost use Rattle.ws_end.specs.station.Displays.{on_display as on};
+ghost use Rattle.ws_end.specs.station.StationTransitions.{new_state_on};
+
+mod feeding;
+mod hearing;
+mod passing;
+mod steps;
+mod tells;
+
+use crate::{RecordCounts, RecordEvent, RefusedRecord};
+use std::marker::Model;
+use ws_code::Code;
+use ws_keys::Answer;
+use ws_nego::TerminalType;
+use ws_session::{EndStep, KeyFault, Refusal, StationDisplay, StationOn};
+use ws_telnet::Tokens;
+
+/// A station that goes on after a record that it refuses.
+#[derive(Drop)]
+pub struct LastingStation<D: StationDisplay> {
+    station: StationOn<D>,
+    tokens: Tokens,
+    /// How many bytes of the open record have come.
+    size: u64,
+    /// Why the record is refused that is passed over.
+    passing: Option<RefusedRecord>,
+    counts: RecordCounts,
+    taken: u64,
+    /// Why it takes no more bytes.
+    ended: Option<Refusal>,
+}
+
+impl<D: StationDisplay> Model for LastingStation<D> {
+    ghost use Rattle.std.specs.Prelude.{◌≤◌};
+    ghost use Rattle.ws_code.specs.Code.{IsUnfinished};
+    ghost use Rattle.ws_lasting.specs.Behaviour.{LastingGoes, sent_by};
+    ghost use Rattle.ws_lasting.specs.Footings.{LastingParts};
+    ghost use Rattle.ws_telnet.specs.Machine.{unfinished_token};
+    ghost use Rattle.ws_telnet.specs.Token.{token_rules};
+
+    ghost Value = { LastingParts D D.Commands.Place };
+
+    ghost view = { λ s. record {
+      station = s.station;
+      begun = unfinished_token s.tokens;
+      size = s.size;
+      passing = s.passing;
+      counts = s.counts;
+      taken = s.taken;
+      ended = s.ended;
+    } };
+
+    // A token has begun or not, and the open record's bytes were taken.
+    ghost invariant = { λ s. IsUnfinished token_rules tt (unfinished_token s.tokens) × (s.size ≤ s.taken) };
+}
+
+impl<D: StationDisplay> LastingStation<D> {
+    /// A station that has taken no byte and no key.
+    pub fn new(terminal: TerminalType) -> Self
+        ensures stands { StandsAt (on D.Commands.rules D.does) result
+            (record { side = new_state_on D.does terminal; so_far = []; begun = [] }) }
+        ensures counts { result.counts ≡ record { carried_out = 0; refused = 0; last = None } }
+        ensures taken { result.taken ≡ 0 }
+    {
+        LastingStation {
+            station: StationOn::new(terminal),
+            tokens: Tokens::start(()),
+            size: 0,
+            passing: None,
+            counts: RecordCounts::new(),
+            taken: 0,
+            ended: None,
+        }
+    }
+
+    /// Takes a byte, and gives what it writes and tells: at a command's last byte, at a record's IAC EOR, and nothing
+    /// elsewhere. A record that is refused, while records are allowed, is answered there by a negative response; all
+    /// else is as it was before the record, but for keys pressed meanwhile.
+    ///
+    /// # Errors
+    ///
+    /// `At` the first byte after which the bytes are no tokens, that a record has which comes while records aren't
+    /// allowed and is refused, or at which one ends that isn't allowed any more. It answers `Failed` from then on, as
+    /// after 18,446,744,073,709,551,615 bytes.
+    pub fn take_byte(&mut self, byte: u8) -> Result<EndStep<RecordEvent, D::Reply>, Refusal>
+        ensures taken { AtLasting (on D.Commands.rules D.does) self.old (λ at.
+            self.old.taken + 1 < 2 ^ 64
+            → IsByteTaken (on D.Commands.rules D.does) self.old self.new at byte result) }
+        ensures counted { OnOk result (self.new.taken ≡ self.old.taken + 1) }
+        ensures after { OnErr result (IsSome self.new.ended) }
+        ensures full { self.old.taken + 1 ≡ 2 ^ 64 → result ≡ Err ARefusal.Failed }
+        ensures failed { IsSome self.old.ended → result ≡ Err ARefusal.Failed }
+    {
+        if self.ended.is_some() {
+            return Err(Refusal::Failed);
+        }
+        if self.taken == u64::MAX {
+            return self.stop(Refusal::Failed);
+        }
+        let word = self.step(byte);
+        self.count();
+        match self.passing {
+            None => self.read(byte, word),
+            Some(why) => self.pass(why, word),
+        }
+    }
+
+    /// Takes a byte, and gives what it writes.
+    ///
+    /// # Errors
+    ///
+    /// As `take_byte`.
+    pub fn push(&mut self, byte: u8) -> Result<D::Reply, Refusal>
+        ensures { IsPushedSo (on D.Commands.rules D.does) self.old byte self.new result }
+    {
+        match self.take_byte(byte) {
+            Ok(step) => Ok(step.reply),
+            Err(why) => Err(why),
+        }
+    }
+
+    /// Takes a key, and gives what it sends. It acts on the display at once, also while a record is open or passed over.
+    ///
+    /// # Errors
+    ///
+    /// As the station on that display does.
+    pub fn key(&mut self, key: D::Key) -> Result<Option<Answer>, KeyFault>
+        ensures keyed { AtLasting (on D.Commands.rules D.does) self.old (λ at.
+            self.old.taken + 1 < 2 ^ 64
+            → IsKeyHeard (on D.Commands.rules D.does) self.old self.new at key result) }
+        // So keys are acts, as bytes are.
+        ensures acted { IfOk result (λ answer. LastingGoes (on D.Commands.rules D.does)
+            self.old (Did key ∷ []) (sent_by answer) [] self.new) }
+        ensures shut { IsShut self.old.ended self.old.taken → result ≡ Err AKeyFault.Failed }
+        ensures same { OnErr result (self.new ≡ self.old) }
+    {
+        if self.is_shut() {
+            return Err(KeyFault::Failed);
+        }
+        self.press(key)
+    }
+}

@@ -1,0 +1,21 @@
+//! Laws of records that stand each for itself.
+ghost use Rattle.std.specs.Prelude.{ℕ, List};
+ghost use Rattle.ws_lasting.specs.AsStation.{LastsAsStation};
+ghost use Rattle.ws_lasting.specs.Lasting.{IsPerformed, IsRefusedFor};
+ghost use Rattle.ws_lasting.specs.declared.record_event.RefusedRecord.{RefusedRecord};
+ghost use Rattle.ws_end.specs.station.Displays.{EndStateOn};
+ghost use Rattle.ws_end.specs.station.Displays.{on_display as on};
+
+use ws_session::StationDisplay;
+
+/// A record is carried out or refused, and not both.
+pub fn judged_one_way<D: StationDisplay>()
+    ensures { (side next : EndStateOn D.Happened) (bytes written : List ℕ) (why : RefusedRecord)
+        → IsPerformed (on D.Commands.rules D.does) side bytes next written
+        → IsRefusedFor (on D.Commands.rules D.does) side bytes why → ⊥ }
+{}
+
+/// Where a station refuses no record, one that no record ends does as it.
+pub fn lasts_as_station<D: StationDisplay>()
+    ensures { LastsAsStation (on D.Commands.rules D.does) }
+{}
