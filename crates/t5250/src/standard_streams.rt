@@ -1,3 +1,5 @@
+//! The standard streams, with something in the place of each that was closed.
+
 use std::fs::{File, OpenOptions};
 use std::io;
 use std::os::fd::AsFd;
@@ -12,9 +14,9 @@ const NOT_OPEN: i32 = 9;
 /// The standard streams as the program found them. While it stands, none of their descriptors is free: what is opened
 /// gets another, so that no socket and no file is taken for a stream.
 #[derive(Drop)]
-pub struct StandardStreams {
+pub(crate) struct StandardStreams {
     /// Those that were open.
-    pub open: OpenStreams,
+    pub(crate) open: OpenStreams,
     // What stands in place of those that were closed.
     _input: Option<File>,
     _output: Option<File>,
@@ -25,8 +27,10 @@ impl StandardStreams {
     /// Looks at them, and fills those that are closed, before anything else is opened. What stands for standard input
     /// can't be read, and what stands for the others can't be written, as nothing could before.
     ///
+    /// # Errors
+    ///
     /// `Read` where one is closed and can't be filled.
-    pub fn new(rt: &HostRuntime) -> Result<Self, RunFault> {
+    pub(crate) fn new(rt: &HostRuntime) -> Result<Self, RunFault> {
         let input = is_open(rt.stdin());
         let output = is_open(rt.stdout());
         let error = is_open(rt.stderr());

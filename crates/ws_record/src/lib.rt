@@ -34,4 +34,4 @@ pub use ws_code::{
     Body, Code, DeviceFailed, Fault, List, Push, ReadSource, Reason, Sink, SliceSource, Source,
     VecSink, WriteSink, write_whole,
 };
-pub use ws_telnet::{CommandCode, Sub, Telnet, Verb};
+pub use ws_telnet::{CommandCode, Sub, Telnet, TelnetWord, Verb};
