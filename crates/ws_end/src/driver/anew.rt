@@ -7,14 +7,14 @@ use ws_record::Live;
 
 impl<R: Reacts> Driver<R> {
     // Begins anew, with what reacts as it is. It then has taken no byte.
-    pub(crate) fn begin_anew(&mut self, keep: R::Collector)
-        requires { R.Collector.keeper.holds keep [] [] }
+    pub(crate) fn begin_anew(&mut self, collector: R::Collector)
+        requires { R.Collector.keeper.holds collector [] [] }
         ensures led { (state : R.does.State) → R.does.stands self.old.reacts [] state
             → IsReached (driving R.Body.rules R.Collector.keeper R.does) self.new [] [] state }
         ensures same { self.new.reacts ≡ self.old.reacts }
     {
         self.live = Live::new();
-        self.keep = keep;
+        self.collector = collector;
         self.ended = None;
     }
 }
