@@ -33,20 +33,20 @@ use Rattle.ws_lasting.proofs.TokenSteps.{token_step}
 module _ {D P U H PlaceV V K R : Type 0} (rules : Rules P U) (d : DisplayOf D U H PlaceV V K R)
     (free : IsPrefixFree rules) (begins : Begins rules) where
   abbrev Stood : EndStateOn H → List ℕ → List ℕ → Footing H
-  Stood side so_far begun = record { side = side; so_far = so_far; begun = begun }
+  Stood state so_far begun = record { state = state; so_far = so_far; begun = begun }
 
-  module _ {bytes : List ℕ} {items : List (Item U)} {so_far begun left over : List ℕ} (side : EndStateOn H) (b : ℕ)
+  module _ {bytes : List ℕ} {items : List (Item U)} {so_far begun left over : List ℕ} (state : EndStateOn H) (b : ℕ)
       (h : Holds rules bytes items so_far begun) where
     -- the byte completes no item
     none_complete : Holds rules (bytes ++ b ∷ []) items left over
-        → IsAtByte (on_display rules d) (Stood side so_far begun) b (Stood side left over) [] []
+        → IsAtByte (on_display rules d) (Stood state so_far begun) b (Stood state left over) [] []
     none_complete k = elim (token_step b h.cut k.cut) [
       | inl m ↦ (let same = one_holds rules free begins (holds_more rules h (b ∷ []) m.1) k in
           (More, (m.0, m.1), (refl, sym same.1, refl, refl)))
       | inr t ↦ by t.0 t.1 t.2
     ] where
       by : (t : Token) → over ≡ [] → IsSpelled token_rules tt (begun ++ b ∷ []) t
-          → IsAtByte (on_display rules d) (Stood side so_far begun) b (Stood side left over) [] []
+          → IsAtByte (on_display rules d) (Stood state so_far begun) b (Stood state left over) [] []
       by (Data v) none s =
           let same = one_holds rules free begins (holds_data rules h b v s) k in
           (Whole (Data v), (none, s), (refl, sym same.1, refl, refl))
@@ -60,8 +60,8 @@ module _ {D P U H PlaceV V K R : Type 0} (rules : Rules P U) (d : DisplayOf D U 
 
     -- the byte completes one, at which the station goes on so
     one_complete : (item : Item U) → Holds rules (bytes ++ b ∷ []) (items ++ item ∷ []) left over
-        → (next : EndStateOn H) (writes : List (Item V)) → takes_on d side item ≡ GoesOn next writes
-        → IsAtByte (on_display rules d) (Stood side so_far begun) b (Stood next left over)
+        → (next : EndStateOn H) (writes : List (Item V)) → takes_on d state item ≡ GoesOn next writes
+        → IsAtByte (on_display rules d) (Stood state so_far begun) b (Stood next left over)
         (plain_spelling d.out writes) (all_carried_out (applied_by item))
     one_complete item k next writes goes = elim (token_step b h.cut k.cut) [
       | inl m ↦ (let same = one_holds rules free begins (holds_more rules h (b ∷ []) m.1) k in
@@ -69,8 +69,8 @@ module _ {D P U H PlaceV V K R : Type 0} (rules : Rules P U) (d : DisplayOf D U 
       | inr t ↦ by t.0 t.1 t.2 item k goes
     ] where
       by : (t : Token) → over ≡ [] → IsSpelled token_rules tt (begun ++ b ∷ []) t → (item : Item U)
-          → Holds rules (bytes ++ b ∷ []) (items ++ item ∷ []) left over → takes_on d side item ≡ GoesOn next writes
-          → IsAtByte (on_display rules d) (Stood side so_far begun) b (Stood next left over)
+          → Holds rules (bytes ++ b ∷ []) (items ++ item ∷ []) left over → takes_on d state item ≡ GoesOn next writes
+          → IsAtByte (on_display rules d) (Stood state so_far begun) b (Stood next left over)
           (plain_spelling d.out writes) (all_carried_out (applied_by item))
       by (Data v) none s item k goes =
           let same = one_holds rules free begins (holds_data rules h b v s) k in
@@ -78,7 +78,7 @@ module _ {D P U H PlaceV V K R : Type 0} (rules : Rules P U) (d : DisplayOf D U 
       by (TelnetToken u) none s item k goes =
           let same = one_holds rules free begins (holds_command rules h b u s) k in
           let is : TelnetItem u ≡ item = (same_last items items (TelnetItem u) item same.0).1 in
-          let gone = gone_parts _ _ _ _ (ap (takes_on d side) is ∙ goes) in (
+          let gone = gone_parts _ _ _ _ (ap (takes_on d state) is ∙ goes) in (
             Whole (TelnetToken u),
             (none, s),
             (
@@ -97,57 +97,57 @@ module _ {D P U H PlaceV V K R : Type 0} (rules : Rules P U) (d : DisplayOf D U 
             (
               sym same.1,
               inl (
-                (r.0, r.1, r.2, writes, ap (takes_on d side) is ∙ goes, refl),
+                (r.0, r.1, r.2, writes, ap (takes_on d state) is ∙ goes, refl),
                 ap (λ (i : Item U). all_carried_out (applied_by i)) (sym is),
               ),
             ),
           )
 
   -- a key tells nothing
-  key_untold : (side : EndStateOn H) (r : KeyReactionOn H) → (at_key_on d side r).told ≡ []
-  key_untold side (RefusesKey fault) = refl
-  key_untold side (Silent next) = refl
-  key_untold side (Answers next kind aid) = refl
-  key_untold side (Signals opcode flags) = refl
+  key_untold : (state : EndStateOn H) (r : KeyReactionOn H) → (at_key_on d state r).events ≡ []
+  key_untold state (RefusesKey fault) = refl
+  key_untold state (Silent next) = refl
+  key_untold state (Answers next kind aid) = refl
+  key_untold state (Signals opcode flags) = refl
 
   -- what a station does at what happens, one that no record ends does at the acts
-  pub as_station : (acts : List (Act K)) (bytes : List ℕ) (items : List (Item U)) (side : EndStateOn H)
+  pub as_station : (acts : List (Act K)) (bytes : List ℕ) (items : List (Item U)) (state : EndStateOn H)
       (so_far begun : List ℕ) → Holds rules bytes items so_far begun → (hs : List (Happening U K))
-      → Happen rules bytes items acts hs → AllTaken (transitions_on d) side hs → (next : Footing H)
-      × Lasts (on_display rules d) (Stood side so_far begun) acts next
-      (plain_spelling d.out (doing (transitions_on d) side hs).written)
-      (all_carried_out (doing (transitions_on d) side hs).told)
-  as_station [] bytes items side so_far begun h hs happen taken =
-      rw happen (Stood side so_far begun, (refl, refl, refl))
-  as_station (Did key ∷ acts) bytes items side so_far begun h hs happen taken =
-      let done = at_key_on d side (key_on d side key) in
-      let rest = as_station acts bytes items done.side so_far begun h happen.0 happen.2 (rw happen.1 at taken).1 in
-      let both = doing (transitions_on d) done.side happen.0 in
+      → Happen rules bytes items acts hs → AllTaken (transitions_on d) state hs → (next : Footing H)
+      × Lasts (on_display rules d) (Stood state so_far begun) acts next
+      (plain_spelling d.out (doing (transitions_on d) state hs).written)
+      (all_carried_out (doing (transitions_on d) state hs).events)
+  as_station [] bytes items state so_far begun h hs happen taken =
+      rw happen (Stood state so_far begun, (refl, refl, refl))
+  as_station (Did key ∷ acts) bytes items state so_far begun h hs happen taken =
+      let done = at_key_on d state (key_on d state key) in
+      let rest = as_station acts bytes items done.state so_far begun h happen.0 happen.2 (rw happen.1 at taken).1 in
+      let both = doing (transitions_on d) done.state happen.0 in
       rw happen.1 (
         rest.0,
         (
           plain_spelling d.out both.written,
-          rw (key_untold side (key_on d side key)) rest.1,
+          rw (key_untold state (key_on d state key)) rest.1,
           flat_map-append (item_spelling d.out) done.written both.written,
         ),
       )
-  as_station (Came b ∷ acts) bytes items side so_far begun h hs (inl p) taken =
-      let rest = as_station acts (bytes ++ b ∷ []) items side p.0.0 p.0.1 p.0.2 hs p.1 taken in
-      (rest.0, (Stood side p.0.0 p.0.1, [], _, [], _, none_complete side b h p.0.2, rest.1, refl, refl))
-  as_station (Came b ∷ acts) bytes items side so_far begun h hs (inr p) taken =
-      rw p.3 (arrives (takes_on d side p.0) refl (rw p.3 at taken).0 (rw p.3 at taken).1
+  as_station (Came b ∷ acts) bytes items state so_far begun h hs (inl p) taken =
+      let rest = as_station acts (bytes ++ b ∷ []) items state p.0.0 p.0.1 p.0.2 hs p.1 taken in
+      (rest.0, (Stood state p.0.0 p.0.1, [], _, [], _, none_complete state b h p.0.2, rest.1, refl, refl))
+  as_station (Came b ∷ acts) bytes items state so_far begun h hs (inr p) taken =
+      rw p.3 (arrives (takes_on d state p.0) refl (rw p.3 at taken).0 (rw p.3 at taken).1
       (λ next t. as_station acts (bytes ++ b ∷ []) (items ++ p.0 ∷ []) next p.2.0 p.2.1 p.2.2 p.1 p.4 t)) where
-        arrives : (r : Reaction (EndStateOn H) (List (Item V))) → takes_on d side p.0 ≡ r → goes_on
-            (takes_on d side p.0) ≡ true → AllTaken (transitions_on d) (at_item_on d side p.0
-            (takes_on d side p.0)).side p.1 → ((next : EndStateOn H) → AllTaken (transitions_on d) next p.1 →
+        arrives : (r : Reaction (EndStateOn H) (List (Item V))) → takes_on d state p.0 ≡ r → goes_on
+            (takes_on d state p.0) ≡ true → AllTaken (transitions_on d) (at_item_on d state p.0
+            (takes_on d state p.0)).state p.1 → ((next : EndStateOn H) → AllTaken (transitions_on d) next p.1 →
             (last : Footing H) × Lasts (on_display rules d) (Stood next p.2.0 p.2.1) acts last
             (plain_spelling d.out (doing (transitions_on d) next p.1).written)
-            (all_carried_out (doing (transitions_on d) next p.1).told))
-            → (next : Footing H) × Lasts (on_display rules d) (Stood side so_far begun) (Came b ∷ acts) next
-            (plain_spelling d.out ((at_item_on d side p.0 (takes_on d side p.0)).written
-            ++ (doing (transitions_on d) (at_item_on d side p.0 (takes_on d side p.0)).side p.1).written))
-            (all_carried_out ((at_item_on d side p.0 (takes_on d side p.0)).told
-            ++ (doing (transitions_on d) (at_item_on d side p.0 (takes_on d side p.0)).side p.1).told))
+            (all_carried_out (doing (transitions_on d) next p.1).events))
+            → (next : Footing H) × Lasts (on_display rules d) (Stood state so_far begun) (Came b ∷ acts) next
+            (plain_spelling d.out ((at_item_on d state p.0 (takes_on d state p.0)).written
+            ++ (doing (transitions_on d) (at_item_on d state p.0 (takes_on d state p.0)).state p.1).written))
+            (all_carried_out ((at_item_on d state p.0 (takes_on d state p.0)).events
+            ++ (doing (transitions_on d) (at_item_on d state p.0 (takes_on d state p.0)).state p.1).events))
         arrives (Refuses reason) is goes taken rest_from = (let no = rw is at goes in cc)
         arrives (GoesOn next writes) is goes taken rest_from =
             let rest = rest_from next (rw is at taken) in
@@ -159,10 +159,10 @@ module _ {D P U H PlaceV V K R : Type 0} (rules : Rules P U) (d : DisplayOf D U 
                 plain_spelling d.out writes,
                 plain_spelling d.out then.written,
                 all_carried_out (applied_by p.0),
-                all_carried_out then.told,
-                one_complete side b h p.0 p.2.2 next writes is,
+                all_carried_out then.events,
+                one_complete state b h p.0 p.2.2 next writes is,
                 rest.1,
                 flat_map-append (item_spelling d.out) writes then.written,
-                map-append (λ applied. CarriedOut) (applied_by p.0) then.told,
+                map-append (λ applied. CarriedOut) (applied_by p.0) then.events,
               ),
             )

@@ -11,7 +11,7 @@ use Rattle.ws_end.specs.declared.refusal.Refusal.{Refusal}
 use Rattle.ws_end.specs.declared.refusal.Refusal.TheVariants.{Failed}
 use Rattle.ws_end.specs.station.Displays.{OnDisplay}
 use Rattle.ws_end.proofs.Feedings.{value_at}
-use Rattle.ws_lasting.specs.Behaviour.{AreQuiet, AreTakenSo, IsLast, LastingRefuses, lasting_conduct}
+use Rattle.ws_lasting.specs.Behaviour.{AreQuiet, AreTakenSo, IsLast, LastingRefuses, lasting_behaviour}
 use Rattle.ws_lasting.specs.Footings.{AtLasting, LastingOf}
 use Rattle.ws_lasting.specs.declared.record_event.RecordEvent.{RecordEvent}
 
@@ -76,10 +76,10 @@ module _ (on : OnDisplay) (old : LastingOf on) (piece : List ℕ) (some : 0 < le
       → OnErr fed.step (IsSome new.ended)
       → (IsShut old.ended old.taken → (fed.step ≡ Err Failed) × (fed.used ≡ 0))
       → (IsSome old.ended → new ≡ old)
-      → TakesSome (lasting_conduct on) Written old piece new fed
+      → TakesSome (lasting_behaviour on) Written old piece new fed
   takes_some fed within any taken first after stopped failed = by fed.step refl where
     by : (step : Result (EndStep RecordEvent on.Replied) Refusal) → fed.step ≡ step
-        → TakesSome (lasting_conduct on) Written old piece new fed
+        → TakesSome (lasting_behaviour on) Written old piece new fed
     by (Ok step) is =
         let works : IsShut old.ended old.taken → ⊥ = λ shut. cc (is, (stopped shut).0) in
         rw is (record {

@@ -64,19 +64,19 @@ module _ {P U : Type 0} (rules : Rules P U) (law : SpellsBytes rules) (r : Recor
 
 module _ {D P U H PlaceV V K R : Type 0} (rules : Rules P U) (d : DisplayOf D U H PlaceV V K R)
     (free : IsPrefixFree rules) (begins : Begins rules) (law : SpellsBytes rules) where
-  not_declined : (side next : EndStateOn H) (bytes written : List ℕ) (reason : Reason)
-      → IsPerformed (on_display rules d) side bytes next written → IsDeclined (on_display rules d) side bytes reason → ⊥
-  not_declined side next bytes written reason c n =
+  not_declined : (state next : EndStateOn H) (bytes written : List ℕ) (reason : Reason)
+      → IsPerformed (on_display rules d) state bytes next written → IsDeclined (on_display rules d) state bytes reason → ⊥
+  not_declined state next bytes written reason c n =
       let same = one_record rules free begins c.0 n.0 c.1 n.1 (sym c.2 ∙ n.2) in
-      let e = sym c.4 ∙ ap (λ z. takes_on d side (RecordItem z)) same ∙ n.3 in cc
+      let e = sym c.4 ∙ ap (λ z. takes_on d state (RecordItem z)) same ∙ n.3 in cc
 
-  pub judged_one_way : (side next : EndStateOn H) (bytes written : List ℕ) (why : RefusedRecord)
-      → IsPerformed (on_display rules d) side bytes next written
-      → IsRefusedFor (on_display rules d) side bytes why → ⊥
-  judged_one_way side next bytes written why c (inl s) = not_spoilt rules law c.0 c.1 bytes c.2 why s
-  judged_one_way side next bytes written why c (inr (inl u, at)) =
+  pub judged_one_way : (state next : EndStateOn H) (bytes written : List ℕ) (why : RefusedRecord)
+      → IsPerformed (on_display rules d) state bytes next written
+      → IsRefusedFor (on_display rules d) state bytes why → ⊥
+  judged_one_way state next bytes written why c (inl s) = not_spoilt rules law c.0 c.1 bytes c.2 why s
+  judged_one_way state next bytes written why c (inr (inl u, at)) =
       not_unfit rules law c.0 c.1 bytes c.2 why.reason u
-  judged_one_way side next bytes written why c (inr (inr (inl n), at)) =
-      not_declined side next bytes written why.reason c n
-  judged_one_way side next bytes written why c (inr (inr (inr n), at)) =
-      let e = ap (λ (z : Bool). if z then d.applies side c.0 else Refuses RecordBeforeNegotiation) (sym n.0) ∙ c.4 in cc
+  judged_one_way state next bytes written why c (inr (inr (inl n), at)) =
+      not_declined state next bytes written why.reason c n
+  judged_one_way state next bytes written why c (inr (inr (inr n), at)) =
+      let e = ap (λ (z : Bool). if z then d.applies state c.0 else Refuses RecordBeforeNegotiation) (sym n.0) ∙ c.4 in cc

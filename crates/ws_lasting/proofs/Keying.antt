@@ -15,7 +15,7 @@ use Rattle.ws_end.specs.declared.station.key_fault.KeyFault.{KeyFault}
 use Rattle.ws_end.proofs.EndRequests.{SpellsOn}
 use Rattle.ws_end.specs.station.Displays.{DisplayOf, EndStateOn, on_display}
 use Rattle.ws_end.specs.station.Stations.{ReachedOn, IsKeyedOn, AtStationOn}
-use Rattle.ws_lasting.specs.Behaviour.{LastingGoes, LeadsOnFrom, sent_by}
+use Rattle.ws_lasting.specs.Behaviour.{LastingTraces, LeadsOnFrom, sent_by}
 use Rattle.ws_lasting.specs.Counting.{IsCounted}
 use Rattle.ws_lasting.specs.Footings.{AtLasting, LastingParts, ReadsOrPasses, StandsAt, IsKeyHeard}
 use Rattle.ws_lasting.specs.LastingLaws.{counted_none}
@@ -31,8 +31,8 @@ module _ {D P U H PlaceV V K R : Type 0} (rules : Rules P U) (d : DisplayOf D U 
     (same : new ≡ record old { station = new.station }) where
   pressed_so : (bytes : List ℕ) (items : List (Item U)) (result : Result (Option Answer) KeyFault)
       → ((next : EndStateOn H) → ReachedOn (on_display rules d) new.station bytes items next
-      → StandsAt (on_display rules d) new (record at { side = next }))
-      → IsKeyedOn (on_display rules d) old.station new.station bytes items at.side key result
+      → StandsAt (on_display rules d) new (record at { state = next }))
+      → IsKeyedOn (on_display rules d) old.station new.station bytes items at.state key result
       → IsKeyHeard (on_display rules d) old new at key result
   pressed_so bytes items (Err fault) stands k = (k.0, same ∙ ap (λ z. (record old { station = z })) k.1)
   pressed_so bytes items (Ok None) stands k = (k.0, k.1, stands _ k.2)
@@ -42,8 +42,8 @@ module _ {D P U H PlaceV V K R : Type 0} (rules : Rules P U) (d : DisplayOf D U 
 
   pub key_pressed : (result : Result (Option Answer) KeyFault) → StandsAt (on_display rules d) old at
       → old.taken + 1 < 2 ^ 64
-      → AtStationOn (on_display rules d) old.station (λ bytes items side. length bytes + 1 < 2 ^ 64
-      → IsKeyedOn (on_display rules d) old.station new.station bytes items side key result)
+      → AtStationOn (on_display rules d) old.station (λ bytes items state. length bytes + 1 < 2 ^ 64
+      → IsKeyedOn (on_display rules d) old.station new.station bytes items state key result)
       → IsKeyHeard (on_display rules d) old new at key result
   key_pressed result st few keyed = go old.passing refl st.within where
     begun : new.begun ≡ at.begun
@@ -56,7 +56,7 @@ module _ {D P U H PlaceV V K R : Type 0} (rules : Rules P U) (d : DisplayOf D U 
         → IsKeyHeard (on_display rules d) old new at key result
     go None is (r, size) = pressed_so r.bytes r.items result (λ next l. (
         let one = one_holds rules free begins l.leads.holds r.leads.leads.holds in
-        stands_reading rules d new (record at { side = next }) works begun
+        stands_reading rules d new (record at { state = next }) works begun
         (ap (λ (z : LastingParts _ _). z.passing) same ∙ is) (record {
           bytes = r.bytes;
           items = r.items;
@@ -65,12 +65,12 @@ module _ {D P U H PlaceV V K R : Type 0} (rules : Rules P U) (d : DisplayOf D U 
           is_begun = one.2 ∙ r.is_begun;
           few = (let t = ap (λ (z : LastingParts _ _). z.taken) same in let n = r.few in omega (arith, n, t));
         }) (ap (λ (z : LastingParts _ _). z.size) same ∙ size)))
-        (keyed r.bytes r.items at.side r.leads (let n = r.few in omega (arith, n, few)))
+        (keyed r.bytes r.items at.state r.leads (let n = r.few in omega (arith, n, few)))
     go (Some why) is p = pressed_so [] [] result (λ next l. (
-        stands_passing rules d new (record at { side = next }) works begun why
+        stands_passing rules d new (record at { state = next }) works begun why
         (ap (λ (z : LastingParts _ _). z.passing) same ∙ is)
         (record { leads = l; of_record = p.of_record; spoilt = p.spoilt })))
-        (keyed [] [] at.side p.leads (omega arith))
+        (keyed [] [] at.state p.leads (omega arith))
 
 -- A key is an act.
 
@@ -85,19 +85,19 @@ module _ {D P U H PlaceV V K R : Type 0} (rules : Rules P U) (d : DisplayOf D U 
   key_leads : (at : Footing H) (answer : Option Answer) → IsKeyHeard (on_display rules d) old new at key (Ok answer)
       → LeadsOnFrom (on_display rules d) old new at (Did key ∷ []) (sent_by answer) []
   key_leads at None k = (
-    record at { side = k.0 },
+    record at { state = k.0 },
     rw k.1 ([], (refl, refl, refl), refl),
     k.2,
     kept,
     unread,
   )
   key_leads at (Some (Read body)) k = (
-    record at { side = k.0 },
+    record at { state = k.0 },
     rw k.3 (
       [],
       (refl, refl, refl),
       ap (λ z. record_spelling (header (10 + length z) 0 PutGet ++ z)) k.4
-          ∙ sym (append-nil _) ∙ sym (spells (d.shows at.side.happened) k.1 k.2) ∙ sym (append-nil _),
+          ∙ sym (append-nil _) ∙ sym (spells (d.shows at.state.happened) k.1 k.2) ∙ sym (append-nil _),
     ),
     k.5,
     kept,
@@ -121,7 +121,7 @@ module _ {D P U H PlaceV V K R : Type 0} (rules : Rules P U) (d : DisplayOf D U 
   pub key_acts : (result : Result (Option Answer) KeyFault) → (IsShut old.ended old.taken → ⊥)
       → AtLasting (on_display rules d) old (λ at. old.taken + 1 < 2 ^ 64
       → IsKeyHeard (on_display rules d) old new at key result)
-      → IfOk result (λ answer. LastingGoes (on_display rules d) old (Did key ∷ []) (sent_by answer) [] new)
+      → IfOk result (λ answer. LastingTraces (on_display rules d) old (Did key ∷ []) (sent_by answer) [] new)
   key_acts (Ok answer) works keyed = record {
     led = λ at st few. key_leads at answer (keyed at st (omega (arith, few)));
     shut = λ shut. absurd (works shut);

@@ -37,7 +37,7 @@ both_true false b e f = cc
 module _ {D P U H PlaceV V K R : Type 0} (rules : Rules P U) (d : DisplayOf D U H PlaceV V K R) where
   -- a station to which no byte has come reads
   pub reads_anew : IsPrefixFree rules → Begins rules → (station : PartsOn D P) (taken : ℕ) (at : Footing H)
-      → at.so_far ≡ [] → at.begun ≡ [] → ReachedOn (on_display rules d) station [] [] at.side
+      → at.so_far ≡ [] → at.begun ≡ [] → ReachedOn (on_display rules d) station [] [] at.state
       → IsReading (on_display rules d) station taken at
   reads_anew free begins station taken at none between l =
       let same = one_holds rules free begins l.leads.holds (holds_nothing rules) in
@@ -83,11 +83,11 @@ module _ {D P U H PlaceV V K R : Type 0} (rules : Rules P U) (d : DisplayOf D U 
     }
 
   -- what was answered leaves it so
-  pub answered : (station : PartsOn D P) (side : EndStateOn H) (t : Telnet) → ReachedOn
-      (on_display rules d) station [] [] side → ReachedOn (on_display rules d) (record station {
+  pub answered : (station : PartsOn D P) (state : EndStateOn H) (t : Telnet) → ReachedOn
+      (on_display rules d) station [] [] state → ReachedOn (on_display rules d) (record station {
         reacts = record station.reacts { options = (station_answer station.reacts.options t).after };
-      }) [] [] (record { options = (station_answer side.options t).after; happened = side.happened })
-  answered station side t l = record {
+      }) [] [] (record { options = (station_answer state.options t).after; happened = state.happened })
+  answered station state t l = record {
     so_far = l.so_far;
     leads = l.leads;
     kept = l.kept;
@@ -106,7 +106,7 @@ module _ {D P U H PlaceV V K R : Type 0} (rules : Rules P U) (d : DisplayOf D U 
     module _ (silent : d.written old.station.reacts.screen step.reply ≡ []) (untold : step.event ≡ None) where
       pub passes_more : IsWordHeard (on_display rules d) old.counts old at here More (Ok step)
       passes_more = rw untold (
-        record { side = at.side; so_far = at.so_far; begun = old.begun },
+        record { state = at.state; so_far = at.so_far; begun = old.begun },
         (refl, refl, silent, refl),
         stands_passing old _ works refl why passing
             (record { leads = p.leads; of_record = p.of_record; spoilt = p.spoilt }),
@@ -115,7 +115,7 @@ module _ {D P U H PlaceV V K R : Type 0} (rules : Rules P U) (d : DisplayOf D U 
 
       pub passes_data : (b : ℕ) → IsWordHeard (on_display rules d) old.counts old at here (Whole (Data b)) (Ok step)
       passes_data b = rw untold (
-        record { side = at.side; so_far = at.so_far ++ b ∷ []; begun = old.begun },
+        record { state = at.state; so_far = at.so_far ++ b ∷ []; begun = old.begun },
         (refl, refl, silent, refl),
         stands_passing old _ works refl why passing (record {
           leads = p.leads;
@@ -137,7 +137,7 @@ module _ {D P U H PlaceV V K R : Type 0} (rules : Rules P U) (d : DisplayOf D U 
         } → IsWordHeard (on_display rules d) old.counts new at here (Whole (TelnetToken t)) (Ok step)
     passes_telnet new t written untold same = rw untold (
       record {
-        side = record { options = (station_answer at.side.options t).after; happened = at.side.happened };
+        state = record { options = (station_answer at.state.options t).after; happened = at.state.happened };
         so_far = at.so_far;
         begun = new.begun;
       },
@@ -145,8 +145,8 @@ module _ {D P U H PlaceV V K R : Type 0} (rules : Rules P U) (d : DisplayOf D U 
       stands_passing new _ (ap (λ (z : LastingParts _ _). z.ended) same ∙ works) refl why
           (ap (λ (z : LastingParts _ _). z.passing) same ∙ passing) (record {
             leads = subst (λ (z : PartsOn D P). ReachedOn (on_display rules d) z [] []
-                (record { options = (station_answer at.side.options t).after; happened = at.side.happened }))
-                (sym (ap (λ (z : LastingParts _ _). z.station) same)) (answered old.station at.side t p.leads);
+                (record { options = (station_answer at.state.options t).after; happened = at.state.happened }))
+                (sym (ap (λ (z : LastingParts _ _). z.station) same)) (answered old.station at.state t p.leads);
             of_record = p.of_record;
             spoilt = p.spoilt;
           }),
@@ -161,7 +161,7 @@ module _ {D P U H PlaceV V K R : Type 0} (rules : Rules P U) (d : DisplayOf D U 
         → IsCounted old.counts (Refused why ∷ []) new.counts
         → IsWordHeard (on_display rules d) old.counts new at here (Whole Eor) (Ok step)
     passes_eor free begins new allows between written told same counted = rw told (
-      record { side = at.side; so_far = []; begun = new.begun },
+      record { state = at.state; so_far = []; begun = new.begun },
       (
         refl,
         inr (
@@ -176,7 +176,7 @@ module _ {D P U H PlaceV V K R : Type 0} (rules : Rules P U) (d : DisplayOf D U 
       stands_reading new _ (ap (λ (z : LastingParts _ _). z.ended) same ∙ works) refl
           (ap (λ (z : LastingParts _ _). z.passing) same)
           (reads_anew free begins new.station new.taken _ refl (ap (λ (z : LastingParts _ _). z.begun) same ∙ between)
-          (subst (λ (z : PartsOn D P). ReachedOn (on_display rules d) z [] [] at.side)
+          (subst (λ (z : PartsOn D P). ReachedOn (on_display rules d) z [] [] at.state)
           (sym (ap (λ (z : LastingParts _ _). z.station) same)) p.leads))
           (ap (λ (z : LastingParts _ _). z.size) same),
       counted,

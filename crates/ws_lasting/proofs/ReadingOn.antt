@@ -84,7 +84,7 @@ module _ {D P U H PlaceV V K R : Type 0} (rules : Rules P U) (d : DisplayOf D U 
           (l : ReachedOn (on_display rules d) mid.station (r.bytes ++ b ∷ []) items next) → l.so_far.bytes ≡ left
           → mid.station.live.begun ≡ mid.begun → o ≡ None → n ≡ length left
           → StandsAt (on_display rules d) (record mid { size = n; passing = o; counts = counts })
-          (record { side = next; so_far = left; begun = mid.begun })
+          (record { state = next; so_far = left; begun = mid.begun })
       reads_on next items left n o counts l is_open is_begun none long =
           stands_reading rules d (record mid { size = n; passing = o; counts = counts }) _ works refl none (record {
             bytes = r.bytes ++ b ∷ [];
@@ -97,7 +97,7 @@ module _ {D P U H PlaceV V K R : Type 0} (rules : Rules P U) (d : DisplayOf D U 
 
       pub heard : (new : LastingParts D P) (event : Option RecordEvent) (word : Push Token)
           → IsTokenStep at.begun b mid.begun word
-          → GoesOnAt (station_driving (on_display rules d)) mid.station (r.bytes ++ b ∷ []) r.items at.side gave
+          → GoesOnAt (station_driving (on_display rules d)) mid.station (r.bytes ++ b ∷ []) r.items at.state gave
           → IsFollowed (on_display rules d) mid new word event
           → ((reason : Reason) → word ≡ Bad reason → ⊥)
           → IsWordHeard (on_display rules d) mid.counts new at here word
@@ -105,9 +105,9 @@ module _ {D P U H PlaceV V K R : Type 0} (rules : Rules P U) (d : DisplayOf D U 
       heard new event More step (inl s) f other =
           let same = one_holds rules free begins (holds_more rules held_so (b ∷ []) step.1) s.0.leads.holds in
           rw (f.0, f.1) (
-            record { side = at.side; so_far = at.so_far; begun = mid.begun },
+            record { state = at.state; so_far = at.so_far; begun = mid.begun },
             (refl, refl, s.1, refl),
-            reads_on at.side r.items at.so_far mid.size mid.passing mid.counts s.0 (sym same.1)
+            reads_on at.state r.items at.so_far mid.size mid.passing mid.counts s.0 (sym same.1)
                 (sym same.2 ∙ sym step.0) passing size,
             counted_none mid.counts,
           )
@@ -117,9 +117,9 @@ module _ {D P U H PlaceV V K R : Type 0} (rules : Rules P U) (d : DisplayOf D U 
       heard new event (Whole (Data v)) step (inl s) f other =
           let same = one_holds rules free begins (holds_data rules held_so b v step.1) s.0.leads.holds in
           rw (f.0, f.1) (
-            record { side = at.side; so_far = at.so_far ++ v ∷ []; begun = mid.begun },
+            record { state = at.state; so_far = at.so_far ++ v ∷ []; begun = mid.begun },
             (refl, refl, s.1, refl),
-            reads_on at.side r.items (at.so_far ++ v ∷ []) (mid.size + 1) mid.passing mid.counts s.0 (sym same.1)
+            reads_on at.state r.items (at.so_far ++ v ∷ []) (mid.size + 1) mid.passing mid.counts s.0 (sym same.1)
                 (sym same.2 ∙ sym step.0) passing (omega (arith, size, length-append at.so_far (v ∷ []))),
             counted_none mid.counts,
           )
@@ -132,9 +132,9 @@ module _ {D P U H PlaceV V K R : Type 0} (rules : Rules P U) (d : DisplayOf D U 
       heard new event (Whole (TelnetToken u)) step (inr t) f other =
           let same = one_holds rules free begins (holds_command rules held_so b u step.1) t.6.leads.holds in
           let item = (same_last r.items r.items (TelnetItem u) t.0 same.0).1 in
-          let gone = gone_parts _ _ _ _ (ap (takes_on d at.side) item ∙ t.3) in
+          let gone = gone_parts _ _ _ _ (ap (takes_on d at.state) item ∙ t.3) in
           rw (f.0, f.1) (
-            record { side = t.1; so_far = at.so_far; begun = mid.begun },
+            record { state = t.1; so_far = at.so_far; begun = mid.begun },
             (sym gone.0, refl, t.4 ∙ ap (plain_spelling d.out) (sym gone.1) ∙ plain_tokens d.out _, refl),
             reads_on t.1 (r.items ++ t.0 ∷ []) at.so_far mid.size mid.passing mid.counts t.6 (sym same.1)
                 (sym same.2 ∙ sym step.0) passing size,
@@ -150,15 +150,15 @@ module _ {D P U H PlaceV V K R : Type 0} (rules : Rules P U) (d : DisplayOf D U 
           t.6.leads.holds in
           let item = (same_last r.items r.items (RecordItem r'.0) t.0 same.0).1 in
           rw (f.1, f.3) (
-            record { side = t.1; so_far = []; begun = mid.begun },
-            (refl, inl ((r'.0, r'.1, r'.2, t.2, ap (takes_on d at.side) item ∙ t.3, t.4), refl)),
+            record { state = t.1; so_far = []; begun = mid.begun },
+            (refl, inl ((r'.0, r'.1, r'.2, t.2, ap (takes_on d at.state) item ∙ t.3, t.4), refl)),
             reads_on t.1 (r.items ++ t.0 ∷ []) [] 0 None f.0 t.6 (sym same.1) (sym same.2 ∙ sym step.0) refl refl,
             f.2,
           )
       heard new event (Bad reason) step g f other = absurd (other reason refl)
 
     -- the byte is refused, or its item
-    module _ (reason : Reason) (place : ℕ) (why : IsWhy (station_driving (on_display rules d)) (At place reason) (r.bytes ++ b ∷ []) r.items at.side)
+    module _ (reason : Reason) (place : ℕ) (why : IsWhy (station_driving (on_display rules d)) (At place reason) (r.bytes ++ b ∷ []) r.items at.state)
       where
         here_is : place ≡ length r.bytes
         here_is = let n = why.0 in omega (arith, n, length-append r.bytes (b ∷ []))
@@ -171,7 +171,7 @@ module _ {D P U H PlaceV V K R : Type 0} (rules : Rules P U) (d : DisplayOf D U 
         ]
 
         pub judged : (t : Token) → IsSpelled token_rules tt (at.begun ++ b ∷ []) t
-            → IsTokenRefused (on_display rules d) at.side at.so_far t reason
+            → IsTokenRefused (on_display rules d) at.state at.so_far t reason
         judged (Data v) s = elim why.1 [
           | inl q ↦ unfit rules free begins can law held_so framed_so body_so b reason place here_is q (Data v) s
           | inr q ↦ absurd (no_more rules free begins r.items q.item (one_holds rules free begins
@@ -181,20 +181,20 @@ module _ {D P U H PlaceV V K R : Type 0} (rules : Rules P U) (d : DisplayOf D U 
           | inl q ↦ unfit rules free begins can law held_so framed_so body_so b reason place here_is q (TelnetToken u) s
           | inr q ↦ (let same = one_holds rules free begins (holds_command rules held_so b u s) q.holds.2 in
               let item = (same_last r.items r.items (TelnetItem u) q.item same.0).1 in
-              let e = ap (takes_on d at.side) item ∙ q.so in cc)
+              let e = ap (takes_on d at.state) item ∙ q.so in cc)
         ]
         judged Eor s = elim why.1 [
           | inl q ↦ inl (unfit rules free begins can law held_so framed_so body_so b reason place here_is q Eor s)
           | inr q ↦ (let r' = ended rules free begins held_so b s q.holds.2 in
               let same = one_holds rules free begins (holds_record rules held_so b r'.0 s r'.1 r'.2) q.holds.2 in
               let item = (same_last r.items r.items (RecordItem r'.0) q.item same.0).1 in
-              inr (inl (r'.0, r'.1, r'.2, ap (takes_on d at.side) item ∙ q.so)))
+              inr (inl (r'.0, r'.1, r'.2, ap (takes_on d at.state) item ∙ q.so)))
         ]
 
         -- what is told of it, and how the station stands then
         module _ (new : LastingParts D P) (works : new.ended ≡ None)
-            (anew : ReachedOn (on_display rules d) new.station [] [] at.side)
-            (may : may_pass_over (on_display rules d) at.side reason ≡ true) (here size : ℕ)
+            (anew : ReachedOn (on_display rules d) new.station [] [] at.state)
+            (may : may_pass_over (on_display rules d) at.state reason ≡ true) (here size : ℕ)
             (long : size ≡ length at.so_far) (step : EndStep RecordEvent R) where
           abbrev Why : RefusedRecord
           Why = record { reason = reason; place = size }
@@ -205,7 +205,7 @@ module _ {D P U H PlaceV V K R : Type 0} (rules : Rules P U) (d : DisplayOf D U 
               → IsCounted counts (Refused Why ∷ []) new.counts
               → IsWordHeard (on_display rules d) counts new at here (Whole Eor) (Ok step)
           refused_at_end counts passing between none s written told counted = rw told (
-            record { side = at.side; so_far = []; begun = new.begun },
+            record { state = at.state; so_far = []; begun = new.begun },
             (refl, inr (refl, Why, may, inr (judged Eor s, long), written, refl)),
             stands_reading rules d new _ works refl passing
                 (reads_anew rules d free begins new.station new.taken _ refl between anew) none,
@@ -218,7 +218,7 @@ module _ {D P U H PlaceV V K R : Type 0} (rules : Rules P U) (d : DisplayOf D U 
               → IsWordHeard (on_display rules d) new.counts new at here word (Ok step)
           refused_inside More passing t no_end no_bad silent untold = absurd (judged_inside t.1)
           refused_inside (Whole (Data v)) passing t no_end no_bad silent untold = rw untold (
-            record { side = at.side; so_far = at.so_far ++ v ∷ []; begun = new.begun },
+            record { state = at.state; so_far = at.so_far ++ v ∷ []; begun = new.begun },
             (refl, refl, silent, refl),
             stands_passing rules d new _ works refl Why passing (record {
               leads = anew;
@@ -243,7 +243,7 @@ module _ {D P U H PlaceV V K R : Type 0} (rules : Rules P U) (d : DisplayOf D U 
 
         pub refused_last : (counts : RecordCounts) (new : LastingParts D P) (left : List ℕ) (word : Push Token) (here : ℕ)
             → IsTokenStep at.begun b left word
-            → ((other : Reason) → word ≡ Bad other → ⊥) → may_pass_over (on_display rules d) at.side reason ≡ false
+            → ((other : Reason) → word ≡ Bad other → ⊥) → may_pass_over (on_display rules d) at.state reason ≡ false
             → IsWordHeard (on_display rules d) counts new at here word (Err (At here reason))
         refused_last counts new left More here t no_bad other = absurd (judged_inside t.1)
         refused_last counts new left (Whole u) here t no_bad other = (refl, (judged u t.1, other))

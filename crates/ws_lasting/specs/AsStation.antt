@@ -14,14 +14,14 @@ use Rattle.ws_lasting.specs.declared.record_event.RecordEvent.TheVariants.{Carri
 abbrev pub all_carried_out : List Applied → List RecordEvent
 all_carried_out told = map (λ applied. CarriedOut) told
 
--- from this side on the acts lead a station of whose items it refuses none, and this is written and told
+-- from this state on the acts lead a station of whose items it refuses none, and this is written and told
 abbrev pub LeadsAsStation : (on : OnDisplay) → EndStateOf on → List (Act on.Pressed) → List ℕ → List Applied → Type 0
-LeadsAsStation on side acts written told =
-    IsTrace (ways on.rules on.does.out (transitions_on on.does)) (λ bytes items next. Unit {0}) [] [] side acts written
+LeadsAsStation on state acts written told =
+    IsTrace (ways on.rules on.does.out (transitions_on on.does)) (λ bytes items next. Unit {0}) [] [] state acts written
         told
 
 -- one that no record ends then writes and tells the same
 abbrev pub LastsAsStation : (on : OnDisplay) → Type 0
-LastsAsStation on = (side : EndStateOf on) (acts : List (Act on.Pressed)) (written : List ℕ) (told : List Applied)
-    → LeadsAsStation on side acts written told → (next : FootingOn on)
-    × Lasts on (record { side = side; so_far = []; begun = [] }) acts next written (all_carried_out told)
+LastsAsStation on = (state : EndStateOf on) (acts : List (Act on.Pressed)) (written : List ℕ) (told : List Applied)
+    → LeadsAsStation on state acts written told → (next : FootingOn on)
+    × Lasts on (record { state = state; so_far = []; begun = [] }) acts next written (all_carried_out told)

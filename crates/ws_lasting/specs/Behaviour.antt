@@ -48,7 +48,7 @@ module _ (on : OnDisplay) where
       × IsLast at old.taken front byte why
 
   -- the acts lead from the one station to the other, which wrote and told this in them
-  pub record LastingGoes (old : LastingOf on) (acts : List (Act on.Pressed)) (written : List ℕ)
+  pub record LastingTraces (old : LastingOf on) (acts : List (Act on.Pressed)) (written : List ℕ)
       (told : List RecordEvent) (new : LastingOf on) : Type 0 where
     pub led : AtLasting on old (λ at. old.taken + length (bytes_of acts) + 1 < 2 ^ 64
         → LeadsOnFrom old new at acts written told)
@@ -66,10 +66,10 @@ module _ (on : OnDisplay) where
     pub led : AtLasting on old (λ at. old.taken + length came + 1 < 2 ^ 64 → AreQuiet at came)
     pub shut : IsShut old.ended old.taken → came ≡ []
 
-  -- how it conducts itself
-  abbrev pub lasting_conduct : Behaviour (LastingOf on) on.Pressed RecordEvent
-  lasting_conduct = record {
-    goes = LastingGoes;
+  -- how it behaves
+  abbrev pub lasting_behaviour : Behaviour (LastingOf on) on.Pressed RecordEvent
+  lasting_behaviour = record {
+    traces = LastingTraces;
     refuses = LastingRefuses;
     silent = LastingSilent;
     over = λ station. IsSome station.ended;

@@ -48,14 +48,14 @@ module _ (on : OnDisplay) where
   pub record IsReading (station : StationOf on) (taken : ℕ) (at : FootingOn on) : Type 0 where
     pub bytes : List ℕ
     pub items : ItemsOf on
-    pub leads : ReachedOn on station bytes items at.side
+    pub leads : ReachedOn on station bytes items at.state
     pub is_open : leads.so_far.bytes ≡ at.so_far
     pub is_begun : station.live.begun ≡ at.begun
     pub few : length bytes ≤ taken
 
   -- it passes over a record that has these bytes, and stands itself as a new one
   pub record IsPassingOver (station : StationOf on) (at : FootingOn on) (why : RefusedRecord) : Type 0 where
-    pub leads : ReachedOn on station [] [] at.side
+    pub leads : ReachedOn on station [] [] at.state
     pub of_record : is_of_record why.reason ≡ true
     pub spoilt : IsSpoilt on.rules at.so_far why
 
@@ -118,13 +118,13 @@ module _ (on : OnDisplay) where
 
   -- what a key gives: its refusal, with the station as it was; or what it sends
   abbrev pub IsKeyHeard : LastingOf → LastingOf → FootingOn on → on.Pressed → Result (Option Answer) KeyFault → Type 0
-  IsKeyHeard old new at key (Err fault) = (key_on on.does at.side key ≡ RefusesKey fault) × (new ≡ old)
-  IsKeyHeard old new at key (Ok None) = (next : EndStateOf on) × (key_on on.does at.side key ≡ Silent next)
-      × StandsAt new (record at { side = next })
+  IsKeyHeard old new at key (Err fault) = (key_on on.does at.state key ≡ RefusesKey fault) × (new ≡ old)
+  IsKeyHeard old new at key (Ok None) = (next : EndStateOf on) × (key_on on.does at.state key ≡ Silent next)
+      × StandsAt new (record at { state = next })
   IsKeyHeard old new at key (Ok (Some (Read body))) = (next : EndStateOf on) × (kind : ReadKind) × (aid : ℕ)
-      × (key_on on.does at.side key ≡ Answers next kind aid)
-      × (body ≡ answer_bytes kind (on.does.shows at.side.happened) aid) × StandsAt new (record at { side = next })
+      × (key_on on.does at.state key ≡ Answers next kind aid)
+      × (body ≡ answer_bytes kind (on.does.shows at.state.happened) aid) × StandsAt new (record at { state = next })
   IsKeyHeard old new at key (Ok (Some Attention)) =
-      (key_on on.does at.side key ≡ Signals NoOperation ATN) × StandsAt new at
+      (key_on on.does at.state key ≡ Signals NoOperation ATN) × StandsAt new at
   IsKeyHeard old new at key (Ok (Some SystemRequest)) =
-      (key_on on.does at.side key ≡ Signals NoOperation SRQ) × StandsAt new at
+      (key_on on.does at.state key ≡ Signals NoOperation SRQ) × StandsAt new at

@@ -29,9 +29,9 @@ use Rattle.ws_lasting.specs.declared.record_event.RecordEvent.{RecordEvent}
 use Rattle.ws_lasting.specs.declared.record_event.RecordEvent.TheVariants.{CarriedOut, Refused}
 use Rattle.ws_lasting.specs.declared.record_event.RefusedRecord.{RefusedRecord}
 
--- Where a station stands: on this side, after these bytes of an open record and these of an unfinished token.
+-- Where a station stands: on this state, after these bytes of an open record and these of an unfinished token.
 pub record Footing (H : Type 0) : Type 0 where
-  pub side : EndStateOn H
+  pub state : EndStateOn H
   pub so_far : List ℕ
   pub begun : List ℕ
 
@@ -48,49 +48,49 @@ module _ (on : OnDisplay) where
 
   -- the station goes on after a record that is refused for this reason
   abbrev pub may_pass_over : EndStateOf on → Reason → Bool
-  may_pass_over side reason = is_of_record reason && station_allows_records side.options
+  may_pass_over state reason = is_of_record reason && station_allows_records state.options
 
-  -- the record that has these bytes is carried out: the side that the station comes to, and what it writes
+  -- the record that has these bytes is carried out: the state that the station comes to, and what it writes
   abbrev pub IsPerformed : EndStateOf on → List ℕ → EndStateOf on → List ℕ → Type 0
-  IsPerformed side bytes next written = (r : Record on.Reads) × IsRecord on.rules r × (bytes ≡ record_bytes on.rules r)
-      × (writes : List (Item on.Writes)) × (takes_on on.does side (RecordItem r) ≡ GoesOn next writes)
+  IsPerformed state bytes next written = (r : Record on.Reads) × IsRecord on.rules r × (bytes ≡ record_bytes on.rules r)
+      × (writes : List (Item on.Writes)) × (takes_on on.does state (RecordItem r) ≡ GoesOn next writes)
       × (written ≡ plain_spelling on.does.out writes)
 
   -- the record that has these bytes is refused, by the screen before it
   abbrev pub IsDeclined : EndStateOf on → List ℕ → Reason → Type 0
-  IsDeclined side bytes reason = (r : Record on.Reads) × IsRecord on.rules r × (bytes ≡ record_bytes on.rules r)
-      × (takes_on on.does side (RecordItem r) ≡ Refuses reason)
+  IsDeclined state bytes reason = (r : Record on.Reads) × IsRecord on.rules r × (bytes ≡ record_bytes on.rules r)
+      × (takes_on on.does state (RecordItem r) ≡ Refuses reason)
 
   -- a token is refused after these bytes of a record, of which none is
   abbrev pub IsTokenRefused : EndStateOf on → List ℕ → Token → Reason → Type 0
-  IsTokenRefused side so_far (Data b) reason = IsUnfit on.rules so_far (Data b) reason
-  IsTokenRefused side so_far Eor reason = IsUnfit on.rules so_far Eor reason ⊎ IsDeclined side so_far reason
-      ⊎ ((station_allows_records side.options ≡ false) × (reason ≡ RecordBeforeNegotiation))
-  IsTokenRefused side so_far (TelnetToken t) reason = ⊥
+  IsTokenRefused state so_far (Data b) reason = IsUnfit on.rules so_far (Data b) reason
+  IsTokenRefused state so_far Eor reason = IsUnfit on.rules so_far Eor reason ⊎ IsDeclined state so_far reason
+      ⊎ ((station_allows_records state.options ≡ false) × (reason ≡ RecordBeforeNegotiation))
+  IsTokenRefused state so_far (TelnetToken t) reason = ⊥
 
   -- a record that has these bytes is refused: at one of them, or at its end
   abbrev pub IsRefusedFor : EndStateOf on → List ℕ → RefusedRecord → Type 0
-  IsRefusedFor side bytes why =
-      IsSpoilt on.rules bytes why ⊎ (IsTokenRefused side bytes Eor why.reason × (why.place ≡ length bytes))
+  IsRefusedFor state bytes why =
+      IsSpoilt on.rules bytes why ⊎ (IsTokenRefused state bytes Eor why.reason × (why.place ≡ length bytes))
 
-  -- What a token makes of a station that stands on this side, after these bytes of a record: the side that it comes
+  -- What a token makes of a station that stands on this state, after these bytes of a record: the state that it comes
   -- to, the bytes of the record then, what it writes, and what it tells.
   abbrev pub IsAtToken : EndStateOf on → List ℕ → Token → EndStateOf on → List ℕ → List ℕ → List RecordEvent → Type 0
-  IsAtToken side so_far (Data b) next left written told =
-      (next ≡ side) × (left ≡ so_far ++ b ∷ []) × (written ≡ []) × (told ≡ [])
-  IsAtToken side so_far (TelnetToken t) next left written told =
-      (next ≡ record { options = (station_answer side.options t).after; happened = side.happened })
-      × (left ≡ so_far) × (written ≡ telnet_bytes (station_answer side.options t).reply) × (told ≡ [])
-  IsAtToken side so_far Eor next left written told = (left ≡ [])
-      × ((IsPerformed side so_far next written × (told ≡ CarriedOut ∷ []))
-      ⊎ ((next ≡ side) × (why : RefusedRecord) × (may_pass_over side why.reason ≡ true) × IsRefusedFor side so_far why
+  IsAtToken state so_far (Data b) next left written told =
+      (next ≡ state) × (left ≡ so_far ++ b ∷ []) × (written ≡ []) × (told ≡ [])
+  IsAtToken state so_far (TelnetToken t) next left written told =
+      (next ≡ record { options = (station_answer state.options t).after; happened = state.happened })
+      × (left ≡ so_far) × (written ≡ telnet_bytes (station_answer state.options t).reply) × (told ≡ [])
+  IsAtToken state so_far Eor next left written told = (left ≡ [])
+      × ((IsPerformed state so_far next written × (told ≡ CarriedOut ∷ []))
+      ⊎ ((next ≡ state) × (why : RefusedRecord) × (may_pass_over state why.reason ≡ true) × IsRefusedFor state so_far why
       × (written ≡ negative why.reason) × (told ≡ Refused why ∷ [])))
 
   -- what a byte makes of a station, by what it makes of tokens
   abbrev pub IsAtWord : FootingOn → Push Token → FootingOn → List ℕ → List RecordEvent → Type 0
   IsAtWord at More next written told =
-      (next.side ≡ at.side) × (next.so_far ≡ at.so_far) × (written ≡ []) × (told ≡ [])
-  IsAtWord at (Whole t) next written told = IsAtToken at.side at.so_far t next.side next.so_far written told
+      (next.state ≡ at.state) × (next.so_far ≡ at.so_far) × (written ≡ []) × (told ≡ [])
+  IsAtWord at (Whole t) next written told = IsAtToken at.state at.so_far t next.state next.so_far written told
   IsAtWord at (Bad reason) next written told = ⊥
 
   abbrev pub IsAtByte : FootingOn → ℕ → FootingOn → List ℕ → List RecordEvent → Type 0
@@ -104,15 +104,15 @@ module _ (on : OnDisplay) where
       × IsAtByte at byte mid first now × Lasts mid acts next rest later
       × (written ≡ first ++ rest) × (told ≡ now ++ later)
   Lasts at (Did key ∷ acts) next written told =
-      let done : Doing (EndStateOf on) on.Writes Applied = at_key_on on.does at.side (key_on on.does at.side key) in
-      (rest : List ℕ) × Lasts (record { side = done.side; so_far = at.so_far; begun = at.begun }) acts next rest told
+      let done : Doing (EndStateOf on) on.Writes Applied = at_key_on on.does at.state (key_on on.does at.state key) in
+      (rest : List ℕ) × Lasts (record { state = done.state; so_far = at.so_far; begun = at.begun }) acts next rest told
       × (written ≡ plain_spelling on.does.out done.written ++ rest)
 
   -- what a byte makes of tokens ends the session: no token goes on with it, or one is refused, and not as a record is
   abbrev pub IsFatalWord : FootingOn → Push Token → Reason → Type 0
   IsFatalWord at More reason = ⊥
   IsFatalWord at (Whole t) reason =
-      IsTokenRefused at.side at.so_far t reason × (may_pass_over at.side reason ≡ false)
+      IsTokenRefused at.state at.so_far t reason × (may_pass_over at.state reason ≡ false)
   IsFatalWord at (Bad bad) reason = reason ≡ bad
 
   -- the byte ends the session

@@ -5,7 +5,7 @@ use Rattle.ws_end.specs.ActLaws.{bytes_append}
 use Rattle.ws_end.specs.Acts.{Act, Came, Did, bytes_of}
 use Rattle.ws_end.specs.Ends.{IsShut}
 use Rattle.ws_end.specs.station.Displays.{OnDisplay}
-use Rattle.ws_lasting.specs.Behaviour.{LastingGoes, LeadsOnFrom}
+use Rattle.ws_lasting.specs.Behaviour.{LastingTraces, LeadsOnFrom}
 use Rattle.ws_lasting.specs.Counting.{IsCounted, carried_out_in, refused_in, last_refused}
 use Rattle.ws_lasting.specs.Footings.{LastingOf, StandsAt}
 use Rattle.ws_lasting.specs.Lasting.{FootingOn, Lasts}
@@ -88,7 +88,7 @@ module _ (on : OnDisplay) where
   leads_none a at st = (at, (refl, refl, refl), st, counted_none a.counts, omega arith)
 
   -- without an act it stays where it is
-  pub lasting_stays : (e : LastingOf on) → LastingGoes on e [] [] [] e
+  pub lasting_stays : (e : LastingOf on) → LastingTraces on e [] [] [] e
   lasting_stays e = record {
     led = λ at st few. leads_none e at st;
     shut = λ h. record { no_byte = refl; same = refl; unwritten = refl; untold = refl };
@@ -96,7 +96,7 @@ module _ (on : OnDisplay) where
 
   -- acts go on where others have led
   pub lasting_follows : (a b c : LastingOf on) (xs ys : List (Act on.Pressed)) (v w : List ℕ) (s t : List RecordEvent)
-      → LastingGoes on a xs v s b → LastingGoes on b ys w t c → LastingGoes on a (xs ++ ys) (v ++ w) (s ++ t) c
+      → LastingTraces on a xs v s b → LastingTraces on b ys w t c → LastingTraces on a (xs ++ ys) (v ++ w) (s ++ t) c
   lasting_follows a b c xs ys v w s t p q = record {
     led = λ at st few.
         let n = ap (λ z. length z) (bytes_append xs ys) in

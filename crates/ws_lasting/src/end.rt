@@ -1,5 +1,5 @@
 //! A station that no record ends, as an end of a session.
-ghost use Rattle.ws_lasting.specs.Behaviour.{lasting_conduct};
+ghost use Rattle.ws_lasting.specs.Behaviour.{lasting_behaviour};
 ghost use Rattle.ws_lasting.specs.LastingLaws.{lasting_follows, lasting_stays};
 ghost use Rattle.ws_end.specs.station.Displays.{on_display as on};
 
@@ -14,7 +14,7 @@ impl<D: StationDisplay> End for LastingStation<D> {
 
     type Reply = D::Reply;
 
-    ghost conduct = { lasting_conduct (on D.Commands.rules D.does) };
+    ghost conduct = { lasting_behaviour (on D.Commands.rules D.does) };
 
     ghost written = { λ station reply. D.does.written station.station.reacts.screen reply };
 

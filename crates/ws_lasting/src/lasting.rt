@@ -1,6 +1,6 @@
 //! A station that no record ends.
 ghost use Rattle.std.specs.Prelude.{◌≡◌, ◌&&◌, ◌≢◌, ◌≤◌, ◌<◌, ◌+◌, ◌-◌, ◌^◌, ◌∷◌, ℕ, [], None, Some, Err, IfOk, IsSome, OnErr, OnOk};
-ghost use Rattle.ws_lasting.specs.Behaviour.{LastingGoes, sent_by};
+ghost use Rattle.ws_lasting.specs.Behaviour.{LastingTraces, sent_by};
 ghost use Rattle.ws_lasting.specs.Footings.{AtLasting, IsByteTaken, IsKeyHeard, IsPushedSo, StandsAt};
 ghost use Rattle.ws_end.specs.Acts.{Did};
 ghost use Rattle.ws_end.specs.Ends.{IsShut};
@@ -41,7 +41,7 @@ pub struct LastingStation<D: StationDisplay> {
 impl<D: StationDisplay> Model for LastingStation<D> {
     ghost use Rattle.std.specs.Prelude.{◌≤◌};
     ghost use Rattle.ws_code.specs.Code.{IsUnfinished};
-    ghost use Rattle.ws_lasting.specs.Behaviour.{LastingGoes, sent_by};
+    ghost use Rattle.ws_lasting.specs.Behaviour.{LastingTraces, sent_by};
     ghost use Rattle.ws_lasting.specs.Footings.{LastingParts};
     ghost use Rattle.ws_telnet.specs.Machine.{unfinished_token};
     ghost use Rattle.ws_telnet.specs.Token.{token_rules};
@@ -66,7 +66,7 @@ impl<D: StationDisplay> LastingStation<D> {
     /// A station that has taken no byte and no key.
     pub fn new(terminal: TerminalType) -> Self
         ensures stands { StandsAt (on D.Commands.rules D.does) result
-            (record { side = new_state_on D.does terminal; so_far = []; begun = [] }) }
+            (record { state = new_state_on D.does terminal; so_far = []; begun = [] }) }
         ensures counts { result.counts ≡ record { carried_out = 0; refused = 0; last = None } }
         ensures taken { result.taken ≡ 0 }
     {
@@ -137,7 +137,7 @@ impl<D: StationDisplay> LastingStation<D> {
             self.old.taken + 1 < 2 ^ 64
             → IsKeyHeard (on D.Commands.rules D.does) self.old self.new at key result) }
         // So keys are acts, as bytes are.
-        ensures acted { IfOk result (λ answer. LastingGoes (on D.Commands.rules D.does)
+        ensures acted { IfOk result (λ answer. LastingTraces (on D.Commands.rules D.does)
             self.old (Did key ∷ []) (sent_by answer) [] self.new) }
         ensures shut { IsShut self.old.ended self.old.taken → result ≡ Err AKeyFault.Failed }
         ensures same { OnErr result (self.new ≡ self.old) }

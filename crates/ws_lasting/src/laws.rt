@@ -10,9 +10,9 @@ use ws_session::StationDisplay;
 
 /// A record is carried out or refused, and not both.
 pub fn judged_one_way<D: StationDisplay>()
-    ensures { (side next : EndStateOn D.Happened) (bytes written : List ℕ) (why : RefusedRecord)
-        → IsPerformed (on D.Commands.rules D.does) side bytes next written
-        → IsRefusedFor (on D.Commands.rules D.does) side bytes why → ⊥ }
+    ensures { (state next : EndStateOn D.Happened) (bytes written : List ℕ) (why : RefusedRecord)
+        → IsPerformed (on D.Commands.rules D.does) state bytes next written
+        → IsRefusedFor (on D.Commands.rules D.does) state bytes why → ⊥ }
 {}
 
 /// Where a station refuses no record, one that no record ends does as it.

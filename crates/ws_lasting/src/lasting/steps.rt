@@ -24,9 +24,9 @@ impl<D: StationDisplay> LastingStation<D> {
     // Hands the station a key.
     pub(super) fn press(&mut self, key: D::Key) -> Result<Option<Answer>, KeyFault>
         ensures keyed { AtStationOn (on D.Commands.rules D.does) self.old.station
-            (λ bytes items side. length bytes + 1 < 2 ^ 64
+            (λ bytes items state. length bytes + 1 < 2 ^ 64
             → IsKeyedOn (on D.Commands.rules D.does)
-            self.old.station self.new.station bytes items side key result) }
+            self.old.station self.new.station bytes items state key result) }
         ensures same { self.new ≡ record self.old { station = self.new.station } }
         ensures kept { OnErr result (self.new ≡ self.old) }
     {
@@ -64,9 +64,9 @@ impl<D: StationDisplay> LastingStation<D> {
 
     // Has the station begin anew.
     pub(super) fn revive(&mut self)
-        ensures led { (items : List (Item D.Commands.Unit)) (side : EndStateOn D.Happened)
-            → StationStands D.does self.old.station.reacts items side
-            → ReachedOn (on D.Commands.rules D.does) self.new.station [] [] side }
+        ensures led { (items : List (Item D.Commands.Unit)) (state : EndStateOn D.Happened)
+            → StationStands D.does self.old.station.reacts items state
+            → ReachedOn (on D.Commands.rules D.does) self.new.station [] [] state }
         ensures same { self.new ≡ record self.old { station = self.new.station } }
     {
         self.station.revive();
