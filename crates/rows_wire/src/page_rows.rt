@@ -1,8 +1,7 @@
 //! Rows of the code pages: each page against its table, and what a station tells a host of it.
+use crate::{same, same_at};
 use std::process::Abort;
 use ws_code::{CodePage, code_pages_are_one_to_one, ebcdic};
-
-use crate::{same, same_at};
 
 // What a page changes of 037: bytes, and the code points of their characters.
 type Changes = &'static [(u8, u32)];

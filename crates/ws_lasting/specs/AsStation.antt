@@ -18,7 +18,7 @@ all_carried_out told = map (λ applied. CarriedOut) told
 abbrev pub LeadsAsStation : (on : OnDisplay) → EndStateOf on → List (Act on.Pressed) → List ℕ → List Applied → Type 0
 LeadsAsStation on state acts written told =
     IsTrace (ways on.rules on.does.out (transitions_on on.does)) (λ bytes items next. Unit {0}) [] [] state acts written
-        told
+    told
 
 -- one that no record ends then writes and tells the same
 abbrev pub LastsAsStation : (on : OnDisplay) → Type 0
