@@ -2,7 +2,7 @@
 
 use Rattle.ws_end.proofs.Common as C
 use C.{◌≡◌, ◌+◌, List, [], ◌∷◌, ◌++◌, refl, ◌∙◌, ℕ, suc, ◌<◌, Some, None, IsSome, take, drop, ap, sym, arith, inl, inr}
-use C.{cases_lt, length, Err, Ok, Result, take-take, length-take-le, ◌-◌, ◌^◌, Item, Option}
+use C.{cases_lt, length, Err, Ok, Result, take-take, length-take-le, ◌-◌, ◌^◌, Item, Option, Failed}
 use Rattle.std.proofs.Math.Seq.{drop-append_seam}
 use Rattle.ws_end.specs.Behaviour.{TakesSome}
 use Rattle.ws_end.specs.declared.refusal.Refusal.{Refusal}

@@ -161,11 +161,11 @@ station_next {H} {t} {w} {old} Then x xs v end_events r more is = elim (trace_fi
       | inr k ↦ (
         plain_spelling answer_rules (station_transitions.at w.station (Arrives k.0)).written,
         k.3,
-        (station_transitions.at w.station (Arrives k.0)).end_events,
+        (station_transitions.at w.station (Arrives k.0)).events,
         k.4,
         k.5,
         k.6,
-        rw (none_told (station_transitions.at w.station (Arrives k.0)).end_events, append-nil old.events)
+        rw (none_told (station_transitions.at w.station (Arrives k.0)).events, append-nil old.events)
             (station_taken r more x is (StationLater Then xs k.3 k.4) old.station _ k.0 (station_takes w.station k.0)
             refl k.2 refl k.1 k.7),
       )
@@ -277,7 +277,7 @@ module _ {S : OfStation} {H : OfHost} {t : TerminalType} {w : Session} {old : Wo
       -- an item that is whole, by the reaction to it
       pub host_taken : (reply : List ℕ) (events : List Event) (item : Item AnswerPart)
           (z : Reaction HostEndState HostOutput)
-          → events ≡ old.events ++ flat_map host_tells (at_reaction (λ output. output) w.host z).end_events
+          → events ≡ old.events ++ flat_map host_tells (at_reaction (λ output. output) w.host z).events
           → host_takes w.host item ≡ z → goes_on z ≡ true
           → reply ≡ plain_spelling element_rules (at_reaction (λ output. output) w.host z).written
           → HoldsItems answer_rules prefix_up (done_up ++ item ∷ [])
@@ -354,7 +354,7 @@ host_next {S} {t} {w} {old} Then x xs v end_events r more is = elim (trace_first
       | inr k ↦ (
         plain_spelling element_rules (host_transitions.at w.host (Arrives k.0)).written,
         k.3,
-        (host_transitions.at w.host (Arrives k.0)).end_events,
+        (host_transitions.at w.host (Arrives k.0)).events,
         k.4,
         k.5,
         k.6,

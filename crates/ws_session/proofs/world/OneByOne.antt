@@ -44,12 +44,12 @@ module _ {Place PlaceV State U V Request EndEvent : Type 0} (rules : Rules Place
     OneFirst = (item : Item U) × HoldsItems rules (bytes ++ x ∷ []) (items ++ item ∷ [])
         × (transitions.takes state item ≡ true) × (later : List ℕ) × (more : List EndEvent)
         × (written ≡ plain_spelling out (transitions.at state (Arrives item)).written ++ later)
-        × (end_events ≡ (transitions.at state (Arrives item)).end_events ++ more)
+        × (end_events ≡ (transitions.at state (Arrives item)).events ++ more)
         × Later Then xs later more (bytes ++ x ∷ []) (items ++ item ∷ []) (transitions.at state (Arrives item)).state
 
     abbrev Facts : List (Happening U Request) → Type 0
     Facts hs = AllTaken transitions state hs × (written ≡ plain_spelling out (doing transitions state hs).written) ×
-        (end_events ≡ (doing transitions state hs).end_events) × Then (bytes ++ bytes_of
+        (end_events ≡ (doing transitions state hs).events) × Then (bytes ++ bytes_of
         (all_came {Request = Request} (x ∷ xs))) (items ++ items_of hs) (doing transitions state hs).state
 
     pub trace_first : Later Then (x ∷ xs) written end_events bytes items state → NoneFirst ⊎ OneFirst
@@ -77,7 +77,7 @@ module _ {Place PlaceV State U V Request EndEvent : Type 0} (rules : Rules Place
             h.2,
             n.0.0,
             plain_spelling out rest.written,
-            rest.end_events,
+            rest.events,
             n.1 ∙ flat_map-append (item_spelling out) d.written rest.written,
             n.2,
             record {

@@ -34,14 +34,15 @@ returns-then-is_err-clause-sent c = λ bytes items state l few.
     (sym (c.is_disturbed.ensures state l.stands) ∙ c.if-is_disturbed.false)
     (sym c.is_body.ensures.same ∙ c.if-not-is_body.false)
     (sym (c.in_default.ensures.fault state.kept (rw c.assign.ensures m.stands.given)))
-    (c.in-Ok.ensures.fits (λ e. cc))
+    (c.in-Ok-Some.ensures.fits (λ e. cc))
 
 pub returns-clause-sent : goal.returns-clause-sent
 returns-clause-sent c =
     let body = c.args.body.now in
     let kept = c.as_slice.result.now in
-    let text : kept ≡ spelling_of element_rules body = c.as_slice.ensures.value ∙ c.in-Ok.ensures.spelled in
-    let fits : length (spelling_of element_rules body) ≤ 65525 = c.in-Ok.ensures.fits (λ e. cc) in
+    let text : kept ≡ spelling_of element_rules body = c.as_slice.ensures.value
+    ∙ rw c.in-Ok-Some.field-0-is at c.in-Ok-Some.ensures.spelled in
+    let fits : length (spelling_of element_rules body) ≤ 65525 = c.in-Ok-Some.ensures.fits (λ e. cc) in
     let spelled : List ℕ = record_spelling (header (10 + length kept) 0 c.args.opcode ++ kept) in
     let went = known_ok _ (sym c.is_err.ensures.value ∙ c.if-is_err.false) c.write_record.ensures.ok in
     let out : c.into_inner.result.items ≡ spelled = c.into_inner.ensures
