@@ -2,7 +2,6 @@ pub mod AddressTexts
 pub mod AwaitedWords
 pub mod Buffers
 pub mod CarryOns
-pub mod CauseTexts
 pub mod ColoredCells
 pub mod ConnectRuns
 pub mod FieldTexts

@@ -13,7 +13,7 @@ use crate::timer::LineWatch;
 use std::rt::Runtime;
 use ws_any_host::{AnyHost, AnyLine, carry_on};
 use ws_code::{Sink, Source};
-use ws_live::{BufferedSink, Paint, ToldFault, Vocabulary};
+use ws_live::{BufferedSink, Paint, ToldFault};
 use ws_session::Attached;
 
 /// Carries out the lines of a script at a host that takes any record, or without one those of standard input, and then
@@ -47,17 +47,7 @@ where
         (is_some script.entry) Await) result }
     ensures held { out.new.held ≡ [] }
 {
-    let ran = match carry_session(
-        rt,
-        attached,
-        ahead,
-        watch,
-        script,
-        Vocabulary::AnyHost,
-        ready,
-        Paint::Plain,
-        out,
-    ) {
+    let ran = match carry_session(rt, attached, ahead, watch, script, ready, Paint::Plain, out) {
         Ok(ran) => ran,
         Err(fault) => return Err(fault),
     };

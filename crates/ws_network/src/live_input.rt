@@ -21,7 +21,7 @@ use std::rt::Runtime;
 use ws_code::{Fault, Sink, Source};
 use ws_live::{
     BufferedSink, Closing, HostLine, LiveMove, NamedKey, OperatedDisplay, Paint, Ran, RunFault,
-    StationLine, ToldFault, Vocabulary, answer_on, carry_line,
+    StationLine, ToldFault, answer_on, carry_line,
 };
 use ws_session::{Attached, HostEnd, StationOn};
 
@@ -36,7 +36,6 @@ pub fn carry_at_station<D, R, S, K, W, O>(
     ahead: &mut u64,
     watch: &mut W,
     script: Option<&[StationLine<D::Key>]>,
-    vocabulary: Vocabulary,
     ready: bool,
     paint: Paint,
     out: &mut BufferedSink<O>,
@@ -60,9 +59,7 @@ where
         (is_some script.entry) TellsWell) result }
     ensures held { out.new.held ≡ [] }
 {
-    match carry_session(
-        rt, attached, ahead, watch, script, vocabulary, ready, paint, out,
-    ) {
+    match carry_session(rt, attached, ahead, watch, script, ready, paint, out) {
         Ok(ran) => Ok(ran.all_well),
         Err(fault) => Err(fault),
     }
@@ -99,17 +96,7 @@ where
         (is_some script.entry) Await) result }
     ensures held { out.new.held ≡ [] }
 {
-    let ran = match carry_session(
-        rt,
-        attached,
-        ahead,
-        watch,
-        script,
-        Vocabulary::Host,
-        ready,
-        Paint::Plain,
-        out,
-    ) {
+    let ran = match carry_session(rt, attached, ahead, watch, script, ready, Paint::Plain, out) {
         Ok(ran) => ran,
         Err(fault) => return Err(fault),
     };
@@ -129,7 +116,6 @@ pub fn carry_session<R, E, S, K, L, W, O>(
     ahead: &mut u64,
     watch: &mut W,
     script: Option<&[L]>,
-    vocabulary: Vocabulary,
     ready: bool,
     paint: Paint,
     out: &mut BufferedSink<O>,
@@ -156,9 +142,7 @@ where
     match script {
         Some(lines) => Ok(carry_script(attached, ahead, watch, lines, ready, paint, out)?),
         None => {
-            carry_input::<R, E, S, K, L, W, O>(
-                rt, attached, ahead, watch, vocabulary, ready, paint, out,
-            )
+            carry_input::<R, E, S, K, L, W, O>(rt, attached, ahead, watch, ready, paint, out)
         },
     }
 }
@@ -206,7 +190,6 @@ fn carry_input<R, E, S, K, L, W, O>(
     attached: &mut Attached<E, S, K>,
     ahead: &mut u64,
     watch: &mut W,
-    vocabulary: Vocabulary,
     ready: bool,
     paint: Paint,
     out: &mut BufferedSink<O>,
@@ -236,7 +219,7 @@ where
     };
     let mut input = InputLines::new(rt.alloc(), reader);
     for _ in 0..u64::MAX {
-        let next = match next_line::<BufReader<R::Reader>, L>(&mut input, vocabulary, ready) {
+        let next = match next_line::<BufReader<R::Reader>, L>(&mut input, ready) {
             Ok(next) => next,
             Err(fault) => return Err(fault),
         };

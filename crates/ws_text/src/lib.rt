@@ -3,6 +3,7 @@
 
 mod answer_text;
 mod answer_words;
+mod cause;
 mod element_text;
 mod element_words;
 mod elements;
@@ -26,9 +27,11 @@ mod reading;
 mod run_name;
 mod runs;
 mod telnet_words;
+mod unit_names;
 mod worded;
 mod words;
 
+pub use cause::{Asked, Cause, Wrong, among, cause_of, not_hex};
 pub use elements::read_elements;
 pub use item_text::put_item;
 pub use items::{TextFault, read_items, shown_is_read};
@@ -38,3 +41,4 @@ pub use number::read_number;
 pub use output::{Output, put, put_cell, put_hex, put_hex_behind_blank, put_number, put_text};
 pub use run_name::RunName;
 pub use worded::Worded;
+pub use words::read_between;
