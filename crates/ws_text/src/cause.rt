@@ -86,7 +86,7 @@ impl<'a> Wrong<'a> {
     /// Words that say nothing for this cause.
     pub fn of(cause: Cause<'a>) -> Self
         requires { IsTrue cause }
-        ensures { result.cause ≡ cause }
+        ensures { result.cause ≡ cause.entry }
     {
         Wrong { cause }
     }
