@@ -8,7 +8,7 @@ use Rattle.ws_live.specs.declared.live.Closing.{Closing}
 use Rattle.ws_live.specs.live.LiveText.{closing_text, WithClosing, line_result}
 use Rattle.ws_live.specs.live.Waits.{InTime}
 use Rattle.ws_live.proofs.LiveRuns.{line_out, line_cut, line_failed}
-use Rattle.ws_live.proofs.live.carry_line.Goals as goal
+use Rattle.ws_live.proofs.live.carry_alone.Goals as goal
 
 pub returns-in-Open-clause-printed : goal.returns-in-Open-clause-printed
 returns-in-Open-clause-printed g c =
