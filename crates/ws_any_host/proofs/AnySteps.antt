@@ -13,10 +13,10 @@ use Rattle.ws_record.specs.declared.record.Item.{Item}
 use Rattle.ws_record.specs.declared.record.Item.TheVariants.{Telnet as TelnetItem}
 use Rattle.ws_record.specs.declared.record.Record.{Record}
 use Rattle.ws_record.proofs.Headers.{header_length}
-use Rattle.ws_session.specs.declared.host_end.send_fault.SendFault.TheVariants.{TooBig}
-use Rattle.ws_session.specs.driver.Reacting.{IsReaction}
+use Rattle.ws_end.specs.declared.host_end.send_fault.SendFault.TheVariants.{TooBig}
+use Rattle.ws_end.specs.driver.Reacting.{IsReaction}
 use Rattle.ws_any_host.specs.AnyOptions.{Negotiated}
-use Rattle.ws_any_host.specs.AnySide.{any_negotiates, any_reacting, any_ready, send_fault}
+use Rattle.ws_any_host.specs.AnyEndState.{any_negotiates, any_reacting, any_ready, send_fault}
 use Rattle.ws_any_host.specs.declared.any_event.AnyEvent.{AnyEvent}
 
 -- What a host that takes any record makes of a token.

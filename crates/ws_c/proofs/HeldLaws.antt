@@ -7,7 +7,7 @@ use Rattle.std.proofs.Common.{append_assoc}
 use Rattle.std.proofs.lemmas.Bool.{cases_lt}
 use Rattle.std.proofs.lemmas.List.{append-nil, drop_all, length-drop, nil_from_length}
 use borrow.Author.Tests.{eqb-true, eqb-false}
-use Rattle.ws_session.specs.driver.Driven.{AreSilent, AtDriver, Driven, Driving}
+use Rattle.ws_end.specs.driver.Driven.{AreSilent, AtDriver, Driven, Driving}
 use Rattle.ws_c.specs.Calls.{Crossed, crossed, holds_front}
 use Rattle.ws_c.specs.Held.{OnHost}
 use Rattle.ws_c.specs.HeldEnds.{HandsOut, filling, waiting}

@@ -8,7 +8,7 @@ use Rattle.ws_keys.specs.Strokes.{keys_of}
 use Rattle.ws_keys.specs.declared.answer.Answer.{Answer}
 use Rattle.ws_keys.specs.declared.key.Key.{Key}
 use Rattle.ws_keys.specs.declared.key_run.KeyRun.{KeyRun}
-use Rattle.ws_session.specs.declared.station.key_fault.KeyFault.{KeyFault}
+use Rattle.ws_end.specs.declared.station.key_fault.KeyFault.{KeyFault}
 use Rattle.ws_c.specs.Strokes.{AreKeyed, GoesOnBehindKey}
 
 abbrev run_keys : KeyRun → List Key

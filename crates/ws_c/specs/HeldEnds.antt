@@ -1,9 +1,9 @@
 -- An end of a session as C holds it: what it writes goes out in pieces where a buffer has no room for all
 
 use Rattle.std.specs.Prelude.{◌≡◌, ◌≢◌, ℕ, ◌+◌, ◌≤◌, List, [], ◌++◌, length, drop}
-use Rattle.ws_session.specs.driver.Driven.{Driven, Driving}
-use Rattle.ws_session.specs.station.Displays.{OnDisplay}
-use Rattle.ws_session.specs.station.Stations.{StationOf}
+use Rattle.ws_end.specs.driver.Driven.{Driven, Driving}
+use Rattle.ws_end.specs.station.Displays.{OnDisplay}
+use Rattle.ws_end.specs.station.Stations.{StationOf}
 use Rattle.ws_c.specs.Calls.{holds_front}
 use Rattle.ws_c.specs.declared.held_end.HeldEnd.{HeldEnd}
 use Rattle.ws_c.specs.declared.told.PushedTold.{PushedTold}

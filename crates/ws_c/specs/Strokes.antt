@@ -7,9 +7,9 @@ use Rattle.ws_keys.specs.declared.answer.Answer.{Answer}
 use Rattle.ws_keys.specs.declared.key.Key.{Key}
 use Rattle.ws_keys.specs.declared.key_run.KeyRun.{KeyRun}
 use Rattle.ws_screen.specs.ScreenParts.{ScreenParts}
-use Rattle.ws_session.specs.station.Displays.{OnDisplay}
-use Rattle.ws_session.specs.station.StationSide.{on_profile}
-use Rattle.ws_session.specs.declared.station.key_fault.KeyFault.{KeyFault}
+use Rattle.ws_end.specs.station.Displays.{OnDisplay}
+use Rattle.ws_end.specs.station.StationEndState.{on_profile}
+use Rattle.ws_end.specs.declared.station.key_fault.KeyFault.{KeyFault}
 use Rattle.ws_c.specs.declared.status.Status.{Status}
 use Rattle.ws_c.specs.declared.status.Status.TheVariants.{Done, NoRoom}
 use Rattle.ws_c.specs.declared.stroke.Stroke.{Stroke}
@@ -18,7 +18,7 @@ use Rattle.ws_c.specs.declared.told.Told.{Told}
 use Rattle.ws_c.specs.Calls.{IsKeyFaultTold, Returned, StationKeyedOn, told_length}
 use Rattle.ws_c.specs.HeldEnds.{HeldOn, waiting}
 use Rattle.ws_extended_station.specs.ExtendedDisplays.{on_extended}
-use Rattle.ws_session.specs.station.Stations.{StationOf, station_driving}
+use Rattle.ws_end.specs.station.Stations.{StationOf, station_driving}
 
 -- the keys of a stroke at a screen, in runs
 abbrev pub stroke_key_runs : Stroke → ScreenParts → List KeyRun

@@ -1,6 +1,6 @@
 //! An end of a session as C holds it, with what of its last reply still waits for room.
 ghost use Rattle.std.specs.Prelude.{◌≡◌, ◌≤◌, ◌<◌, ◌+◌, ◌^◌, [], length};
-ghost use Rattle.ws_session.specs.driver.Driven.{driving};
+ghost use Rattle.ws_end.specs.driver.Driven.{driving};
 ghost use Rattle.ws_c.specs.HeldEnds.{HandsOut, filling, waiting};
 
 use crate::PushedTold;

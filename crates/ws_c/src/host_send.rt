@@ -4,7 +4,7 @@ ghost use Rattle.ws_record.specs.Grammar.{opcode_byte};
 ghost use Rattle.ws_record.specs.declared.opcode.Opcode.{Opcode as AnOpcode};
 ghost use Rattle.ws_stream.specs.Elements.{element_rules};
 ghost use Rattle.ws_stream.specs.declared.element.Element.{Element as AnElement};
-ghost use Rattle.ws_session.specs.declared.host_end.send_fault.SendFault.{SendFault as AFault};
+ghost use Rattle.ws_end.specs.declared.host_end.send_fault.SendFault.{SendFault as AFault};
 ghost use Rattle.ws_record.specs.declared.body_reader.BodyFault.{BodyFault as ABodyFault};
 ghost use Rattle.ws_c.specs.Calls.{HasStatus, TellsOnly, crossed, returned, status_number, told_length};
 ghost use Rattle.ws_c.specs.Held.{HoldsNone, OnHost};

@@ -1,6 +1,6 @@
 //! Bytes pushed into an end of a session of any kind.
 ghost use Rattle.std.specs.Prelude.{◌≡◌, ◌≢◌, ◌≤◌, ◌<◌, ◌+◌, ◌++◌, ◌&&◌, List, ℕ, [], is_some, length};
-ghost use Rattle.ws_session.specs.driver.Driven.{driving};
+ghost use Rattle.ws_end.specs.driver.Driven.{driving};
 ghost use Rattle.ws_c.specs.Calls.{crossed, holds_front};
 ghost use Rattle.ws_c.specs.HeldEnds.{waiting};
 ghost use Rattle.ws_c.specs.Pushes.{IsPush, IsPushRefused, nothing_pushed, pushed_told};

@@ -2,7 +2,7 @@
 ghost use Rattle.std.specs.Prelude.{◌≡◌, ◌≤◌, ◌<◌, Option, length};
 ghost use Rattle.ws_extended_station.specs.ExtendedDisplays.{on_extended};
 ghost use Rattle.ws_extended_station.specs.declared.extended_key.ExtendedKey.{ExtendedKey as AnyKey};
-ghost use Rattle.ws_session.specs.station.Displays.{on_display as on};
+ghost use Rattle.ws_end.specs.station.Displays.{on_display as on};
 ghost use Rattle.ws_c.specs.Calls.{HasStatus, IsKeyFaultTold, IsKeyTold, TellsOnly, crossed, status_number, told_length};
 ghost use Rattle.ws_c.specs.Held.{OnStations};
 ghost use Rattle.ws_c.specs.HeldStations.{IsAnyKeyFrom, IsPress, IsPressFrom, IsProfilePress, status_without};

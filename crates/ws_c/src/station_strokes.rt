@@ -5,7 +5,7 @@ ghost use Rattle.ws_keys.specs.Strokes.{keys_of};
 ghost use Rattle.ws_c.specs.declared.stroke.Stroke.TheVariants as Struck;
 ghost use Rattle.ws_c.specs.Calls.{HasStatus, returned, status_number, told_length};
 ghost use Rattle.ws_c.specs.Held.{HoldsNone, OnStations};
-ghost use Rattle.ws_session.specs.station.Displays.{on_display as on};
+ghost use Rattle.ws_end.specs.station.Displays.{on_display as on};
 ghost use Rattle.ws_c.specs.Strokes.{AreKeyed, AreStruck, IsExtendedStroke, IsProfileStroke, IsStroke, IsStrokeTold, keyed_among, keys_of_stroke};
 
 use crate::held::{on_stations, on_two};

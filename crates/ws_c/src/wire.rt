@@ -4,7 +4,7 @@ ghost use Rattle.std.specs.List.{flat_map};
 ghost use Rattle.ws_telnet.specs.Token.{doubled};
 ghost use Rattle.ws_record.specs.Grammar.{header};
 ghost use Rattle.ws_record.specs.Encode.{record_spelling};
-ghost use Rattle.ws_session.specs.station.AnswerSpelling.{answer_spelling};
+ghost use Rattle.ws_end.specs.station.AnswerSpelling.{answer_spelling};
 
 use arrayvec::ArrayVec;
 use ws_keys::Answer;

@@ -24,9 +24,9 @@ use Rattle.ws_extended.specs.Image.{field_image, start_of_header_bytes, home_ima
 use Rattle.ws_extended.specs.declared.extended_element.ExtendedElement.{ExtendedElement}
 use Rattle.ws_extended.specs.declared.extended_element.ExtendedElement.TheVariants.{Profile, Text, RestoreScreen}
 use Rattle.ws_extended.specs.declared.extended_element.ExtendedElement.TheVariants.{WriteError, Asks}
-use Rattle.ws_session.specs.declared.station.alarm.TheConstants.{ALARM}
-use Rattle.ws_session.specs.station.Alarms.{alarms_in, alarms_of, sounds_alarm}
-use Rattle.ws_session.proofs.AlarmLaws.{alarms_behind, alarms_behind_all, alarms_behind_end, alarms_behind_opcode}
+use Rattle.ws_end.specs.declared.station.alarm.TheConstants.{ALARM}
+use Rattle.ws_end.specs.station.Alarms.{alarms_in, alarms_of, sounds_alarm}
+use Rattle.ws_end.proofs.AlarmLaws.{alarms_behind, alarms_behind_all, alarms_behind_end, alarms_behind_opcode}
 use Rattle.ws_extended_station.specs.ExtendedAlarms.{extended_alarms_in, extended_sounds}
 use Rattle.ws_extended_station.specs.ExtendedRecords.{state_after_record}
 

@@ -25,7 +25,7 @@ use Rattle.ws_extended.specs.declared.extended_element.ExtendedElement.{Extended
 use Rattle.ws_extended.specs.declared.extended_element.ExtendedElement.TheVariants.{Profile}
 use Rattle.ws_extended.specs.declared.extended_place.ExtendedPlace.{ExtendedPlace}
 use Rattle.ws_extended.specs.declared.extended_place.ExtendedPlace.TheVariants.{InProfile}
-use Rattle.ws_session.proofs.Reading.{never_bad, read_all, read_run}
+use Rattle.ws_end.proofs.Reading.{never_bad, read_all, read_run}
 use Rattle.ws_extended_station.specs.CarriedOut.{AreCarriedOut, AsksAndSounds, IsUnderWay}
 use Rattle.ws_extended_station.specs.ExtendedRecords.{elements_fault}
 use Rattle.ws_extended_station.specs.declared.heard.Heard.{Heard}

@@ -9,7 +9,7 @@ use Rattle.ws_extended.specs.ExtendedStates.{ExtendedState, state_after_all, sta
 use Rattle.ws_extended.specs.ExtendedViews.{ExtendedParts, Shows}
 use Rattle.ws_extended.specs.declared.extended_element.ExtendedElement.{ExtendedElement}
 use Rattle.ws_extended.specs.declared.extended_place.ExtendedPlace.{ExtendedPlace}
-use Rattle.ws_session.specs.station.Alarms.{alarm_count}
+use Rattle.ws_end.specs.station.Alarms.{alarm_count}
 use Rattle.ws_extended_station.specs.ExtendedAlarms.{extended_alarms_in}
 use Rattle.ws_extended_station.specs.ExtendedRecords.{elements_fault, record_fault, state_after_opcode}
 use Rattle.ws_extended_station.specs.declared.heard.Heard.{Heard}

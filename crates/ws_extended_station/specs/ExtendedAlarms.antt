@@ -2,7 +2,7 @@
 use Rattle.std.specs.Prelude.{ℕ, List, Bool, false, count_by}
 use Rattle.ws_extended.specs.declared.extended_element.ExtendedElement.{ExtendedElement}
 use Rattle.ws_extended.specs.declared.extended_element.ExtendedElement.TheVariants.{Profile, Text}
-use Rattle.ws_session.specs.station.Alarms.{sounds_alarm}
+use Rattle.ws_end.specs.station.Alarms.{sounds_alarm}
 
 -- an element of the profile sounds as there (a text, which has no Write, never does), and none beside the profile
 abbrev pub extended_sounds : ExtendedElement → Bool

@@ -1,5 +1,5 @@
 ghost use Rattle.std.specs.Prelude.{◌≡◌, ◌+◌, ◌++◌, ◌∷◌, [], List, true, false};
-ghost use Rattle.ws_session.specs.station.Alarms.{alarm_count};
+ghost use Rattle.ws_end.specs.station.Alarms.{alarm_count};
 ghost use Rattle.ws_extended.specs.declared.extended_element.ExtendedElement.{ExtendedElement as AnElement};
 ghost use Rattle.ws_extended.specs.declared.extended_element.ExtendedElement.TheVariants.{Profile};
 ghost use Rattle.ws_extended_station.specs.CarriedOut.{AsksAndSounds};

@@ -8,11 +8,11 @@ use Rattle.std.proofs.lemmas.List.{append-nil, take_more}
 use Rattle.ws_code.specs.Device.{one_more}
 use Rattle.ws_code.specs.declared.fault.Fault.{Fault}
 use Rattle.ws_code.specs.declared.fault.Fault.TheVariants as fault
-use Rattle.ws_session.specs.attached.Attachments.{AttachedParts}
-use Rattle.ws_session.specs.attached.Deeds.{is_done}
-use Rattle.ws_session.specs.declared.attached.acted.Acted.{Acted}
-use Rattle.ws_session.specs.declared.end_step.Applied.{Applied}
-use Rattle.ws_session.specs.declared.station.key_fault.KeyFault.{KeyFault}
+use Rattle.ws_end.specs.attached.Attachments.{AttachedParts}
+use Rattle.ws_end.specs.attached.Requests.{is_done}
+use Rattle.ws_end.specs.declared.attached.acted.Acted.{Acted}
+use Rattle.ws_end.specs.declared.end_step.Applied.{Applied}
+use Rattle.ws_end.specs.declared.station.key_fault.KeyFault.{KeyFault}
 use Rattle.ws_live.specs.declared.live.Closing.{Closing}
 use Rattle.ws_live.specs.declared.live.connect.Waited.{Waited}
 use Rattle.ws_live.specs.declared.live.connect.Waited.TheVariants as waits
@@ -28,7 +28,7 @@ use Rattle.ws_live.specs.live.ConnectText.{IsWaited, IsKeyUnwritten, IsWorking, 
 use Rattle.ws_live.specs.live.ConnectText.{refusal_text, report_waits, rested}
 use Rattle.ws_live.specs.live.Operating.{AttachedDisplay, KeyedDisplay, OperatedOn, WatchedDisplay}
 use Rattle.ws_live.specs.printing.ReportLines.{IsReportText, reported_station}
-use Rattle.ws_session.specs.station.Stations.{StationOf}
+use Rattle.ws_end.specs.station.Stations.{StationOf}
 use Rattle.ws_live.specs.live.Operating.{KeyAt}
 
 -- Keys and records at a station, one more at a time.

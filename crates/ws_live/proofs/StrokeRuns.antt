@@ -10,11 +10,11 @@ use Rattle.ws_screen.specs.ScreenParts.{ScreenParts}
 use Rattle.ws_keys.specs.Strokes.{keys_of}
 use Rattle.ws_keys.specs.declared.key.Key.{Key}
 use Rattle.ws_keys.specs.declared.key_run.KeyRun.{KeyRun}
-use Rattle.ws_session.specs.attached.Attachments.{AttachedParts}
-use Rattle.ws_session.specs.attached.Deeds.{is_done}
-use Rattle.ws_session.specs.declared.attached.acted.Acted.{Acted}
-use Rattle.ws_session.specs.declared.attached.acted.Acted.TheVariants as acted
-use Rattle.ws_session.specs.declared.station.key_fault.KeyFault.{KeyFault}
+use Rattle.ws_end.specs.attached.Attachments.{AttachedParts}
+use Rattle.ws_end.specs.attached.Requests.{is_done}
+use Rattle.ws_end.specs.declared.attached.acted.Acted.{Acted}
+use Rattle.ws_end.specs.declared.attached.acted.Acted.TheVariants as acted
+use Rattle.ws_end.specs.declared.station.key_fault.KeyFault.{KeyFault}
 use Rattle.ws_live.specs.declared.live.Closing.{Closing}
 use Rattle.ws_live.specs.declared.live.Closing.TheVariants.{Declined, Done}
 use Rattle.ws_live.specs.declared.live.stroke.Filling.{Filling}
@@ -24,7 +24,7 @@ use Rattle.ws_live.specs.live.ConnectText.{key_refused_text, pressed, KeyRuns, K
 use Rattle.ws_live.specs.live.Stroking.{keys_behind, no_field_text, stroke_keys, stroke_runs}
 use Rattle.ws_live.specs.live.LiveText.{LineResult, LinesDo, line_result}
 use Rattle.ws_live.specs.live.Operating.{KeyedDisplay}
-use Rattle.ws_session.specs.station.Stations.{StationOf}
+use Rattle.ws_end.specs.station.Stations.{StationOf}
 use Rattle.ws_live.specs.live.Operating.{KeyAt}
 
 -- Keys one after another, up to the first that isn't taken.

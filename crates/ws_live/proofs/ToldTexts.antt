@@ -10,9 +10,9 @@ use Rattle.std.proofs.lemmas.Str.{length-encode}
 use Rattle.ws_screen.specs.Lines.{shown_char}
 use Rattle.ws_keys.specs.declared.host_answer.HostAnswer.{HostAnswer}
 use Rattle.ws_text.proofs.LineEnds.{filled}
-use Rattle.ws_session.specs.declared.host_end.host_event.HostEvent.{HostEvent}
-use Rattle.ws_session.specs.declared.host_end.host_event.HostEvent.TheVariants.{Ready, Answer, Attention, SystemRequest}
-use Rattle.ws_session.specs.declared.host_end.host_event.HostEvent.TheVariants.{Cancelled}
+use Rattle.ws_end.specs.declared.host_end.host_event.HostEvent.{HostEvent}
+use Rattle.ws_end.specs.declared.host_end.host_event.HostEvent.TheVariants.{Ready, Answer, Attention, SystemRequest}
+use Rattle.ws_end.specs.declared.host_end.host_event.HostEvent.TheVariants.{Cancelled}
 use Rattle.ws_live.specs.printing.FieldLines.{behind_blank}
 use Rattle.ws_live.specs.printing.PlayLines.{host_event_text}
 use Rattle.ws_live.specs.printing.ToldLines.{before_blanks, told_text, with_first}

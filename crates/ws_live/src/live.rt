@@ -1,5 +1,5 @@
 ghost use Rattle.std.specs.Prelude.{◌≡◌, [], false, List, ℕ, Option, IfOk};
-ghost use Rattle.ws_session.specs.attached.Attachments.{AttachedParts};
+ghost use Rattle.ws_end.specs.attached.Attachments.{AttachedParts};
 ghost use Rattle.ws_live.specs.printing.Buffering.{Buffering, buffered_writer};
 ghost use Rattle.ws_text.specs.Printed.{IsPrinted};
 ghost use Rattle.ws_text.specs.Printing.{IsOut, Prints};

@@ -13,7 +13,7 @@ use Rattle.ws_record.specs.Refusal.{Layer, IsOpen, IsRefused, IsTruncated}
 use Rattle.ws_record.specs.Receiver.{Receiving, HasReceived, HasUnit}
 use Rattle.ws_record.specs.declared.record.Item.{Item}
 use Rattle.ws_record.specs.declared.record.Item.TheVariants.{Record as RecordItem, Telnet as TelnetItem}
-pub use Rattle.ws_session.specs.Acts.{HoldsItems}
+pub use Rattle.ws_end.specs.Acts.{HoldsItems}
 use Rattle.ws_text.specs.Printed.{Printing, IsPrinted}
 use Rattle.ws_live.specs.printing.Printouts.{IsPrintedOut, Printout}
 use Rattle.ws_program.specs.CheckLine.{line_of, is_accepted}

@@ -2,7 +2,7 @@
 
 use Rattle.std.specs.Prelude.{◌≡◌, ℕ, Bool, Option, None, Some}
 use Rattle.ws_code.specs.Device.{Devices, one_more}
-use Rattle.ws_session.specs.attached.Attachments.{AttachedParts}
+use Rattle.ws_end.specs.attached.Attachments.{AttachedParts}
 use Rattle.ws_live.specs.live.LiveText.{LinesDo}
 use Rattle.ws_live.specs.declared.live.watch.WaitSpan.{WaitSpan}
 

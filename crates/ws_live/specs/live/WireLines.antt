@@ -13,7 +13,7 @@ use Rattle.ws_stream.specs.Elements.{element_rules}
 use Rattle.ws_text.specs.ElementWords.{element_wording}
 use Rattle.ws_text.specs.Items.{AreItems}
 use Rattle.ws_text.specs.Words.{IsHex}
-use Rattle.ws_session.specs.attached.Attachments.{AttachedParts, HasWrittenBeside, HasFailedBeside}
+use Rattle.ws_end.specs.attached.Attachments.{AttachedParts, HasWrittenBeside, HasFailedBeside}
 use Rattle.ws_live.specs.live.ConnectLines.{IsMilliseconds}
 use Rattle.ws_live.specs.declared.live.Closing.{Closing}
 use Rattle.ws_live.specs.declared.live.Closing.TheVariants.{Done, Closed}

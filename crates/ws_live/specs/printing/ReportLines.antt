@@ -10,8 +10,8 @@ use Rattle.ws_nego.specs.Station.{station_allows_records}
 use Rattle.ws_screen.specs.Lines.{shown_row}
 use Rattle.ws_screen.specs.ScreenParts.{ScreenParts, holds}
 use Rattle.ws_screen.specs.declared.shown.Shown.{Shown}
-use Rattle.ws_session.specs.station.Displays.{DisplayOf}
-use Rattle.ws_session.specs.station.Stations.{PartsOn}
+use Rattle.ws_end.specs.station.Displays.{DisplayOf}
+use Rattle.ws_end.specs.station.Stations.{PartsOn}
 use Rattle.ws_text.specs.ItemLines.{cell_text}
 use Rattle.ws_live.specs.printing.FieldLines.{text_of_cells}
 use Rattle.ws_live.specs.printing.ScreenLines.{IsWithoutLastBlanks, lock_name}

@@ -5,8 +5,8 @@ use Rattle.std.specs.Prelude.{ℕ, List, [], ◌∷◌, ◌++◌, ◌==◌, code
 use Rattle.std.specs.List.{flat_map}
 use Rattle.ws_keys.specs.declared.host_answer.ReadField.{ReadField}
 use Rattle.ws_screen.specs.Lines.{shown_char}
-use Rattle.ws_session.specs.declared.host_end.host_event.HostEvent.{HostEvent}
-use Rattle.ws_session.specs.declared.host_end.host_event.HostEvent.TheVariants.{Answer}
+use Rattle.ws_end.specs.declared.host_end.host_event.HostEvent.{HostEvent}
+use Rattle.ws_end.specs.declared.host_end.host_event.HostEvent.TheVariants.{Answer}
 use Rattle.ws_text.specs.ItemLines.{cell_text, hex_behind_blank}
 use Rattle.ws_live.specs.printing.FieldLines.{behind_blank}
 use Rattle.ws_live.specs.printing.PlayLines.{answer_line, host_event_text}

@@ -1,5 +1,5 @@
 ghost use Rattle.std.specs.Prelude.{◌≡◌, List, ℕ, Bool, true, false, IfOk};
-ghost use Rattle.ws_session.specs.declared.end_step.Applied.{Applied};
+ghost use Rattle.ws_end.specs.declared.end_step.Applied.{Applied};
 ghost use Rattle.ws_live.specs.live.ConnectText as Spec;
 ghost use Rattle.ws_live.specs.live.LiveText.{line_result, stops};
 ghost use Rattle.ws_live.specs.live.Operating.{keyed, live_display, watched};

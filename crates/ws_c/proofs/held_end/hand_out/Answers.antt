@@ -1,6 +1,6 @@
 use Rattle.std.proofs.Common.{◌≡◌, ℕ, ◌+◌, List, ◌++◌, length, take, drop, refl, sym, ap, ◌∙◌, arith}
 use Rattle.std.proofs.lemmas.List.{drop-drop, length-take-le, take-append-drop}
-use Rattle.ws_session.specs.driver.Driven.{driving}
+use Rattle.ws_end.specs.driver.Driven.{driving}
 use Rattle.ws_c.specs.HeldEnds.{waiting}
 use Rattle.ws_c.specs.declared.told.PushedTold.{PushedTold}
 use Rattle.ws_c.proofs.HeldLaws.{Held, all_room}

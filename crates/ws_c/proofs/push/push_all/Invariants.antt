@@ -1,5 +1,5 @@
 use Rattle.std.proofs.Common.{◌-◌, None, length}
-use Rattle.ws_session.specs.driver.Driven.{driving}
+use Rattle.ws_end.specs.driver.Driven.{driving}
 use Rattle.ws_c.proofs.HeldLaws.{Feeding}
 use Rattle.ws_c.proofs.push.push_all.Given as goal
 

@@ -1,6 +1,6 @@
 use Rattle.std.proofs.Common.{false, Option, refl, subst}
-use Rattle.ws_session.specs.declared.end_step.Applied.{Applied}
-use Rattle.ws_session.specs.station.Stations.{station_driving}
+use Rattle.ws_end.specs.declared.end_step.Applied.{Applied}
+use Rattle.ws_end.specs.station.Stations.{station_driving}
 use Rattle.ws_extended_station.specs.ExtendedDisplays.{on_extended}
 use Rattle.ws_c.specs.Calls.{crossed}
 use Rattle.ws_c.specs.Pushes.{IsPush}

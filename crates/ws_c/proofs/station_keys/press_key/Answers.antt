@@ -1,7 +1,7 @@
 use Rattle.std.proofs.Common.{sym, refl, ◌∙◌, subst}
-use Rattle.ws_session.specs.driver.Driven.{Driven}
-use Rattle.ws_session.specs.station.Displays.{on_display}
-use Rattle.ws_session.specs.station.Stations.{StationOf, station_driving}
+use Rattle.ws_end.specs.driver.Driven.{Driven}
+use Rattle.ws_end.specs.station.Displays.{on_display}
+use Rattle.ws_end.specs.station.Stations.{StationOf, station_driving}
 use Rattle.ws_c.specs.Calls.{StationKeyedOn}
 use Rattle.ws_c.specs.HeldEnds.{waiting}
 use Rattle.ws_c.proofs.HeldLaws.{nothing_waits, something_waits}

@@ -1,7 +1,7 @@
 use Rattle.std.specs.Prelude.{Ok}
 use Rattle.std.proofs.Common.{take}
 use Rattle.ws_keys.specs.Strokes.{keys_of}
-use Rattle.ws_session.specs.station.Displays.{on_display}
+use Rattle.ws_end.specs.station.Displays.{on_display}
 use Rattle.ws_c.specs.Strokes.{AreKeyed, keyed_among}
 use Rattle.ws_c.proofs.station_strokes.press_all.Given as goal
 

@@ -1,6 +1,6 @@
 use Rattle.std.proofs.Common.{sym, refl, ◌∙◌, subst}
-use Rattle.ws_session.specs.station.Displays.{on_display}
-use Rattle.ws_session.specs.station.Stations.{StationOf, station_driving}
+use Rattle.ws_end.specs.station.Displays.{on_display}
+use Rattle.ws_end.specs.station.Stations.{StationOf, station_driving}
 use Rattle.ws_c.specs.Calls.{returned}
 use Rattle.ws_c.specs.HeldEnds.{waiting}
 use Rattle.ws_c.specs.Strokes.{AreStruck, keyed_among, keys_of_stroke}

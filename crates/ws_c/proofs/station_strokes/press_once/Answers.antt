@@ -1,6 +1,6 @@
 use Rattle.std.specs.Prelude.{Ok, Err}
 use Rattle.std.proofs.Common.{refl, subst}
-use Rattle.ws_session.specs.station.Displays.{on_display}
+use Rattle.ws_end.specs.station.Displays.{on_display}
 use Rattle.ws_c.specs.Calls.{StationKeyedOn}
 use Rattle.ws_c.proofs.station_strokes.press_once.Goals as goal
 

@@ -1,6 +1,6 @@
 use Rattle.std.proofs.Common.{arith}
 use Rattle.std.proofs.lemmas.Result.{err_from_is_err_and}
-use Rattle.ws_session.specs.station.Displays.{on_display}
+use Rattle.ws_end.specs.station.Displays.{on_display}
 use Rattle.ws_c.specs.Strokes.{keyed_among}
 use Rattle.ws_c.proofs.StrokeLaws.{run_more, run_stops}
 use Rattle.ws_c.proofs.station_strokes.press_run.Goals as goal

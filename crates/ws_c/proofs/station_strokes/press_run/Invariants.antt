@@ -1,6 +1,6 @@
 use Rattle.std.specs.Prelude.{Ok}
 use Rattle.std.proofs.Common.{◌≡◌, replicate}
-use Rattle.ws_session.specs.station.Displays.{on_display}
+use Rattle.ws_end.specs.station.Displays.{on_display}
 use Rattle.ws_c.specs.Strokes.{AreKeyed, keyed_among}
 use Rattle.ws_c.proofs.station_strokes.press_run.Given as goal
 

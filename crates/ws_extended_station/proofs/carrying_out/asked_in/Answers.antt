@@ -3,7 +3,7 @@ use Rattle.ws_code.proofs.RunLaws.{same_reading}
 use Rattle.ws_extended.specs.ExtendedElements.{extended_rules}
 use Rattle.ws_extended.specs.ExtendedLaws.{extended_begins}
 use Rattle.ws_extended.specs.ExtendedRuns.{reading_by}
-use Rattle.ws_session.proofs.Reading.{read_none, ready}
+use Rattle.ws_end.proofs.Reading.{read_none, ready}
 use Rattle.ws_extended_station.proofs.CarryingOut.{all_asked, beginning}
 use Rattle.ws_extended_station.proofs.carrying_out.asked_in.Goals as goal
 

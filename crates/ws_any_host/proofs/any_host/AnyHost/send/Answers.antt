@@ -3,7 +3,7 @@ use Rattle.ws_code.proofs.DeviceLaws.{held_went_out}
 use Rattle.ws_nego.specs.Host.{host_allows_records}
 use Rattle.ws_record.specs.Encode.{record_spelling}
 use Rattle.ws_record.specs.Grammar.{header}
-use Rattle.ws_session.proofs.HostSteps.{known_ok}
+use Rattle.ws_end.proofs.HostSteps.{known_ok}
 use Rattle.ws_any_host.specs.AnyOptions.{Negotiated}
 use Rattle.ws_any_host.specs.contracts.any_host.AnyHost.{the_view}
 use Rattle.ws_any_host.proofs.AnySteps.{fits, too_big, raw_spelled}

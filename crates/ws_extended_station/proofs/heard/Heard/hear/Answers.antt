@@ -1,5 +1,5 @@
 use Rattle.std.proofs.Common.{[]}
-use Rattle.ws_session.proofs.AlarmLaws.{counts_one}
+use Rattle.ws_end.proofs.AlarmLaws.{counts_one}
 use Rattle.ws_extended_station.specs.ExtendedAlarms.{extended_sounds}
 use Rattle.ws_extended_station.proofs.heard.Heard.hear.Goals as goal
 

@@ -4,7 +4,7 @@ use Rattle.std.proofs.lemmas.List.{append-nil}
 use Rattle.ws_extended.specs.Asking.{HasAsked, ask_in, asks_in}
 use Rattle.ws_extended.specs.declared.ask.Ask.{Ask}
 use Rattle.ws_extended.specs.declared.extended_element.ExtendedElement.TheVariants.{Profile}
-use Rattle.ws_session.proofs.AlarmLaws.{counts_one}
+use Rattle.ws_end.proofs.AlarmLaws.{counts_one}
 use Rattle.ws_extended_station.specs.ExtendedAlarms.{extended_sounds}
 use Rattle.ws_extended_station.proofs.heard.Heard.hear_profile.Goals as goal
 

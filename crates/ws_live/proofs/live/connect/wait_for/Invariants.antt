@@ -1,6 +1,6 @@
 use Rattle.std.proofs.Common.{◌≡◌, List, length, false}
 use Rattle.ws_code.specs.Device.{on_devices}
-use Rattle.ws_session.specs.declared.end_step.Applied.{Applied}
+use Rattle.ws_end.specs.declared.end_step.Applied.{Applied}
 use Rattle.ws_live.specs.live.ConnectText.{HasWaited, IsMet}
 use Rattle.ws_live.specs.live.Operating.{attached_display}
 use Rattle.ws_live.proofs.live.connect.wait_for.Given as goal

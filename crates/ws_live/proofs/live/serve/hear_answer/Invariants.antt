@@ -2,7 +2,7 @@ use Rattle.std.specs.List.{flat_map}
 use Rattle.std.proofs.Common.{◌≡◌, List, length, false}
 use Rattle.ws_code.specs.Device.{on_devices}
 use Rattle.ws_text.specs.Printing.{Prints}
-use Rattle.ws_session.specs.declared.host_end.host_event.HostEvent.{HostEvent}
+use Rattle.ws_end.specs.declared.host_end.host_event.HostEvent.{HostEvent}
 use Rattle.ws_live.specs.live.ServeText.{HaveToldBeforeAnswer}
 use Rattle.ws_live.specs.printing.ToldLines.{told_text}
 use Rattle.ws_live.proofs.live.serve.hear_answer.Given as goal
