@@ -95,6 +95,7 @@ module _ (on : OnDisplay) where
   replied_by (Ok step) = Ok step.reply
   replied_by (Err why) = Err why
 
+  -- a byte that is pushed gives its reply alone
   abbrev pub IsPushedSo : LastingOf → ℕ → LastingOf → Result on.Replied Refusal → Type 0
   IsPushedSo old byte new result = (gave : Result (EndStep RecordEvent on.Replied) Refusal)
       × TakesByte old byte new gave × (result ≡ replied_by gave)
