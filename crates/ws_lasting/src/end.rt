@@ -8,13 +8,13 @@ use ws_code::Code;
 use ws_session::{End, EndFed, StationDisplay};
 
 impl<D: StationDisplay> End for LastingStation<D> {
-    type Deed = D::Key;
+    type Request = D::Key;
 
     type Event = RecordEvent;
 
     type Reply = D::Reply;
 
-    ghost conduct = { lasting_behaviour (on D.Commands.rules D.does) };
+    ghost behaviour = { lasting_behaviour (on D.Commands.rules D.does) };
 
     ghost written = { λ station reply. D.does.written station.station.reacts.screen reply };
 
