@@ -99,7 +99,7 @@ module _ (on : OnDisplay) (old : LastingOf on) (piece : List ℕ) (some : 0 < le
         })
     by (Err why) is = rw is (record {
       within = within;
-      some = tt;
+      some = λ ne. any some (λ e. (let same : why ≡ Failed = cc (is, e) in ne same));
       fed = tt;
       first = tt;
       refused = stops fed.used why within (rw is at taken) (rw is at stopped);

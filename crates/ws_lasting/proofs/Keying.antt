@@ -55,22 +55,22 @@ module _ {D P U H PlaceV V K R : Type 0} (rules : Rules P U) (d : DisplayOf D U 
     go : (o : Option RefusedRecord) → old.passing ≡ o → ReadsOrPasses (on_display rules d) old at o
         → IsKeyHeard (on_display rules d) old new at key result
     go None is (r, size) = pressed_so r.bytes r.items result (λ next l. (
-        let one = one_holds rules free begins l.leads.holds r.leads.leads.holds in
+        let one = one_holds rules free begins l.reached.holds r.reached.reached.holds in
         stands_reading rules d new (record at { state = next }) works begun
         (ap (λ (z : LastingParts _ _). z.passing) same ∙ is) (record {
           bytes = r.bytes;
           items = r.items;
-          leads = l;
+          reached = l;
           is_open = one.1 ∙ r.is_open;
           is_begun = one.2 ∙ r.is_begun;
           few = (let t = ap (λ (z : LastingParts _ _). z.taken) same in let n = r.few in omega (arith, n, t));
         }) (ap (λ (z : LastingParts _ _). z.size) same ∙ size)))
-        (keyed r.bytes r.items at.state r.leads (let n = r.few in omega (arith, n, few)))
+        (keyed r.bytes r.items at.state r.reached (let n = r.few in omega (arith, n, few)))
     go (Some why) is p = pressed_so [] [] result (λ next l. (
         stands_passing rules d new (record at { state = next }) works begun why
         (ap (λ (z : LastingParts _ _). z.passing) same ∙ is)
-        (record { leads = l; of_record = p.of_record; spoilt = p.spoilt })))
-        (keyed [] [] at.state p.leads (omega arith))
+        (record { reached = l; of_record = p.of_record; spoilt = p.spoilt })))
+        (keyed [] [] at.state p.reached (omega arith))
 
 -- A key is an act.
 

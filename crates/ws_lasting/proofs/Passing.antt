@@ -40,11 +40,11 @@ module _ {D P U H PlaceV V K R : Type 0} (rules : Rules P U) (d : DisplayOf D U 
       → at.so_far ≡ [] → at.begun ≡ [] → ReachedOn (on_display rules d) station [] [] at.state
       → IsReading (on_display rules d) station taken at
   reads_anew free begins station taken at none between l =
-      let same = one_holds rules free begins l.leads.holds (holds_nothing rules) in
+      let same = one_holds rules free begins l.reached.holds (holds_nothing rules) in
       record {
         bytes = [];
         items = [];
-        leads = l;
+        reached = l;
         is_open = same.1 ∙ sym none;
         is_begun = same.2 ∙ sym between;
         few = omega arith;
@@ -89,7 +89,7 @@ module _ {D P U H PlaceV V K R : Type 0} (rules : Rules P U) (d : DisplayOf D U 
       }) [] [] (record { options = (station_answer state.options t).after; happened = state.happened })
   answered station state t l = record {
     so_far = l.so_far;
-    leads = l.leads;
+    reached = l.reached;
     kept = l.kept;
     stands = record {
       options = ap (λ z. (station_answer z t).after) l.stands.options;
@@ -109,7 +109,7 @@ module _ {D P U H PlaceV V K R : Type 0} (rules : Rules P U) (d : DisplayOf D U 
         record { state = at.state; so_far = at.so_far; begun = old.begun },
         (refl, refl, silent, refl),
         stands_passing old _ works refl why passing
-            (record { leads = p.leads; of_record = p.of_record; spoilt = p.spoilt }),
+            (record { reached = p.reached; of_record = p.of_record; spoilt = p.spoilt }),
         counted_none old.counts,
       )
 
@@ -118,7 +118,7 @@ module _ {D P U H PlaceV V K R : Type 0} (rules : Rules P U) (d : DisplayOf D U 
         record { state = at.state; so_far = at.so_far ++ b ∷ []; begun = old.begun },
         (refl, refl, silent, refl),
         stands_passing old _ works refl why passing (record {
-          leads = p.leads;
+          reached = p.reached;
           of_record = p.of_record;
           spoilt = spoilt_more at.so_far b why p.spoilt;
         }),
@@ -141,12 +141,12 @@ module _ {D P U H PlaceV V K R : Type 0} (rules : Rules P U) (d : DisplayOf D U 
         so_far = at.so_far;
         begun = new.begun;
       },
-      (refl, refl, written ∙ ap (λ z. telnet_bytes (station_answer z t).reply) p.leads.stands.options, refl),
+      (refl, refl, written ∙ ap (λ z. telnet_bytes (station_answer z t).reply) p.reached.stands.options, refl),
       stands_passing new _ (ap (λ (z : LastingParts _ _). z.ended) same ∙ works) refl why
           (ap (λ (z : LastingParts _ _). z.passing) same ∙ passing) (record {
-            leads = subst (λ (z : PartsOn D P). ReachedOn (on_display rules d) z [] []
+            reached = subst (λ (z : PartsOn D P). ReachedOn (on_display rules d) z [] []
                 (record { options = (station_answer at.state.options t).after; happened = at.state.happened }))
-                (sym (ap (λ (z : LastingParts _ _). z.station) same)) (answered old.station at.state t p.leads);
+                (sym (ap (λ (z : LastingParts _ _). z.station) same)) (answered old.station at.state t p.reached);
             of_record = p.of_record;
             spoilt = p.spoilt;
           }),
@@ -167,7 +167,7 @@ module _ {D P U H PlaceV V K R : Type 0} (rules : Rules P U) (d : DisplayOf D U 
         inr (
           refl,
           why,
-          both_true _ _ p.of_record (ap station_allows_records (sym p.leads.stands.options) ∙ allows),
+          both_true _ _ p.of_record (ap station_allows_records (sym p.reached.stands.options) ∙ allows),
           inl p.spoilt,
           written,
           refl,
@@ -177,7 +177,7 @@ module _ {D P U H PlaceV V K R : Type 0} (rules : Rules P U) (d : DisplayOf D U 
           (ap (λ (z : LastingParts _ _). z.passing) same)
           (reads_anew free begins new.station new.taken _ refl (ap (λ (z : LastingParts _ _). z.begun) same ∙ between)
           (subst (λ (z : PartsOn D P). ReachedOn (on_display rules d) z [] [] at.state)
-          (sym (ap (λ (z : LastingParts _ _). z.station) same)) p.leads))
+          (sym (ap (λ (z : LastingParts _ _). z.station) same)) p.reached))
           (ap (λ (z : LastingParts _ _). z.size) same),
       counted,
     )
@@ -186,5 +186,5 @@ module _ {D P U H PlaceV V K R : Type 0} (rules : Rules P U) (d : DisplayOf D U 
         → IsWordHeard (on_display rules d) old.counts new at here (Whole Eor) (Err (At here RecordBeforeNegotiation))
     passes_late new forbids = (
       refl,
-      (inr (inr (ap station_allows_records (sym p.leads.stands.options) ∙ forbids, refl)), refl),
+      (inr (inr (ap station_allows_records (sym p.reached.stands.options) ∙ forbids, refl)), refl),
     )

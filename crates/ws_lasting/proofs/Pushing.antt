@@ -3,7 +3,7 @@ use Rattle.std.proofs.Common.{Option, Some, None, Ok, Err, Result, true, false, 
 use Rattle.ws_code.specs.Code.{Rules}
 use Rattle.ws_record.specs.Encode.{plain_spelling}
 use Rattle.ws_record.specs.declared.record.Item.{Item}
-use Rattle.ws_end.specs.Acts.{Arrives, IsTrace, as_list, ways}
+use Rattle.ws_end.specs.Acts.{Arrives, IsTrace, as_list, protocol_of}
 use Rattle.ws_end.specs.Reaction.{goes_on}
 use Rattle.ws_end.specs.Reaction.{Reaction, Refuses, GoesOn}
 use Rattle.ws_end.specs.declared.end_step.EndFed.{EndFed}
@@ -14,7 +14,7 @@ use Rattle.ws_end.specs.driver.Driven.{Driven, Driving, IsReached, Come, DriverF
 use Rattle.ws_end.specs.driver.Driven.{transitions_of}
 use Rattle.ws_end.specs.driver.Driven.{TakesNoMore}
 use Rattle.ws_end.specs.driver.Reacting.{at_reaction}
-use Rattle.ws_end.proofs.EndSteps.{gone_none}
+use Rattle.ws_end.proofs.EndSteps.{trace_none}
 use Rattle.ws_end.proofs.Shuts.{none_reached}
 
 -- What a byte alone gives a driver.
@@ -34,11 +34,11 @@ module _ {R K Place U Deed Event Reply : Type 0} (d : Driving R K Place U Deed E
   came_one step g = elim g.happen [
     | inl h ↦ (let wrote = rw h.1 at g.wrote in
         let tells = rw h.1 at g.tells in
-        let leads = rw (h.1, append-nil items) at g.leads in
-        inl (leads, wrote, one_told step.event None tells))
+        let reached = rw (h.1, append-nil items) at g.reached in
+        inl (reached, wrote, one_told step.event None tells))
     | inr h ↦ (let is : g.happened ≡ Arrives h.0 ∷ [] = h.3 ∙ ap (λ z. Arrives h.0 ∷ z) h.4 in
         arrives h.0 (d.does.takes state h.0) refl (rw is at g.taken).0 (rw is at g.wrote) (rw is at g.tells)
-        (rw is at g.leads))
+        (rw is at g.reached))
   ] where
     arrives : (item : Item U) (r : Reaction d.does.State d.does.Made) → d.does.takes state item ≡ r
         → goes_on (d.does.takes state item) ≡ true
@@ -47,8 +47,8 @@ module _ {R K Place U Deed Event Reply : Type 0} (d : Driving R K Place U Deed E
         → as_list step.event ≡ (at_reaction (d.does.puts item) state (d.does.takes state item)).events ++ []
         → IsReached d new (bytes ++ b ∷ []) (items ++ item ∷ []) (at_reaction (d.does.puts item) state
         (d.does.takes state item)).state → GoesOnAt d new (bytes ++ b ∷ []) items state step
-    arrives item (Refuses reason) is goes wrote tells leads = (let no = rw is at goes in cc)
-    arrives item (GoesOn next made) is goes wrote tells leads = inr (
+    arrives item (Refuses reason) is goes wrote tells reached = (let no = rw is at goes in cc)
+    arrives item (GoesOn next made) is goes wrote tells reached = inr (
       item,
       next,
       made,
@@ -56,12 +56,12 @@ module _ {R K Place U Deed Event Reply : Type 0} (d : Driving R K Place U Deed E
       rw (is, append-nil (d.does.puts item made).items) at wrote,
       one_told step.event (d.does.puts item made).event
           (rw (is, append-nil (as_list (d.does.puts item made).event)) at tells),
-      rw is at leads,
+      rw is at reached,
     )
 
   module _ (l : IsReached d old bytes items state) (few : length bytes + 1 < 2 ^ 64) where
     works : TakesNoMore old → ⊥
-    works = none_reached old.ended old.live.taken (length bytes) l.works l.leads.count few
+    works = none_reached old.ended old.live.taken (length bytes) l.works l.reached.count few
 
     pub pushed : (step : EndStep Event Reply) → DriverPushes d old b new (Ok step)
         → GoesOnAt d new (bytes ++ b ∷ []) items state step
@@ -74,4 +74,4 @@ module _ {R K Place U Deed Event Reply : Type 0} (d : Driving R K Place U Deed E
     refused why p =
         let brings = (p.1.takes works).brings bytes items state l in
         let one : p.0 ≡ 1 = omega (arith, p.1.within, brings.0, length-take-le p.0 (b ∷ []) p.1.within) in
-        gone_none (rw one at brings).1
+        trace_none (rw one at brings).1

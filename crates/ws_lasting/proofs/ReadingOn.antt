@@ -64,14 +64,14 @@ module _ {D P U H PlaceV V K R : Type 0} (rules : Rules P U) (d : DisplayOf D U 
   module _ (old : PartsOn D P) (taken : ℕ) (at : Footing H)
       (r : IsReading (on_display rules d) old taken at) (b : ℕ) where
     held_so : Holds rules r.bytes r.items at.so_far at.begun
-    held_so = subst₂ (λ x y. Holds rules r.bytes r.items x y) r.is_open r.is_begun r.leads.leads.holds
+    held_so = subst₂ (λ x y. Holds rules r.bytes r.items x y) r.is_open r.is_begun r.reached.reached.holds
 
     framed_so : CanBeFramed at.so_far
-    framed_so = subst CanBeFramed r.is_open r.leads.leads.reads.framed
+    framed_so = subst CanBeFramed r.is_open r.reached.reached.reads.framed
 
     body_so : BeginsList rules (drop 10 at.so_far)
     body_so =
-        let ends = cut_ends rules can _ _ _ r.leads.leads.reads.cut in
+        let ends = cut_ends rules can _ _ _ r.reached.reached.reads.cut in
         subst (λ x. BeginsList rules (drop 10 x)) r.is_open
         (record { units = ends.0; more = ends.1; whole = ends.2; spelled = ends.3 })
 
@@ -89,7 +89,7 @@ module _ {D P U H PlaceV V K R : Type 0} (rules : Rules P U) (d : DisplayOf D U 
           stands_reading rules d (record mid { size = n; passing = o; counts = counts }) _ works refl none (record {
             bytes = r.bytes ++ b ∷ [];
             items = items;
-            leads = l;
+            reached = l;
             is_open = is_open;
             is_begun = is_begun;
             few = (let n = r.few in omega (arith, n, few, length-append r.bytes (b ∷ [])));
@@ -103,7 +103,7 @@ module _ {D P U H PlaceV V K R : Type 0} (rules : Rules P U) (d : DisplayOf D U 
           → IsWordHeard (on_display rules d) mid.counts new at here word
           (Ok (record { reply = gave.reply; event = event }))
       heard new event More step (inl s) f other =
-          let same = one_holds rules free begins (holds_more rules held_so (b ∷ []) step.1) s.0.leads.holds in
+          let same = one_holds rules free begins (holds_more rules held_so (b ∷ []) step.1) s.0.reached.holds in
           rw (f.0, f.1) (
             record { state = at.state; so_far = at.so_far; begun = mid.begun },
             (refl, refl, s.1, refl),
@@ -112,10 +112,10 @@ module _ {D P U H PlaceV V K R : Type 0} (rules : Rules P U) (d : DisplayOf D U 
             counted_none mid.counts,
           )
       heard new event More step (inr t) f other =
-          let same = one_holds rules free begins (holds_more rules held_so (b ∷ []) step.1) t.6.leads.holds in
+          let same = one_holds rules free begins (holds_more rules held_so (b ∷ []) step.1) t.6.reached.holds in
           absurd (no_more rules free begins r.items t.0 same.0)
       heard new event (Whole (Data v)) step (inl s) f other =
-          let same = one_holds rules free begins (holds_data rules held_so b v step.1) s.0.leads.holds in
+          let same = one_holds rules free begins (holds_data rules held_so b v step.1) s.0.reached.holds in
           rw (f.0, f.1) (
             record { state = at.state; so_far = at.so_far ++ v ∷ []; begun = mid.begun },
             (refl, refl, s.1, refl),
@@ -124,13 +124,13 @@ module _ {D P U H PlaceV V K R : Type 0} (rules : Rules P U) (d : DisplayOf D U 
             counted_none mid.counts,
           )
       heard new event (Whole (Data v)) step (inr t) f other =
-          let same = one_holds rules free begins (holds_data rules held_so b v step.1) t.6.leads.holds in
+          let same = one_holds rules free begins (holds_data rules held_so b v step.1) t.6.reached.holds in
           absurd (no_more rules free begins r.items t.0 same.0)
       heard new event (Whole (TelnetToken u)) step (inl s) f other =
-          let same = one_holds rules free begins (holds_command rules held_so b u step.1) s.0.leads.holds in
+          let same = one_holds rules free begins (holds_command rules held_so b u step.1) s.0.reached.holds in
           absurd (no_more rules free begins r.items (TelnetItem u) (sym same.0))
       heard new event (Whole (TelnetToken u)) step (inr t) f other =
-          let same = one_holds rules free begins (holds_command rules held_so b u step.1) t.6.leads.holds in
+          let same = one_holds rules free begins (holds_command rules held_so b u step.1) t.6.reached.holds in
           let item = (same_last r.items r.items (TelnetItem u) t.0 same.0).1 in
           let gone = gone_parts _ _ _ _ (ap (takes_on d at.state) item ∙ t.3) in
           rw (f.0, f.1) (
@@ -141,13 +141,13 @@ module _ {D P U H PlaceV V K R : Type 0} (rules : Rules P U) (d : DisplayOf D U 
             counted_none mid.counts,
           )
       heard new event (Whole Eor) step (inl s) f other =
-          let r' = ended rules free begins held_so b step.1 s.0.leads.holds in
+          let r' = ended rules free begins held_so b step.1 s.0.reached.holds in
           let same = one_holds rules free begins (holds_record rules held_so b r'.0 step.1 r'.1 r'.2)
-          s.0.leads.holds in absurd (no_more rules free begins r.items (RecordItem r'.0) (sym same.0))
+          s.0.reached.holds in absurd (no_more rules free begins r.items (RecordItem r'.0) (sym same.0))
       heard new event (Whole Eor) step (inr t) f other =
-          let r' = ended rules free begins held_so b step.1 t.6.leads.holds in
+          let r' = ended rules free begins held_so b step.1 t.6.reached.holds in
           let same = one_holds rules free begins (holds_record rules held_so b r'.0 step.1 r'.1 r'.2)
-          t.6.leads.holds in
+          t.6.reached.holds in
           let item = (same_last r.items r.items (RecordItem r'.0) t.0 same.0).1 in
           rw (f.1, f.3) (
             record { state = t.1; so_far = []; begun = mid.begun },
@@ -221,7 +221,7 @@ module _ {D P U H PlaceV V K R : Type 0} (rules : Rules P U) (d : DisplayOf D U 
             record { state = at.state; so_far = at.so_far ++ v ∷ []; begun = new.begun },
             (refl, refl, silent, refl),
             stands_passing rules d new _ works refl Why passing (record {
-              leads = anew;
+              reached = anew;
               of_record = first_true _ _ may;
               spoilt = record {
                 front = at.so_far;

@@ -1,7 +1,7 @@
 -- Where a station refuses no record, one that no record ends does as it
 
 use Rattle.std.specs.Prelude.{ℕ, List, [], map}
-use Rattle.ws_end.specs.Acts.{Act, IsTrace, ways}
+use Rattle.ws_end.specs.Acts.{Act, IsTrace, protocol_of}
 use Rattle.ws_end.specs.declared.end_step.Applied.{Applied}
 use Rattle.ws_end.specs.station.Displays.{OnDisplay}
 use Rattle.ws_end.specs.station.StationReacting.{transitions_on}
@@ -17,7 +17,7 @@ all_carried_out told = map (λ applied. CarriedOut) told
 -- from this state on the acts lead a station of whose items it refuses none, and this is written and told
 abbrev pub LeadsAsStation : (on : OnDisplay) → EndStateOf on → List (Act on.Pressed) → List ℕ → List Applied → Type 0
 LeadsAsStation on state acts written told =
-    IsTrace (ways on.rules on.does.out (transitions_on on.does)) (λ bytes items next. Unit {0}) [] [] state acts written
+    IsTrace (protocol_of on.rules on.does.out (transitions_on on.does)) (λ bytes items next. Unit {0}) [] [] state acts written
     told
 
 -- one that no record ends then writes and tells the same

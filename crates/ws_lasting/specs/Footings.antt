@@ -48,14 +48,14 @@ module _ (on : OnDisplay) where
   pub record IsReading (station : StationOf on) (taken : ℕ) (at : FootingOn on) : Type 0 where
     pub bytes : List ℕ
     pub items : ItemsOf on
-    pub leads : ReachedOn on station bytes items at.state
-    pub is_open : leads.so_far.bytes ≡ at.so_far
+    pub reached : ReachedOn on station bytes items at.state
+    pub is_open : reached.so_far.bytes ≡ at.so_far
     pub is_begun : station.live.begun ≡ at.begun
     pub few : length bytes ≤ taken
 
   -- it passes over a record that has these bytes, and stands itself as a new one
   pub record IsPassingOver (station : StationOf on) (at : FootingOn on) (why : RefusedRecord) : Type 0 where
-    pub leads : ReachedOn on station [] [] at.state
+    pub reached : ReachedOn on station [] [] at.state
     pub of_record : is_of_record why.reason ≡ true
     pub spoilt : IsSpoilt on.rules at.so_far why
 

@@ -91,7 +91,7 @@ module _ (on : OnDisplay) where
   pub lasting_stays : (e : LastingOf on) → LastingTraces on e [] [] [] e
   lasting_stays e = record {
     led = λ at st few. leads_none e at st;
-    shut = λ h. record { no_byte = refl; same = refl; unwritten = refl; untold = refl };
+    shut = λ h. record { no_byte = refl; same = refl; unwritten = refl; no_event = refl };
   }
 
   -- acts go on where others have led
@@ -109,6 +109,6 @@ module _ (on : OnDisplay) where
           no_byte = bytes_append xs ys ∙ ap (λ z. z ++ bytes_of ys) n.no_byte ∙ m.no_byte;
           same = m.same ∙ n.same;
           unwritten = ap (λ z. z ++ w) n.unwritten ∙ m.unwritten;
-          untold = ap (λ z. z ++ t) n.untold ∙ m.untold;
+          no_event = ap (λ z. z ++ t) n.no_event ∙ m.no_event;
         };
   }

@@ -25,7 +25,7 @@ impl<D: StationDisplay> LastingStation<D> {
         self.station.screen()
     }
 
-    /// Whether the negotiation has come so far that records may be sent both ways (RFC 1205, section 2).
+    /// Whether the negotiation has come so far that records may be sent both protocol_of (RFC 1205, section 2).
     pub fn is_ready(&self) -> bool
         ensures { result ≡ station_allows_records self.now.station.reacts.options }
     {

@@ -12,7 +12,7 @@ returns-clause-stands g c = record {
   is_begun = c.start.ensures.fresh;
   within = (
     reads_anew g.D.Commands.Code.rules g.D.StationDisplay.does g.met.D.Commands.Code.prefix_free
-        g.met.D.Commands.Code.begins c.new.result 0 _ refl refl c.new.ensures.leads,
+        g.met.D.Commands.Code.begins c.new.result 0 _ refl refl c.new.ensures.reached,
     refl,
   );
 }

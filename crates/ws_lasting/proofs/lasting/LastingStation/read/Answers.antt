@@ -39,7 +39,7 @@ returns-in-Ok g c =
           c.follow-event.new.self c.follow-event.result c.args.word
           (subst (λ x. IsTokenStep at.begun c.args.byte x c.args.word) (sym (ap (λ (z : LastingParts _ _). z.begun) same)) step)
           (pushed (station_driving on) c.args.self.now.station c.hear.new.self.station c.args.byte r.bytes r.items at.state
-          r.leads few c.in-Ok.step c.in-Ok.ensures.heard) c.follow-event.ensures c.in_default.not-Bad));
+          r.reached few c.in-Ok.step c.in-Ok.ensures.heard) c.follow-event.ensures c.in_default.not-Bad));
       same =
           let kept = followed on c.hear.new.self c.follow-event.new.self c.args.word c.follow-event.result
           c.follow-event.ensures in (kept.0 ∙ ap (λ (z : LastingParts _ _). z.begun) same, kept.1 ∙ taken);
@@ -51,7 +51,7 @@ returns-in-Err-Failed g c =
     let on = on_display g.D.Commands.Code.rules g.D.StationDisplay.does in
     record {
       heard = λ at r step size passing works. absurd (refused (station_driving on) c.args.self.now.station
-          c.hear.new.self.station c.args.byte r.bytes r.items at.state r.leads
+          c.hear.new.self.station c.args.byte r.bytes r.items at.state r.reached
           (let n = r.few in omega (arith, n, c.requires.counted, c.requires.few)) Failed
           (rw c.in-Err-Failed.field-0-is at c.in-Err-Failed.ensures.heard)).0;
       same = search rules;
@@ -63,7 +63,7 @@ returns-in-Err-Memory g c =
     let on = on_display g.D.Commands.Code.rules g.D.StationDisplay.does in
     record {
       heard = λ at r step size passing works. elim (refused (station_driving on) c.args.self.now.station
-          c.hear.new.self.station c.args.byte r.bytes r.items at.state r.leads
+          c.hear.new.self.station c.args.byte r.bytes r.items at.state r.reached
           (let n = r.few in omega (arith, n, c.requires.counted, c.requires.few)) Memory
           (rw c.in-Err-Memory.field-0-is at c.in-Err-Memory.ensures.heard)).0 [
             | inl q ↦ (let never = q.0 in cc)
@@ -84,7 +84,7 @@ returns-then-not-may_pass_over g c =
     record {
       heard = λ at r step size passing works. (
           let why = refused (station_driving on) c.args.self.now.station c.hear.new.self.station c.args.byte r.bytes
-          r.items at.state r.leads (let n = r.few in omega (arith, n, c.requires.counted, c.requires.few)) _
+          r.items at.state r.reached (let n = r.few in omega (arith, n, c.requires.counted, c.requires.few)) _
           (rw c.in-Err-At.field-0-is at c.in-Err-At.ensures.heard) in
           rw (end.ensures.result, taken) (refused_last g.D.Commands.Code.rules g.D.StationDisplay.does
           code.prefix_free code.begins g.met.D.Commands.Body.can_end code.bytes c.args.self.now.station
@@ -106,7 +106,7 @@ returns-then-is_end g c =
     record {
       heard = λ at r step size passing works. (
           let why = refused (station_driving on) c.args.self.now.station c.hear.new.self.station c.args.byte r.bytes
-          r.items at.state r.leads (let n = r.few in omega (arith, n, c.requires.counted, c.requires.few)) _
+          r.items at.state r.reached (let n = r.few in omega (arith, n, c.requires.counted, c.requires.few)) _
           (rw c.in-Err-At.field-0-is at c.in-Err-At.ensures.heard) in
           let ends = rw is at step in
           rw is (refused_at_end g.D.Commands.Code.rules g.D.StationDisplay.does
@@ -143,7 +143,7 @@ returns g c =
     record {
       heard = λ at r step size passing works. (
           let why = refused (station_driving on) c.args.self.now.station c.hear.new.self.station c.args.byte r.bytes
-          r.items at.state r.leads (let n = r.few in omega (arith, n, c.requires.counted, c.requires.few)) _
+          r.items at.state r.reached (let n = r.few in omega (arith, n, c.requires.counted, c.requires.few)) _
           (rw c.in-Err-At.field-0-is at c.in-Err-At.ensures.heard) in
           subst (λ (z : RecordCounts). IsWordHeard on z c.pass_over.new.self at (c.args.self.now.taken - 1) c.args.word
           (Ok c.silence.result)) (ap (λ (z : LastingParts _ _). z.counts) same)
