@@ -1,6 +1,7 @@
 -- The conduct of an end of a session
 
-use Rattle.std.specs.Prelude.{◌≡◌, ◌-◌, ◌<◌, ◌≤◌, ◌++◌, ◌∷◌, ℕ, List, Err, IfOk, IfErr, OnOk, OnErr, length, take}
+use Rattle.std.specs.Prelude.{◌≡◌, ◌≢◌, ◌-◌, ◌<◌, ◌≤◌, ◌++◌, ◌∷◌, ℕ, List, Err, IfOk, IfErr, OnErr, MatchResult, length}
+use Rattle.std.specs.Prelude.{take}
 use Rattle.ws_end.specs.declared.end_step.EndFed.{EndFed}
 use Rattle.ws_end.specs.declared.refusal.Refusal.{Refusal}
 use Rattle.ws_end.specs.declared.refusal.Refusal.TheVariants.{Failed}
@@ -25,7 +26,7 @@ pub record TakesSome {E Deed Told R : Type 0} (conduct : Conduct E Deed Told) (w
     (piece : List ℕ) (new : E) (front : EndFed Told R) : Type 0 where
   -- how much of the piece is used
   pub within : front.used ≤ length piece
-  pub some : OnOk front.step (0 < front.used)
+  pub some : MatchResult front.step (λ step. 0 < front.used) (λ why. why ≢ Failed → 0 < front.used)
   -- what it brings, and that nothing came before its last byte
   pub fed : IfOk front.step (λ step. conduct.goes old (all_came (take front.used piece)) (written new step.reply)
       (as_list step.event) new)

@@ -1,7 +1,8 @@
+-- A driver, as whoever attaches it sees it: what its feeds give, by its conduct.
+
 use Rattle.ws_end.proofs.Common as C
 use C.{◌≡◌, ◌+◌, List, [], ◌∷◌, ◌++◌, refl, ◌∙◌, ℕ, suc, ◌<◌, Some, None, IsSome, take, drop, ap, sym, arith, inl, inr}
-use C.{cases_lt, length, Err, Ok, Result, take-take, length-take-le, ◌-◌, ◌^◌, Item, Option}
-use Rattle.std.specs.Result.{OnErr, OnOk}
+use C.{cases_lt, length, Err, Ok, Result, take-take, length-take-le, ◌-◌, ◌^◌, Item, Option, Failed}
 use Rattle.std.proofs.Math.Seq.{drop-append_seam}
 use Rattle.ws_end.specs.Conduct.{TakesSome}
 use Rattle.ws_end.specs.declared.refusal.Refusal.{Refusal}
@@ -111,7 +112,7 @@ module _ {R K Place U Deed Event Reply : Type 0} (d : Driving R K Place U Deed E
         })
     by (Err why) is = rw is (record {
       within = f.within;
-      some = tt;
+      some = λ other. f.some some (λ e. other (let same : Err why ≡ Err Failed = sym is ∙ e in cc));
       fed = tt;
       first = tt;
       refused = stops fed.used why (rw is at f);
