@@ -7,7 +7,7 @@ ghost use Rattle.ws_end.specs.host_end.HostSide.{HostSide, RefusesSend, host_sen
 
 use super::Host;
 use crate::station::apply::CANCEL;
-use crate::station::body::{body_spelling, is_too_big};
+use crate::station::body::body_spelling;
 use crate::{Driver, SendFault, Sent};
 use arrayvec::ArrayVec;
 use ws_code::VecSink;
@@ -52,11 +52,10 @@ impl Driver<Host> {
             return Err(SendFault::Screen(reason));
         }
         copy.end_write();
-        if is_too_big(body) {
-            return Err(SendFault::TooBig);
-        }
-        let Ok(bytes) = body_spelling(self.reacts.alloc, body) else {
-            return Err(SendFault::Memory);
+        let bytes = match body_spelling(self.reacts.alloc, body) {
+            Ok(Some(bytes)) => bytes,
+            Ok(None) => return Err(SendFault::TooBig),
+            Err(_) => return Err(SendFault::Memory),
         };
         let mut sink = VecSink::new(self.reacts.alloc);
         if write_record(&mut sink, 0, opcode, bytes.as_slice()).is_err() {

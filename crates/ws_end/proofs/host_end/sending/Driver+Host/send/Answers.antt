@@ -1,8 +1,7 @@
-use Rattle.ws_end.proofs.Common.{◌≡◌, ◌+◌, ◌≤◌, List, ◌++◌, ◌∙◌, ℕ, None, ap, sym, length, true}
-use Rattle.ws_end.proofs.Common.{false, spelling_of, held_went_out, host_allows_records, record_spelling}
-use Rattle.ws_end.proofs.Common.{header, Opcode, is_body, element_rules, Element, after_elements, body_fault, Gives}
-use Rattle.ws_end.proofs.Common.{gives_end, HostLeads, HostParts, IsSendFault, HostSide, Item, AnswerPart}
-use Rattle.ws_end.proofs.Common.{is_outstanding, host_send}
+use Rattle.ws_end.proofs.Common.{◌≡◌, ◌+◌, ◌≤◌, List, ◌++◌, ◌∙◌, ℕ, None, ap, sym, length, true, false, spelling_of}
+use Rattle.ws_end.proofs.Common.{held_went_out, host_allows_records, record_spelling, header, Opcode, is_body}
+use Rattle.ws_end.proofs.Common.{element_rules, Element, after_elements, body_fault, Gives, gives_end, HostLeads}
+use Rattle.ws_end.proofs.Common.{HostParts, IsSendFault, HostSide, Item, AnswerPart, is_outstanding, host_send}
 use Rattle.ws_end.specs.declared.host_end.send_fault.SendFault.TheVariants.{Memory}
 use Rattle.ws_end.proofs.HostSteps.{sends_body, body_sent, sent_side, known_ok}
 use Rattle.ws_end.proofs.host_end.sending.Driver+Host.send.Goals as goal
@@ -19,14 +18,14 @@ wants_memory old opcode body bytes items side l allowed free whole taken fits = 
   sends_body old bytes items side l _ body allowed free whole taken fits,
 )
 
-pub returns-in_default-body_spelling-clause-sent : goal.returns-in_default-body_spelling-clause-sent
-returns-in_default-body_spelling-clause-sent c = λ bytes items side l few.
+pub returns-in-Err-body_spelling-clause-sent : goal.returns-in-Err-body_spelling-clause-sent
+returns-in-Err-body_spelling-clause-sent c = λ bytes items side l few.
     let m = rw (← c.self.view_is, ← c.self-inside.view_is) at l in
     wants_memory _ _ _ bytes items side m (sym c.records_allowed.ensures ∙ c.if-not-records_allowed.false)
     (sym (c.is_disturbed.ensures side l.stands) ∙ c.if-is_disturbed.false)
     (sym c.is_body.ensures.same ∙ c.if-not-is_body.false)
     (sym (c.in_default.ensures.fault side.kept (rw c.assign.ensures m.stands.given)))
-    (c.is_too_big.ensures.fits c.if-is_too_big.false)
+    (c.in-Err-body_spelling.ensures.fits (λ e. cc))
 
 pub returns-then-is_err-clause-sent : goal.returns-then-is_err-clause-sent
 returns-then-is_err-clause-sent c = λ bytes items side l few.
@@ -35,14 +34,15 @@ returns-then-is_err-clause-sent c = λ bytes items side l few.
     (sym (c.is_disturbed.ensures side l.stands) ∙ c.if-is_disturbed.false)
     (sym c.is_body.ensures.same ∙ c.if-not-is_body.false)
     (sym (c.in_default.ensures.fault side.kept (rw c.assign.ensures m.stands.given)))
-    (c.is_too_big.ensures.fits c.if-is_too_big.false)
+    (c.in-Ok-Some.ensures.fits (λ e. cc))
 
 pub returns-clause-sent : goal.returns-clause-sent
 returns-clause-sent c =
     let body = c.args.body.now in
     let kept = c.as_slice.result.now in
-    let text : kept ≡ spelling_of element_rules body = c.as_slice.ensures.value ∙ c.in-Ok.ensures in
-    let fits : length (spelling_of element_rules body) ≤ 65525 = c.is_too_big.ensures.fits c.if-is_too_big.false in
+    let text : kept ≡ spelling_of element_rules body = c.as_slice.ensures.value
+    ∙ rw c.in-Ok-Some.field-0-is at c.in-Ok-Some.ensures.spelled in
+    let fits : length (spelling_of element_rules body) ≤ 65525 = c.in-Ok-Some.ensures.fits (λ e. cc) in
     let spelled : List ℕ = record_spelling (header (10 + length kept) 0 c.args.opcode ++ kept) in
     let went = known_ok _ (sym c.is_err.ensures.value ∙ c.if-is_err.false) c.write_record.ensures.ok in
     let out : c.into_inner.result.items ≡ spelled = c.into_inner.ensures

@@ -1,6 +1,6 @@
 use Rattle.ws_end.proofs.Common.{ap, arith, length, element_rules}
 use Rattle.ws_code.proofs.Lists.{length_through}
-use Rattle.ws_end.proofs.station.body.is_too_big.Goals as goal
+use Rattle.ws_end.proofs.station.body.body_spelling.Goals as goal
 
 pub returns-then-room-size-clause-big : goal.returns-then-room-size-clause-big
 returns-then-room-size-clause-big c _ =
@@ -9,7 +9,7 @@ returns-then-room-size-clause-big c _ =
     grind (
       arith,
       longer,
-      c.loop-element.invariant,
+      c.loop-element.invariant.left,
       ap length c.spell.ensures,
       ap length c.as_slice-size.ensures.value,
       c.if-room-size.true,
