@@ -1,3 +1,5 @@
+-- What is sent by a host that takes any record.
+
 use Rattle.std.proofs.Common.{◌≡◌, ◌≢◌, ℕ, ◌+◌, ◌<◌, ◌^◌, List, [], ◌∷◌, Some, None, length, refl, sym, ap, ◌∙◌, arith}
 use Rattle.std.proofs.lemmas.List.{append-nil}
 use Rattle.ws_record.specs.Encode.{item_spelling}
@@ -14,8 +16,6 @@ use Rattle.ws_end.proofs.Shuts.{none_leads}
 use Rattle.ws_any_host.specs.AnyLeads.{AnyLeads, AnyParts, AtAny, IsAnySendFault, IsAnySendRefusal, IsAnySendTaken}
 use Rattle.ws_any_host.specs.AnyOptions.{Negotiated}
 use Rattle.ws_any_host.specs.AnySide.{any_driving, send_fault}
-
--- What is sent by a host that takes any record.
 
 module _ (host : AnyParts) (r : Record ℕ) where
   -- a record that is sent

@@ -1,3 +1,5 @@
+-- What a host that takes any record makes of a token.
+
 use Rattle.std.proofs.Common.{◌≡◌, ℕ, ◌+◌, ◌<◌, ◌≤◌, ◌^◌, List, [], ◌∷◌, ◌++◌, Option, Some, None, Ok, true, false, map}
 use Rattle.std.proofs.Common.{length, nat_lt, refl, sym, ap, ◌∙◌, arith}
 use Rattle.std.proofs.lemmas.Bool.Decides.{nat_tests}
@@ -18,8 +20,6 @@ use Rattle.ws_end.specs.driver.Reacting.{IsReaction}
 use Rattle.ws_any_host.specs.AnyOptions.{Negotiated}
 use Rattle.ws_any_host.specs.AnySide.{any_negotiates, any_reacting, any_ready, send_fault}
 use Rattle.ws_any_host.specs.declared.any_event.AnyEvent.{AnyEvent}
-
--- What a host that takes any record makes of a token.
 
 any_tokens : (ts : List Telnet) → plain_spelling raw_rules (map TelnetItem ts) ≡ telnet_bytes ts
 any_tokens [] = refl

@@ -1,3 +1,5 @@
+-- What the lines of a script for a host that takes any record can't mean.
+
 use Rattle.std.specs.Prelude.{codes, Bool, false, ◌==◌}
 use Rattle.std.specs.Str.Parse.{digits_value}
 use Rattle.std.proofs.Common.{◌≡◌, ◌≢◌, ℕ, List, [], ◌∷◌, ◌++◌, true, inl, inr, refl, sym, ap, ◌∙◌, subst}
@@ -15,13 +17,11 @@ use Rattle.ws_live.specs.live.LiveScript.{IsBlockFault}
 use Rattle.ws_live.specs.live.WireLines.{MeansWire}
 use Rattle.ws_live.specs.script.ScriptFaults.{has_no_blank}
 use Rattle.ws_live.proofs.ScriptWords.{blank_inside, split_unique, digits_have_no_blank}
-use Rattle.ws_any_host.specs.AnyLines.{AreExtendedBadAt, IsAnyLineFault, any_language}
-use Rattle.ws_any_host.specs.AnyLines.{IsLineBegun, IsOpcode, IsAnySendBegun, IsSendText, IsWordFault, MeansAnyLine}
-use Rattle.ws_any_host.specs.AnyLines.{OpensAnyBlock, SayBytes, SendsAnyOpcodeAlone}
+use Rattle.ws_any_host.specs.AnyLines.{AreExtendedBadAt, IsAnyLineFault, any_language, IsLineBegun, IsOpcode}
+use Rattle.ws_any_host.specs.AnyLines.{IsAnySendBegun, IsSendText, IsWordFault, MeansAnyLine, OpensAnyBlock, SayBytes}
+use Rattle.ws_any_host.specs.AnyLines.{SendsAnyOpcodeAlone}
 use Rattle.ws_any_host.specs.declared.any_line.AnyLine.{AnyLine}
 use Rattle.ws_any_host.specs.declared.any_line.AnyLine.TheVariants.{Nothing, Send, Await, AwaitKey, Wire, Bad}
-
--- What the lines of a script for a host that takes any record can't mean.
 
 -- two words are an opcode and a body in hex
 pub two_words : (words number hex : List ℕ) → words ≡ (number ++ codes " ") ++ hex → has_no_blank number ≡ true

@@ -1,3 +1,5 @@
+-- Any name is one that a host end knows.
+
 use Rattle.std.proofs.Common.{◌≡◌, ◌≢◌, ℕ, List, Option, Some, None, refl, sym, ap, ◌∙◌, subst, IsSome, is_some}
 use Rattle.std.proofs.lemmas.Bool.{false≢true}
 use Rattle.ws_telnet.specs.declared.token.Sub.{Sub}
@@ -11,8 +13,6 @@ use Rattle.ws_nego.specs.declared.host.TerminalName.TheVariants.{Unknown, Reques
 use Rattle.ws_nego.specs.declared.terminal.TerminalType.{TerminalType}
 use Rattle.ws_nego.specs.declared.terminal.TerminalType.TheVariants.{Ibm3179Model2}
 use Rattle.ws_any_host.specs.AnyOptions.{AnswersAlike, Negotiated, answer_with, any_answer, known_sub, name_after}
-
--- Any name is one that a host end knows.
 
 known : terminal_named (terminal_type_name Ibm3179Model2) ≡ Some Ibm3179Model2
 unfolding terminal_named

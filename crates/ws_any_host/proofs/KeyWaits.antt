@@ -1,3 +1,5 @@
+-- Waits for a record by a key.
+
 use Rattle.std.specs.Prelude.{Some}
 use Rattle.std.proofs.Common.{◌≡◌, ℕ, List, [], ◌∷◌, ◌++◌, false, refl, subst}
 use Rattle.ws_code.specs.Device.{Devices}
@@ -5,8 +7,6 @@ use Rattle.ws_end.specs.attached.Attachments.{AttachedParts, HasHeard}
 use Rattle.ws_any_host.specs.AnyLeads.{AnyParts, any_conduct}
 use Rattle.ws_any_host.specs.AnyText.{HaveToldBeforeKey, is_by}
 use Rattle.ws_any_host.specs.declared.any_event.AnyEvent.{AnyEvent}
-
--- Waits for a record by a key.
 
 module _ {S K : Type 0} (devices : Devices S K) where
   abbrev Parts : Type 0

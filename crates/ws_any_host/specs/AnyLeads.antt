@@ -8,8 +8,7 @@ use Rattle.ws_record.specs.declared.record.Record.{Record}
 use Rattle.ws_end.specs.Conduct.{Conduct}
 use Rattle.ws_end.specs.attached.Deeds.{Judged, judged}
 use Rattle.ws_end.specs.declared.host_end.send_fault.SendFault.{SendFault}
-use Rattle.ws_end.specs.declared.host_end.send_fault.SendFault.TheVariants.{Failed as SendFailed}
-use Rattle.ws_end.specs.declared.host_end.send_fault.SendFault.TheVariants.{Memory as SendMemory}
+use Rattle.ws_end.specs.declared.host_end.send_fault.SendFault.TheVariants.{Failed as SendFailed, Memory as SendMemory}
 use Rattle.ws_end.specs.driver.Conducting.{driver_conduct}
 use Rattle.ws_end.specs.driver.Driven.{AtDriver, Driven, LeadsTo, TakesNoMore}
 use Rattle.ws_any_host.specs.AnyOptions.{Negotiated}

@@ -1,7 +1,7 @@
 -- A host that takes any record: what it does at each item that arrives, and what it sends (RFC 1205, section 3)
 
-use Rattle.std.specs.Prelude.{◌≡◌, ℕ, ◌^◌, List, [], ◌∷◌, Bool, not, ◌&&◌, if◌then◌else◌, Option, Some, None}
-use Rattle.std.specs.Prelude.{map, length, nat_lt}
+use Rattle.std.specs.Prelude.{◌≡◌, ℕ, ◌^◌, List, [], ◌∷◌, Bool, not, ◌&&◌, if◌then◌else◌, Option, Some, None, map}
+use Rattle.std.specs.Prelude.{length, nat_lt}
 use Rattle.ws_code.specs.declared.reason.Reason.TheVariants.{RecordBeforeNegotiation, UnsupportedTerminal}
 use Rattle.ws_nego.specs.Host.{host_allows_records}
 use Rattle.ws_nego.specs.Options.{Answer}

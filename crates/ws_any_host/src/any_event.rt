@@ -1,3 +1,4 @@
+//! What a host that takes any record tells.
 use crate::ToldName;
 use ws_record::Record;
 

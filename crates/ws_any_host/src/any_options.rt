@@ -1,3 +1,4 @@
+//! The options of a host that takes any terminal name.
 ghost use Rattle.std.specs.Prelude.{◌≡◌, ◌≤◌, ◌<◌, ◌∷◌, [], List, ℕ, None, Some, length, IfOk, IfErr, IfSome, OnErr, option_map};
 ghost use Rattle.ws_code.specs.declared.reason.Reason.TheVariants.{UnsupportedTerminal};
 ghost use Rattle.ws_telnet.specs.declared.token.Sub.{Sub as ASub};

@@ -1,3 +1,4 @@
+//! The lines that a host that takes any record prints.
 ghost use Rattle.std.specs.Prelude.{◌≡◌};
 ghost use Rattle.hex.specs.Hex.{encode_upper};
 ghost use Rattle.ws_record.specs.Grammar.{two_bytes};

@@ -1,3 +1,4 @@
+//! Any name is free to be a terminal's.
 ghost use Rattle.std.specs.Prelude.{◌≡◌, ◌≢◌, None, Some, List, ℕ};
 ghost use Rattle.ws_nego.specs.Host.{host_answer, name_in};
 ghost use Rattle.ws_nego.specs.Host.{HostState};

@@ -1,3 +1,5 @@
+-- How many alarms sound in a body that is read, and by what has happened.
+
 use Rattle.ws_end.proofs.Common as C
 use C.{◌&&◌, ◌≡◌, ◌+◌, List, [], ◌∷◌, ◌++◌, refl, ◌∙◌, ℕ, Option, Some, None, ap, arith, if◌then◌else◌, Bool, true}
 use C.{false, IsChain, spelling_of, Reason, Opcode, CancelInvite, Record, element_prefix_free, element_begins}
@@ -17,8 +19,6 @@ use Rattle.ws_screen.specs.Given.{ends_of, events_of}
 use Rattle.ws_screen.specs.declared.open_write.OpenWrite.{OpenWrite}
 use Rattle.ws_end.specs.station.Alarms.{alarm_count, alarms_in, alarms_of, is_alarm, sounds_alarm}
 use Rattle.ws_end.proofs.Reading.{HasRead, IsSlotRun, ran_none, ran_some, read_all, read_none}
-
--- How many alarms sound in a body that is read, and by what has happened.
 
 alarms_of-append : (es h : History) → alarms_of (es ++ h) ≡ alarms_of es + alarms_of h
 alarms_of-append es h = sum_by-append (λ e. cond (is_alarm e) 1 0) es h

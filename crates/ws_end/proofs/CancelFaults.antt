@@ -1,3 +1,5 @@
+-- Which faults a cancel has.
+
 use Rattle.ws_end.proofs.Common as C
 use C.{◌≡◌, ◌≢◌, Bool, true, false, not, ◌&&◌, is_some, if◌then◌else◌, host_allows_records, CancelInvite, empty_record}
 use C.{HostSide, RefusesSend, SendFault, SendFailed, IsSendFault, host_cancel, asked_read}

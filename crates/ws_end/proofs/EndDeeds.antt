@@ -1,16 +1,15 @@
+-- A deed, by what the manner of its end does at it.
+
 use Rattle.ws_end.proofs.Common as C
 use Rattle.std.specs.Prelude.{MatchResult, OnErr}
-use C.{◌≡◌, ◌+◌, List, [], ◌∷◌, ◌++◌, refl, subst, ◌∙◌, ℕ, ◌<◌, Option, Some, None, ap, sym, arith, ◌^◌}
-use C.{length, true, false, Err, Ok, Result, subst₂, append-nil, Rules, WentOut, FailedWithin}
-use C.{Fault, Write, plain_spelling, item_spelling, record_spelling, header, CancelInvite, PutGet, Item}
-use C.{answer_rules, element_rules, AnswerPart, Element, ScreenParts, ReadKind, Read, Key, Doing, Did, Happening}
-use C.{Does, doing, items_of, HasGone, Manner, station_manner, station_at_key, host_at_send, host_manner, HostGoes}
-use C.{AttachedParts, HaveLed, HaveLedUnwritten, IsSendFailure, Applied, Order, SendFault, SendFailed}
-use C.{KeyFault, AtHost, HostLeads, HostParts, IsSent, IsSendFault, HostSide}
-use C.{SendReaction, RefusesSend, answer_spelling, StationParts, StationLeads}
-use C.{StationSide, TakesNoMore}
-use C.{RefusesKey, station_key, answer_record}
-use C.{Opcode, host_send, IsSome, ◌≢◌}
+use C.{◌≡◌, ◌+◌, List, [], ◌∷◌, ◌++◌, refl, subst, ◌∙◌, ℕ, ◌<◌, Option, Some, None, ap, sym, arith, ◌^◌, length, true}
+use C.{false, Err, Ok, Result, subst₂, append-nil, Rules, WentOut, FailedWithin, Fault, Write, plain_spelling}
+use C.{item_spelling, record_spelling, header, CancelInvite, PutGet, Item, answer_rules, element_rules, AnswerPart}
+use C.{Element, ScreenParts, ReadKind, Read, Key, Doing, Did, Happening, Does, doing, items_of, HasGone, Manner}
+use C.{station_manner, station_at_key, host_at_send, host_manner, HostGoes, AttachedParts, HaveLed, HaveLedUnwritten}
+use C.{IsSendFailure, Applied, Order, SendFault, SendFailed, KeyFault, AtHost, HostLeads, HostParts, IsSent}
+use C.{IsSendFault, HostSide, SendReaction, RefusesSend, answer_spelling, StationParts, StationLeads, StationSide}
+use C.{TakesNoMore, RefusesKey, station_key, answer_record, Opcode, host_send, IsSome, ◌≢◌}
 use Rattle.ws_code.specs.Device.{Devices}
 use Rattle.ws_keys.specs.declared.answer.Answer.{Answer}
 use Rattle.ws_code.specs.declared.fault.Fault.TheVariants.{Memory as NoMemory}
@@ -24,7 +23,7 @@ use Rattle.ws_end.specs.declared.end_step.Sent.{Sent}
 use Rattle.ws_end.specs.host_end.HostLeads.{CarriesOut, sent_bytes}
 use Rattle.ws_end.specs.host_end.HostSide.{host_orders}
 use Rattle.ws_end.specs.declared.host_end.send_fault.SendFault.TheVariants.{Memory}
-use Rattle.ws_end.specs.station.Displays.{DisplayOf, SideOn, KeyReactionOn}
+use Rattle.ws_end.specs.station.Displays.{DisplayOf, SideOn, KeyReactionOn, on_display}
 use Rattle.ws_end.specs.station.StationActs.{GoesOnDisplay}
 use Rattle.ws_end.specs.station.StationManners.{at_key_on, key_on}
 use Rattle.ws_end.specs.station.StationReacting.{PartsOn, manner_on}
@@ -32,9 +31,6 @@ use Rattle.ws_end.specs.station.StationSide.{profile}
 use Rattle.ws_end.specs.station.Stations.{LeadsOn, IsKeyedOn}
 use Rattle.ws_end.proofs.Shuts.{not_shut, shut_fails}
 use Rattle.ws_end.specs.Acts.{ways}
-use Rattle.ws_end.specs.station.Displays.{on_display}
-
--- A deed, by what the manner of its end does at it.
 
 module _ {Place PlaceV Side U V Deed Event : Type 0} (rules : Rules Place U) (out : Rules PlaceV V)
     (manner : Manner Side U V Deed Event) (leads : List ℕ → List (Item U) → Side → Type 0) (bytes : List ℕ)
@@ -171,10 +167,6 @@ module _ {E S K Deed Event : Type 0}
   pub deed_unwritten : FailedWithin devices.writer from.sink to.sink text
       → HaveLedUnwritten conduct devices now to (Did deed ∷ [])
   deed_unwritten failed = rw (← is) (record { written = text; told = []; led = gone; failed = failed })
-
-  pub send_fails : FailedWithin devices.writer from.sink to.sink text → (fault : Fault) → fault ≡ Write → to.broken
-      ≡ true → IsSendFailure conduct devices now to (Did deed ∷ []) fault
-  send_fails failed fault is broken = rw is (deed_unwritten failed, broken)
 
 -- what follows from a refusal holds of a refused one
 pub refused_then : {Why : Type 0} (acted : Acted Why) {P Q : Why → Type 0} → IfRefused acted P

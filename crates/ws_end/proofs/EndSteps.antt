@@ -1,9 +1,9 @@
+-- A byte that comes to an end, as an act.
+
 use Rattle.ws_end.proofs.Common as C
 use C.{◌≡◌, List, [], ◌∷◌, ◌++◌, ℕ, true, append-nil, Rules, plain_spelling, Item, Doing, Act, HasGone, Arrives, Manner}
 use C.{Happen}
 use Rattle.ws_end.specs.Acts.{bytes_of, ways}
-
--- A byte that comes to an end, as an act.
 
 -- Acts that bring bytes: no item is complete with them, or one is.
 module _ {Place PlaceV Side U V Deed Event : Type 0} {rules : Rules Place U} {out : Rules PlaceV V}

@@ -1,10 +1,9 @@
-use Rattle.ws_end.proofs.Common.{◌≡◌, ◌+◌, ◌≤◌, List, [], ◌∷◌, ◌++◌, refl, subst, ◌∙◌, ℕ, zero, suc, ◌<◌, take, ap, sym}
-use Rattle.ws_end.proofs.Common.{arith, inl, inr, length, append_assoc, ◌-◌, take-append-add}
-use Rattle.ws_end.proofs.Common.{length-take-le, append-nil, Rules, Item, all_came, HasGone, Arrives, Manner, Happen}
-use Rattle.ws_end.proofs.Common.{HoldsItems}
-use Rattle.ws_end.specs.Acts.{ways}
-
 -- A piece of bytes at an end of a session, by its fronts.
+
+use Rattle.ws_end.proofs.Common.{◌≡◌, ◌+◌, ◌≤◌, List, [], ◌∷◌, ◌++◌, refl, subst, ◌∙◌, ℕ, zero, suc, ◌<◌, take, ap, sym}
+use Rattle.ws_end.proofs.Common.{arith, inl, inr, length, append_assoc, ◌-◌, take-append-add, length-take-le}
+use Rattle.ws_end.proofs.Common.{append-nil, Rules, Item, all_came, HasGone, Arrives, Manner, Happen, HoldsItems}
+use Rattle.ws_end.specs.Acts.{ways}
 
 module _ {Place U : Type 0} (rules : Rules Place U) (Deed : Type 0) where
   -- where no item is complete with any of the bytes, nothing happens

@@ -1,19 +1,17 @@
-use Rattle.ws_end.proofs.Common as C
-use C.{is_ok, is_err, OnOk, ◌≡◌, ◌+◌, ◌≤◌, List, [], ◌∷◌, ◌++◌, refl, ◌∙◌, ℕ, Option, Some, None, ap, sym, arith}
-use C.{◌^◌, inl, inr, length, if◌then◌else◌, true, false, is_some, map, nat_lt, IsSome, Err, Ok}
-use C.{◌==◌, Result, both_ways, false≢true, nat_tests, eqb_tells, IsChain, spelling_of, Reason, AnswerMismatch}
-use C.{telnet_spelling, Telnet, host_allows_records, HostState, Answer, telnet_bytes, AnswersWith}
-use C.{plain_spelling, item_spelling, record_spelling, header}
-use C.{Opcode, CancelInvite, NoOperation, Item, RecordItem, TelnetItem, header_length}
-use C.{is_body, element_rules, AnswerPart, Element, after_elements, after_end, body_fault, cancelled, Gives, Follows}
-use C.{ScreenParts, ReadKind, one_screen, read_answer, HostAnswer, empty_record, Refuses, GoesOn, HostEvent}
-use C.{Answered, Cancelled, HostKept, IsReaction, host_reacting}
-use C.{HostLeads, HostParts, IsSent, HostStands, HostSide, sent_record, is_outstanding, after_read}
-use C.{event_output, ready_event, host_negotiates, host_reads, host_reads_by, host_ends_cancel, signal}
-use C.{host_takes_record, Sends, host_cancel, host_send, asked_read}
-use Rattle.ws_end.specs.declared.driver.halt.Halt.TheVariants as halt
-
 -- What a host end does at an item, and what it sends.
+
+use Rattle.ws_end.proofs.Common as C
+use C.{is_ok, is_err, OnOk, ◌≡◌, ◌+◌, ◌≤◌, List, [], ◌∷◌, ◌++◌, refl, ◌∙◌, ℕ, Option, Some, None, ap, sym, arith, ◌^◌}
+use C.{inl, inr, length, if◌then◌else◌, true, false, is_some, map, nat_lt, IsSome, Err, Ok, ◌==◌, Result, both_ways}
+use C.{false≢true, nat_tests, eqb_tells, IsChain, spelling_of, Reason, AnswerMismatch, telnet_spelling, Telnet}
+use C.{host_allows_records, HostState, Answer, telnet_bytes, AnswersWith, plain_spelling, item_spelling}
+use C.{record_spelling, header, Opcode, CancelInvite, NoOperation, Item, RecordItem, TelnetItem, header_length, is_body}
+use C.{element_rules, AnswerPart, Element, after_elements, after_end, body_fault, cancelled, Gives, Follows}
+use C.{ScreenParts, ReadKind, one_screen, read_answer, HostAnswer, empty_record, Refuses, HostEvent, Answered}
+use C.{Cancelled, HostKept, IsReaction, host_reacting, HostLeads, HostParts, IsSent, HostStands, HostSide, sent_record}
+use C.{is_outstanding, after_read, event_output, ready_event, host_negotiates, host_reads, host_reads_by}
+use C.{host_ends_cancel, signal, host_takes_record, Sends, host_cancel, host_send, asked_read}
+use Rattle.ws_end.specs.declared.driver.halt.Halt.TheVariants as halt
 
 host_tokens : (ts : List Telnet) → plain_spelling element_rules (map TelnetItem ts) ≡ telnet_bytes ts
 host_tokens [] = refl

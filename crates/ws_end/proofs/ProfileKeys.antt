@@ -1,3 +1,5 @@
+-- What a key makes of the profile's display.
+
 use Rattle.ws_end.proofs.Common as C
 use C.{OnOk, ◌≡◌, refl, subst, ◌∙◌, ℕ, Option, Some, None, ap, sym, length, Err, Ok, Result, FollowsAll, ScreenParts}
 use C.{ReadKind, one_screen, answer_bytes, edit_of, events_by, key_refusal, answer_to, IsPressed, Read, Key, Send}
@@ -8,8 +10,6 @@ use Rattle.ws_end.specs.station.Alarms.{alarm_count}
 use Rattle.ws_end.specs.station.Displays.{IsPressedOnDisplay, ComesTo}
 use Rattle.ws_end.specs.station.StationSide.{ProfileGives, ProfileParts, profile}
 use Rattle.ws_end.proofs.AlarmLaws.{alarms_behind_key}
-
--- What a key makes of the profile's display.
 
 module _ (d : ProfileParts) (side : StationSide) (given : ProfileGives side.happened d)
     (size : length d.screen.cells ≡ 1920) where

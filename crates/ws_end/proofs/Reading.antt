@@ -88,15 +88,6 @@ module _ {Place U : Type 0} (rules : Rules Place U) (bytes : List ℕ) (units : 
     read_all same = (one_cut rules free rules.first units body reading.begun [] read.cut.chain chain read.cut.more
         (begins _) (read.cut.spelled ∙ same ∙ sym (append-nil (spelling_of rules body)))).0
 
-    pub read_front : reading.begun ≡ [] → (more : List ℕ) → bytes ++ more ≡ spelling_of rules body
-        → (rest : List U) × (body ≡ units ++ rest)
-    read_front none more same =
-        let front : spelling_of rules units ≡ bytes = sym (append-nil (spelling_of rules units))
-        ∙ ap (λ (b : List ℕ). spelling_of rules units ++ b) (sym none) ∙ read.cut.spelled in
-        let found = cut_begins rules free begins rules.first units body more read.cut.chain chain
-        (sym same ∙ ap (λ (b : List ℕ). b ++ more) (sym front)) in
-        (found.0, found.1)
-
     -- none of its bytes is refused
     pub never_bad : (b : ℕ) (more : List ℕ) → bytes ++ b ∷ more ≡ spelling_of rules body
         → (IsPrefix rules reading.place (reading.begun ++ b ∷ []) → ⊥) → ⊥

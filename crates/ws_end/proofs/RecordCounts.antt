@@ -1,11 +1,11 @@
+-- Bytes hold no more records than they are.
+
 use Rattle.ws_end.proofs.Common.{flat_map, ◌≡◌, ◌+◌, ◌≤◌, List, [], ◌∷◌, ◌++◌, refl, ◌∙◌, ℕ, ap, arith, length}
 use Rattle.ws_end.proofs.Common.{append_assoc, length-append, map, flat_map-append, Rules, spelling_of, joined}
-use Rattle.ws_end.proofs.Common.{command_of, token_rules, Telnet, Holds, commands, Item, RecordItem, TelnetItem}
-use Rattle.ws_end.proofs.Common.{Record, records_in}
+use Rattle.ws_end.proofs.Common.{command_of, token_rules, Telnet, Holds, commands, Item, RecordItem, TelnetItem, Record}
+use Rattle.ws_end.proofs.Common.{records_in}
 use Rattle.ws_telnet.specs.declared.token.Token.{Token}
 use Rattle.ws_telnet.specs.declared.token.Token.TheVariants.{Eor}
-
--- Bytes hold no more records than they are.
 
 pub records_append : {U : Type 0} (xs ys : List (Item U)) → records_in (xs ++ ys) ≡ records_in xs + records_in ys
 records_append [] ys = omega arith

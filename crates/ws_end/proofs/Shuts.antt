@@ -1,8 +1,8 @@
+-- What a call of an end that is shut answers.
+
 use Rattle.ws_end.proofs.Common as C
 use C.{◌≡◌, ◌+◌, ◌<◌, ℕ, Option, None, ◌^◌, inl, inr, IsSome, Err, Ok, Result, Refusal, arith}
 use Rattle.ws_end.specs.Ends.{IsShut}
-
--- What a call of an end that is shut answers.
 
 module _ {A E : Type 0} (ended : Option Refusal) (taken : ℕ) (why : E) where
   pub shut_fails : (result : Result A E) → (IsSome ended → result ≡ Err why) → (taken + 1 ≡ 2 ^ 64 → result ≡ Err why)

@@ -6,8 +6,7 @@ use Rattle.ws_code.specs.Code.{Rules}
 use Rattle.ws_record.specs.declared.record.Item.{Item}
 use Rattle.ws_record.specs.Encode.{plain_spelling, item_spelling}
 use Rattle.ws_end.specs.Acts.{Act, Came, Did, Happening, Arrives, Does, bytes_of, items_of, all_came, Doing, Manner}
-use Rattle.ws_end.specs.Acts.{one_then, doing, AllTaken, Happen, HasGone, Goes}
-use Rattle.ws_end.specs.Acts.{Ways}
+use Rattle.ws_end.specs.Acts.{one_then, doing, AllTaken, Happen, HasGone, Goes, Ways}
 
 -- Acts one after another.
 

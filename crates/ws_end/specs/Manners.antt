@@ -14,21 +14,19 @@ use Rattle.ws_end.specs.declared.host_end.send_fault.SendFault.{SendFault}
 use Rattle.ws_end.specs.declared.host_end.send_fault.SendFault.TheVariants.{Failed as SendFailed}
 use Rattle.ws_end.specs.Acts.{Act, Doing, Manner}
 use Rattle.ws_end.specs.Reaction.{Reaction}
-use Rattle.ws_end.specs.station.StationSide.{StationSide, KeyReaction}
+use Rattle.ws_end.specs.station.StationSide.{StationSide, KeyReaction, profile, on_profile}
 use Rattle.ws_end.specs.station.StationManners.{at_key_on}
 use Rattle.ws_end.specs.station.StationReacting.{at_item_on, manner_on}
 use Rattle.ws_end.specs.station.StationActs.{GoesOnDisplay, RefusesOn, IsKeyRefusalOn, IsKeyTakenOn}
 pub use Rattle.ws_end.specs.Reaction.{goes_on}
 pub use Rattle.ws_end.specs.station.StationManners.{applied, told_by}
 pub use Rattle.ws_end.specs.station.StationReacting.{applied_by}
-use Rattle.ws_end.specs.station.StationSide.{profile}
 use Rattle.ws_end.specs.host_end.HostSide.{HostSide, host_orders, RefusesSend}
 use Rattle.ws_end.specs.station.StationLeads.{StationParts}
 use Rattle.ws_end.specs.driver.Conducting.{DriverGoes, DriverRefuses}
 use Rattle.ws_end.specs.driver.Driven.{TakesNoMore, manner_of}
 use Rattle.ws_end.specs.host_end.HostLeads.{AtHost, takes_memory}
 use Rattle.ws_end.specs.host_end.HostReacting.{HostParts, host_driving}
-use Rattle.ws_end.specs.station.StationSide.{on_profile}
 
 -- The station's caller presses keys. It tells each record that it has applied.
 

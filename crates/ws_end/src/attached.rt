@@ -1,3 +1,4 @@
+//! An end of a session on a source and a sink.
 ghost use Rattle.std.specs.Prelude.{◌≡◌, ◌≢◌, ◌<◌, [], Err, true, false, length, OnOk, IfOk, IfErr};
 ghost use Rattle.ws_end.specs.attached.Attachments.{HasTakenSome, HasTakenWaiting, IsWaitingFault, HasHeard, IsHearFault, breaks};
 ghost use Rattle.ws_end.specs.attached.Attachments.{IfTold, TakesFirst, HearsFirst, HearsNext};

@@ -1,3 +1,4 @@
+//! An end of a session, by what it does at bytes: the trait that sources, sinks and wires are written for.
 ghost use Rattle.std.specs.Prelude.{◌≡◌, ◌<◌, ◌++◌, [], List, ℕ, length};
 ghost use Rattle.ws_end.specs.ActLaws.{goes_none, goes_on};
 ghost use Rattle.ws_end.specs.Acts.{Act};

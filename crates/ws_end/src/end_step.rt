@@ -1,3 +1,4 @@
+//! What an end gives for bytes, and what is asked of a host end.
 ghost use Rattle.std.specs.Prelude.{◌≡◌};
 ghost use Rattle.ws_end.specs.host_end.HostLeads.{sent_bytes};
 

@@ -1,3 +1,4 @@
+//! Why an end takes no more bytes.
 use std::error::Error;
 use std::fmt;
 use ws_code::Reason;

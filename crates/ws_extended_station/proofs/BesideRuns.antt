@@ -23,14 +23,13 @@ use Rattle.ws_keys.specs.declared.key.Key.{Key}
 use Rattle.ws_extended.specs.ExtendedElements.{extended_rules}
 use Rattle.ws_extended.specs.declared.extended_element.ExtendedElement.{ExtendedElement}
 use Rattle.ws_extended.proofs.ProfileBodies.{profile_body, profile_spelled}
-use Rattle.ws_end.specs.Acts.{Act, AllTaken, Arrives, Came, Did, Does, Doing, Happen, Happening, HasGone}
-use Rattle.ws_end.specs.Acts.{HoldsItems, bytes_of, doing, IsHappeningTaken, items_of, one_then}
-use Rattle.ws_end.specs.Reaction.{Reaction, Refuses, GoesOn}
+use Rattle.ws_end.specs.Acts.{Act, AllTaken, Arrives, Came, Did, Does, Doing, Happen, Happening, HasGone, HoldsItems}
+use Rattle.ws_end.specs.Acts.{bytes_of, doing, IsHappeningTaken, items_of, one_then, ways}
+use Rattle.ws_end.specs.Reaction.{Reaction, Refuses, GoesOn, goes_on}
 use Rattle.ws_end.specs.declared.end_step.Applied.{Applied}
 use Rattle.ws_end.specs.station.Displays.{KeyReactionOn, RefusesKey, Silent, Answers, Signals}
 use Rattle.ws_end.specs.station.StationManners.{at_key_on, key_on, takes_on}
 use Rattle.ws_end.specs.station.StationReacting.{at_item_on, at_on, manner_on}
-use Rattle.ws_end.specs.Reaction.{goes_on}
 use Rattle.ws_end.specs.station.StationSide.{StationSide, profile}
 use Rattle.ws_extended_station.specs.BesideProfile.{HaveJustArrived, NoErrorStands, act_there, as_reacted, item_there}
 use Rattle.ws_extended_station.specs.BesideProfile.{record_there}
@@ -39,7 +38,6 @@ use Rattle.ws_extended_station.specs.ExtendedDisplays.{ExtendedSide, as_profile,
 use Rattle.ws_extended_station.specs.declared.extended_key.ExtendedKey.{ExtendedKey}
 use Rattle.ws_extended_station.specs.declared.extended_key.ExtendedKey.TheVariants.{Profile as ProfileKey}
 use Rattle.ws_extended_station.proofs.Beside.{items_there, keys_there}
-use Rattle.ws_end.specs.Acts.{ways}
 
 -- THE SAME BYTES HOLD THE SAME ITEMS
 

@@ -18,8 +18,8 @@ use Rattle.ws_extended.specs.ExtendedKeys.{waits_for_reset}
 use Rattle.ws_extended.specs.ExtendedViews.{ExtendedParts}
 use Rattle.ws_end.specs.declared.station.key_fault.KeyFault.TheVariants.{Key as Refused}
 use Rattle.ws_end.specs.station.Displays.{IsPressedOnDisplay, RefusesKey, Silent, Answers}
-use Rattle.ws_end.specs.station.StationSide.{KeyReaction, StationSide, answers_read, key_by_refusal, presses}
-use Rattle.ws_end.specs.station.StationSide.{profile, ProfileParts, screen_at}
+use Rattle.ws_end.specs.station.StationSide.{KeyReaction, StationSide, answers_read, key_by_refusal, presses, profile}
+use Rattle.ws_end.specs.station.StationSide.{ProfileParts, screen_at}
 use Rattle.ws_end.proofs.ProfileKeys.{pressed}
 use Rattle.ws_extended_station.specs.ExtendedDisplays.{DisplayParts, ExtendedGives, ExtendedSide, as_profile, extended}
 use Rattle.ws_extended_station.specs.ExtendedDisplays.{profile_side, with_profile}

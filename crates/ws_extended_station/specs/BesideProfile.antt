@@ -12,7 +12,7 @@ use Rattle.ws_keys.specs.declared.key.Key.{Key}
 use Rattle.ws_extended.specs.ExtendedElements.{extended_rules}
 use Rattle.ws_extended.specs.declared.extended_element.ExtendedElement.{ExtendedElement}
 use Rattle.ws_extended.specs.declared.extended_element.ExtendedElement.TheVariants.{Profile}
-use Rattle.ws_end.specs.Acts.{Act, Came, Did, HasGone}
+use Rattle.ws_end.specs.Acts.{Act, Came, Did, HasGone, ways}
 use Rattle.ws_end.specs.station.Displays.{SideOn}
 use Rattle.ws_end.specs.Reaction.{Reaction, Refuses, GoesOn}
 use Rattle.ws_end.specs.declared.end_step.Applied.{Applied}
@@ -22,7 +22,6 @@ use Rattle.ws_extended_station.specs.Bytewise.{by_bytes}
 use Rattle.ws_extended_station.specs.ExtendedDisplays.{ExtendedSide, extended, with_profile}
 use Rattle.ws_extended_station.specs.declared.extended_key.ExtendedKey.{ExtendedKey}
 use Rattle.ws_extended_station.specs.declared.extended_key.ExtendedKey.TheVariants.{Profile as ProfileKey}
-use Rattle.ws_end.specs.Acts.{ways}
 
 -- a record of the profile as a record of live hosts
 abbrev pub record_there : Record Element → Record ExtendedElement

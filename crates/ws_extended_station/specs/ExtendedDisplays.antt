@@ -1,6 +1,5 @@
 -- The display that live hosts use, as a station that stands on it sees it.
-use Rattle.std.specs.Prelude.{ℕ, ◌≡◌, ◌&&◌, List, [], Bool, false, Option, Some, None, is_some}
-use Rattle.std.specs.Prelude.{if◌then◌else◌}
+use Rattle.std.specs.Prelude.{ℕ, ◌≡◌, ◌&&◌, List, [], Bool, false, Option, Some, None, is_some, if◌then◌else◌}
 use Rattle.ws_code.specs.declared.reason.Reason.{Reason}
 use Rattle.ws_nego.specs.declared.terminal.TerminalType.{TerminalType}
 use Rattle.ws_record.specs.RawBody.{raw_rules}
@@ -16,6 +15,7 @@ use Rattle.ws_extended.specs.declared.extended_element.ExtendedElement.{Extended
 use Rattle.ws_end.specs.station.Alarms.{alarm_count, alarms_of}
 use Rattle.ws_end.specs.declared.station.key_fault.KeyFault.TheVariants.{Key as Refused}
 use Rattle.ws_end.specs.station.Displays.{DisplayOf, SideOn, KeyReactionOn, RefusesKey, Silent, Answers, Signals}
+use Rattle.ws_end.specs.station.Displays.{OnDisplay, on_display}
 use Rattle.ws_end.specs.Reaction.{Reaction, Refuses, GoesOn}
 use Rattle.ws_end.specs.station.StationSide.{StationSide, answer_record, profile}
 use Rattle.ws_extended_station.specs.Bytewise.{by_bytes}
@@ -25,7 +25,6 @@ use Rattle.ws_extended_station.specs.declared.extended_key.ExtendedKey.TheVarian
 use Rattle.ws_extended_station.specs.declared.extended_reply.ExtendedReply.{ExtendedReply}
 use Rattle.ws_extended_station.specs.declared.extended_reply.ExtendedReply.TheVariants.{Bytes, Kept as IsKept}
 use Rattle.ws_extended.specs.ExtendedElements.{extended_rules}
-use Rattle.ws_end.specs.station.Displays.{OnDisplay, on_display}
 
 -- a display that live hosts use, how many alarms have sounded, its terminal, and the bytes that its last record had it
 -- write

@@ -10,8 +10,7 @@ use Rattle.ws_record.specs.declared.record.Record.{Record}
 use Rattle.ws_record.specs.declared.record.Item.{Item}
 use Rattle.ws_record.specs.declared.record.Item.TheVariants.{Record as RecordItem}
 use Rattle.ws_extended.specs.Asking.{asks_in, first_ask, second_reason}
-use Rattle.ws_extended.specs.ExtendedStates.{ExtendedState, state_after, state_after_all, state_after_end}
-use Rattle.ws_extended.specs.ExtendedStates.{state_fault}
+use Rattle.ws_extended.specs.ExtendedStates.{ExtendedState, state_after, state_after_all, state_after_end, state_fault}
 use Rattle.ws_extended.specs.declared.ask.Ask.{Ask}
 use Rattle.ws_extended.specs.declared.ask.Ask.TheVariants.{Query, ReadScreen, ReadImmediate, ReadImmediateAlternate}
 use Rattle.ws_extended.specs.declared.ask.Ask.TheVariants.{SaveScreen as AskSave}

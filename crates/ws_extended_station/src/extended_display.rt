@@ -1,3 +1,4 @@
+//! The display that live hosts use, as a station stands on it.
 ghost use Rattle.std.specs.Prelude.{◌≡◌, ◌≤◌, ◌+◌, ◌++◌, ◌∷◌, [], ℕ, None, length, map};
 ghost use Rattle.ws_record.specs.Encode.{plain_spelling};
 ghost use Rattle.ws_record.specs.RawBody.{raw_rules};

@@ -1,3 +1,4 @@
+//! The keys of an extended station.
 use ws_keys::Key;
 
 /// A key of a display that live hosts use.

@@ -1,3 +1,4 @@
+//! What is heard in a body besides its effect: alarms, and what is asked.
 ghost use Rattle.std.specs.Prelude.{◌≡◌, ◌+◌, ◌++◌, ◌∷◌, [], List, true, false};
 ghost use Rattle.ws_end.specs.station.Alarms.{alarm_count};
 ghost use Rattle.ws_extended.specs.declared.extended_element.ExtendedElement.{ExtendedElement as AnElement};

@@ -1,3 +1,4 @@
+//! Laws of an extended station, each the contract of a function without effect.
 // What holds of the display that live hosts use by its definition. These functions do nothing: a caller gets the law
 // by the call.
 ghost use Rattle.std.specs.Prelude.{◌≡◌, ◌+◌, ◌∷◌, [], ℕ, List, None, false, map};

@@ -1,3 +1,4 @@
+//! The units of a kept body, one by one.
 ghost use Rattle.std.specs.Prelude.{◌≡◌, ◌<◌, ◌++◌, ◌∷◌, [], List, None, Some, IfSome, drop, length};
 ghost use Rattle.ws_code.specs.Code.{IsChain, Stands, spelling_of};
 ghost use Rattle.ws_stream.specs.Elements.{element_rules};

@@ -1,3 +1,5 @@
+-- What stays true of a session at an item that arrives stays true at bytes.
+
 use Rattle.ws_session.proofs.Common as C
 use C.{◌≡◌, ◌+◌, List, [], ◌∷◌, ◌++◌, refl, ℕ, zero, suc, Option, Some, None, ap, inl, inr, length, if◌then◌else◌, Bool}
 use C.{true, false, nat_lt, TerminalType, ending_at, Item, answer_rules, element_rules, AnswerPart, Element, Refuses}
@@ -9,8 +11,6 @@ use C.{bytes_to_host, station_pressed, host_sent}
 use Rattle.std.proofs.lemmas.Bool.{cases_Bool}
 use Rattle.ws_session.specs.declared.world.Move.TheVariants.{Send}
 use Rattle.ws_session.proofs.world.Worlds.{sound}
-
--- What stays true of a session at an item that arrives stays true at bytes.
 
 module _ (P : Session → Type 0) where
   module _ (here : (w : Session) → P w → P (record w { at_station = w.at_station + 1 }))

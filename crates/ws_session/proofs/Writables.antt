@@ -1,3 +1,5 @@
+-- What an end answers to an item that can be written can be written.
+
 use Rattle.ws_session.proofs.Common as C
 use C.{AllByRecursion, ◌≡◌, List, [], ◌∷◌, refl, ◌∙◌, ℕ, Option, Some, None, ap, sym, arith, inl, inr, if◌then◌else◌}
 use C.{Bool, true, false, map, Reason, RecordBeforeNegotiation, IsTelnet, Telnet, HostState, Answer}
@@ -7,8 +9,6 @@ use C.{Reaction, HostSide, host_negotiates, host_reads, host_reads_by, host_ends
 use C.{HostOutput, StationSide, opcode_answer, station_applies, station_takes, AreWritable}
 use Rattle.std.proofs.lemmas.Bool.{cases_Bool}
 use Rattle.ws_nego.proofs.Replies.{reply_in_range, Ranges, host_reply_in_range}
-
--- What an end answers to an item that can be written can be written.
 
 abbrev written_of : {E W : Type 0} → W → Reaction E W → W
 written_of none (Refuses reason) = none

@@ -1,13 +1,13 @@
+-- An attached end, byte by byte.
+
 use Rattle.ws_end.proofs.Common as C
 use C.{◌≡◌, ◌+◌, List, [], ◌∷◌, ◌++◌, refl, subst, ◌∙◌, ℕ, ◌<◌, Some, None, ap, sym, arith, inl, inr, append_assoc, ◌≢◌}
-use C.{append-nil, Gave, most_reads, Fault, went_out_none, went_out_both, failed_within_both, gave_more}
-use C.{came_append, Act, all_came, AttachedParts, fault_of, HaveLed, HaveLedUnwritten, HasRefusedByte, IsByteFault}
-use C.{HasTakenWaiting, IsWaitingFault, HasHeard, IsHearFault, HasWritten, HasWrittenFront, IsUnheard, Refusal, At}
+use C.{append-nil, Gave, most_reads, Fault, went_out_none, went_out_both, failed_within_both, gave_more, came_append}
+use C.{Act, all_came, AttachedParts, fault_of, HaveLed, HaveLedUnwritten, HasRefusedByte, IsByteFault, HasTakenWaiting}
+use C.{IsWaitingFault, HasHeard, IsHearFault, HasWritten, HasWrittenFront, IsUnheard, Refusal, At}
 use Rattle.ws_code.specs.Device.{Devices}
 use Rattle.ws_code.specs.declared.fault.Fault.TheVariants as fault
 use Rattle.ws_end.specs.Conduct.{Conduct}
-
--- An attached end, byte by byte.
 
 module _ {E S K Deed Event : Type 0} (conduct : Conduct E Deed Event) (devices : Devices S K)
   where

@@ -1,3 +1,5 @@
+-- Nothing was told before the last of the bytes that were taken.
+
 use Rattle.ws_end.proofs.Common as C
 use C.{◌≡◌, ◌≤◌, List, [], ◌++◌, refl, subst, ◌∙◌, ℕ, ◌<◌, Option, Some, None, take, ap, sym, arith, length}
 use C.{append_assoc, Err, Ok, Result, length-take-le, append-nil, take-take, Reader, Gave, Fault, came_append, Act}
@@ -5,8 +7,6 @@ use C.{all_came, as_list, AttachedParts, fault_of, Refusal, At}
 use Rattle.ws_code.specs.declared.fault.Fault.TheVariants as fault
 use Rattle.ws_end.specs.Conduct.{Conduct}
 use Rattle.ws_end.specs.attached.Attachments.{IfTold, TellsAtLast, TakesFirst, HearsFirst}
-
--- Nothing was told before the last of the bytes that were taken.
 
 -- of what was told something else holds
 pub if_told_on : {Event : Type 0} (P Q : List Event → Type 0) (result : Result (Option Event) Fault)

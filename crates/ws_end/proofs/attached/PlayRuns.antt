@@ -1,3 +1,5 @@
+-- What the reads of a run make of its player.
+
 use Rattle.ws_end.proofs.Common as C
 use C.{IfOk, IfErr, ◌≡◌, ◌+◌, ◌≤◌, List, [], ◌++◌, refl, ◌∙◌, ℕ, ◌<◌, Some, None, drop, ap, arith, ◌^◌, inl, inr}
 use C.{length, length-append, ◌≢◌, Err, Ok, Result, ◌*◌, Writer, Reader, FailedWithin, Gave, most_reads, one_more}
@@ -9,10 +11,7 @@ use Rattle.ws_end.specs.declared.attached.run.Played.{Played}
 use Rattle.ws_end.proofs.attached.PlaySteps.{keys_taken}
 use Rattle.ws_end.proofs.attached.Plays.{text_of}
 use Rattle.ws_code.specs.Device.{on_devices}
-use Rattle.ws_end.specs.attached.StationRun.{asked, outflow}
-use Rattle.ws_end.specs.attached.StationRun.{passing}
-
--- What the reads of a run make of its player.
+use Rattle.ws_end.specs.attached.StationRun.{asked, outflow, passing}
 
 -- what the loop over a source keeps: the bytes that it gave have brought the player here, and are at most 4,096 a read
 pub record Reading {R S : Type 0} (reader : Reader R) (source now : R) (reads : ℕ) (writer : Writer S)

@@ -1,3 +1,5 @@
+-- What a front of a piece makes of a run's player.
+
 use Rattle.ws_end.proofs.Common as C
 use C.{◌≡◌, ◌+◌, ◌≤◌, List, [], ◌∷◌, ◌++◌, refl, subst, ◌∙◌, ℕ, ◌<◌, take, drop, ap, sym, arith, take-append-drop, ◌^◌}
 use C.{min, inl, inr, length, append_assoc, length-append, Bool, true, false, nat_lt, ◌-◌, Err, Ok, length-take-le}
@@ -15,8 +17,6 @@ use Rattle.ws_end.specs.station.Stations.{station_driving}
 use Rattle.ws_end.proofs.attached.Plays.{outcome_append, text_append, later_by, none_due, text_of}
 use Rattle.ws_end.specs.attached.StationRun.{asked, outflow}
 use Rattle.ws_end.specs.station.StationSide.{on_profile}
-
--- What a front of a piece makes of a run's player.
 
 -- the last of these bytes completes an item, at which the station goes on with this reply
 record TakesItem (new : StationParts) (bytes : List ℕ) (items : List (Item Element)) (side : StationSide)

@@ -1,3 +1,5 @@
+-- What the keys of a run make of its player.
+
 use Rattle.ws_end.proofs.Common as C
 use C.{◌≡◌, ◌+◌, ◌≤◌, List, [], ◌∷◌, ◌++◌, refl, ◌∙◌, ℕ, suc, ◌<◌, drop, ap, sym, arith, ◌^◌, min, length, get_or}
 use C.{append_assoc, add-one, drop-cons, if◌then◌else◌, Bool, true, false, nat_lt, ◌-◌, ap₂, nat_tests, flat_map-append}
@@ -8,8 +10,6 @@ use C.{due, later, Moment, Outcome, idle_outcome, outcome_of_both, at_moment, at
 use C.{StationLeads, StationSide, KeyReaction, RefusesKey, station_key}
 use Rattle.ws_end.specs.Conducts.{profile_conduct}
 use Rattle.ws_end.proofs.EndDeeds.{key_did}
-
--- What the keys of a run make of its player.
 
 -- the text of what is written
 abbrev pub text_of : List (Item AnswerPart) → List ℕ

@@ -1,9 +1,11 @@
+-- What a driver makes of a front and of further ones: the relation of a piece is that of its parts.
+
 use Rattle.ws_end.proofs.Common as C
-use C.{◌≡◌, ◌+◌, ◌≤◌, List, [], ◌∷◌, ◌++◌, refl, subst, ◌∙◌, ℕ, ◌<◌, Option, None, Some, take, drop, ap, sym, arith, inl, inr}
-use C.{length, append_assoc, length-append, Err, Ok, Result, Item, bytes_came, came_append, all_came, gone_on}
-use C.{as_list, GoesOn, HoldsItems, take-append-le, take_all, take-append-drop}
-use C.{take-append-add, cases_lt, ◌-◌, OnOk, Leads, RecordSoFar, Watching, News, record_of, TelnetItem}
-use C.{◌⊎◌, ◌^◌, length-drop, no_record, Head, ◌==◌, true, eqb_tells, both_ways, RecordItem, spelling_of, take-take, length-take-le}
+use C.{◌≡◌, ◌+◌, ◌≤◌, List, [], ◌∷◌, ◌++◌, refl, subst, ◌∙◌, ℕ, ◌<◌, Option, None, Some, take, drop, ap, sym, arith}
+use C.{inl, inr, length, append_assoc, length-append, Err, Ok, Result, Item, bytes_came, came_append, all_came, gone_on}
+use C.{as_list, GoesOn, HoldsItems, take-append-le, take_all, take-append-drop, take-append-add, cases_lt, ◌-◌, OnOk}
+use C.{Leads, RecordSoFar, Watching, News, record_of, TelnetItem, ◌⊎◌, ◌^◌, length-drop, no_record, Head, ◌==◌, true}
+use C.{eqb_tells, both_ways, RecordItem, spelling_of, take-take, length-take-le}
 use Rattle.std.specs.Result.{OnErr, MatchResult}
 use Rattle.std.proofs.Math.Seq.{drop-append-add}
 use Rattle.std.proofs.Math.ListN.{drop_of_length-le}
@@ -25,8 +27,8 @@ use Rattle.ws_end.specs.declared.end_step.EndStep.{EndStep}
 use Rattle.ws_end.specs.declared.driver.halt.Halt.{Halt}
 use Rattle.ws_end.specs.declared.driver.halt.Halt.TheVariants as halt
 use Rattle.ws_end.specs.driver.Reacting.{IsReaction, Settles, at_reaction}
-use Rattle.ws_end.specs.driver.Driven.{Driven, Driving, LeadsTo, Come, AreSilent, Bring, DriverFronts, DriverTakes, IsFronted, IsSilent, IsSettled, IsNewsTaken}
-use Rattle.ws_end.specs.driver.Driven.{IsWhy, manner_of, TellsNothing}
+use Rattle.ws_end.specs.driver.Driven.{Driven, Driving, LeadsTo, Come, AreSilent, Bring, DriverFronts, DriverTakes}
+use Rattle.ws_end.specs.driver.Driven.{IsFronted, IsSilent, IsSettled, IsNewsTaken, IsWhy, manner_of, TellsNothing}
 
 abbrev stopped : {R K Place : Type 0} → Driven R K Place → Refusal → Driven R K Place
 stopped driver why = record driver { ended = Some why }

@@ -1,7 +1,9 @@
+-- What a station does at an item.
+
 use Rattle.ws_end.proofs.Common as C
-use C.{◌&&◌, not, ◌≡◌, ◌+◌, List, [], ◌∷◌, ◌++◌, refl, ◌∙◌, ℕ, Some, None, Option, ap, sym, arith, ◌^◌, min, if◌then◌else◌}
-use C.{Bool, true, false, map, ◌-◌, Err, Ok, Result, Rules, RecordBeforeNegotiation, telnet_spelling, Telnet}
-use C.{telnet_bytes, station_allows_records, station_answer, record_of, plain_spelling, Head, Item, RecordItem}
+use C.{◌&&◌, not, ◌≡◌, ◌+◌, List, [], ◌∷◌, ◌++◌, refl, ◌∙◌, ℕ, Some, None, Option, ap, sym, arith, ◌^◌, min}
+use C.{if◌then◌else◌, Bool, true, false, map, ◌-◌, Err, Ok, Result, Rules, RecordBeforeNegotiation, telnet_spelling}
+use C.{Telnet, telnet_bytes, station_allows_records, station_answer, record_of, plain_spelling, Head, Item, RecordItem}
 use C.{TelnetItem, Read, Attention, SystemRequest, KeyRefusal, Refuses, KeyFault, NotReady, RefusesKey, IsReaction}
 use Rattle.ws_keys.specs.declared.answer.Answer.{Answer}
 use Rattle.ws_end.specs.declared.station.key_fault.KeyFault.TheVariants.{Key as Refused}
@@ -10,8 +12,6 @@ use Rattle.ws_end.specs.station.StationManners.{applied, takes_on, key_on}
 use Rattle.ws_end.specs.station.StationReacting.{PartsOn, StationKept, StationStands, station_puts, station_reacting}
 use Rattle.ws_end.specs.station.Stations.{LeadsOn, IsKeyedOn}
 use Rattle.ws_end.proofs.RecordCounts.{records_append}
-
--- What a station does at an item.
 
 plain_tokens : {Place U : Type 0} (rules : Rules Place U) (ts : List Telnet) → plain_spelling rules (map TelnetItem ts)
     ≡ telnet_bytes ts

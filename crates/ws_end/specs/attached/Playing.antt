@@ -11,7 +11,8 @@ use Rattle.ws_keys.specs.declared.key.Key.{Key}
 use Rattle.ws_end.specs.declared.attached.player.Player.{Player}
 use Rattle.ws_end.specs.station.Moments.{Outcome, later, records_in_item}
 use Rattle.ws_end.specs.station.StationLeads.{StationLeads}
-use Rattle.ws_end.specs.attached.StationRun.{Asked, asked, Outflow, outflow, IsBehind, behind, HasWrittenAll, refusal_count}
+use Rattle.ws_end.specs.attached.StationRun.{Asked, asked, Outflow, outflow, IsBehind, behind, HasWrittenAll}
+use Rattle.ws_end.specs.attached.StationRun.{refusal_count}
 
 -- how many records the items are, before which there were so many
 abbrev pub records_from : ℕ → List (Item Element) → ℕ

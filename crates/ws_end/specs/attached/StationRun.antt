@@ -19,10 +19,9 @@ use Rattle.ws_end.specs.Acts.{HoldsItems}
 use Rattle.ws_end.specs.station.Moments.{Outcome, outcome, AreTaken, moments}
 use Rattle.ws_end.specs.station.StationLeads.{StationParts, StationLeads}
 use Rattle.ws_end.specs.Reaction.{Refuses}
-use Rattle.ws_end.specs.station.StationSide.{new_station_side, station_takes}
+use Rattle.ws_end.specs.station.StationSide.{new_station_side, station_takes, on_profile}
 use Rattle.ws_end.specs.driver.Driven.{Completes}
 use Rattle.ws_end.specs.station.Stations.{station_driving}
-use Rattle.ws_end.specs.station.StationSide.{on_profile}
 
 -- the count of refused keys stops at the greatest number of 32 bits
 abbrev pub refusal_count : ℕ → ℕ

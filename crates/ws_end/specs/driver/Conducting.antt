@@ -5,7 +5,8 @@ use Rattle.ws_end.specs.Acts.{Act, Goes, ways}
 use Rattle.ws_end.specs.Conduct.{Conduct}
 use Rattle.ws_end.specs.declared.refusal.Refusal.{Refusal}
 use Rattle.ws_end.specs.declared.refusal.Refusal.TheVariants.{Failed}
-use Rattle.ws_end.specs.driver.Driven.{Driven, Driving, LeadsTo, AtDriver, Come, AreSilent, TakesNoMore, IsWhy, manner_of}
+use Rattle.ws_end.specs.driver.Driven.{Driven, Driving, LeadsTo, AtDriver, Come, AreSilent, TakesNoMore, IsWhy}
+use Rattle.ws_end.specs.driver.Driven.{manner_of}
 
 module _ {R K Place U Deed Event Reply : Type 0} (d : Driving R K Place U Deed Event Reply) where
   -- the acts lead from one driver to another, which wrote and told this in them

@@ -1,7 +1,7 @@
 -- What drives it: a live decoder, what is kept of the open record, and why it takes no more bytes.
 
-use Rattle.std.specs.Prelude.{◌≡◌, ◌≢◌, ℕ, ◌+◌, ◌-◌, ◌^◌, ◌<◌, ◌≤◌, ◌⊎◌, ◌++◌, ◌∷◌, List, [], Option, Some, None, IsSome}
-use Rattle.std.specs.Prelude.{OnOk, OnErr, Result, Ok, Err, IfOk, IfErr, MatchResult, length, take, drop}
+use Rattle.std.specs.Prelude.{◌≡◌, ◌≢◌, ℕ, ◌+◌, ◌-◌, ◌^◌, ◌<◌, ◌≤◌, ◌⊎◌, ◌++◌, ◌∷◌, List, [], Option, Some, None}
+use Rattle.std.specs.Prelude.{IsSome, OnOk, OnErr, Result, Ok, Err, IfOk, IfErr, MatchResult, length, take, drop}
 use Rattle.ws_code.specs.Code.{Rules, IsChain, spelling_of}
 use Rattle.ws_code.specs.Keep.{Keeper}
 use Rattle.ws_code.specs.declared.keep.Kept.TheVariants.{NoMemory}

@@ -1,7 +1,7 @@
 -- The host end by the bytes that lead to it, and what a send makes of it (RFC 1205, 4777).
 
-use Rattle.std.specs.Prelude.{◌≡◌, ℕ, ◌+◌, Bool, false, List, [], Result, Err}
-use Rattle.std.specs.Prelude.{length, true, ◌<◌, ◌^◌, IsSome, MatchResult, OnErr}
+use Rattle.std.specs.Prelude.{◌≡◌, ℕ, ◌+◌, Bool, false, List, [], Result, Err, length, true, ◌<◌, ◌^◌, IsSome}
+use Rattle.std.specs.Prelude.{MatchResult, OnErr}
 use Rattle.ws_nego.specs.Host.{new_host, after_open}
 use Rattle.ws_record.specs.declared.opcode.Opcode.TheVariants.{CancelInvite}
 use Rattle.ws_record.specs.declared.record.Item.{Item}
@@ -14,12 +14,10 @@ use Rattle.ws_end.specs.declared.end_step.Order.TheVariants.{Send, Cancel}
 use Rattle.ws_end.specs.declared.end_step.Sent.{Sent}
 use Rattle.ws_end.specs.declared.end_step.Sent.TheVariants.{Record as OfRecord, Cancel as OfCancel}
 use Rattle.ws_end.specs.declared.host_end.send_fault.SendFault.{SendFault}
-use Rattle.ws_end.specs.declared.host_end.send_fault.SendFault.TheVariants.{Failed as SendFailed}
-use Rattle.ws_end.specs.declared.host_end.send_fault.SendFault.TheVariants.{Memory as SendMemory}
+use Rattle.ws_end.specs.declared.host_end.send_fault.SendFault.TheVariants.{Failed as SendFailed, Memory as SendMemory}
 use Rattle.ws_end.specs.driver.Driven.{AtDriver, LeadsTo}
 pub use Rattle.ws_end.specs.host_end.HostReacting.{HostParts, HostStands, HostStep, host_driving}
-use Rattle.ws_end.specs.host_end.HostSide.{HostSide, host_orders, SendReaction}
-use Rattle.ws_end.specs.host_end.HostSide.{RefusesSend, Sends}
+use Rattle.ws_end.specs.host_end.HostSide.{HostSide, host_orders, SendReaction, RefusesSend, Sends}
 
 -- The bytes lead to the host end: they hold these items, none of them is refused, and what it did at them and sent
 -- between them left it on this side.

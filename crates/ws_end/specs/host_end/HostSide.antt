@@ -31,8 +31,7 @@ use Rattle.ws_end.specs.declared.host_end.host_event.HostEvent.{HostEvent}
 use Rattle.ws_end.specs.declared.host_end.host_event.HostEvent.TheVariants.{Ready, Answer as Answered, Attention}
 use Rattle.ws_end.specs.declared.host_end.host_event.HostEvent.TheVariants.{SystemRequest, Cancelled}
 use Rattle.ws_end.specs.declared.host_end.send_fault.SendFault.{SendFault}
-use Rattle.ws_end.specs.declared.host_end.send_fault.SendFault.TheVariants.{NotAllowed, ReadOutstanding}
-use Rattle.ws_end.specs.declared.host_end.send_fault.SendFault.TheVariants.{NoReadToCancel}
+use Rattle.ws_end.specs.declared.host_end.send_fault.SendFault.TheVariants.{NotAllowed, ReadOutstanding, NoReadToCancel}
 use Rattle.ws_end.specs.declared.host_end.send_fault.SendFault.TheVariants.{BadSequence, Screen as RefusedByScreen}
 use Rattle.ws_end.specs.declared.host_end.send_fault.SendFault.TheVariants.{TooBig}
 use Rattle.ws_end.specs.Reaction.{Output, Reaction, Refuses, GoesOn, empty_record}

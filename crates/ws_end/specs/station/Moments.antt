@@ -6,10 +6,9 @@ use Rattle.ws_record.specs.declared.record.Item.TheVariants.{Record as RecordIte
 use Rattle.ws_stream.specs.declared.answer_part.AnswerPart.{AnswerPart}
 use Rattle.ws_stream.specs.declared.element.Element.{Element}
 use Rattle.ws_keys.specs.declared.key.Key.{Key}
-use Rattle.ws_end.specs.Reaction.{Reaction, Refuses, GoesOn, empty_record}
+use Rattle.ws_end.specs.Reaction.{Reaction, Refuses, GoesOn, empty_record, goes_on}
 use Rattle.ws_end.specs.station.StationSide.{StationSide, screen_at, station_takes, KeyReaction, RefusesKey, Silent}
 use Rattle.ws_end.specs.station.StationSide.{Answers, Signals, station_key, answer_record}
-use Rattle.ws_end.specs.Reaction.{goes_on}
 
 -- what happens to a station: an item arrives, or a key is pressed
 pub data Moment : Type 0 where

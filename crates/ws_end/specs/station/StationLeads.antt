@@ -4,10 +4,9 @@ use Rattle.std.specs.Prelude.{ℕ, List}
 use Rattle.ws_record.specs.declared.record.Item.{Item}
 use Rattle.ws_stream.specs.declared.element.Element.{Element}
 use Rattle.ws_stream.specs.declared.place.Place.{Place}
-use Rattle.ws_end.specs.station.StationSide.{ProfileParts, StationSide}
+use Rattle.ws_end.specs.station.StationSide.{ProfileParts, StationSide, on_profile}
 use Rattle.ws_end.specs.station.Stations.{LeadsOn, AtStationOn, FreshOn, PartsOn}
 pub use Rattle.ws_end.specs.station.StationCounts.{is_record, records_in, keeps_body}
-use Rattle.ws_end.specs.station.StationSide.{on_profile}
 
 -- what the station of the profile keeps
 abbrev pub StationParts : Type 0

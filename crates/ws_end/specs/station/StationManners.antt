@@ -1,7 +1,6 @@
 -- A station on any display: what it does at each item that arrives and at each key (RFC 1205, 4777)
 
-use Rattle.std.specs.Prelude.{Bool, true, false, not, ◌&&◌, if◌then◌else◌, List}
-use Rattle.std.specs.Prelude.{[], ◌∷◌, Option, Some, None, map}
+use Rattle.std.specs.Prelude.{Bool, not, ◌&&◌, if◌then◌else◌, List, [], ◌∷◌, Option, Some, None, map}
 use Rattle.ws_code.specs.declared.reason.Reason.TheVariants.{RecordBeforeNegotiation}
 use Rattle.ws_nego.specs.declared.terminal.TerminalType.{TerminalType}
 use Rattle.ws_nego.specs.Station.{new_station, station_answer, station_allows_records}

@@ -26,13 +26,12 @@ use Rattle.ws_keys.specs.Keys.{key_refusal, edit_of, events_by}
 use Rattle.ws_end.specs.station.Alarms.{alarm_count, alarms_of}
 use Rattle.ws_end.specs.declared.station.key_fault.KeyFault.TheVariants.{Key as Refused}
 use Rattle.ws_end.specs.Reaction.{Reaction, Refuses, GoesOn, empty_record}
-use Rattle.ws_end.specs.station.Displays.{DisplayOf, SideOn, KeyReactionOn}
+use Rattle.ws_end.specs.station.Displays.{DisplayOf, SideOn, KeyReactionOn, OnDisplay, on_display}
 pub use Rattle.ws_end.specs.station.Displays.{RefusesKey, Silent, Answers, Signals}
 use Rattle.ws_end.specs.station.StationManners.{takes_on, key_on}
 use Rattle.ws_stream.specs.AnswerParts.{answer_rules}
 use Rattle.ws_screen.specs.Given.{Gives}
 use Rattle.ws_end.specs.declared.station.answer.TheConstants.{ATN, SRQ}
-use Rattle.ws_end.specs.station.Displays.{OnDisplay, on_display}
 use Rattle.ws_stream.specs.Elements.{element_rules}
 
 -- what a station has become: its options, and the events of its screen

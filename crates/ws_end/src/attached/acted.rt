@@ -1,3 +1,4 @@
+//! Whether a key, a send or a cancel was done.
 /// What comes of a key, a send or a cancel.
 #[derive(Clone, Copy, Debug, PartialEq, Eq)]
 pub enum Acted<Why> {

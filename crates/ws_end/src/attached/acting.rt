@@ -1,3 +1,4 @@
+//! An end whose caller can have it write.
 ghost use Rattle.ws_end.specs.attached.Deeds.{HasDoneDeed, judged};
 ghost use Rattle.ws_end.specs.declared.host_end.send_fault.SendFault.{SendFault as ASendFault};
 

@@ -1,3 +1,4 @@
+//! A run of a station, so far: the bytes that it has taken, and the keys that were pressed.
 ghost use Rattle.std.specs.Prelude.{◌≡◌, ◌<◌, ◌≤◌, ◌+◌, ◌^◌, ◌++◌, length, take, drop, IfOk, IfErr, OnOk};
 ghost use Rattle.ws_code.specs.Device.{FailedWithin};
 ghost use Rattle.ws_record.specs.Encode.{plain_spelling};

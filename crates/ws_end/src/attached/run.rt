@@ -1,3 +1,4 @@
+//! A station that reads a source to its end.
 ghost use Rattle.std.specs.Prelude.{[]};
 ghost use Rattle.ws_nego.specs.declared.terminal.TerminalType.{TerminalType as ATerminal};
 ghost use Rattle.ws_end.specs.station.StationLeads.{IsFresh, StationLeads};

@@ -1,5 +1,4 @@
-// What an end does at bytes or a key, and writes at once into a sink: the steps of `Attached` and of `run_station`.
-
+//! What an end does at bytes or a key, and writes at once into a sink: the steps of `Attached` and of `run_station`.
 ghost use Rattle.std.specs.Prelude.{◌≡◌, ◌<◌, ◌≤◌, [], true, length, take, IfOk, IfErr};
 ghost use Rattle.ws_end.specs.Acts.{all_came, as_list};
 ghost use Rattle.ws_end.specs.attached.Deeds.{WritesDeed, key_judged};

@@ -1,3 +1,4 @@
+//! Why a byte or an item is not taken.
 use ws_code::Reason;
 
 /// Why what reacts doesn't go on at an item, or a decoder at a byte.

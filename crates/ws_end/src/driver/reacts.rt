@@ -1,3 +1,4 @@
+//! What an end does at the items that come to it: what each kind of end gives its driver.
 ghost use Rattle.std.specs.Prelude.{◌≡◌, ◌≤◌, [], List, OnOk, length};
 ghost use Rattle.ws_code.specs.Code.{IsChain, spelling_of};
 ghost use Rattle.ws_record.specs.DataStep.{record_of};
@@ -10,6 +11,9 @@ use ws_code::{Body, Code, Keep};
 use ws_record::{Head, Telnet};
 
 /// What reacts to the items of a stream: all of an end of a session but what reads its bytes.
+///
+/// An implementer gives its meaning, `does`: the states in which it may stand, what an item and its caller make of each,
+/// and what of that is written and told. Each method then does as this says, and leaves it as it was where it refuses.
 pub trait Reacts: Drop {
     /// The bodies of the records that come.
     type Body: Body;

@@ -1,3 +1,4 @@
+//! What a host end tells its caller.
 use crate::end_step::EndStep;
 use ws_keys::HostAnswer;
 use ws_nego::TerminalType;

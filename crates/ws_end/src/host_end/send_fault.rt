@@ -1,3 +1,4 @@
+//! Why a host end sends nothing.
 use std::error::Error;
 use std::fmt;
 use ws_code::Reason;

@@ -1,3 +1,4 @@
+//! The host's alarm, and how often it has sounded (SC30-3533, Write to Display command).
 ghost use Rattle.std.specs.Prelude.{◌≡◌, ◌+◌, true, false};
 ghost use Rattle.ws_end.specs.station.Alarms.{alarm_count, sounds_alarm};
 

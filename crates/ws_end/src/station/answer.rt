@@ -1,3 +1,4 @@
+//! The record that a key sends (RFC 1205, section 3).
 ghost use Rattle.std.specs.Prelude.{◌≡◌, IfErr, OnOk};
 ghost use Rattle.ws_code.specs.Device.{WentOut, FailedWithin};
 ghost use Rattle.ws_end.specs.station.AnswerSpelling.{answer_spelling, IsShortAnswer};
@@ -14,7 +15,9 @@ pub const SRQ: u16 = 0x0400;
 
 /// Writes the record that a key sends, with its IAC EOR (RFC 1205, section 3).
 ///
-/// `Write` is the only fault: a write failed, or took no byte. Then only bytes before it went out.
+/// # Errors
+///
+/// `Write` alone: a write failed, or took no byte. Then only bytes before it went out.
 pub fn write_answer<S: Sink>(sink: &mut S, answer: &Answer) -> Result<(), Fault>
     ensures ok { OnOk result (WentOut S.writer sink.old sink.new
         (answer_spelling answer.now)) }

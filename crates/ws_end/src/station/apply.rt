@@ -1,3 +1,4 @@
+//! A record carried out on a screen: as a whole, or not at all.
 ghost use Rattle.std.specs.Prelude.{◌≡◌, ◌++◌, None, OnOk, OnErr, IfOk};
 ghost use Rattle.ws_code.specs.Code.{IsChain};
 ghost use Rattle.ws_stream.specs.declared.element.Element.{Element};
@@ -60,7 +61,11 @@ pub fn apply_record(screen: &mut Screen, record_: &Record<Element>) -> Result<()
 
 /// Carries out the elements that the bytes spell, up to the first that the screen refuses, and tells how many of them
 /// sound the alarm.
-pub fn apply_spelled(screen: &mut Screen, bytes: &[u8]) -> Result<u64, Reason>
+///
+/// # Errors
+///
+/// The reason for which the screen refuses an element, after it has carried out those before.
+pub(crate) fn apply_spelled(screen: &mut Screen, bytes: &[u8]) -> Result<u64, Reason>
     requires closed { screen.old.writing ≡ None }
     ensures fault { (h : History) → OfBody bytes.now (λ body. Gives h screen.old
         → refusal result ≡ body_fault h body) }
@@ -93,7 +98,7 @@ pub fn apply_spelled(screen: &mut Screen, bytes: &[u8]) -> Result<u64, Reason>
 }
 
 /// What an opcode does at its record's end (RFC 1205, section 4).
-pub fn act(screen: &mut Screen, opcode: Opcode)
+pub(crate) fn act(screen: &mut Screen, opcode: Opcode)
     ensures after { (h : History) → Gives h screen.old
         → Gives (opcode_events opcode ++ h) screen.new }
     ensures closed { screen.new.writing ≡ screen.old.writing }

@@ -1,3 +1,4 @@
+//! The bytes of an open record, kept until it ends.
 ghost use Rattle.std.specs.Prelude.{◌≡◌, []};
 
 use crate::station::body::MAX_BODY_BYTES;

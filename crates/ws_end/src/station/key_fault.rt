@@ -1,3 +1,4 @@
+//! Why a key has no effect at a station.
 use std::error::Error;
 use std::fmt;
 use ws_keys::KeyRefusal;

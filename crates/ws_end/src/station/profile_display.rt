@@ -1,3 +1,4 @@
+//! The profile's display, as a station stands on it.
 ghost use Rattle.std.specs.Prelude.{refl, ◌≡◌};
 ghost use Rattle.ws_screen.specs.Events.{History};
 ghost use Rattle.ws_stream.specs.declared.answer_part.AnswerPart.{AnswerPart};

@@ -1,3 +1,4 @@
+//! A display that a station can stand on.
 ghost use Rattle.std.specs.Prelude.{◌≡◌, ◌∷◌, [], List, ℕ, OnErr};
 ghost use Rattle.ws_code.specs.Code.{IsChain, spelling_of};
 ghost use Rattle.ws_record.specs.DataStep.{record_of};
@@ -16,6 +17,10 @@ use ws_record::Head;
 use ws_screen::Screen;
 
 /// What a station shows, and what a record and a key do to it.
+///
+/// An implementer gives its meaning, `does`: what has happened to a new display, which displays that gives, what a
+/// record and a key make of it, and what is written. Each method then does as this says, and leaves the display as it
+/// was where it refuses. `spells` says that a read's answer has the profile's bytes. `ProfileDisplay` is the plainest.
 pub trait StationDisplay: Drop {
     /// The bodies of a host's records.
     type Commands: Body;

@@ -1,14 +1,13 @@
+-- Bytes that arrive at an end, piece by piece.
+
 use Rattle.ws_session.proofs.Common as C
-use C.{flat_map, ◌≡◌, ◌+◌, ◌≤◌, List, [], ◌∷◌, ◌++◌, refl, subst, ◌∙◌, ℕ, ◌<◌, Option, Some, None, take}
-use C.{drop, ap, sym}
+use C.{flat_map, ◌≡◌, ◌+◌, ◌≤◌, List, [], ◌∷◌, ◌++◌, refl, subst, ◌∙◌, ℕ, ◌<◌, Option, Some, None, take, drop, ap, sym}
 use C.{arith, ◌^◌, min, inl, inr, length, append_assoc, add-zero, length-append, length-drop, length-take, ◌-◌}
-use C.{take-add, cases_lt, flat_map-append, length-take-le, append-nil, take_all, take-take, drop-drop}
-use C.{came_append, Act, all_came, Refusal, At, Event, Through, WireParts, reported, HasMemory, Comes, AreDelivered}
+use C.{take-add, cases_lt, flat_map-append, length-take-le, append-nil, take_all, take-take, drop-drop, came_append}
+use C.{Act, all_came, Refusal, At, Event, Through, WireParts, reported, HasMemory, Comes, AreDelivered}
 use Rattle.ws_end.specs.Conduct.{Conduct}
 use Rattle.ws_session.specs.world.Wires.{AtEnd, HasCome, Telling}
 use Rattle.ws_session.proofs.world.Crossed.{past}
-
--- Bytes that arrive at an end, piece by piece.
 
 module _ {E Deed Told : Type 0} (conduct : Conduct E Deed Told) (telling : Telling Told) where
   -- bytes at which the end goes on

@@ -1,3 +1,5 @@
+-- What stands between both ends, where a token or a record comes to one of them.
+
 use Rattle.ws_session.proofs.Common as C
 use C.{◌||◌, ◌≡◌, ◌+◌, List, [], ◌∷◌, ◌++◌, refl, subst, ◌∙◌, ℕ, Option, Some, None, ap, sym, inl, inr, length}
 use C.{if◌then◌else◌, unwrap_or, ◌⊎◌, Bool, true, false, is_some, append-nil, Telnet, Exchange, host_allows_records}
@@ -21,8 +23,6 @@ use Rattle.ws_session.proofs.world.Betweens.{Posted, whole, sents, Body, Sent, S
 use Rattle.ws_session.proofs.world.Turns.{down_read, send_read, down_text, send_text, send_stop, down_stop, DownMark}
 use Rattle.ws_session.proofs.world.Turns.{at_turn, no_reply, up_reply, up_done, answer, UpMark, TurnAt, Done}
 use Rattle.ws_session.proofs.world.Turns.{Stop as StopMark}
-
--- What stands between both ends, where a token or a record comes to one of them.
 
 -- a token comes to the station
 module _ {t : TerminalType} {ex : Exchange} {s : StationSide} {h : HostSide} {token : Telnet} {ts us : List Telnet}

@@ -1,3 +1,5 @@
+-- What stands between both ends: the tokens and records in flight, and what they say of both.
+
 use Rattle.ws_session.proofs.Common as C
 use C.{◌≡◌, ◌+◌, List, [], ◌∷◌, ◌++◌, refl, ◌∙◌, ℕ, Option, Some, None, ap, sym, arith, length, append_assoc}
 use C.{if◌then◌else◌, ◌⊎◌, Bool, true, false, map, flat_map-append, append-nil, map-append, Telnet, Exchange}
@@ -15,8 +17,6 @@ use Rattle.ws_screen.specs.Given.{ends_of}
 use Rattle.ws_screen.specs.declared.open_write.OpenWrite.{OpenWrite}
 use Rattle.ws_screen.proofs.Within.{stays_within}
 use Rattle.ws_session.proofs.world.Turns.{Stop as StopMark, DownMark, UpMark, TurnAt, Reply, Done, Text, Read}
-
--- What stands between both ends: the tokens and records in flight, and what they say of both.
 
 abbrev pub is_stop : Opcode → Bool
 is_stop CancelInvite = true

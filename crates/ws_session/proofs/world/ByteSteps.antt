@@ -1,15 +1,16 @@
+-- A byte comes to the station of a running session.
+
 use Rattle.ws_session.proofs.Common as C
 use C.{flat_map, ◌≡◌, ◌+◌, ◌≤◌, List, [], ◌∷◌, ◌++◌, refl, subst, ◌∙◌, ℕ, ◌<◌, Option, Some, None, take, ap, sym, arith}
-use C.{min, inl, inr, length, get_or, length-take, if◌then◌else◌, Bool, true, false, nat_lt, IsSome, subst₂}
-use C.{false≢true, nat_tests, append-nil, TerminalType, ending_at, arrived, plain_spelling, Item, answer_rules}
-use C.{element_bytes, element_prefix_free, element_begins, element_rules, AnswerPart, Element, Arrives, as_list}
-use C.{HoldsItems, station_at_item, StationRefuses, station_manner, host_manner}
-use C.{HostRefuses, HostStands, at_reaction, host_driving, TakesNoMore, IsWhy, goes_on, Refuses, GoesOn, Reaction, Applied, HostEvent, Refusal, At, Failed, Memory, Event, Host}
-use C.{StationRefused, HostRefused, ToStation, ToHost, HostLeads, HostParts, HostSide, host_takes}
-use C.{HostOutput, StationParts, StationLeads, StationSide, station_takes, AreWritable, WorldParts, RunsWith}
-use C.{Runs, WireParts, HasMemory, AreDelivered, at_end, at_station_end, at_host_end, Session, down_bytes, station_did}
-use C.{station_gets, byte_to_station}
-use C.{up_bytes, host_did, host_gets, byte_to_host, events_with, bytes_to_station, bytes_to_host}
+use C.{min, inl, inr, length, get_or, length-take, if◌then◌else◌, Bool, true, false, nat_lt, IsSome, subst₂, false≢true}
+use C.{nat_tests, append-nil, TerminalType, ending_at, arrived, plain_spelling, Item, answer_rules, element_bytes}
+use C.{element_prefix_free, element_begins, element_rules, AnswerPart, Element, Arrives, as_list, HoldsItems}
+use C.{station_at_item, StationRefuses, station_manner, host_manner, HostRefuses, HostStands, at_reaction, host_driving}
+use C.{TakesNoMore, IsWhy, goes_on, Refuses, GoesOn, Reaction, Applied, HostEvent, Refusal, At, Failed, Memory, Event}
+use C.{Host, StationRefused, HostRefused, ToStation, ToHost, HostLeads, HostParts, HostSide, host_takes, HostOutput}
+use C.{StationParts, StationLeads, StationSide, station_takes, AreWritable, WorldParts, RunsWith, Runs, WireParts}
+use C.{HasMemory, AreDelivered, at_end, at_station_end, at_host_end, Session, down_bytes, station_did, station_gets}
+use C.{byte_to_station, up_bytes, host_did, host_gets, byte_to_host, events_with, bytes_to_station, bytes_to_host}
 use Rattle.ws_record.proofs.Flights.{byte_more, ByteMore}
 use Rattle.ws_stream.specs.AnswerLaws.{part_prefix_free, part_begins, part_bytes}
 use Rattle.ws_end.specs.Conducts.{host_conduct, profile_conduct}
@@ -22,10 +23,7 @@ use Rattle.ws_session.proofs.world.Reached.{station_writes, going_station, host_
 use Rattle.ws_session.proofs.world.Reached.{OfHost}
 use Rattle.ws_end.specs.station.Stations.{station_driving}
 use Rattle.ws_end.specs.station.StationReacting.{StationStands}
-use Rattle.ws_end.specs.station.StationSide.{profile}
-use Rattle.ws_end.specs.station.StationSide.{on_profile}
-
--- A byte comes to the station of a running session.
+use Rattle.ws_end.specs.station.StationSide.{profile, on_profile}
 
 module _ {S : OfStation} {H : OfHost} {t : TerminalType} {w : Session} {old : WorldParts} (r : RunsWith S H t old w) where
   module _ (more : old.at_station < length old.down) (byte : ℕ) (is : byte ≡ get_or old.down old.at_station byte) where
@@ -359,10 +357,6 @@ host_next {S} {t} {w} {old} Then x xs v told r more is = elim (gone_first answer
             k.1 k.7,
       )
     ]
-
-pub host_stops : (n m : ℕ) → n ≤ m → (w : Session) → byte_to_host (bytes_to_host n w) ≡ bytes_to_host n w
-    → bytes_to_host m w ≡ bytes_to_host n w
-host_stops = stop _ _ (λ w. refl) (λ n w. refl)
 
 -- so many of the bytes in flight, or all that are
 pub host_delivered : {t : TerminalType} {w : Session} {old : WorldParts}

@@ -1,3 +1,5 @@
+-- A byte comes to the station of a session.
+
 use Rattle.ws_session.proofs.Common as C
 use C.{◌≡◌, ◌+◌, ◌≤◌, List, [], ◌∷◌, ◌++◌, refl, subst, ◌∙◌, ℕ, ◌<◌, Option, Some, None, ap, sym, arith, inl, inr}
 use C.{length, append_assoc, if◌then◌else◌, ◌⊎◌, Bool, true, false, nat_lt, ltb-true, ltb-false, flat_map-append}
@@ -18,8 +20,6 @@ use Rattle.ws_session.proofs.world.Betweens.{signal_silent, ready_silent, with_t
 use Rattle.ws_session.proofs.world.Betweens.{with_sents, with_none, record_of, item_of, Replies, Between, behind}
 use Rattle.ws_session.proofs.world.Betweens.{Signal, Posted, posted, sounds, tokens, Sound, downs, sents, Down, Ends}
 use Rattle.ws_session.proofs.world.Betweens.{Sent, ups, Up}
-
--- A byte comes to the station of a session.
 
 module _ (t : TerminalType) where
   takes_record : (s : StationSide) (d : Posted) → station_allows_records s.options ≡ true

@@ -1,12 +1,12 @@
-use Rattle.ws_session.proofs.Common.{◌≡◌, List, [], ◌∷◌, ◌++◌, ◌∙◌, ℕ, zero, suc, take, drop, take-append-drop, ap}
-use Rattle.ws_session.proofs.Common.{sym, length, append_assoc, append-nil, drop-drop, ap₂, Fault, Move, Crossing}
+-- What has crossed a line.
+
+use Rattle.ws_session.proofs.Common.{◌≡◌, List, [], ◌∷◌, ◌++◌, ◌∙◌, ℕ, zero, suc, take, drop, take-append-drop, ap, sym}
+use Rattle.ws_session.proofs.Common.{length, append_assoc, append-nil, drop-drop, ap₂, Fault, Move, Crossing}
 use Rattle.ws_session.proofs.Common.{with_piece_at, AreFaithful, HaveCrossed, IsStopped, all_sent, all_read, WireParts}
 use Rattle.ws_session.proofs.Common.{refl, Session, after_move, after_moves, arith, min, cases_lt, take_all, inl, inr}
 use Rattle.ws_code.specs.Device.{Devices}
 use Rattle.ws_session.specs.declared.world.line.Line.{Line}
 use Rattle.ws_session.specs.world.Carried.{all_brought}
-
--- What has crossed a line.
 
 pub faithful_front : (cs ds : List Crossing) → AreFaithful (cs ++ ds) → AreFaithful cs
 faithful_front [] ds f = tt

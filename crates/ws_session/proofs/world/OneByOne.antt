@@ -1,3 +1,5 @@
+-- Bytes that come to an end, one by one.
+
 use Rattle.ws_session.proofs.Common as C
 use C.{flat_map, ◌≡◌, ◌+◌, ◌≤◌, List, [], ◌∷◌, ◌++◌, refl, subst, ◌∙◌, ℕ, zero, suc, ◌<◌, Option, Some, None, drop, ap}
 use C.{sym, arith, take-append-drop, ◌^◌, min, inl, inr, length, get_or, append_assoc, add-zero, add-one, length-append}
@@ -5,13 +7,10 @@ use C.{length-drop, drop-cons, length-take, ◌⊎◌, true, add-suc, subst₂, 
 use C.{append-nil, drop-drop, Rules, Reason, plain_spelling, item_spelling, Item, bytes_came, all_came, Happening}
 use C.{doing, items_of, HasGone, Arrives, Manner, AllTaken, Happen, HoldsItems, Goes, Refusal, Event, HasRefusedIn}
 use C.{Through, WireParts, reported, HasMemory, AreDelivered, at_end, Session}
-use Rattle.ws_end.specs.Acts.{bytes_of}
+use Rattle.ws_end.specs.Acts.{bytes_of, ways}
 use Rattle.ws_end.specs.Conduct.{Conduct}
 use Rattle.ws_session.specs.world.Wires.{Telling}
 use Rattle.ws_end.proofs.EndSteps.{gone_none}
-use Rattle.ws_end.specs.Acts.{ways}
-
--- Bytes that come to an end, one by one.
 
 -- the first of what stands behind a place
 pub some_first : (xs : List ℕ) (n x : ℕ) (rest : List ℕ) → drop n xs ≡ x ∷ rest → n < length xs → x ≡ get_or xs n x

@@ -1,22 +1,22 @@
+-- A running session is a world that its moves lead to.
+
 use Rattle.ws_session.proofs.Common as C
 use C.{IfOk, ◌≡◌, ◌+◌, ◌≤◌, List, [], ◌∷◌, ◌++◌, refl, subst, ◌∙◌, ℕ, ◌<◌, Option, Some, None, take, ap, sym, arith}
 use C.{◌^◌, length, length-take, if◌then◌else◌, Bool, true, false, Err, Ok, Result, ap₂, flat_map-append, append-nil}
 use C.{spelling_of, AreBytes, TerminalType, arrived, plain_spelling, item_spelling, IsInRange, record_spelling}
-use C.{CanBeEncoded, header, Opcode, CancelInvite, NoOperation, PutGet, Item, header_length, answer_rules}
-use C.{element_rules, AnswerPart, Element, ScreenParts, IsLegal, ReadKind, one_screen, answer_parts, key_refusal}
-use C.{answer_of, Read, Attention, SystemRequest, HostAnswer, Key, Send, KeyRefusal, empty_record, SendFault}
-use C.{SendFailed, NoMemory, ATN, SRQ, KeyFault, KeyFailed, NotReady, Event, KeyRefused, SendRefused, Move, Press}
-use C.{AtHost, HostLeads, HostParts, IsSent, IsSendFault, HostSide, SendReaction, RefusesSend, host_send}
-use C.{answer_spelling, AtStation, StationParts, StationLeads, StationSide, screen_at, KeyReaction, RefusesKey}
-use C.{Silent, Answers, Signals, station_key, answers_read, key_by_refusal, presses, answer_record, AreWritable}
-use C.{WorldParts, RunsWith, Runs, IsGiven, IsKey, Session, new_session, after_moves, after_move, down_bytes, up_bytes}
-use C.{station_pressed, host_sent, after_press, after_send}
+use C.{CanBeEncoded, header, NoOperation, PutGet, Item, header_length, answer_rules, element_rules, AnswerPart, Element}
+use C.{ScreenParts, IsLegal, ReadKind, one_screen, answer_parts, key_refusal, answer_of, Read, Attention, SystemRequest}
+use C.{HostAnswer, Key, Send, KeyRefusal, empty_record, SendFault, SendFailed, NoMemory, ATN, SRQ, KeyFault, KeyFailed}
+use C.{NotReady, Event, KeyRefused, SendRefused, Move, Press, AtHost, HostLeads, HostParts, IsSent, HostSide}
+use C.{SendReaction, RefusesSend, answer_spelling, AtStation, StationParts, StationLeads, StationSide, screen_at}
+use C.{KeyReaction, RefusesKey, Silent, Answers, Signals, station_key, answers_read, key_by_refusal, presses}
+use C.{answer_record, AreWritable, WorldParts, RunsWith, Runs, IsGiven, IsKey, Session, new_session, after_moves}
+use C.{after_move, down_bytes, up_bytes, station_pressed, host_sent, after_press, after_send}
 use Rattle.ws_code.specs.Aid.{IsAid}
 use Rattle.ws_record.proofs.Flights.{writable_append, still_led, not_more}
 use Rattle.ws_keys.specs.declared.answer.Answer.{Answer}
 use Rattle.ws_keys.proofs.WholeLaws.{answer_whole, answer_short}
 use Rattle.ws_end.specs.declared.end_step.Order.{Order}
-use Rattle.ws_end.specs.declared.end_step.Order.TheVariants.{Send as Sending}
 use Rattle.ws_end.specs.declared.end_step.Sent.{Sent}
 use Rattle.ws_end.specs.host_end.HostLeads.{CarriesOut, sent_bytes}
 use Rattle.ws_end.specs.host_end.HostSide.{host_orders}
@@ -25,8 +25,6 @@ use Rattle.ws_session.proofs.world.Betweens.{Sound}
 use Rattle.ws_session.proofs.world.Worlds.{sound}
 use Rattle.ws_end.specs.station.Stations.{IsKeyedOn}
 use Rattle.ws_end.specs.station.StationSide.{on_profile}
-
--- A running session is a world that its moves lead to.
 
 pub more_moves : (moves : List Move) (move : Move) (w : Session) → after_moves w (moves ++ move ∷ []) ≡ after_move
     (after_moves w moves) move
@@ -156,11 +154,6 @@ module _ {t : TerminalType} {w : Session} {old : WorldParts} (r : Runs t old w) 
   host_gives few host (Err NoMemory) new c is = absurd is
   host_gives few host (Err fault) new c is = rw (is, c.same)
       (host_refrained fault (refrains _ fault (λ e. cc) (c.sent _ _ _ r.host (few_up r few))))
-
-pub other_send : (o : Opcode) → (o ≡ CancelInvite → ⊥) → (h : HostSide) (body : List Element)
-    → host_orders h (Sending o body) ≡ host_send h o body
-other_send CancelInvite ne h body = absurd (ne refl)
-other_send o ne h body = refl
 
 pub weaker_ok : {A E : Type 0} (r : Result A E) (P Q : A → Type 0) → ((a : A) → P a → Q a) → IfOk r P → IfOk r Q
 weaker_ok (Ok a) P Q f p = f a p

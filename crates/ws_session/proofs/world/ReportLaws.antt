@@ -1,13 +1,15 @@
+-- With nothing in flight both option tables agree, and few tokens are ever written.
+
 use Rattle.ws_session.proofs.Common as C
 use C.{filter, ◌≡◌, ◌+◌, ◌≤◌, List, [], ◌∷◌, ◌++◌, refl, subst, ◌∙◌, ℕ, zero, suc, ◌<◌, Option, drop, ap, sym, arith}
 use C.{◌^◌, inl, inr, length, length-drop, if◌then◌else◌, Bool, true, false, nat_lt, ◌-◌, replicate, nat_tests}
 use C.{append-nil, drop_all, Rules, Telnet, Exchange, TablesAgree, NothingInFlight, MoveDown, MoveUp, exchange_after}
 use C.{after_all_to_station, after_all_to_host, after_three_deliveries, host_allows_records, station_allows_records}
 use C.{TerminalType, agrees, settled_quiet, settled_station, settled_host, plain_spelling, Item, answer_rules}
-use C.{element_rules, AnswerPart, Field, ReadKind, HostAnswer, Refuses, GoesOn, Reaction, telnets, Move}
-use C.{HostSide, HostOutput, answers_in, items_coming, is_answer, answers_coming, StationSide}
-use C.{delivery, three_deliveries, refusals_in, Report, IsReport, IsOpened, Session, new_session, after_moves, IsQuiet, down_bytes}
-use C.{station_did, byte_to_station, up_bytes, host_did, byte_to_host, bytes_to_station, bytes_to_host}
+use C.{element_rules, AnswerPart, Field, ReadKind, HostAnswer, Refuses, GoesOn, Reaction, telnets, Move, HostSide}
+use C.{HostOutput, answers_in, items_coming, is_answer, answers_coming, StationSide, delivery, three_deliveries}
+use C.{refusals_in, Report, IsReport, IsOpened, Session, new_session, after_moves, IsQuiet, down_bytes, station_did}
+use C.{byte_to_station, up_bytes, host_did, byte_to_host, bytes_to_station, bytes_to_host}
 use Rattle.ws_nego.proofs.Exchanges.{x_few}
 use Rattle.ws_record.proofs.Flights.{total_append, all_arrived, total_cons, InFlight, IsInside, not_more, total, quiet}
 use Rattle.ws_record.proofs.Flights.{size}
@@ -15,8 +17,6 @@ use Rattle.ws_session.proofs.Bytewise.{none_refused, bytes_down, bytes_up}
 use Rattle.ws_session.proofs.world.Betweens.{Replies, tokens, posted, Posted, Waits, sents, Sound, Sent}
 use Rattle.ws_session.proofs.world.Bytes.{next_down, next_up}
 use Rattle.ws_session.proofs.world.Worlds.{sound}
-
--- With nothing in flight both option tables agree, and few tokens are ever written.
 
 pub front_empty : {X : Type 0} (xs ys : List X) → xs ++ ys ≡ [] → xs ≡ []
 front_empty [] ys e = refl

@@ -1,3 +1,5 @@
+-- A key, a send or a cancel in a session.
+
 use Rattle.ws_session.proofs.Common as C
 use C.{◌&&◌, not, ◌≡◌, List, [], ◌∷◌, ◌++◌, refl, subst, ◌∙◌, ℕ, zero, suc, Option, Some, None, ap, sym, arith, inl}
 use C.{inr, append_assoc, if◌then◌else◌, Bool, true, false, is_some, Reason, new_exchange, host_allows_records, opening}
@@ -8,8 +10,8 @@ use C.{aids_answer, empty_record, SendFailed, NotAllowed, ReadOutstanding, NoRea
 use C.{RefusedByScreen, ATN, SRQ, KeyFailed, NotReady, Event, KeyRefused, SendRefused, Move, ToStation, ToHost, Cancel}
 use C.{Press, SendMove, sent_record, is_outstanding, SendReaction, RefusesSend, Sends, host_cancel, host_send}
 use C.{host_sends_body, is_too_big, answers_in, answer_in, after_key, screen_at, RefusesKey, station_key, sends}
-use C.{answers_read, key_by_refusal, presses, Session, new_session, after_moves, after_move, byte_to_station, byte_to_host}
-use C.{bytes_to_station, bytes_to_host, station_pressed, host_sent, after_press, after_send}
+use C.{answers_read, key_by_refusal, presses, Session, new_session, after_moves, after_move, byte_to_station}
+use C.{byte_to_host, bytes_to_station, bytes_to_host, station_pressed, host_sent, after_press, after_send}
 use Rattle.ws_end.specs.declared.end_step.Order.TheVariants.{Send as Sending}
 use Rattle.ws_end.specs.host_end.HostSide.{host_orders}
 use Rattle.std.proofs.lemmas.Bool.{cases_Bool}
@@ -24,8 +26,6 @@ use Rattle.ws_session.proofs.world.Betweens.{Signal, betweens, is_stop, Replies,
 use Rattle.ws_session.proofs.world.Betweens.{sents, Body, Sent, Stop}
 use Rattle.ws_session.proofs.world.Bytes.{byte_down, byte_up}
 use Rattle.ws_session.proofs.world.Turns.{Free, at}
-
--- A key, a send or a cancel in a session.
 
 module _ (t : TerminalType) where
   untold : (w : Session) (e : Event) → answer_in e ≡ [] → Sound t w → Sound t (record w { events = w.events ++ e ∷ [] })

@@ -27,9 +27,8 @@ use Rattle.ws_session.specs.declared.world.Move.TheVariants.{Send, Cancel, ToSta
 use Rattle.ws_end.specs.Reaction.{Reaction, Refuses, GoesOn, empty_record}
 use Rattle.ws_end.specs.station.StationSide.{StationSide, new_station_side, screen_at, station_takes, KeyReaction}
 use Rattle.ws_end.specs.station.StationSide.{RefusesKey, Silent, Answers, Signals, station_key, answer_record}
-use Rattle.ws_end.specs.host_end.HostSide.{HostSide, new_host_side, HostOutput, host_takes, SendReaction}
-use Rattle.ws_end.specs.host_end.HostSide.{RefusesSend, Sends}
-use Rattle.ws_end.specs.host_end.HostSide.{host_orders}
+use Rattle.ws_end.specs.host_end.HostSide.{HostSide, new_host_side, HostOutput, host_takes, SendReaction, RefusesSend}
+use Rattle.ws_end.specs.host_end.HostSide.{Sends, host_orders}
 
 -- a session in whole items: both ends, all items that each has written, how many of their bytes have arrived, and what
 -- was told

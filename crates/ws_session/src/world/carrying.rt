@@ -1,3 +1,4 @@
+//! A piece of a stream over a connection.
 ghost use Rattle.std.specs.Prelude.{◌≡◌, ◌≤◌, Err, length, IfErr, OnOk};
 ghost use Rattle.ws_code.specs.Device.{on_devices};
 ghost use Rattle.ws_end.specs.attached.StationRun.{passing};

@@ -1,3 +1,4 @@
+//! One direction of a connection.
 ghost use Rattle.std.specs.Prelude.{◌≡◌, ◌≤◌, List as Seq, length, IfErr, OnOk};
 ghost use Rattle.ws_code.specs.Device.{on_devices};
 ghost use Rattle.ws_session.specs.world.Carrying.{IsCarried, IsCarryFault, passage};

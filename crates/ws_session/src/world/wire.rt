@@ -1,3 +1,4 @@
+//! What one end has written, and how much of it has arrived.
 ghost use Rattle.std.specs.Prelude.{[], ◌^◌, ◌≡◌, ◌<◌, ◌≤◌, ◌+◌, ◌++◌, List as Seq, length, take, drop, OnOk, IfErr};
 ghost use Rattle.ws_code.specs.Device.{on_devices};
 ghost use Rattle.ws_session.specs.world.Crossings.{Crossing, HaveCrossed, IsStopped, all_read, all_sent, with_piece_at};

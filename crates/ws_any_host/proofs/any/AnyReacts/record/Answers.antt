@@ -1,8 +1,6 @@
-use Rattle.std.proofs.Common.{◌≡◌, ◌∙◌, [], refl, sym, ap, Some, true, ℕ, List}
+use Rattle.std.proofs.Common.{◌≡◌, ◌∙◌, [], refl, ap, Some, true, ℕ, List}
 use Rattle.ws_nego.specs.Host.{host_allows_records}
 use Rattle.ws_record.specs.DataStep.{record_of}
-use Rattle.ws_record.specs.declared.record.Record.{Record}
-use Rattle.ws_any_host.specs.AnyOptions.{Negotiated}
 use Rattle.ws_any_host.specs.AnySide.{AnyOutput}
 use Rattle.ws_any_host.specs.declared.any_event.AnyEvent.TheVariants.{Record as Came}
 use Rattle.ws_any_host.proofs.any.AnyReacts.record.Goals as goal

@@ -1,5 +1,5 @@
-use Rattle.ws_end.proofs.Common.{◌≡◌, List, [], ◌∷◌, ◌++◌, ◌∙◌, ℕ, take, drop, ap, sym, take-append-drop}
-use Rattle.ws_end.proofs.Common.{append_assoc, true, Err, Ok, as_list, AttachedParts}
+use Rattle.ws_end.proofs.Common.{◌≡◌, List, [], ◌∷◌, ◌++◌, ◌∙◌, ℕ, take, drop, ap, sym, take-append-drop, append_assoc}
+use Rattle.ws_end.proofs.Common.{true, Err, Ok, as_list, AttachedParts}
 use Rattle.ws_end.specs.attached.Attachments.{TellsAtLast, TakesFirst}
 use Rattle.ws_end.proofs.attached.Attached.take.Goals as goal
 use Rattle.ws_end.proofs.attached.Attachings.{has_led, unheard}

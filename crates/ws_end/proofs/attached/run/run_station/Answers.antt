@@ -1,7 +1,7 @@
 use Rattle.ws_end.proofs.Common.{◌≡◌, ◌≤◌, [], take, arith, length, length-take-le, err_from_is_err_and, take_some}
 use Rattle.ws_end.proofs.Common.{new_station_side}
-use Rattle.ws_end.proofs.attached.PlayRuns.{run_starts, start_fails, run_ends, run_unread, fits, reads_on}
-use Rattle.ws_end.proofs.attached.PlayRuns.{run_stops, run_endless}
+use Rattle.ws_end.proofs.attached.PlayRuns.{run_starts, start_fails, run_ends, run_unread, fits, reads_on, run_stops}
+use Rattle.ws_end.proofs.attached.PlayRuns.{run_endless}
 use Rattle.ws_end.proofs.attached.run.run_station.Goals as goal
 
 pub returns-in_err-press_due : goal.returns-in_err-press_due

@@ -1,5 +1,5 @@
-use Rattle.ws_end.proofs.Common.{rules, ◌≡◌, [], None, Some, Err, Ok, subst, KeyFault, err_from_is_err_and, went_out_none, KeyFailed}
-use Rattle.ws_end.proofs.Common.{answer_spelling}
+use Rattle.ws_end.proofs.Common.{rules, ◌≡◌, [], None, Some, Err, Ok, subst, KeyFault, err_from_is_err_and}
+use Rattle.ws_end.proofs.Common.{went_out_none, KeyFailed, answer_spelling}
 use Rattle.ws_end.specs.attached.Deeds.{WritesDeed, key_judged}
 use Rattle.ws_end.specs.declared.attached.acted.Acted.{Acted}
 use Rattle.ws_end.specs.declared.attached.acted.Acted.TheVariants.{Refused}

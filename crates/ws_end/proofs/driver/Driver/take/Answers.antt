@@ -1,5 +1,5 @@
-use Rattle.ws_end.proofs.Common.{[], None, refl, arith, take, append_assoc, append-nil}
-use Rattle.ws_end.proofs.Common.{left_of, bytes_on, length_rest, length-take-le}
+use Rattle.ws_end.proofs.Common.{[], None, refl, arith, take, append_assoc, append-nil, left_of, bytes_on, length_rest}
+use Rattle.ws_end.proofs.Common.{length-take-le}
 use Rattle.ws_end.specs.driver.Driven.{driving, IsSilent}
 use Rattle.ws_end.proofs.driver.Drivings.{front_takes, takes_on, takes_none}
 use Rattle.ws_end.proofs.driver.Driver.take.Goals as goal

@@ -1,5 +1,5 @@
-use Rattle.ws_end.proofs.Common.{◌≡◌, List, ◌∙◌, Option, Some, sym, Result, AnswerPart, Field, ReadKind}
-use Rattle.ws_end.proofs.Common.{read_answer, IsRead, IsSplit, HostAnswer, is_read}
+use Rattle.ws_end.proofs.Common.{◌≡◌, List, ◌∙◌, Option, Some, sym, Result, AnswerPart, Field, ReadKind, read_answer}
+use Rattle.ws_end.proofs.Common.{IsRead, IsSplit, HostAnswer, is_read}
 use Rattle.ws_keys.specs.declared.host_answer.HostFault.{HostFault}
 use Rattle.ws_end.proofs.host_end.Driver+Host.read_fields.Goals as goal
 

@@ -1,6 +1,6 @@
-use Rattle.ws_end.proofs.Common.{◌≡◌, ◌+◌, ◌≤◌, List, [], ◌++◌, refl, ◌∙◌, ℕ, Option, Some, None, take, drop, ap}
-use Rattle.ws_end.proofs.Common.{sym, arith, take-append-drop, length, take_all, err_from_is_err_and, length_rest}
-use Rattle.ws_end.proofs.Common.{left_of, bytes_on, reading_of, Element, CommandsOnly, body_fault}
+use Rattle.ws_end.proofs.Common.{◌≡◌, ◌+◌, ◌≤◌, List, [], ◌++◌, refl, ◌∙◌, ℕ, Option, Some, None, take, drop, ap, sym}
+use Rattle.ws_end.proofs.Common.{arith, take-append-drop, length, take_all, err_from_is_err_and, length_rest, left_of}
+use Rattle.ws_end.proofs.Common.{bytes_on, reading_of, Element, CommandsOnly, body_fault}
 use Rattle.ws_code.proofs.RunLaws.{same_reading}
 use Rattle.ws_screen.proofs.Spelled.{Applied, applied_start, applied_all, applied_at, ready, ran_none, ran_some}
 use Rattle.ws_screen.proofs.Spelled.{ran_bad, whole_finds_write, whole_applied, whole_refused}

@@ -1,4 +1,5 @@
-use Rattle.ws_session.proofs.Common.{◌≡◌, ◌-◌, ◌++◌, refl, ◌∙◌, take, ap, arith, length, Err, Ok, take_all, Refusal, Failed}
+use Rattle.ws_session.proofs.Common.{◌≡◌, ◌-◌, ◌++◌, refl, ◌∙◌, take, ap, arith, length, Err, Ok, take_all, Refusal}
+use Rattle.ws_session.proofs.Common.{Failed}
 use Rattle.ws_session.proofs.world.Arriving.{goes_come, refused_come}
 use Rattle.ws_session.proofs.world.delivery.come.Goals as goal
 

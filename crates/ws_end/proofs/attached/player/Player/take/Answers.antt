@@ -17,7 +17,8 @@ use Rattle.ws_end.proofs.Common.{
 }
 use Rattle.ws_end.proofs.Common.{behind}
 use Rattle.ws_end.proofs.Feedings.{value_at}
-use Rattle.ws_end.proofs.attached.PlaySteps.{no_record, record_comes, keys_fail, known_bytes, known_step, reply_fails, refused_as}
+use Rattle.ws_end.proofs.attached.PlaySteps.{no_record, record_comes, keys_fail, known_bytes, known_step, reply_fails}
+use Rattle.ws_end.proofs.attached.PlaySteps.{refused_as}
 use Rattle.ws_end.proofs.attached.player.Player.take.Goals as goal
 use Rattle.ws_end.specs.attached.StationRun.{asked}
 

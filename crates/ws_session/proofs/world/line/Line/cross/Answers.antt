@@ -1,6 +1,6 @@
 use Rattle.ws_session.proofs.Common.{◌≡◌, ◌≤◌, ◌+◌, ◌-◌, List, [], ◌∷◌, ◌++◌, refl, ◌∙◌, ℕ, take, drop, ap, ap₂, sym}
-use Rattle.ws_session.proofs.Common.{length-append, length-drop, length-take-le, append-nil, take_all, take-add}
-use Rattle.ws_session.proofs.Common.{arith, length, drop-drop, flat_map-append, err_from_is_err_and, Crossing}
+use Rattle.ws_session.proofs.Common.{length-append, length-drop, length-take-le, append-nil, take_all, take-add, arith}
+use Rattle.ws_session.proofs.Common.{length, drop-drop, flat_map-append, err_from_is_err_and, Crossing}
 use borrow.Rule.Slice.PartMut.{post_of, put_mid}
 use Rattle.std.proofs.lemmas.Slice.{drop-put_mid, take-put_mid}
 use Rattle.ws_session.proofs.world.Crossed.{crossed_on}
