@@ -3,15 +3,15 @@ use Rattle.ws_keys.specs.declared.answer.Answer.{Answer}
 use Rattle.ws_keys.specs.declared.answer.Answer.TheVariants.{Read, Attention, SystemRequest}
 use Rattle.ws_keys.specs.declared.key.Key.{Key}
 use Rattle.ws_keys.specs.declared.key.KeyRefusal.{KeyRefusal}
-use Rattle.ws_end.specs.station.Displays.{IsPressedOnDisplay, SideOn}
-use Rattle.ws_end.specs.station.StationSide.{profile, ProfileParts}
+use Rattle.ws_end.specs.station.Displays.{IsPressedOnDisplay, EndStateOn}
+use Rattle.ws_end.specs.station.StationEndState.{profile, ProfileParts}
 use Rattle.rows_session.specs.SecondDisplay.{SecondParts, SecondHappened, SecondGives, second, second_key, second_side}
-use Rattle.rows_session.specs.SecondDisplay.{profile_side}
+use Rattle.rows_session.specs.SecondDisplay.{profile_state}
 
 -- a key of the profile does here what it does there
-pub second_pressed : (d : SecondParts) (new : ProfileParts) (s : SideOn SecondHappened) (key : Key)
+pub second_pressed : (d : SecondParts) (new : ProfileParts) (s : EndStateOn SecondHappened) (key : Key)
     (result : Result (Option Answer) KeyRefusal) → SecondGives s.happened d
-    → IsPressedOnDisplay profile d.profile new (profile_side s) key result
+    → IsPressedOnDisplay profile d.profile new (profile_state s) key result
     → IsPressedOnDisplay second d (record d { profile = new }) s (Some key) result
 second_pressed d new s key (Ok None) g p = (
   second_side s p.0,

@@ -10,9 +10,9 @@ use Rattle.ws_stream.specs.declared.answer_place.AnswerPlace.{AnswerPlace}
 use Rattle.ws_stream.specs.AnswerParts.{answer_rules}
 use Rattle.ws_screen.specs.Events.{History}
 use Rattle.ws_keys.specs.declared.key.Key.{Key}
-use Rattle.ws_end.specs.station.Displays.{DisplayOf, SideOn, KeyReactionOn, RefusesKey, Silent, Answers, Signals}
+use Rattle.ws_end.specs.station.Displays.{DisplayOf, EndStateOn, KeyReactionOn, RefusesKey, Silent, Answers, Signals}
 use Rattle.ws_end.specs.Reaction.{Reaction, GoesOn, empty_record}
-use Rattle.ws_end.specs.station.StationSide.{profile, ProfileParts, StationSide}
+use Rattle.ws_end.specs.station.StationEndState.{profile, ProfileParts, StationEndState}
 
 -- what it keeps: the profile's display, the bytes of the last answer, and whether its bell rings
 pub record SecondParts : Type 0 where
@@ -33,11 +33,11 @@ pub record SecondGives (h : SecondHappened) (d : SecondParts) : Type 0 where
   pub rings : d.rings ≡ h.rings
 
 -- the side of the profile in one of it, and such a side with another in it
-abbrev pub profile_side : SideOn SecondHappened → StationSide
-profile_side s = record { options = s.options; happened = s.happened.shown }
+abbrev pub profile_state : EndStateOn SecondHappened → StationEndState
+profile_state s = record { options = s.options; happened = s.happened.shown }
 
 -- the side of the profile's station in one on this display
-abbrev pub second_side : SideOn SecondHappened → StationSide → SideOn SecondHappened
+abbrev pub second_side : EndStateOn SecondHappened → StationEndState → EndStateOn SecondHappened
 second_side s t = record { options = t.options; happened = record s.happened { shown = t.happened } }
 
 -- each record is answered by an empty one
@@ -45,7 +45,8 @@ abbrev pub answered : List (Item AnswerPart)
 answered = empty_record 0 CancelInvite ∷ []
 
 -- a record rings, and its answer is kept
-abbrev pub second_applies : SideOn SecondHappened → Record ℕ → Reaction (SideOn SecondHappened) (List (Item AnswerPart))
+abbrev pub second_applies : EndStateOn SecondHappened → Record ℕ → Reaction (EndStateOn SecondHappened)
+    (List (Item AnswerPart))
 second_applies s r = GoesOn (record s {
   happened = record s.happened {
     told = plain_spelling answer_rules answered;
@@ -54,15 +55,15 @@ second_applies s r = GoesOn (record s {
 }) answered
 
 -- what a key of the profile does
-abbrev pub second_key : SideOn SecondHappened → KeyReactionOn History → KeyReactionOn SecondHappened
+abbrev pub second_key : EndStateOn SecondHappened → KeyReactionOn History → KeyReactionOn SecondHappened
 second_key s (RefusesKey fault) = RefusesKey fault
 second_key s (Silent next) = Silent (second_side s next)
 second_key s (Answers next kind aid) = Answers (second_side s next) kind aid
 second_key s (Signals opcode flags) = Signals opcode flags
 
 -- a key of the profile does what it does there; the one key more, None, ends the ringing
-abbrev pub second_presses : SideOn SecondHappened → Option Key → KeyReactionOn SecondHappened
-second_presses s (Some key) = second_key s (profile.presses (profile_side s) key)
+abbrev pub second_presses : EndStateOn SecondHappened → Option Key → KeyReactionOn SecondHappened
+second_presses s (Some key) = second_key s (profile.presses (profile_state s) key)
 second_presses s None = Silent (record s { happened = record s.happened { rings = false } })
 
 -- the key sends a record

@@ -8,7 +8,7 @@ use ws_code::{FailingSink, Fault, List, Reason, Sink, SliceSource, VecSink};
 use ws_keys::Key;
 use ws_record::Opcode;
 use ws_session::{
-    Acted, Applied, Attached, HostEnd, HostEvent, KeyFault, Order, SendFault, Station,
+    Acted, Applied, Attached, HostEnd, HostEvent, HostRequest, KeyFault, SendFault, Station,
 };
 
 type StationLine<'a, K> = Attached<Station, SliceSource<'a>, K>;
@@ -39,7 +39,7 @@ fn host_hears(rt: &impl Abort, line: &mut HostLine, wanted: Result<Option<HostEv
 fn does(
     rt: &impl Abort,
     line: &mut HostLine,
-    order: &Order,
+    order: &HostRequest,
     wanted: Result<Acted<SendFault>, Fault>,
 ) {
     same(rt, line.act(order), wanted);
@@ -74,8 +74,8 @@ fn breaks_at_a_refusal(rt: &impl Abort, alloc: Global) {
     host_hears(rt, &mut line, Err(Fault::Refused { place, reason }));
     same(rt, line.end().refused(), Some((place, reason)));
     host_hears(rt, &mut line, Err(Fault::Failed));
-    does(rt, &mut line, &Order::Cancel, Err(Fault::Failed));
-    let empty = Order::Send(Opcode::PutGet, List::of(Vec::new(alloc)));
+    does(rt, &mut line, &HostRequest::Cancel, Err(Fault::Failed));
+    let empty = HostRequest::Send(Opcode::PutGet, List::of(Vec::new(alloc)));
     does(rt, &mut line, &empty, Err(Fault::Failed));
 }
 

@@ -9,34 +9,34 @@ use Rattle.ws_record.specs.declared.record.Record.{Record}
 use Rattle.ws_end.specs.Acts.{Did}
 use Rattle.ws_end.specs.declared.host_end.send_fault.SendFault.{SendFault}
 use Rattle.ws_end.specs.declared.host_end.send_fault.SendFault.TheVariants as why
-use Rattle.ws_end.specs.driver.Conducting.{DriverGoes}
-use Rattle.ws_end.specs.driver.Driven.{TakesNoMore, manner_of}
-use Rattle.ws_end.proofs.EndDeeds.{deed_gone}
-use Rattle.ws_end.proofs.Shuts.{none_leads}
-use Rattle.ws_any_host.specs.AnyLeads.{AnyLeads, AnyParts, AtAny, IsAnySendFault, IsAnySendRefusal, IsAnySendTaken}
+use Rattle.ws_end.specs.driver.DriverBehaviour.{DriverTraces}
+use Rattle.ws_end.specs.driver.Driven.{TakesNoMore, transitions_of}
+use Rattle.ws_end.proofs.EndRequests.{request_trace}
+use Rattle.ws_end.proofs.Shuts.{none_reached}
+use Rattle.ws_any_host.specs.AnyReached.{AnyReached, AnyParts, AtAny, IsAnySendFault, IsAnySendRefusal, IsAnySendTaken}
 use Rattle.ws_any_host.specs.AnyOptions.{Negotiated}
-use Rattle.ws_any_host.specs.AnySide.{any_driving, send_fault}
+use Rattle.ws_any_host.specs.AnyEndState.{any_driving, send_fault}
 
 module _ (host : AnyParts) (r : Record ℕ) where
   -- a record that is sent
   pub sent_goes : (text : List ℕ) → send_fault host.reacts r ≡ None → text ≡ item_spelling raw_rules (RecordItem r)
-      → (TakesNoMore host → ⊥) → DriverGoes any_driving host (Did r ∷ []) text [] host
+      → (TakesNoMore host → ⊥) → DriverTraces any_driving host (Did r ∷ []) text [] host
   sent_goes text none e works = record {
-    led = λ bytes items side l few. deed_gone raw_rules raw_rules (manner_of any_driving) (AnyLeads host) bytes items side text r
-        (rw (ap (λ n. send_fault n r) (sym l.stands) ∙ none)
+    led = λ bytes items state l few. request_trace raw_rules raw_rules (transitions_of any_driving)
+        (AnyReached host) bytes items state text r (rw (ap (λ n. send_fault n r) (sym l.stands) ∙ none)
         (e ∙ sym (append-nil (item_spelling raw_rules (RecordItem r))), refl, l));
     shut = λ shut. absurd (works shut);
   }
 
   pub sent_taken : send_fault host.reacts r ≡ None → (TakesNoMore host → ⊥) → IsAnySendTaken host r
   sent_taken none works =
-      record { led = λ bytes items side l few. ap (λ n. send_fault n r) (sym l.stands) ∙ none; works = works }
+      record { led = λ bytes items state l few. ap (λ n. send_fault n r) (sym l.stands) ∙ none; works = works }
 
   -- why it isn't sent
   module _ (fault : SendFault) (f : (TakesNoMore host → ⊥) → IsAnySendFault host.reacts r fault) where
-    led_fault : AtAny host (λ bytes items side. length bytes + 1 < 2 ^ 64 → IsAnySendFault side r fault)
-    led_fault bytes items side l few =
-        rw l.stands at (f (none_leads host.ended host.live.taken (length bytes) l.works l.leads.count few))
+    led_fault : AtAny host (λ bytes items state. length bytes + 1 < 2 ^ 64 → IsAnySendFault state r fault)
+    led_fault bytes items state l few =
+        rw l.stands at (f (none_reached host.ended host.live.taken (length bytes) l.works l.reached.count few))
 
     named : (n : Negotiated) (fault : SendFault) → fault ≢ why.Memory → IsAnySendFault n r fault
         → send_fault n r ≡ Some fault
@@ -49,20 +49,21 @@ module _ (host : AnyParts) (r : Record ℕ) where
     named n (why.Screen reason) ne p = p
     named n why.TooBig ne p = p
 
-    pub refused_goes : fault ≢ why.Memory → DriverGoes any_driving host (Did r ∷ []) [] [] host
+    pub refused_goes : fault ≢ why.Memory → DriverTraces any_driving host (Did r ∷ []) [] [] host
     refused_goes ne = record {
-      led = λ bytes items side l few.
-          let p = named side fault ne (led_fault bytes items side l (omega (arith, few))) in
-          deed_gone raw_rules raw_rules (manner_of any_driving) (AnyLeads host) bytes items side [] r (rw p (refl, refl, l));
-      shut = λ shut. record { no_byte = refl; same = refl; unwritten = refl; untold = refl };
+      led = λ bytes items state l few.
+          let p = named state fault ne (led_fault bytes items state l (omega (arith, few))) in
+          request_trace raw_rules raw_rules (transitions_of any_driving) (AnyReached host) bytes items state [] r
+          (rw p (refl, refl, l));
+      shut = λ shut. record { no_byte = refl; same = refl; unwritten = refl; no_event = refl };
     }
 
     pub refused_why : fault ≢ why.Memory → (TakesNoMore host → fault ≡ why.Failed) → IsAnySendRefusal host r fault
     refused_why ne shut = record {
-      led = λ bytes items side l few. named side fault ne (led_fault bytes items side l few);
+      led = λ bytes items state l few. named state fault ne (led_fault bytes items state l few);
       shut = shut;
     }
 
     pub wanting : fault ≡ why.Memory → (TakesNoMore host → ⊥) → IsAnySendTaken host r
     wanting is works =
-        record { led = λ bytes items side l few. rw is at (led_fault bytes items side l few); works = works }
+        record { led = λ bytes items state l few. rw is at (led_fault bytes items state l few); works = works }

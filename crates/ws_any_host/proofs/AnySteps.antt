@@ -18,7 +18,7 @@ use Rattle.ws_record.proofs.Headers.{header_length}
 use Rattle.ws_end.specs.declared.host_end.send_fault.SendFault.TheVariants.{TooBig}
 use Rattle.ws_end.specs.driver.Reacting.{IsReaction}
 use Rattle.ws_any_host.specs.AnyOptions.{Negotiated}
-use Rattle.ws_any_host.specs.AnySide.{any_negotiates, any_reacting, any_ready, send_fault}
+use Rattle.ws_any_host.specs.AnyEndState.{any_negotiates, any_reacting, any_ready, send_fault}
 use Rattle.ws_any_host.specs.declared.any_event.AnyEvent.{AnyEvent}
 
 any_tokens : (ts : List Telnet) → plain_spelling raw_rules (map TelnetItem ts) ≡ telnet_bytes ts

@@ -10,7 +10,7 @@ use Rattle.ws_code.specs.declared.fault.Fault.{Fault}
 use Rattle.ws_code.specs.declared.fault.Fault.TheVariants as fault
 use Rattle.ws_record.specs.Grammar.{two_bytes, opcode_byte}
 use Rattle.ws_end.specs.attached.Attachments.{AttachedParts, HasHeard, IsHearFault}
-use Rattle.ws_end.specs.attached.Deeds.{HasActed}
+use Rattle.ws_end.specs.attached.Requests.{HasActed}
 use Rattle.ws_end.specs.declared.attached.acted.Acted.{Acted}
 use Rattle.ws_end.specs.declared.host_end.send_fault.SendFault.{SendFault}
 use Rattle.ws_text.specs.ItemLines.{hex_behind_blank}
@@ -21,7 +21,7 @@ use Rattle.ws_live.specs.live.WireLines.{WireRuns}
 use Rattle.ws_live.specs.declared.live.Closing.TheVariants.{Nothing, Done, Ended}
 use Rattle.ws_live.specs.declared.live.watch.WaitSpan.{WaitSpan}
 use Rattle.ws_live.specs.declared.live.watch.WaitSpan.TheVariants.{Whole}
-use Rattle.ws_any_host.specs.AnyLeads.{AnyParts, any_conduct, any_judged}
+use Rattle.ws_any_host.specs.AnyReached.{AnyParts, any_behaviour, any_judged}
 use Rattle.ws_any_host.specs.declared.any_event.AnyEvent.{AnyEvent}
 use Rattle.ws_any_host.specs.declared.any_event.AnyEvent.TheVariants.{Ready, Record as Came}
 use Rattle.ws_any_host.specs.declared.any_line.AnyLine.{AnyLine}
@@ -71,7 +71,7 @@ module _ {S K : Type 0} (devices : Devices S K) where
   abbrev pub HaveToldBeforeKey : ℕ → AttachedAnyHost → List AnyEvent → AttachedAnyHost → Type 0
   HaveToldBeforeKey aid from [] to = to ≡ from
   HaveToldBeforeKey aid from (event ∷ more) to = (mid : AttachedAnyHost)
-      × HasHeard any_conduct devices from mid (Some event)
+      × HasHeard any_behaviour devices from mid (Some event)
       × (is_by aid event ≡ false) × HaveToldBeforeKey aid mid more to
 
 -- What a wait comes to, at a watch that tells of a source whether the read that failed was late.
@@ -83,21 +83,21 @@ module _ {S K : Type 0} (on : WatchedDevices S K) where
   -- the host heard the station, and tells nothing more: the station closed, or a fault came
   abbrev pub AnyHearsNone : WatchedAnyHost → LineResult → WatchedAnyHost → Type 0
   AnyHearsNone from came to =
-      (HasHeard any_conduct on.devices from to None × (came.outcome ≡ Ok Ended) × (came.text ≡ []))
-      ⊎ ((why : Fault) × (late : Bool) × IsHearFault any_conduct on.devices from to why
+      (HasHeard any_behaviour on.devices from to None × (came.outcome ≡ Ok Ended) × (came.text ≡ []))
+      ⊎ ((why : Fault) × (late : Bool) × IsHearFault any_behaviour on.devices from to why
       × (why ≡ fault.Read → on.tells.is_late to.source late)
       × (came.outcome ≡ unheard_outcome late why) × (came.text ≡ unheard_text why))
 
   -- the host heard the station up to the first thing that it tells, which is printed, or none came
   abbrev pub AnyHearsOne : WatchedAnyHost → LineResult → WatchedAnyHost → Type 0
   AnyHearsOne from came to =
-      ((event : AnyEvent) × HasHeard any_conduct on.devices from to (Some event)
+      ((event : AnyEvent) × HasHeard any_behaviour on.devices from to (Some event)
       × (came.outcome ≡ Ok Done) × (came.text ≡ any_event_text event))
       ⊎ AnyHearsNone from came to
 
   -- a record by the key is told, and printed
   abbrev pub KeyComes : ℕ → WatchedAnyHost → LineResult → WatchedAnyHost → Type 0
-  KeyComes aid from came to = (event : AnyEvent) × HasHeard any_conduct on.devices from to (Some event)
+  KeyComes aid from came to = (event : AnyEvent) × HasHeard any_behaviour on.devices from to (Some event)
       × (is_by aid event ≡ true) × (came.outcome ≡ Ok Done) × (came.text ≡ any_event_text event)
 
   -- The host heard the station up to a record by the key, and printed all that it told: after some things the record

@@ -1,5 +1,5 @@
-pub mod AnyLeads
+pub mod AnyReached
 pub mod AnyLines
 pub mod AnyOptions
-pub mod AnySide
+pub mod AnyEndState
 pub mod AnyText

@@ -1,6 +1,6 @@
 //! What reacts at a host that takes any record.
 ghost use Rattle.std.specs.Prelude.{◌≡◌, []};
-ghost use Rattle.ws_any_host.specs.AnySide.{any_reacting, any_ready};
+ghost use Rattle.ws_any_host.specs.AnyEndState.{any_reacting, any_ready};
 
 use crate::{AnyEvent, AnyOptions};
 use arrayvec::ArrayVec;
@@ -43,9 +43,9 @@ impl Any {
 impl Reacts for Any {
     type Body = RawBody;
 
-    type Keep = Vec<u8>;
+    type Collector = Vec<u8>;
 
-    type Deed = Record<u8>;
+    type Request = Record<u8>;
 
     type Event = AnyEvent;
 
@@ -72,8 +72,8 @@ impl Reacts for Any {
         }
     }
 
-    fn record(&mut self, head: Head, keep: &mut Vec<u8>) -> Result<EndStep<AnyEvent>, Halt> {
-        let body = mem::replace(keep, Vec::new(self.alloc));
+    fn record(&mut self, head: Head, collector: &mut Vec<u8>) -> Result<EndStep<AnyEvent>, Halt> {
+        let body = mem::replace(collector, Vec::new(self.alloc));
         if !self.options.records_allowed() {
             return Err(Halt::Refused(Reason::RecordBeforeNegotiation));
         }

@@ -6,9 +6,9 @@ ghost use Rattle.ws_record.specs.RawBody.{raw_rules};
 ghost use Rattle.ws_record.specs.declared.record.Item.{Item as AnItem};
 ghost use Rattle.ws_end.specs.Ends.{refused_byte};
 ghost use Rattle.ws_end.specs.driver.Driven.{DriverPushes, TakesNoMore};
-ghost use Rattle.ws_any_host.specs.AnyLeads.{AnyLeads, AtAny, IsAnySendFault};
+ghost use Rattle.ws_any_host.specs.AnyReached.{AnyReached, AtAny, IsAnySendFault};
 ghost use Rattle.ws_any_host.specs.AnyOptions.{new_negotiated, once_opened};
-ghost use Rattle.ws_any_host.specs.AnySide.{any_driving, send_fault};
+ghost use Rattle.ws_any_host.specs.AnyEndState.{any_driving, send_fault};
 
 use crate::any::Any;
 use crate::{AnyEvent, AnyOptions, ToldName};
@@ -28,7 +28,7 @@ pub struct AnyHost {
 }
 
 impl Model for AnyHost {
-    ghost use Rattle.ws_any_host.specs.AnyLeads.{AnyParts};
+    ghost use Rattle.ws_any_host.specs.AnyReached.{AnyParts};
 
     ghost Value = { AnyParts };
 
@@ -38,7 +38,7 @@ impl Model for AnyHost {
 impl AnyHost {
     /// A host that has taken no byte and sent none.
     pub fn new(alloc: Global) -> Self
-        ensures { AnyLeads result [] [] new_negotiated }
+        ensures { AnyReached result [] [] new_negotiated }
     {
         let any = Any {
             alloc,
@@ -52,8 +52,8 @@ impl AnyHost {
     /// Gives the first token of a session, which asks the station for its terminal type. It is called once, first.
     pub fn open(&mut self) -> Reply
         ensures reply { result ≡ plain_spelling raw_rules (AnItem.Telnet opening ∷ []) }
-        ensures opened { AtAny self.old (λ bytes items side.
-            AnyLeads self.new bytes items (once_opened side)) }
+        ensures opened { AtAny self.old (λ bytes items state.
+            AnyReached self.new bytes items (once_opened state)) }
     {
         let alloc = self.driver.reacts().alloc;
         let options = AnyOptions::new();
@@ -80,7 +80,7 @@ impl AnyHost {
     /// How many bytes it has taken, one that it refused among them.
     pub fn taken(&self) -> u64
         ensures count { result ≡ self.now.live.taken }
-        ensures led { AtAny self.now (λ bytes items side. result ≡ length bytes) }
+        ensures led { AtAny self.now (λ bytes items state. result ≡ length bytes) }
     {
         self.driver.taken()
     }

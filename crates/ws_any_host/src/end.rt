@@ -1,10 +1,10 @@
 //! A host that takes any record, as an end of a session.
 ghost use Rattle.ws_record.specs.RawBody.{raw_rules};
-ghost use Rattle.ws_end.specs.ActLaws.{goes_none, goes_on};
-ghost use Rattle.ws_end.specs.Acts.{ways};
-ghost use Rattle.ws_end.specs.driver.Driven.{TakesNoMore, manner_of};
-ghost use Rattle.ws_any_host.specs.AnyLeads.{AnyLeads, any_conduct, IsAnySendRefusal, IsAnySendTaken};
-ghost use Rattle.ws_any_host.specs.AnySide.{any_driving};
+ghost use Rattle.ws_end.specs.ActLaws.{traces_none, goes_on};
+ghost use Rattle.ws_end.specs.Acts.{protocol_of};
+ghost use Rattle.ws_end.specs.driver.Driven.{TakesNoMore, transitions_of};
+ghost use Rattle.ws_any_host.specs.AnyReached.{AnyReached, any_behaviour, IsAnySendRefusal, IsAnySendTaken};
+ghost use Rattle.ws_any_host.specs.AnyEndState.{any_driving};
 
 use crate::{AnyEvent, AnyHost};
 use ws_nego::Reply;
@@ -12,13 +12,13 @@ use ws_record::Record;
 use ws_session::{Acting, End, EndFed, SendFault, Sent};
 
 impl End for AnyHost {
-    type Deed = Record<u8>;
+    type Request = Record<u8>;
 
     type Event = AnyEvent;
 
     type Reply = Reply;
 
-    ghost conduct = { any_conduct };
+    ghost behaviour = { any_behaviour };
 
     ghost written = { λ host reply. reply };
 
@@ -30,9 +30,9 @@ impl End for AnyHost {
         reply.as_slice()
     }
 
-    ghost stays = { goes_none (ways raw_rules raw_rules (manner_of any_driving)) AnyLeads TakesNoMore };
+    ghost stays = { traces_none (protocol_of raw_rules raw_rules (transitions_of any_driving)) AnyReached TakesNoMore };
 
-    ghost follows = { goes_on (ways raw_rules raw_rules (manner_of any_driving)) AnyLeads TakesNoMore };
+    ghost follows = { goes_on (protocol_of raw_rules raw_rules (transitions_of any_driving)) AnyReached TakesNoMore };
 }
 
 impl Acting for AnyHost {
@@ -42,8 +42,8 @@ impl Acting for AnyHost {
 
     ghost wants = { IsAnySendTaken };
 
-    fn act(&mut self, deed: &Record<u8>) -> Result<Sent, SendFault> {
-        match self.send(deed) {
+    fn act(&mut self, request: &Record<u8>) -> Result<Sent, SendFault> {
+        match self.send(request) {
             Ok(bytes) => Ok(Sent::Record(bytes)),
             Err(fault) => Err(fault),
         }

@@ -9,11 +9,11 @@ use Rattle.std.proofs.lemmas.Bool.{cases_lt}
 use Rattle.std.proofs.lemmas.List.{append-nil, length-drop, length-take-le, take-take}
 use Rattle.ws_record.specs.declared.record.Item.{Item}
 use Rattle.ws_end.specs.ActLaws.{came_append, gone_on}
-use Rattle.ws_end.specs.Acts.{Act, HasGone, all_came, as_list, ways}
+use Rattle.ws_end.specs.Acts.{Act, IsTrace, all_came, as_list, ways}
 use Rattle.ws_end.specs.declared.end_step.EndFed.{EndFed}
 use Rattle.ws_end.specs.declared.end_step.EndStep.{EndStep}
-use Rattle.ws_end.specs.driver.Driven.{AreSilent, AtDriver, Come, Driven, DriverFeeds, Driving, LeadsTo, TakesNoMore}
-use Rattle.ws_end.specs.driver.Driven.{manner_of}
+use Rattle.ws_end.specs.driver.Driven.{AreSilent, AtDriver, Come, Driven, DriverFeeds, Driving, IsReached, TakesNoMore}
+use Rattle.ws_end.specs.driver.Driven.{transitions_of}
 use Rattle.ws_end.specs.declared.refusal.Refusal.{Refusal}
 use Rattle.ws_end.proofs.Feedings.{none_come}
 use Rattle.ws_c.specs.Pushes.{BringsAtMost, FrontTaken, HasToldAlone, first_bytes, refused_step}
@@ -26,7 +26,7 @@ module _ {R K Place U Deed Event Reply : Type 0} (d : Driving R K Place U Deed E
     taken = λ before items side l. (
       [],
       untold,
-      none_come d.rules d.does.out (manner_of d) (LeadsTo d end) before items side l,
+      none_come d.rules d.does.out (transitions_of d) (IsReached d end) before items side l,
     );
     counted = omega arith;
     works = λ some shut. absurd (omega (arith, some));
@@ -36,15 +36,16 @@ module _ {R K Place U Deed Event Reply : Type 0} (d : Driving R K Place U Deed E
   -- what comes after a front
   come_after : (Then : List ℕ → List (Item U) → d.does.Side → Type 0) (now : Driven R K Place) (bytes : List ℕ)
       (n k : ℕ) (before : List ℕ) (items : List (Item U)) (side : d.does.Side) (written reply : List ℕ)
-      (told more : List Event) → Come d (LeadsTo d now) before items side (take n bytes) written told
+      (told more : List Event) → Come d (IsReached d now) before items side (take n bytes) written told
       → AtDriver d now (λ b its s. Come d Then b its s (take k (drop n bytes)) reply more)
       → Come d Then before items side (take (n + k) bytes) (written ++ reply) (told ++ more)
   come_after Then now bytes n k before items side written reply told more gone next =
-      subst (λ (z : List (Act Deed)). HasGone (ways d.rules d.does.out (manner_of d)) Then before items side z
+      subst (λ (z : List (Act Deed)). IsTrace (ways d.rules d.does.out (transitions_of d)) Then before items side z
       (written ++ reply) (told ++ more)) (sym (came_append (take n bytes) (take k (drop n bytes)))
       ∙ ap (λ (x : List ℕ). all_came {Deed = Deed} x) (sym (take-add n k bytes)))
-      (gone_on (ways d.rules d.does.out (manner_of d)) (LeadsTo d now) Then before items side (all_came (take n bytes))
-      (all_came (take k (drop n bytes))) written reply told more gone (λ b its s m size. next b its s m))
+      (gone_on (ways d.rules d.does.out (transitions_of d)) (IsReached d now) Then before items side
+      (all_came (take n bytes)) (all_came (take k (drop n bytes))) written reply told more gone
+      (λ b its s m size. next b its s m))
 
   -- what bytes bring after these that bring nothing
   pub brings_at_most : (IsTold : List Event → Type 0) (old now : Driven R K Place) (bytes : List ℕ) (n j : ℕ)
@@ -82,8 +83,9 @@ module _ {R K Place U Deed Event Reply : Type 0} (d : Driving R K Place U Deed E
           taken = λ before items side l. (let p = t.taken before items side l in (
             p.0 ++ as_list step.event,
             more p.0 p.1,
-            come_after (LeadsTo d new) now bytes n k before items side written (d.does.written new.reacts step.reply) p.0
-                (as_list step.event) p.2 (λ b its s m. rw is at (g.brings b its s m)),
+            come_after (IsReached d new) now bytes n k before items side written
+                (d.does.written new.reacts step.reply) p.0 (as_list step.event) p.2
+                (λ b its s m. rw is at (g.brings b its s m)),
           ));
           counted = omega (arith, t.counted, g.counted, length-take-le k (drop n bytes) f.within);
           works = λ _ shut. elim (cases_lt 0 n) [

@@ -14,7 +14,7 @@ use Rattle.ws_screen.specs.declared.read_kind.ReadKind.{ReadKind}
 use Rattle.ws_screen.specs.declared.read_kind.ReadKind.TheVariants.{Input, Mdt, MdtAlternate}
 use Rattle.ws_end.specs.station.AnswerSpelling.{answer_spelling}
 use Rattle.ws_end.specs.Ends.{refused_byte}
-use Rattle.ws_end.specs.station.StationLeads.{StationParts}
+use Rattle.ws_end.specs.station.StationReached.{StationParts}
 use Rattle.ws_end.specs.station.Stations.{IsKeyedOn}
 use Rattle.ws_end.specs.declared.station.key_fault.KeyFault.{KeyFault}
 use Rattle.ws_end.specs.declared.station.key_fault.KeyFault.TheVariants.{Failed as KeyFailed, NotReady as KeyNotReady}
@@ -30,7 +30,7 @@ use Rattle.ws_c.specs.declared.status.Status.TheVariants.{BadArgument, NotReady,
 use Rattle.ws_c.specs.declared.status.Status.TheVariants.{ReadOutstanding, NoReadToCancel, TooBig, NoAnswer}
 use Rattle.ws_c.specs.declared.told.Told.{Told}
 use Rattle.ws_end.specs.station.Displays.{OnDisplay}
-use Rattle.ws_end.specs.station.Stations.{StationOf, ItemsOf, SideOf, LeadsOn}
+use Rattle.ws_end.specs.station.Stations.{StationOf, ItemsOf, EndStateOf, ReachedOn}
 
 -- the number of a status
 abbrev pub status_number : Status → ℕ
@@ -95,8 +95,8 @@ GivesBytes call bytes = (call.status ≡ Done) × (call.told ≡ told_length (le
 -- a station of any kind at a key
 pub record StationKeyedOn (kind : OnDisplay) (old new : StationOf kind) (key : kind.Pressed)
     (result : Result (Option Answer) KeyFault) : Type 0 where
-  pub keyed : (bytes : List ℕ) (items : ItemsOf kind) (side : SideOf kind)
-      → LeadsOn kind old bytes items side → length bytes + 1 < 2 ^ 64
+  pub keyed : (bytes : List ℕ) (items : ItemsOf kind) (side : EndStateOf kind)
+      → ReachedOn kind old bytes items side → length bytes + 1 < 2 ^ 64
       → IsKeyedOn kind old new bytes items side key result
   pub full : old.live.taken + 1 ≡ 2 ^ 64 → result ≡ Err KeyFailed
   pub failed : IsSome old.ended → result ≡ Err KeyFailed

@@ -3,7 +3,7 @@
 use Rattle.std.specs.Prelude.{◌≡◌, Option, Some, None}
 use Rattle.ws_record.specs.Live.{Watching}
 use Rattle.ws_screen.specs.ScreenParts.{ScreenParts}
-use Rattle.ws_end.specs.station.StationSide.{on_profile}
+use Rattle.ws_end.specs.station.StationEndState.{on_profile}
 use Rattle.ws_stream.specs.declared.place.Place.{Place}
 use Rattle.ws_extended.specs.declared.extended_place.ExtendedPlace.{ExtendedPlace}
 use Rattle.ws_extended_station.specs.ExtendedDisplays.{on_extended}

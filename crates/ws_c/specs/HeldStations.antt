@@ -12,9 +12,9 @@ use Rattle.ws_extended_station.specs.declared.extended_key.ExtendedKey.{Extended
 use Rattle.ws_extended_station.specs.declared.extended_key.ExtendedKey.TheVariants.{Profile, Reset}
 use Rattle.ws_end.specs.Ends.{refused_byte}
 use Rattle.ws_end.specs.station.Displays.{OnDisplay}
-use Rattle.ws_end.specs.station.StationManners.{new_side_on}
-use Rattle.ws_end.specs.station.StationSide.{on_profile}
-use Rattle.ws_end.specs.station.Stations.{LeadsOn, PartsOn, station_driving}
+use Rattle.ws_end.specs.station.StationTransitions.{new_state_on}
+use Rattle.ws_end.specs.station.StationEndState.{on_profile}
+use Rattle.ws_end.specs.station.Stations.{ReachedOn, PartsOn, station_driving}
 use Rattle.ws_end.specs.declared.station.key_fault.KeyFault.{KeyFault}
 use Rattle.ws_c.specs.Calls.{Crossed, IsKeyTold, StationKeyedOn, TellsOnly, beside_screen, row_number, state_of_screen}
 use Rattle.ws_c.specs.Calls.{told_length}
@@ -41,7 +41,7 @@ module _ (kind : OnDisplay) where
   IsNew in_handle name (Some held) now status = (status ≡ InUse) × (now ≡ Some held)
   IsNew in_handle name None now Done = (terminal : TerminalType) × (held : HeldOn kind)
       × (terminal_named name ≡ Some terminal) × (now ≡ Some (in_handle held))
-      × LeadsOn kind held.end [] [] (new_side_on kind.does terminal) × (waiting_on held ≡ [])
+      × ReachedOn kind held.end [] [] (new_state_on kind.does terminal) × (waiting_on held ≡ [])
   IsNew in_handle name None now BadArgument = (terminal_named name ≡ None) × (now ≡ None)
   IsNew in_handle name None now NoMemory = (terminal : TerminalType) × (terminal_named name ≡ Some terminal)
       × (now ≡ None)

@@ -2,7 +2,7 @@
 
 use Rattle.ws_nego.specs.Host.{host_allows_records}
 use Rattle.ws_end.specs.Ends.{refused_byte}
-use Rattle.ws_end.specs.host_end.HostLeads.{HostParts}
+use Rattle.ws_end.specs.host_end.HostReached.{HostParts}
 use Rattle.ws_c.specs.declared.state_told.StateTold.{StateTold}
 use Rattle.ws_c.specs.Calls.{beside_screen, state_of_screen}
 

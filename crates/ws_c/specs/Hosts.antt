@@ -9,8 +9,8 @@ use Rattle.ws_record.specs.Encode.{plain_spelling}
 use Rattle.ws_record.specs.declared.record.Item.TheVariants.{Telnet as TelnetItem}
 use Rattle.ws_stream.specs.Elements.{element_rules}
 use Rattle.ws_keys.specs.declared.host_answer.HostAnswer.{HostAnswer}
-use Rattle.ws_end.specs.host_end.HostLeads.{HostLeads, host_driving}
-use Rattle.ws_end.specs.host_end.HostSide.{new_host_side}
+use Rattle.ws_end.specs.host_end.HostReached.{HostReached, host_driving}
+use Rattle.ws_end.specs.host_end.HostEndState.{new_host_end}
 use Rattle.ws_end.specs.declared.host_end.host_event.HostEvent.{HostEvent}
 use Rattle.ws_end.specs.declared.host_end.host_event.HostEvent.TheVariants.{Ready, Answer, Attention, SystemRequest}
 use Rattle.ws_end.specs.declared.host_end.host_event.HostEvent.TheVariants.{Cancelled}
@@ -32,7 +32,7 @@ opening_bytes = plain_spelling element_rules (TelnetItem opening ∷ [])
 
 -- a host's end that has written its opening and has taken no byte
 pub record IsNewHost (host : HeldHost) : Type 0 where
-  pub leads : HostLeads host.held.end [] [] new_host_side
+  pub leads : HostReached host.held.end [] [] new_host_end
   pub waits : waiting host_driving host.held ≡ []
   pub unsent : host.sent ≡ []
   pub unanswered : host.answer ≡ None

@@ -5,7 +5,7 @@ use Rattle.std.specs.Prelude.{Err, length, take, drop}
 use Rattle.ws_code.specs.Reason.{number_of as reason_number}
 use Rattle.ws_end.specs.Acts.{as_list}
 use Rattle.ws_end.specs.declared.end_step.EndFed.{EndFed}
-use Rattle.ws_end.specs.driver.Driven.{AtDriver, Come, Driven, DriverFeeds, Driving, LeadsTo, TakesNoMore}
+use Rattle.ws_end.specs.driver.Driven.{AtDriver, Come, Driven, DriverFeeds, Driving, IsReached, TakesNoMore}
 use Rattle.ws_end.specs.declared.refusal.Refusal.{Refusal}
 use Rattle.ws_end.specs.declared.refusal.Refusal.TheVariants.{At, Failed as HasFailed, Memory}
 use Rattle.ws_c.specs.declared.held_end.HeldEnd.{HeldEnd}
@@ -50,7 +50,7 @@ module _ {R K Place U Deed Event Reply : Type 0} (d : Driving R K Place U Deed E
   pub record FrontTaken (IsTold : List Event → Type 0) (old : Driven R K Place) (front : Front) (written : List ℕ)
       (new : Driven R K Place) : Type 0 where
     pub taken : AtDriver d old (λ bytes items side. (told : List Event) × IsTold told
-        × Come d (LeadsTo d new) bytes items side (take front.count front.bytes) written told)
+        × Come d (IsReached d new) bytes items side (take front.count front.bytes) written told)
     pub counted : new.live.taken ≡ old.live.taken + front.count
     pub works : 0 < front.count → TakesNoMore old → ⊥
     pub none : front.count ≡ 0 → (new ≡ old) × (written ≡ [])

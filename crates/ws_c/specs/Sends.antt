@@ -11,8 +11,8 @@ use Rattle.ws_record.specs.declared.opcode.Opcode.TheVariants.{CancelInvite}
 use Rattle.ws_record.specs.declared.record.Item.{Item}
 use Rattle.ws_stream.specs.declared.answer_part.AnswerPart.{AnswerPart}
 use Rattle.ws_stream.specs.declared.element.Element.{Element}
-use Rattle.ws_end.specs.host_end.HostLeads.{HostParts, HostLeads, IsSent, IsSendFault}
-use Rattle.ws_end.specs.host_end.HostSide.{HostSide, RefusesSend, host_send, host_cancel}
+use Rattle.ws_end.specs.host_end.HostReached.{HostParts, HostReached, IsSent, IsSendFault}
+use Rattle.ws_end.specs.host_end.HostEndState.{HostEndState, RefusesSend, host_send, host_cancel}
 use Rattle.ws_end.specs.declared.host_end.send_fault.SendFault.{SendFault}
 use Rattle.ws_end.specs.declared.host_end.send_fault.SendFault.TheVariants.{Failed as SendFailed, NotAllowed}
 use Rattle.ws_end.specs.declared.host_end.send_fault.SendFault.TheVariants.{ReadOutstanding as IsOutstanding, BadSequence}
@@ -46,7 +46,7 @@ IsReadFrom rules bytes (Err BodyMemory) = HasUnitSoFar rules bytes
 -- what a send at a host's end gives
 pub record HostSent (old new : HostParts) (opcode : Opcode) (body : List Element)
     (result : Result (List ℕ) SendFault) : Type 0 where
-  pub sent : (bytes : List ℕ) (items : List (Item AnswerPart)) (side : HostSide) → HostLeads old bytes items side
+  pub sent : (bytes : List ℕ) (items : List (Item AnswerPart)) (side : HostEndState) → HostReached old bytes items side
       → length bytes + 1 < 2 ^ 64 → MatchResult result (λ spelled. IsSent new bytes items
       (host_send side opcode body) spelled)
       (IsSendFault (host_send side opcode body))
@@ -56,7 +56,7 @@ pub record HostSent (old new : HostParts) (opcode : Opcode) (body : List Element
 
 -- what a cancel at a host's end gives
 pub record HostCancelled (old new : HostParts) (result : Result (List ℕ) SendFault) : Type 0 where
-  pub sent : (bytes : List ℕ) (items : List (Item AnswerPart)) (side : HostSide) → HostLeads old bytes items side
+  pub sent : (bytes : List ℕ) (items : List (Item AnswerPart)) (side : HostEndState) → HostReached old bytes items side
       → length bytes + 1 < 2 ^ 64 → MatchResult result (λ spelled. IsSent new bytes items (host_cancel side) spelled)
       (λ fault. host_cancel side ≡ RefusesSend fault)
   pub same : OnErr result (new ≡ old)

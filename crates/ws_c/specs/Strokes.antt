@@ -8,7 +8,7 @@ use Rattle.ws_keys.specs.declared.key.Key.{Key}
 use Rattle.ws_keys.specs.declared.key_run.KeyRun.{KeyRun}
 use Rattle.ws_screen.specs.ScreenParts.{ScreenParts}
 use Rattle.ws_end.specs.station.Displays.{OnDisplay}
-use Rattle.ws_end.specs.station.StationSide.{on_profile}
+use Rattle.ws_end.specs.station.StationEndState.{on_profile}
 use Rattle.ws_end.specs.declared.station.key_fault.KeyFault.{KeyFault}
 use Rattle.ws_c.specs.declared.status.Status.{Status}
 use Rattle.ws_c.specs.declared.status.Status.TheVariants.{Done, NoRoom}

@@ -16,9 +16,9 @@ pub length_rest : (xs : List ℕ) (i : ℕ) → length (take (length xs - i) (dr
 length_rest xs i = ap length (rest_from xs i) ∙ length-drop i xs
 
 -- a front and a bit more of it
-pub take_front : (xs : List ℕ) (i n : ℕ) → i ≤ length xs → take (i + n) xs ≡ take i xs
+pub take_prefix : (xs : List ℕ) (i n : ℕ) → i ≤ length xs → take (i + n) xs ≡ take i xs
     ++ take n (take (length xs - i) (drop i xs))
-take_front xs i n h =
+take_prefix xs i n h =
     let front : length (take i xs) ≡ i = length-take-le i xs h in
     ap (λ j. take (j + n) xs) (sym front) ∙ ap (take (length (take i xs) + n)) (sym (take-append-drop i xs))
     ∙ take-append-add (take i xs) (drop i xs) n ∙ ap (λ z. take i xs ++ take n z) (sym (rest_from xs i))

@@ -86,9 +86,9 @@ alarms_behind_key h (Some edit) = omega arith
 -- COUNTS
 
 -- those of a record are added to those so far
-pub counts_added : (told more n m : ℕ) → told ≡ alarm_count n → more ≡ alarm_count m
-    → alarm_count (told + more) ≡ alarm_count (n + m)
-counts_added told more n m so_far of_record = omega (arith, so_far, of_record)
+pub counts_added : (events more n m : ℕ) → events ≡ alarm_count n → more ≡ alarm_count m
+    → alarm_count (events + more) ≡ alarm_count (n + m)
+counts_added events more n m so_far of_record = omega (arith, so_far, of_record)
 
 -- one unit more, by whether it sounds
 pub counts_one : {U : Type 0} (sounds : U → Bool) (alarms next : ℕ) (us : List U) (u : U)

@@ -2,12 +2,12 @@
 
 use Rattle.ws_end.proofs.Common as C
 use C.{◌≡◌, ◌≢◌, Bool, true, false, not, ◌&&◌, is_some, if◌then◌else◌, host_allows_records, CancelInvite, empty_record}
-use C.{HostSide, RefusesSend, SendFault, SendFailed, IsSendFault, host_cancel, asked_read}
+use C.{HostEndState, RefusesSend, SendFault, SendFailed, IsSendFault, host_cancel, asked_read}
 use Rattle.ws_end.specs.declared.host_end.send_fault.SendFault.TheVariants.{Memory, NotAllowed, NoReadToCancel}
-use Rattle.ws_end.specs.host_end.HostSide.{Sends}
+use Rattle.ws_end.specs.host_end.HostEndState.{Sends}
 
 -- a cancel is never refused for want of memory
-pub cancel_fault : (h : HostSide) (fault : SendFault) → host_cancel h ≡ RefusesSend fault
+pub cancel_fault : (h : HostEndState) (fault : SendFault) → host_cancel h ≡ RefusesSend fault
     → IsSendFault (host_cancel h) fault
 cancel_fault h fault = by_tests (host_allows_records h.options) (is_some (asked_read h) && not h.cancelling) fault where
   by_fault : (why fault : SendFault) → why ≢ SendFailed → why ≢ Memory → RefusesSend why ≡ RefusesSend fault

@@ -68,24 +68,25 @@ pub use Rattle.ws_keys.specs.Splits.{IsSplit}
 pub use Rattle.ws_keys.specs.declared.answer.Answer.TheVariants.{Read, Attention, SystemRequest}
 pub use Rattle.ws_keys.specs.declared.host_answer.HostAnswer.{HostAnswer}
 pub use Rattle.ws_keys.specs.declared.key.Key.{Key}
-pub use Rattle.ws_keys.specs.declared.key.Key.TheVariants.{Aid as Send, Attention as Attend, SystemRequest as Request}
+pub use Rattle.ws_keys.specs.declared.key.Key.TheVariants.{Aid as Send, Attention as Attend}
+pub use Rattle.ws_keys.specs.declared.key.Key.TheVariants.{SystemRequest as PressRequest}
 pub use Rattle.ws_keys.specs.declared.key.KeyRefusal.{KeyRefusal}
 pub use Rattle.ws_keys.proofs.ReadingLaws.{is_read, read_split}
-pub use Rattle.ws_end.specs.ActLaws.{came_append, gone_on, bytes_came}
-pub use Rattle.ws_end.specs.Acts.{Doing, Act, all_came, Did, Happening, Does, doing, items_of, HasGone, Arrives}
-pub use Rattle.ws_end.specs.Acts.{as_list, Manner, Happen, HoldsItems}
-pub use Rattle.ws_end.specs.Manners.{station_manner, station_at_key, IsKeyRefusal, StationGoes, host_manner, HostGoes}
-pub use Rattle.ws_end.specs.Manners.{IsKeyTaken, told_by}
+pub use Rattle.ws_end.specs.ActLaws.{came_append, trace_on, bytes_came}
+pub use Rattle.ws_end.specs.Acts.{Doing, Act, all_came, Did, Happening, Does, doing, items_of, IsTrace, Arrives}
+pub use Rattle.ws_end.specs.Acts.{as_list, Transitions, Happen, HoldsItems}
+pub use Rattle.ws_end.specs.EndTransitions.{station_transitions, station_at_key, IsKeyRefusal, StationTraces}
+pub use Rattle.ws_end.specs.EndTransitions.{host_transitions, HostTraces, IsKeyTaken, event_by}
 pub use Rattle.ws_end.specs.Reaction.{empty_record, Refuses, GoesOn}
 pub use Rattle.ws_end.specs.attached.Attachments.{AttachedParts, fault_of, HaveLed, HaveLedUnwritten, HasRefusedByte}
 pub use Rattle.ws_end.specs.attached.Attachments.{IsByteFault, HasTakenWaiting, IsWaitingFault, HasHeard, IsHearFault}
 pub use Rattle.ws_end.specs.attached.Attachments.{IsSendFailure}
 pub use Rattle.ws_end.specs.attached.Playing.{HaveBroughtPlayer, HasDone, records_from, keys_left_from}
 pub use Rattle.ws_end.specs.attached.StationRun.{IsRunFault, IsRun, refusal_count, behind, run_text, RunUnwritten}
-pub use Rattle.ws_end.specs.attached.Written.{HasWritten, HasWrittenFront, IsUnheard}
+pub use Rattle.ws_end.specs.attached.Written.{HasWritten, HasWrittenPrefix, IsUnheard}
 pub use Rattle.ws_end.specs.declared.attached.player.Player.{Player}
 pub use Rattle.ws_end.specs.declared.end_step.Applied.{Applied}
-pub use Rattle.ws_end.specs.declared.end_step.Order.{Order}
+pub use Rattle.ws_end.specs.declared.end_step.HostRequest.{HostRequest}
 pub use Rattle.ws_end.specs.declared.host_end.host_event.HostEvent.{HostEvent}
 pub use Rattle.ws_end.specs.declared.host_end.host_event.HostEvent.TheVariants.{Answer as Answered, Cancelled}
 pub use Rattle.ws_end.specs.declared.host_end.send_fault.SendFault.{SendFault}
@@ -95,20 +96,20 @@ pub use Rattle.ws_end.specs.declared.refusal.Refusal.TheVariants.{At, Failed, Me
 pub use Rattle.ws_end.specs.declared.end_step.EndStep.{EndStep}
 pub use Rattle.ws_end.specs.declared.station.key_fault.KeyFault.{KeyFault}
 pub use Rattle.ws_end.specs.declared.station.key_fault.KeyFault.TheVariants.{Failed as KeyFailed, NotReady}
-pub use Rattle.ws_end.specs.driver.Driven.{IsFronted, TakesNoMore}
+pub use Rattle.ws_end.specs.driver.Driven.{IsPrefixTaken, TakesNoMore}
 pub use Rattle.ws_end.specs.driver.Reacting.{IsReaction}
-pub use Rattle.ws_end.specs.host_end.HostLeads.{AtHost, HostLeads, IsSent, IsSendFault}
+pub use Rattle.ws_end.specs.host_end.HostReached.{AtHost, HostReached, IsSent, IsSendFault}
 pub use Rattle.ws_end.specs.host_end.HostReacting.{HostKept, HostParts, HostStands, host_reacting, host_at_send}
-pub use Rattle.ws_end.specs.host_end.HostSide.{HostSide, sent_record, is_outstanding, after_read, event_output}
-pub use Rattle.ws_end.specs.host_end.HostSide.{ready_event, host_negotiates, host_reads, host_reads_by}
-pub use Rattle.ws_end.specs.host_end.HostSide.{host_ends_cancel, signal, host_takes_record, SendReaction, RefusesSend}
-pub use Rattle.ws_end.specs.host_end.HostSide.{Sends, host_cancel, host_send, asked_read}
+pub use Rattle.ws_end.specs.host_end.HostEndState.{HostEndState, sent_record, is_outstanding, after_read, event_output}
+pub use Rattle.ws_end.specs.host_end.HostEndState.{ready_event, host_negotiates, host_reads, host_reads_by}
+pub use Rattle.ws_end.specs.host_end.HostEndState.{host_ends_cancel, signal, host_takes_record, SendReaction}
+pub use Rattle.ws_end.specs.host_end.HostEndState.{RefusesSend, Sends, host_cancel, host_send, asked_read}
 pub use Rattle.ws_end.specs.station.AnswerSpelling.{answer_spelling}
 pub use Rattle.ws_end.specs.station.Moments.{Presses, outcome, due, later, Moment, Outcome, idle_outcome}
 pub use Rattle.ws_end.specs.station.Moments.{outcome_of_both, at_item, at_moment, AreTaken, records_in_item}
 pub use Rattle.ws_end.specs.station.Moments.{moments_from, moments, at_key}
-pub use Rattle.ws_end.specs.station.StationLeads.{AtStation, StationParts, StationLeads, is_record, records_in}
-pub use Rattle.ws_end.specs.station.StationSide.{StationSide, opcode_events, after_record, after_key, screen_at}
-pub use Rattle.ws_end.specs.station.StationSide.{opcode_answer, station_applies, station_takes, KeyReaction, RefusesKey}
-pub use Rattle.ws_end.specs.station.StationSide.{station_key, answers_read, key_by_refusal, new_station_side}
-pub use Rattle.ws_end.specs.station.StationSide.{answer_record}
+pub use Rattle.ws_end.specs.station.StationReached.{AtStation, StationParts, StationReached, is_record, records_in}
+pub use Rattle.ws_end.specs.station.StationEndState.{StationEndState, opcode_events, after_record, after_key, screen_at}
+pub use Rattle.ws_end.specs.station.StationEndState.{opcode_answer, station_applies, station_takes, KeyReaction}
+pub use Rattle.ws_end.specs.station.StationEndState.{RefusesKey, station_key, answers_read, key_by_refusal}
+pub use Rattle.ws_end.specs.station.StationEndState.{new_station_end, answer_record}

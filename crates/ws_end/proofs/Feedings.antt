@@ -1,14 +1,14 @@
--- A piece of bytes at an end of a session, by its fronts.
+-- A piece of bytes at an end of a session, by its prefixes.
 
 use Rattle.ws_end.proofs.Common.{◌≡◌, ◌+◌, ◌≤◌, List, [], ◌∷◌, ◌++◌, refl, subst, ◌∙◌, ℕ, zero, suc, ◌<◌, take, ap, sym}
 use Rattle.ws_end.proofs.Common.{arith, inl, inr, length, append_assoc, ◌-◌, take-append-add, length-take-le}
-use Rattle.ws_end.proofs.Common.{append-nil, Rules, Item, all_came, HasGone, Arrives, Manner, Happen, HoldsItems}
-use Rattle.ws_end.specs.Acts.{ways}
+use Rattle.ws_end.proofs.Common.{append-nil, Rules, Item, all_came, IsTrace, Arrives, Transitions, Happen, HoldsItems}
+use Rattle.ws_end.specs.Acts.{protocol_of}
 
-module _ {Place U : Type 0} (rules : Rules Place U) (Deed : Type 0) where
+module _ {Place U : Type 0} (rules : Rules Place U) (Request : Type 0) where
   -- where no item is complete with any of the bytes, nothing happens
   pub none_happen : (bytes : List ℕ) (items : List (Item U)) (came : List ℕ) → ((n : ℕ) → n ≤ length came
-      → HoldsItems rules (bytes ++ take n came) items) → Happen rules bytes items (all_came {Deed = Deed} came) []
+      → HoldsItems rules (bytes ++ take n came) items) → Happen rules bytes items (all_came {Request = Request} came) []
   none_happen bytes items [] held = refl
   none_happen bytes items (b ∷ came) held = inl (
     held 1 (omega arith),
@@ -18,7 +18,8 @@ module _ {Place U : Type 0} (rules : Rules Place U) (Deed : Type 0) where
   -- where one is with the last of them, it arrives
   pub one_happens : (bytes : List ℕ) (items : List (Item U)) (item : Item U) (came : List ℕ)
       → 0 < length came → ((n : ℕ) → n < length came → HoldsItems rules (bytes ++ take n came) items) → HoldsItems rules
-      (bytes ++ came) (items ++ item ∷ []) → Happen rules bytes items (all_came {Deed = Deed} came) (Arrives item ∷ [])
+      (bytes ++ came) (items ++ item ∷ []) → Happen rules bytes items (all_came {Request = Request} came)
+      (Arrives item ∷ [])
   one_happens bytes items item [] some held last = absurd (omega (arith, some))
   one_happens bytes items item (b ∷ []) some held last = inr (item, [], last, refl, refl)
   one_happens bytes items item (b ∷ (c ∷ came)) some held last = inl (
@@ -38,7 +39,7 @@ value_at (x ∷ xs) (suc k) lt =
 
 -- bytes that are some have a last one
 pub last_of : (piece : List ℕ) (used : ℕ) → used ≤ length piece → 0 < used
-    → (front : List ℕ) × (byte : ℕ) × (take used piece ≡ front ++ byte ∷ [])
+    → (prefix : List ℕ) × (byte : ℕ) × (take used piece ≡ prefix ++ byte ∷ [])
 last_of piece used within some =
     let m : ℕ = used - 1 in
     let last : suc m ≡ used = omega (arith, some) in
@@ -54,17 +55,17 @@ with_next piece used within byte rest split =
     (subst (λ (n : ℕ). take (n + 1) (take used piece ++ byte ∷ rest) ≡ take used piece ++ byte ∷ []) size
     (take-append-add (take used piece) (byte ∷ rest) 1))
 
-module _ {Place PlaceV Side U V Deed Event : Type 0} (rules : Rules Place U) (out : Rules PlaceV V)
-    (manner : Manner Side U V Deed Event) where
+module _ {Place PlaceV State U V Request Event : Type 0} (rules : Rules Place U) (out : Rules PlaceV V)
+    (transitions : Transitions State U V Request Event) where
   -- no byte comes
-  pub none_come : (Then : List ℕ → List (Item U) → Side → Type 0) (bytes : List ℕ) (items : List (Item U))
-      (side : Side) → Then bytes items side → HasGone (ways rules out manner) Then bytes items side
-      (all_came {Deed = Deed} []) [] []
-  none_come Then bytes items side then = record {
+  pub none_come : (Then : List ℕ → List (Item U) → State → Type 0) (bytes : List ℕ) (items : List (Item U))
+      (state : State) → Then bytes items state → IsTrace (protocol_of rules out transitions) Then bytes items state
+      (all_came {Request = Request} []) [] []
+  none_come Then bytes items state then = record {
     happened = [];
     happen = refl;
     taken = tt;
     wrote = refl;
     tells = refl;
-    leads = rw (append-nil bytes) (rw (append-nil items) then);
+    reached = rw (append-nil bytes) (rw (append-nil items) then);
   }

@@ -1,7 +1,7 @@
 pub mod AlarmLaws
 pub mod CancelFaults
 pub mod Common
-pub mod EndDeeds
+pub mod EndRequests
 pub mod EndSteps
 pub mod Feedings
 pub mod HostSteps

@@ -9,7 +9,7 @@ use Rattle.ws_code.specs.declared.reason.Reason.{Reason}
 use Rattle.ws_code.specs.declared.run.End.{End}
 use Rattle.ws_code.specs.declared.run.End.TheVariants.{More, Enough, NoMemory, Bad}
 use Rattle.ws_code.specs.declared.run.Standing.{Standing}
-use Rattle.ws_code.proofs.CodeLaws.{Begins, cut_bad, cut_begins, cut_unit, no_end, one_cut, place_after_more}
+use Rattle.ws_code.proofs.CodeLaws.{Begins, cut_bad, cut_unit, no_end, one_cut, place_after_more}
 use Rattle.ws_code.proofs.Slots.{only_enough, slot_is}
 
 slot_none : {U : Type 0} (slot : Option U) → holds_last slot [] → slot ≡ None
@@ -65,18 +65,18 @@ module _ {Place U : Type 0} (rules : Rules Place U) (bytes : List ℕ) (units : 
   pub ready : IsUnfinished rules reading.place reading.begun
   ready = rw read.at_place read.cut.more
 
-  read_on : (front : List ℕ) (to : Reading Place) (slot : Option U)
-      → RunsOn (intake rules slot_keeper) (with_keep reading None) front (with_keep to slot)
-      → HasRead rules (bytes ++ front) units to
-  read_on front to slot on =
-      let same = runs_on rules reading front to slot on in
+  read_on : (prefix : List ℕ) (to : Reading Place) (slot : Option U)
+      → RunsOn (intake rules slot_keeper) (with_keep reading None) prefix (with_keep to slot)
+      → HasRead rules (bytes ++ prefix) units to
+  read_on prefix to slot on =
+      let same = runs_on rules reading prefix to slot on in
       record {
         cut = record {
           chain = read.cut.chain;
           more = subst (λ (p : Place). IsUnfinished rules p to.begun) (same.0 ∙ read.at_place) on.run.unfinished;
           spelled = ap (λ (b : List ℕ). spelling_of rules units ++ b) same.1
-              ∙ sym (append_assoc (spelling_of rules units) reading.begun front)
-              ∙ ap (λ (b : List ℕ). b ++ front) read.cut.spelled;
+              ∙ sym (append_assoc (spelling_of rules units) reading.begun prefix)
+              ∙ ap (λ (b : List ℕ). b ++ prefix) read.cut.spelled;
         };
         at_place = same.0 ∙ read.at_place;
       }
@@ -143,11 +143,11 @@ module _ {Place U : Type 0} (rules : Rules Place U) (bytes : List ℕ) (units : 
       let stop = run.0 in
       let found = slot_is slot run.1 (keeps_alone stop (run.1 ∷ []) run.3) in
       let same : run.1 ≡ unit = cc in
-      let front = read_on rules bytes units reading read stop.front stop.before.read stop.before.keep stop.on in
+      let prefix = read_on rules bytes units reading read stop.front stop.before.read stop.before.keep stop.on in
       let place = (runs_on rules reading stop.front stop.before.read stop.before.keep stop.on).0 in
       let spelled = subst (λ (p : Place). IsSpelled rules p (stop.before.read.begun ++ stop.last ∷ []) run.1)
-      front.at_place run.2 in
-      let cut = cut_unit rules begins (bytes ++ stop.front) units stop.before.read.begun stop.last run.1 front.cut
+      prefix.at_place run.2 in
+      let cut = cut_unit rules begins (bytes ++ stop.front) units stop.before.read.begun stop.last run.1 prefix.cut
       spelled in
       let all : (bytes ++ stop.front) ++ stop.last ∷ [] ≡ bytes ++ values =
       behind_last stop [] ∙ append-nil (bytes ++ values) in

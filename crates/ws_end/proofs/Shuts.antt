@@ -16,7 +16,7 @@ module _ {A E : Type 0} (ended : Option Refusal) (taken : ℕ) (why : E) where
   not_shut answer failed full shut = (let e : Ok answer ≡ Err why = shut_fails (Ok answer) failed full shut in cc)
 
 -- nothing leads to an end that is shut, with a byte more
-pub none_leads : (ended : Option Refusal) (taken count : ℕ) → ended ≡ None → taken ≡ count → count + 1 < 2 ^ 64
+pub none_reached : (ended : Option Refusal) (taken count : ℕ) → ended ≡ None → taken ≡ count → count + 1 < 2 ^ 64
     → IsShut ended taken → ⊥
-none_leads ended taken count works counted few (inl over) = (let e = rw works at over in cc)
-none_leads ended taken count works counted few (inr all) = omega (arith, counted, few, all)
+none_reached ended taken count works counted few (inl over) = (let e = rw works at over in cc)
+none_reached ended taken count works counted few (inr all) = omega (arith, counted, few, all)

@@ -1,5 +1,5 @@
 pub mod Attachings
-pub mod FirstTold
+pub mod FirstEvents
 pub mod PlayRuns
 pub mod PlaySteps
 pub mod Plays

@@ -1,2 +1,2 @@
-pub mod DriverConducts
+pub mod DriverBehaviours
 pub mod Drivings

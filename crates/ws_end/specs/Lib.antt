@@ -1,9 +1,9 @@
 pub mod ActLaws
 pub mod Acts
-pub mod Conduct
-pub mod Conducts
+pub mod Behaviour
+pub mod Behaviours
 pub mod Ends
-pub mod Manners
+pub mod EndTransitions
 pub mod Reaction
 pub mod attached
 pub mod driver

@@ -1,5 +1,5 @@
 pub mod Attachments
-pub mod Deeds
+pub mod Requests
 pub mod Playing
 pub mod StationRun
 pub mod Written

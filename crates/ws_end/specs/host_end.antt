@@ -1,3 +1,3 @@
-pub mod HostLeads
+pub mod HostReached
 pub mod HostReacting
-pub mod HostSide
+pub mod HostEndState

@@ -4,8 +4,8 @@ pub mod Displays
 pub mod Moments
 pub mod StationActs
 pub mod StationCounts
-pub mod StationLeads
-pub mod StationManners
+pub mod StationReached
+pub mod StationTransitions
 pub mod StationReacting
-pub mod StationSide
+pub mod StationEndState
 pub mod Stations

@@ -1,8 +1,8 @@
 //! An end of a session on a source and a sink.
 ghost use Rattle.std.specs.Prelude.{◌≡◌, ◌≢◌, ◌<◌, [], Err, true, false, length, OnOk, IfOk, IfErr};
 ghost use Rattle.ws_end.specs.attached.Attachments.{HasTakenSome, HasTakenWaiting, IsWaitingFault, HasHeard, IsHearFault, breaks};
-ghost use Rattle.ws_end.specs.attached.Attachments.{IfTold, TakesFirst, HearsFirst, HearsNext};
-ghost use Rattle.ws_end.specs.attached.Deeds.{HasActed, judged, key_judged};
+ghost use Rattle.ws_end.specs.attached.Attachments.{IfEvents, TakesFirst, HearsFirst, HearsNext};
+ghost use Rattle.ws_end.specs.attached.Requests.{HasActed, judged, key_judged};
 ghost use Rattle.ws_code.specs.Device.{on_devices};
 ghost use Rattle.ws_end.specs.station.Displays.{on_display as on};
 
@@ -90,7 +90,7 @@ impl<E: End, S: Source, K: Sink> Attached<E, S, K> {
     /// `Refused`, `Failed` or `Memory` as the end refuses a byte. `Write` where a write failed, or took no byte: a
     /// prefix of what the end has written went out. After any of these but `Read` every call answers `Failed`.
     pub fn hear(&mut self) -> Result<Option<E::Event>, Fault>
-        ensures { HearsNext E.conduct (on_devices K.writer S.reader) self.old self.new result }
+        ensures { HearsNext E.behaviour (on_devices K.writer S.reader) self.old self.new result }
     {
         if self.broken {
             return Err(Fault::Failed);
@@ -102,11 +102,11 @@ impl<E: End, S: Source, K: Sink> Attached<E, S, K> {
     fn listen(&mut self) -> Result<Option<E::Event>, Fault>
         requires works { self.old.broken ≡ false }
         // What came, and that nothing was told before its last byte; or what stopped it.
-        ensures heard { IfOk result (HasHeard E.conduct
+        ensures heard { IfOk result (HasHeard E.behaviour
             (on_devices K.writer S.reader) self.old self.new) }
-        ensures first { IfTold result
-            (HearsFirst E.conduct S.reader self.old self.new) }
-        ensures fault { IfErr result (IsHearFault E.conduct
+        ensures first { IfEvents result
+            (HearsFirst E.behaviour S.reader self.old self.new) }
+        ensures fault { IfErr result (IsHearFault E.behaviour
             (on_devices K.writer S.reader) self.old self.new) }
         // Whether it is broken from then on.
         ensures works { OnOk result (self.new.broken ≡ false) }
@@ -135,10 +135,10 @@ impl<E: End, S: Source, K: Sink> Attached<E, S, K> {
     // Takes the bytes that wait, up to the first at which the end tells something.
     fn take_waiting(&mut self) -> Result<Option<E::Event>, Fault>
         // What the waiting bytes brought, nothing of it before the last; or what stopped it.
-        ensures taken { IfOk result (HasTakenWaiting E.conduct
+        ensures taken { IfOk result (HasTakenWaiting E.behaviour
             (on_devices K.writer S.reader) self.old self.new) }
-        ensures first { IfTold result (TakesFirst E.conduct self.old self.new) }
-        ensures fault { IfErr result (IsWaitingFault E.conduct
+        ensures first { IfEvents result (TakesFirst E.behaviour self.old self.new) }
+        ensures fault { IfErr result (IsWaitingFault E.behaviour
             (on_devices K.writer S.reader) self.old self.new) }
         // Whether it is broken from then on.
         ensures works { OnOk result (self.new.broken ≡ self.old.broken) }
@@ -159,10 +159,10 @@ impl<E: End, S: Source, K: Sink> Attached<E, S, K> {
     fn take(&mut self) -> Result<Option<E::Event>, Fault>
         requires { self.old.waiting ≢ [] }
         // What the waiting bytes brought, nothing of it before the last; or what stopped it.
-        ensures taken { IfOk result (HasTakenSome E.conduct
+        ensures taken { IfOk result (HasTakenSome E.behaviour
             (on_devices K.writer S.reader) self.old self.new) }
-        ensures first { IfTold result (TakesFirst E.conduct self.old self.new) }
-        ensures fault { IfErr result (IsWaitingFault E.conduct
+        ensures first { IfEvents result (TakesFirst E.behaviour self.old self.new) }
+        ensures fault { IfErr result (IsWaitingFault E.behaviour
             (on_devices K.writer S.reader) self.old self.new) }
         // Fewer wait then, and none was read.
         ensures shorter { length self.new.waiting < length self.old.waiting }
@@ -172,13 +172,13 @@ impl<E: End, S: Source, K: Sink> Attached<E, S, K> {
         ensures breaks { IfErr result (λ fault.
             (self.new.broken ≡ true) × (breaks fault ≡ true)) }
     {
-        let Heard { used, told } = hear_piece(
+        let Heard { used, event } = hear_piece(
             &mut self.end,
             &mut self.sink,
             self.waiting.as_slice(),
         );
         self.waiting.skip(used);
-        match told {
+        match event {
             Ok(event) => Ok(event),
             Err(fault) => {
                 self.broken = true;
@@ -194,17 +194,18 @@ impl<E: Acting, S: Source, K: Sink> Attached<E, S, K> {
     ///
     /// # Errors
     ///
-    /// `Write` where a write failed, or took no byte: the deed has had its effect, and a prefix of what it gives went
-    /// out. `Failed` after a call that answered `Write`, or in which the end refused a byte, and `Memory` where a growth
-    /// was refused: nothing is then changed. An end that is shut otherwise refuses the deed by `SendFault::Failed`.
-    pub fn act(&mut self, deed: &E::Deed) -> Result<Acted<SendFault>, Fault>
+    /// `Write` where a write failed, or took no byte: the request has had its effect, and a prefix of what it gives
+    /// went out. `Failed` after a call that answered `Write`, or in which the end refused a byte, and `Memory` where a
+    /// growth was refused: nothing is then changed. An end that is shut otherwise refuses the request by
+    /// `SendFault::Failed`.
+    pub fn act(&mut self, request: &E::Request) -> Result<Acted<SendFault>, Fault>
         ensures { HasActed (on_devices K.writer S.reader)
-            (judged E.conduct E.refrains E.acts E.wants deed.now) self.old self.new result }
+            (judged E.behaviour E.refrains E.acts E.wants request.now) self.old self.new result }
     {
         if self.broken {
             return Err(Fault::Failed);
         }
-        match self.end.act(deed) {
+        match self.end.act(request) {
             Ok(sent) => {
                 if let Err(fault) = write_whole(&mut self.sink, sent.as_slice()) {
                     self.broken = true;

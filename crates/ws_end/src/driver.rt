@@ -1,7 +1,7 @@
 //! What drives an end of a session by the bytes that come, whatever reacts to their items.
 ghost use Rattle.std.specs.Prelude.{IsTrue, ◌↔◌, ◌≡◌, ◌≢◌, ◌<◌, ◌≤◌, ◌+◌, ◌^◌, [], None, Err, IfOk, OnErr, length, take, true, false};
 ghost use Rattle.ws_end.specs.Ends.{refused_byte};
-ghost use Rattle.ws_end.specs.driver.Driven.{AtDriver, DriverFeeds, DriverFronts, DriverPushes, DriverTakes, IsNewsTaken, IsSettled, IsSilent, LeadsTo, TakesNoMore, driving};
+ghost use Rattle.ws_end.specs.driver.Driven.{AtDriver, DriverFeeds, TakesPrefix, DriverPushes, DriverTakes, IsNewsTaken, IsSettled, IsSilent, IsReached, TakesNoMore, driving};
 ghost use Rattle.ws_end.specs.driver.Reacting.{Settles};
 
 pub(crate) mod halt;
@@ -21,7 +21,7 @@ use ws_record::{Advance, Live, News};
 pub struct Driver<R: Reacts> {
     pub(crate) live: Live<R::Body>,
     /// Of the open record.
-    keep: R::Keep,
+    collector: R::Collector,
     pub(crate) reacts: R,
     /// Why it takes no more bytes.
     pub(crate) ended: Option<Refusal>,
@@ -30,21 +30,21 @@ pub struct Driver<R: Reacts> {
 impl<R: Reacts> Model for Driver<R> {
     ghost use Rattle.ws_end.specs.driver.Driven.{Driven};
 
-    ghost Value = { Driven R R.Keep R.Body.Place };
+    ghost Value = { Driven R R.Collector R.Body.Place };
 
-    ghost view = { λ d. record { live = d.live; keep = d.keep; reacts = d.reacts; ended = d.ended } };
+    ghost view = { λ d. record { live = d.live; collector = d.collector; reacts = d.reacts; ended = d.ended } };
 }
 
 impl<R: Reacts> Driver<R> {
     /// One that has taken no byte.
-    pub fn of(reacts: R, keep: R::Keep) -> Self
-        requires { R.Keep.keeper.holds keep [] [] }
-        ensures { (side : R.does.Side) → R.does.stands reacts [] side
-            → LeadsTo (driving R.Body.rules R.Keep.keeper R.does) result [] [] side }
+    pub fn of(reacts: R, collector: R::Collector) -> Self
+        requires { R.Collector.keeper.holds collector [] [] }
+        ensures { (state : R.does.State) → R.does.stands reacts [] state
+            → IsReached (driving R.Body.rules R.Collector.keeper R.does) result [] [] state }
     {
         Driver {
             live: Live::new(),
-            keep,
+            collector,
             reacts,
             ended: None,
         }
@@ -68,8 +68,8 @@ impl<R: Reacts> Driver<R> {
     /// How many bytes it has taken, one that it refused among them.
     pub fn taken(&self) -> u64
         ensures count { result ≡ self.now.live.taken }
-        ensures led { AtDriver (driving R.Body.rules R.Keep.keeper R.does) self.now
-            (λ bytes items side. result ≡ length bytes) }
+        ensures led { AtDriver (driving R.Body.rules R.Collector.keeper R.does) self.now
+            (λ bytes items state. result ≡ length bytes) }
     {
         self.live.taken()
     }
@@ -94,7 +94,7 @@ impl<R: Reacts> Driver<R> {
     /// where a growth was refused at a byte. What is seen of it is then as it was, and it answers `Failed` from then
     /// on, as after 18,446,744,073,709,551,615 bytes.
     pub fn feed(&mut self, piece: &[u8]) -> EndFed<R::Event, R::Reply>
-        ensures { DriverFeeds (driving R.Body.rules R.Keep.keeper R.does)
+        ensures { DriverFeeds (driving R.Body.rules R.Collector.keeper R.does)
             self.old piece.now self.new result }
     {
         if self.ended.is_some() {
@@ -122,7 +122,7 @@ impl<R: Reacts> Driver<R> {
     ///
     /// As `feed`.
     pub fn take_byte(&mut self, byte: u8) -> Result<EndStep<R::Event, R::Reply>, Refusal>
-        ensures { DriverPushes (driving R.Body.rules R.Keep.keeper R.does)
+        ensures { DriverPushes (driving R.Body.rules R.Collector.keeper R.does)
             self.old byte self.new result }
     {
         self.feed(&[byte]).step
@@ -143,19 +143,19 @@ impl<R: Reacts> Driver<R> {
         ensures some { 0 < length piece.now → result.step ≢ Err Refusal.Failed → 0 < result.used }
         ensures whole { IfOk result.step (λ step. R.does.written self.new.reacts step.reply ≡ []
             → step.event ≡ None → result.used ≡ length piece.now) }
-        ensures taken { DriverTakes (driving R.Body.rules R.Keep.keeper R.does)
+        ensures taken { DriverTakes (driving R.Body.rules R.Collector.keeper R.does)
             self.old (take result.used piece.now) self.new result.step }
         ensures stays { length piece.now ≤ 1
             → OnErr result.step (self.new.reacts ≡ self.old.reacts) }
     {
         let mut used = 0;
         while used < piece.len() {
-            let front = self.take_front(&piece[used..]);
-            used += front.used;
-            if !self.is_silent(&front.step) {
+            let prefix = self.take_prefix(&piece[used..]);
+            used += prefix.used;
+            if !self.is_silent(&prefix.step) {
                 return EndFed {
                     used,
-                    step: front.step,
+                    step: prefix.step,
                 };
             }
         }
@@ -168,14 +168,14 @@ impl<R: Reacts> Driver<R> {
         }
     }
 
-    // Takes a front of the piece, as `Live::advance` does, and does what its last byte asks for.
+    // Takes a prefix of the piece, as `Live::advance` does, and does what its last byte asks for.
     #[inline(always)]
-    pub(crate) fn take_front(&mut self, piece: &[u8]) -> EndFed<R::Event, R::Reply>
+    pub(crate) fn take_prefix(&mut self, piece: &[u8]) -> EndFed<R::Event, R::Reply>
         requires { 0 < length piece.now }
-        ensures { DriverFronts (driving R.Body.rules R.Keep.keeper R.does)
+        ensures { TakesPrefix (driving R.Body.rules R.Collector.keeper R.does)
             self.old piece.now self.new result }
     {
-        let Advance { used, news } = self.live.advance(piece, &mut self.keep);
+        let Advance { used, news } = self.live.advance(piece, &mut self.collector);
         let done = self.react(news);
         let step = self.settle(done);
         EndFed { used, step }
@@ -184,7 +184,7 @@ impl<R: Reacts> Driver<R> {
     // Does what news ask for that came with the last byte taken.
     #[inline(always)]
     fn react(&mut self, news: News) -> Result<EndStep<R::Event, R::Reply>, Halt>
-        ensures taken { IsNewsTaken (driving R.Body.rules R.Keep.keeper R.does)
+        ensures taken { IsNewsTaken (driving R.Body.rules R.Collector.keeper R.does)
             self.old news self.new result }
         ensures settled { Settles R.does self.old.reacts self.new.reacts result }
         // No byte is counted for it, and none ends it yet.
@@ -196,7 +196,7 @@ impl<R: Reacts> Driver<R> {
                 reply: R::silence(),
                 event: None,
             }),
-            News::Close(head) => self.reacts.record(head, &mut self.keep),
+            News::Close(head) => self.reacts.record(head, &mut self.collector),
             News::Telnet(word) => match self.live.telnet(word) {
                 Some(token) => self.reacts.telnet(&token),
                 None => Err(Halt::Failed),
@@ -210,7 +210,7 @@ impl<R: Reacts> Driver<R> {
     // Whether it writes and tells nothing.
     fn is_silent(&self, step: &Result<EndStep<R::Event, R::Reply>, Refusal>) -> bool
         ensures silent { result ≡ true
-            → IsSilent (driving R.Body.rules R.Keep.keeper R.does) self.now.reacts step.now }
+            → IsSilent (driving R.Body.rules R.Collector.keeper R.does) self.now.reacts step.now }
         ensures other { result ≡ false → IfOk step.now (λ step.
             R.does.written self.now.reacts step.reply ≡ [] → step.event ≡ None → ⊥) }
     {
@@ -226,7 +226,7 @@ impl<R: Reacts> Driver<R> {
         &mut self,
         done: Result<EndStep<R::Event, R::Reply>, Halt>,
     ) -> Result<EndStep<R::Event, R::Reply>, Refusal>
-        ensures { IsSettled (driving R.Body.rules R.Keep.keeper R.does)
+        ensures { IsSettled (driving R.Body.rules R.Collector.keeper R.does)
             self.old done self.new result }
     {
         let why = match done {

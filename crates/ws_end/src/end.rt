@@ -1,20 +1,20 @@
 //! An end of a session, by what it does at bytes: the trait that sources, sinks and wires are written for.
 ghost use Rattle.std.specs.Prelude.{◌≡◌, ◌<◌, ◌++◌, [], List, ℕ, length};
-ghost use Rattle.ws_end.specs.ActLaws.{goes_none, goes_on};
+ghost use Rattle.ws_end.specs.ActLaws.{traces_none, goes_on};
 ghost use Rattle.ws_end.specs.Acts.{Act};
-ghost use Rattle.ws_end.specs.Conduct.{Conduct, TakesSome};
-ghost use Rattle.ws_end.specs.Manners.{IsSendRefusal, IsSendTaken, IsSendWanting};
-ghost use Rattle.ws_end.specs.driver.Conducting.{driver_conduct};
-ghost use Rattle.ws_end.specs.driver.Driven.{LeadsTo, TakesNoMore, driving, manner_of};
-ghost use Rattle.ws_end.specs.Acts.{ways};
+ghost use Rattle.ws_end.specs.Behaviour.{Behaviour, TakesSome};
+ghost use Rattle.ws_end.specs.EndTransitions.{IsSendRefusal, IsSendTaken, IsSendWanting};
+ghost use Rattle.ws_end.specs.driver.DriverBehaviour.{driver_behaviour};
+ghost use Rattle.ws_end.specs.driver.Driven.{IsReached, TakesNoMore, driving, transitions_of};
+ghost use Rattle.ws_end.specs.Acts.{protocol_of};
 
-use crate::end_step::{EndFed, Order, Sent};
+use crate::end_step::{EndFed, HostRequest, Sent};
 use crate::{Acting, Driver, Host, Reacts, SendFault};
 
 /// An end of a session, to which bytes come and at which its caller does something.
 pub trait End: Drop {
     /// What is done at it.
-    type Deed;
+    type Request;
     /// What it tells.
     type Event: Drop;
     /// What it writes at a byte.
@@ -22,7 +22,7 @@ pub trait End: Drop {
 
     // What it does at bytes that come and at what is done at it, which bytes it refuses, at which it is silent, and when
     // it has ended.
-    ghost conduct: { Conduct Self Self.Deed Self.Event };
+    ghost behaviour: { Behaviour Self Self.Request Self.Event };
 
     // The bytes of what it has just written.
     ghost written: { Self → Self.Reply → List ℕ };
@@ -32,29 +32,29 @@ pub trait End: Drop {
     /// nothing at those before. One that is shut uses none.
     fn feed(&mut self, piece: &[u8]) -> EndFed<Self::Event, Self::Reply>
         requires { 0 < length piece.now }
-        ensures { TakesSome conduct written self.old piece.now self.new result };
+        ensures { TakesSome behaviour written self.old piece.now self.new result };
 
     /// The bytes of what it has just written.
     fn bytes<'a>(&'a self, reply: &'a Self::Reply) -> &'a [u8]
         ensures value { result.now ≡ written self.now reply.now };
 
     // No act leads nowhere, and acts go on where others have led.
-    ghost stays: { (end : Self) → conduct.goes end [] [] [] end };
+    ghost stays: { (end : Self) → behaviour.traces end [] [] [] end };
 
-    ghost follows: { (a b c : Self) (xs ys : List (Act Self.Deed)) (v w : List ℕ)
+    ghost follows: { (a b c : Self) (xs ys : List (Act Self.Request)) (v w : List ℕ)
         (s t : List Self.Event)
-        → conduct.goes a xs v s b → conduct.goes b ys w t c
-        → conduct.goes a (xs ++ ys) (v ++ w) (s ++ t) c };
+        → behaviour.traces a xs v s b → behaviour.traces b ys w t c
+        → behaviour.traces a (xs ++ ys) (v ++ w) (s ++ t) c };
 }
 
 impl<R: Reacts> End for Driver<R> {
-    type Deed = R::Deed;
+    type Request = R::Request;
 
     type Event = R::Event;
 
     type Reply = R::Reply;
 
-    ghost conduct = { driver_conduct (driving R.Body.rules R.Keep.keeper R.does) };
+    ghost behaviour = { driver_behaviour (driving R.Body.rules R.Collector.keeper R.does) };
 
     ghost written = { λ driver reply. R.does.written driver.reacts reply };
 
@@ -66,9 +66,9 @@ impl<R: Reacts> End for Driver<R> {
         self.reacts().bytes(reply)
     }
 
-    ghost stays = { goes_none (ways R.Body.rules R.does.out (manner_of (driving R.Body.rules R.Keep.keeper R.does))) (LeadsTo (driving R.Body.rules R.Keep.keeper R.does)) TakesNoMore };
+    ghost stays = { traces_none (protocol_of R.Body.rules R.does.out (transitions_of (driving R.Body.rules R.Collector.keeper R.does))) (IsReached (driving R.Body.rules R.Collector.keeper R.does)) TakesNoMore };
 
-    ghost follows = { goes_on (ways R.Body.rules R.does.out (manner_of (driving R.Body.rules R.Keep.keeper R.does))) (LeadsTo (driving R.Body.rules R.Keep.keeper R.does)) TakesNoMore };
+    ghost follows = { goes_on (protocol_of R.Body.rules R.does.out (transitions_of (driving R.Body.rules R.Collector.keeper R.does))) (IsReached (driving R.Body.rules R.Collector.keeper R.does)) TakesNoMore };
 }
 
 impl Acting for Driver<Host> {
@@ -78,10 +78,10 @@ impl Acting for Driver<Host> {
 
     ghost wants = { IsSendWanting };
 
-    fn act(&mut self, order: &Order) -> Result<Sent, SendFault> {
-        match order {
-            Order::Send(opcode, body) => self.order_send(*opcode, body.as_slice()),
-            Order::Cancel => self.order_cancel(),
+    fn act(&mut self, request: &HostRequest) -> Result<Sent, SendFault> {
+        match request {
+            HostRequest::Send(opcode, body) => self.request_send(*opcode, body.as_slice()),
+            HostRequest::Cancel => self.request_cancel(),
         }
     }
 }

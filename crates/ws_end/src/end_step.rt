@@ -1,6 +1,6 @@
 //! What an end gives for bytes, and what is asked of a host end.
 ghost use Rattle.std.specs.Prelude.{◌≡◌};
-ghost use Rattle.ws_end.specs.host_end.HostLeads.{sent_bytes};
+ghost use Rattle.ws_end.specs.host_end.HostReached.{sent_bytes};
 
 use crate::Refusal;
 use arrayvec::ArrayVec;
@@ -33,7 +33,7 @@ pub struct Applied;
 
 /// What is done at a host end.
 #[derive(Drop)]
-pub enum Order {
+pub enum HostRequest {
     /// It sends a record; with Cancel Invite this is a `Cancel`.
     Send(Opcode, List<Element>),
     /// It cancels the read that it has asked.

@@ -9,10 +9,10 @@ ghost use Rattle.ws_screen.specs.Formats.{fields};
 ghost use Rattle.ws_screen.specs.Given.{Gives};
 ghost use Rattle.ws_keys.specs.Readings.{IsRead, read_answer};
 ghost use Rattle.ws_end.specs.driver.Driven.{DriverPushes};
-ghost use Rattle.ws_end.specs.host_end.HostLeads.{AtHost, HostLeads, unopened_host_side, side_after_open};
+ghost use Rattle.ws_end.specs.host_end.HostReached.{AtHost, HostReached, unopened_host_end, state_after_open};
 ghost use Rattle.ws_end.specs.host_end.HostReacting.{HostStands, host_driving};
-ghost use Rattle.ws_end.specs.host_end.HostSide.{HostSide};
-ghost use Rattle.ws_end.specs.host_end.HostSide as side_spec;
+ghost use Rattle.ws_end.specs.host_end.HostEndState.{HostEndState};
+ghost use Rattle.ws_end.specs.host_end.HostEndState as side_spec;
 
 pub(crate) mod host_event;
 mod reactions;
@@ -57,7 +57,7 @@ pub type HostEnd = Driver<Host>;
 impl Driver<Host> {
     /// A host end that has taken no byte and sent none.
     pub fn new(alloc: Global) -> Self
-        ensures { HostLeads result [] [] unopened_host_side }
+        ensures { HostReached result [] [] unopened_host_end }
     {
         let kept = Screen::new();
         let host = Host {
@@ -73,8 +73,8 @@ impl Driver<Host> {
     /// an end that takes no more bytes it changes nothing.
     pub fn open(&mut self) -> Reply
         ensures reply { result ≡ plain_spelling element_rules (AnItem.Telnet opening ∷ []) }
-        ensures opened { AtHost self.old (λ bytes items side.
-            HostLeads self.new bytes items (side_after_open side)) }
+        ensures opened { AtHost self.old (λ bytes items state.
+            HostReached self.new bytes items (state_after_open state)) }
         ensures shut { IsSome self.old.ended → self.new ≡ self.old }
     {
         if self.ended.is_some() {
@@ -100,8 +100,8 @@ impl Driver<Host> {
     /// What the station's screen is by what was sent: its locked keyboard and its pending read are those behind it.
     pub fn screen(&self) -> &Screen
         ensures value { result.now ≡ self.now.reacts.screen }
-        ensures kept { (side : HostSide)
-            → HostStands self.now.reacts side → Gives side.kept result.now }
+        ensures kept { (state : HostEndState)
+            → HostStands self.now.reacts state → Gives state.kept result.now }
     {
         &self.reacts.kept
     }
@@ -109,8 +109,8 @@ impl Driver<Host> {
     /// The read that is asked, and neither answered nor cancelled.
     pub fn asked(&self) -> Option<ReadKind>
         ensures value { result ≡ self.now.reacts.screen.pending }
-        ensures asked { (side : HostSide) → HostStands self.now.reacts side
-            → result ≡ side_spec.asked_read side }
+        ensures asked { (state : HostEndState) → HostStands self.now.reacts state
+            → result ≡ side_spec.asked_read state }
     {
         self.reacts.kept.pending()
     }
@@ -118,8 +118,8 @@ impl Driver<Host> {
     /// The fields of the kept screen, by start.
     pub fn fields(&self) -> ArrayVec<Field, MAX_FIELDS>
         ensures value { result.items ≡ self.now.reacts.screen.fields }
-        ensures fields { (side : HostSide) → HostStands self.now.reacts side
-            → result.items ≡ fields side.kept }
+        ensures fields { (state : HostEndState) → HostStands self.now.reacts state
+            → result.items ≡ fields state.kept }
     {
         self.reacts.kept.fields()
     }

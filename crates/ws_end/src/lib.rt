@@ -18,7 +18,7 @@ pub use driver::Driver;
 pub use driver::halt::Halt;
 pub use driver::reacts::Reacts;
 pub use end::End;
-pub use end_step::{Applied, EndFed, EndStep, Order, Sent};
+pub use end_step::{Applied, EndFed, EndStep, HostRequest, Sent};
 pub use host_end::host_event::{HostEvent, HostStep};
 pub use host_end::send_fault::SendFault;
 pub use host_end::{Host, HostEnd};

@@ -2,8 +2,8 @@
 ghost use Rattle.std.specs.Prelude.{◌≡◌, ◌<◌, ◌+◌, ◌^◌, [], Err, length, IsSome, IfErr, OnOk, OnErr};
 ghost use Rattle.ws_record.specs.Grammar.{IsInGrammar};
 ghost use Rattle.ws_record.specs.Refusal.{IsTruncated};
-ghost use Rattle.ws_end.specs.station.Stations.{AtStationOn, LeadsOn, FreshOn, IsKeyedOn, IsPushedOn};
-ghost use Rattle.ws_end.specs.station.StationManners.{new_side_on};
+ghost use Rattle.ws_end.specs.station.Stations.{AtStationOn, ReachedOn, FreshOn, IsKeyedOn, IsPushedOn};
+ghost use Rattle.ws_end.specs.station.StationTransitions.{new_state_on};
 ghost use Rattle.ws_end.specs.station.Displays.{on_display as on};
 
 pub(crate) mod alarm;
@@ -51,8 +51,8 @@ pub type Station = StationOn<ProfileDisplay>;
 impl<D: StationDisplay> Driver<AtStation<D>> {
     /// A station that has taken no byte and no key.
     pub fn new(terminal: TerminalType) -> Self
-        ensures leads { LeadsOn (on D.Commands.rules D.does) result [] []
-            (new_side_on D.does terminal) }
+        ensures reached { ReachedOn (on D.Commands.rules D.does) result [] []
+            (new_state_on D.does terminal) }
         ensures fresh { FreshOn (on D.Commands.rules D.does) result }
     {
         let station = AtStation {
@@ -85,10 +85,10 @@ impl<D: StationDisplay> Driver<AtStation<D>> {
     // or a record.
     pub(crate) fn finish(&mut self) -> Result<(), Fault>
         ensures ok { OnOk result ((self.new ≡ self.old)
-            × AtStationOn (on D.Commands.rules D.does) self.old (λ bytes items side.
+            × AtStationOn (on D.Commands.rules D.does) self.old (λ bytes items state.
             IsInGrammar D.Commands.rules bytes items)) }
         ensures truncated { IfErr result (λ fault.
-            AtStationOn (on D.Commands.rules D.does) self.old (λ bytes items side.
+            AtStationOn (on D.Commands.rules D.does) self.old (λ bytes items state.
             length bytes + 1 < 2 ^ 64 → (fault ≡ Fault.Truncated (length bytes))
             × IsTruncated D.Commands.rules bytes)) }
     {
@@ -102,10 +102,10 @@ impl<D: StationDisplay> Driver<AtStation<D>> {
     /// `Failed` after a refused byte, or after 18,446,744,073,709,551,615 bytes; `NotReady` at a key that sends while
     /// records aren't allowed; else as the display refuses it. The station is then unchanged.
     pub fn key(&mut self, key: D::Key) -> Result<Option<Answer>, KeyFault>
-        ensures keyed { AtStationOn (on D.Commands.rules D.does) self.old (λ bytes items side.
+        ensures keyed { AtStationOn (on D.Commands.rules D.does) self.old (λ bytes items state.
             length bytes + 1 < 2 ^ 64
             → IsKeyedOn (on D.Commands.rules D.does)
-            self.old self.new bytes items side key result) }
+            self.old self.new bytes items state key result) }
         ensures full { self.old.live.taken + 1 ≡ 2 ^ 64 → result ≡ Err KeyFault.Failed }
         ensures failed { IsSome self.old.ended → result ≡ Err KeyFault.Failed }
         ensures same { OnErr result (self.new ≡ self.old) }

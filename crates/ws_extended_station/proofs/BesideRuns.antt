@@ -23,18 +23,19 @@ use Rattle.ws_keys.specs.declared.key.Key.{Key}
 use Rattle.ws_extended.specs.ExtendedElements.{extended_rules}
 use Rattle.ws_extended.specs.declared.extended_element.ExtendedElement.{ExtendedElement}
 use Rattle.ws_extended.proofs.ProfileBodies.{profile_body, profile_spelled}
-use Rattle.ws_end.specs.Acts.{Act, AllTaken, Arrives, Came, Did, Does, Doing, Happen, Happening, HasGone, HoldsItems}
+use Rattle.ws_end.specs.Acts.{Act, AllTaken, Arrives, Came, Did, Does, Doing, Happen, Happening, IsTrace, HoldsItems}
 use Rattle.ws_end.specs.Acts.{bytes_of, doing, IsHappeningTaken, items_of, one_then, ways}
 use Rattle.ws_end.specs.Reaction.{Reaction, Refuses, GoesOn, goes_on}
 use Rattle.ws_end.specs.declared.end_step.Applied.{Applied}
 use Rattle.ws_end.specs.station.Displays.{KeyReactionOn, RefusesKey, Silent, Answers, Signals}
-use Rattle.ws_end.specs.station.StationManners.{at_key_on, key_on, takes_on}
-use Rattle.ws_end.specs.station.StationReacting.{at_item_on, at_on, manner_on}
-use Rattle.ws_end.specs.station.StationSide.{StationSide, profile}
+use Rattle.ws_end.specs.station.StationTransitions.{at_key_on, key_on, takes_on}
+use Rattle.ws_end.specs.station.StationReacting.{at_item_on, at_on, transitions_on}
+use Rattle.ws_end.specs.station.StationEndState.{StationEndState, profile}
 use Rattle.ws_extended_station.specs.BesideProfile.{HaveJustArrived, NoErrorStands, act_there, as_reacted, item_there}
 use Rattle.ws_extended_station.specs.BesideProfile.{record_there}
 use Rattle.ws_extended_station.specs.Bytewise.{by_bytes, spelled_alike}
-use Rattle.ws_extended_station.specs.ExtendedDisplays.{ExtendedSide, as_profile, extended, profile_side, with_profile}
+use Rattle.ws_extended_station.specs.ExtendedDisplays.{ExtendedEndState, as_profile, extended, profile_state}
+use Rattle.ws_extended_station.specs.ExtendedDisplays.{with_profile}
 use Rattle.ws_extended_station.specs.declared.extended_key.ExtendedKey.{ExtendedKey}
 use Rattle.ws_extended_station.specs.declared.extended_key.ExtendedKey.TheVariants.{Profile as ProfileKey}
 use Rattle.ws_extended_station.proofs.Beside.{items_there, keys_there}
@@ -158,90 +159,91 @@ items_of_there (Does key ∷ hs) = items_of_there hs
 
 -- THE SAME IS DONE
 
-abbrev done_there : ExtendedSide → Doing StationSide AnswerPart Applied → Doing ExtendedSide ℕ Applied
-done_there s d = record { side = with_profile s d.side; written = map by_bytes d.written; told = d.told }
+abbrev done_there : ExtendedEndState → Doing StationEndState AnswerPart Applied → Doing ExtendedEndState ℕ Applied
+done_there s d = record { state = with_profile s d.state; written = map by_bytes d.written; told = d.events }
 
-at_item_there : (s : ExtendedSide) (item : Item Element) (r : Reaction StationSide (List (Item AnswerPart)))
+at_item_there : (s : ExtendedEndState) (item : Item Element) (r : Reaction StationEndState (List (Item AnswerPart)))
     → at_item_on extended s (item_there item) (as_reacted s r)
-    ≡ done_there s (at_item_on profile (profile_side s) item r)
+    ≡ done_there s (at_item_on profile (profile_state s) item r)
 at_item_there s item (Refuses reason) = refl
 at_item_there s (RecordItem r) (GoesOn next items) = refl
 at_item_there s (TelnetItem t) (GoesOn next items) = refl
 
-at_key_there : (s : ExtendedSide) (r : KeyReactionOn History)
-    → at_key_on extended s (as_profile s r) ≡ done_there s (at_key_on profile (profile_side s) r)
+at_key_there : (s : ExtendedEndState) (r : KeyReactionOn History)
+    → at_key_on extended s (as_profile s r) ≡ done_there s (at_key_on profile (profile_state s) r)
 at_key_there s (RefusesKey fault) = refl
 at_key_there s (Silent next) = refl
 at_key_there s (Answers next kind aid) = refl
 at_key_there s (Signals opcode flags) = refl
 
-at_there : (s : ExtendedSide) (h : Happening Element Key) → NoErrorStands s
-    → at_on extended s (happening_there h) ≡ done_there s (at_on profile (profile_side s) h)
+at_there : (s : ExtendedEndState) (h : Happening Element Key) → NoErrorStands s
+    → at_on extended s (happening_there h) ≡ done_there s (at_on profile (profile_state s) h)
 at_there s (Arrives item) none = ap (at_item_on extended s (item_there item)) (items_there s item none)
-    ∙ at_item_there s item (takes_on profile (profile_side s) item)
+    ∙ at_item_there s item (takes_on profile (profile_state s) item)
 at_there s (Does key) none =
-    ap (at_key_on extended s) (keys_there s key none) ∙ at_key_there s (key_on profile (profile_side s) key)
+    ap (at_key_on extended s) (keys_there s key none) ∙ at_key_there s (key_on profile (profile_state s) key)
 
-goes_on_there : (s : ExtendedSide) (r : Reaction StationSide (List (Item AnswerPart)))
+goes_on_there : (s : ExtendedEndState) (r : Reaction StationEndState (List (Item AnswerPart)))
     → goes_on (as_reacted s r) ≡ goes_on r
 goes_on_there s (Refuses reason) = refl
 goes_on_there s (GoesOn next items) = refl
 
-taken_there : (s : ExtendedSide) (h : Happening Element Key) → NoErrorStands s
-    → IsHappeningTaken (manner_on profile) (profile_side s) h
-    → IsHappeningTaken (manner_on extended) s (happening_there h)
+taken_there : (s : ExtendedEndState) (h : Happening Element Key) → NoErrorStands s
+    → IsHappeningTaken (transitions_on profile) (profile_state s) h
+    → IsHappeningTaken (transitions_on extended) s (happening_there h)
 taken_there s (Arrives item) none taken = ap goes_on (items_there s item none)
-    ∙ goes_on_there s (takes_on profile (profile_side s) item) ∙ taken
+    ∙ goes_on_there s (takes_on profile (profile_state s) item) ∙ taken
 taken_there s (Does key) none taken = tt
 
-all_taken_there : (s : ExtendedSide) (hs : List (Happening Element Key)) → NoErrorStands s
-    → AllTaken (manner_on profile) (profile_side s) hs → AllTaken (manner_on extended) s (map happening_there hs)
+all_taken_there : (s : ExtendedEndState) (hs : List (Happening Element Key)) → NoErrorStands s
+    → AllTaken (transitions_on profile) (profile_state s) hs → AllTaken (transitions_on extended) s
+    (map happening_there hs)
 all_taken_there s [] none all = tt
 all_taken_there s (h ∷ hs) none all = (
   taken_there s h none all.0,
-  subst (λ (d : Doing ExtendedSide ℕ Applied). AllTaken (manner_on extended) d.side (map happening_there hs))
+  subst (λ (d : Doing ExtendedEndState ℕ Applied). AllTaken (transitions_on extended) d.state (map happening_there hs))
       (sym (at_there s h none))
-      (all_taken_there (with_profile s (at_on profile (profile_side s) h).side) hs none all.1),
+      (all_taken_there (with_profile s (at_on profile (profile_state s) h).state) hs none all.1),
 )
 
-doing_there : (s : ExtendedSide) (hs : List (Happening Element Key)) → NoErrorStands s
-    → doing (manner_on extended) s (map happening_there hs)
-    ≡ done_there s (doing (manner_on profile) (profile_side s) hs)
+doing_there : (s : ExtendedEndState) (hs : List (Happening Element Key)) → NoErrorStands s
+    → doing (transitions_on extended) s (map happening_there hs)
+    ≡ done_there s (doing (transitions_on profile) (profile_state s) hs)
 doing_there s [] none = refl
 doing_there s (h ∷ hs) none =
-    let first = at_on profile (profile_side s) h in
-    let behind = doing (manner_on profile) first.side hs in
-    ap (λ (d : Doing ExtendedSide ℕ Applied).
-    one_then d (doing (manner_on extended) d.side (map happening_there hs))) (at_there s h none)
-    ∙ ap (one_then (done_there s first)) (doing_there (with_profile s first.side) hs none)
-    ∙ ap (λ (items : List (Item ℕ)). let d : Doing ExtendedSide ℕ Applied = record {
-      side = with_profile s behind.side;
+    let first = at_on profile (profile_state s) h in
+    let behind = doing (transitions_on profile) first.state hs in
+    ap (λ (d : Doing ExtendedEndState ℕ Applied).
+    one_then d (doing (transitions_on extended) d.state (map happening_there hs))) (at_there s h none)
+    ∙ ap (one_then (done_there s first)) (doing_there (with_profile s first.state) hs none)
+    ∙ ap (λ (items : List (Item ℕ)). let d : Doing ExtendedEndState ℕ Applied = record {
+      state = with_profile s behind.state;
       written = items;
       told = first.told ++ behind.told;
     } in d) (sym (map-append by_bytes first.written behind.written))
 
-pub runs_there : (bytes : List ℕ) (items arrived : List (Item Element)) (s : ExtendedSide) (next : StationSide)
+pub runs_there : (bytes : List ℕ) (items arrived : List (Item Element)) (s : ExtendedEndState) (next : StationEndState)
     (acts : List (Act Key)) (written : List ℕ) (told : List Applied) → NoErrorStands s
-    → HasGone (ways element_rules answer_rules (manner_on profile)) (HaveJustArrived arrived next) bytes items
-    (profile_side s) acts
+    → IsTrace (ways element_rules answer_rules (transitions_on profile)) (HaveJustArrived arrived next) bytes items
+    (profile_state s) acts
     written told
-    → HasGone (ways extended_rules raw_rules (manner_on extended))
+    → IsTrace (ways extended_rules raw_rules (transitions_on extended))
     (HaveJustArrived (map item_there arrived) (with_profile s next))
     bytes (map item_there items) s (map act_there acts) written told
 runs_there bytes items arrived s next acts written told none gone =
     let hs = gone.happened in
-    let done = doing (manner_on profile) (profile_side s) hs in
+    let done = doing (transitions_on profile) (profile_state s) hs in
     let same = doing_there s hs none in
     record {
       happened = map happening_there hs;
       happen = happen_there bytes items acts hs gone.happen;
       taken = all_taken_there s hs none gone.taken;
       wrote = gone.wrote ∙ sym (spelled_alike done.written)
-          ∙ ap (λ (d : Doing ExtendedSide ℕ Applied). plain_spelling raw_rules d.written) (sym same);
-      tells = gone.tells ∙ ap (λ (d : Doing ExtendedSide ℕ Applied). d.told) (sym same);
+          ∙ ap (λ (d : Doing ExtendedEndState ℕ Applied). plain_spelling raw_rules d.written) (sym same);
+      tells = gone.tells ∙ ap (λ (d : Doing ExtendedEndState ℕ Applied). d.events) (sym same);
       leads = (
         ap (λ (is : List (Item ExtendedElement)). map item_there items ++ is) (items_of_there hs)
             ∙ sym (map-append item_there items (items_of hs)) ∙ ap (map item_there) gone.leads.0,
-        ap (λ (d : Doing ExtendedSide ℕ Applied). d.side) same ∙ ap (with_profile s) gone.leads.1,
+        ap (λ (d : Doing ExtendedEndState ℕ Applied). d.state) same ∙ ap (with_profile s) gone.leads.1,
       );
     }

@@ -18,15 +18,15 @@ use Rattle.ws_extended.specs.ExtendedKeys.{waits_for_reset}
 use Rattle.ws_extended.specs.ExtendedViews.{ExtendedParts}
 use Rattle.ws_end.specs.declared.station.key_fault.KeyFault.TheVariants.{Key as Refused}
 use Rattle.ws_end.specs.station.Displays.{IsPressedOnDisplay, RefusesKey, Silent, Answers}
-use Rattle.ws_end.specs.station.StationSide.{KeyReaction, StationSide, answers_read, key_by_refusal, presses, profile}
-use Rattle.ws_end.specs.station.StationSide.{ProfileParts, screen_at}
+use Rattle.ws_end.specs.station.StationEndState.{KeyReaction, StationEndState, answers_read, key_by_refusal, presses}
+use Rattle.ws_end.specs.station.StationEndState.{profile, ProfileParts, screen_at}
 use Rattle.ws_end.proofs.ProfileKeys.{pressed}
-use Rattle.ws_extended_station.specs.ExtendedDisplays.{DisplayParts, ExtendedGives, ExtendedSide, as_profile, extended}
-use Rattle.ws_extended_station.specs.ExtendedDisplays.{profile_side, with_profile}
+use Rattle.ws_extended_station.specs.ExtendedDisplays.{DisplayParts, ExtendedGives, ExtendedEndState, as_profile}
+use Rattle.ws_extended_station.specs.ExtendedDisplays.{extended, profile_state, with_profile}
 use Rattle.ws_extended_station.specs.declared.extended_key.ExtendedKey.TheVariants.{Profile}
 
 -- no key moves the error line
-abbrev StaysInRow : StationSide → KeyReaction → Type 0
+abbrev StaysInRow : StationEndState → KeyReaction → Type 0
 StaysInRow s (Silent next) = error_row s.happened ≡ error_row next.happened
 StaysInRow s (Answers next kind aid) = error_row s.happened ≡ error_row next.happened
 StaysInRow s reaction = Unit {0}
@@ -35,7 +35,7 @@ row_stays : (h : History) (edit : Option Edit) → error_row h ≡ error_row (ev
 row_stays h None = refl
 row_stays h (Some e) = refl
 
-press_stays : (s : StationSide) (key : Key) → StaysInRow s (presses s key)
+press_stays : (s : StationEndState) (key : Key) → StaysInRow s (presses s key)
 press_stays s (Send aid) = go (screen_at s).pending
   where
     go : (o : Option ReadKind) → StaysInRow s (answers_read s aid o)
@@ -45,14 +45,14 @@ press_stays s Attend = tt
 press_stays s Request = tt
 press_stays s key = row_stays s.happened (edit_of (screen_at s) key)
 
-key_stays : (s : StationSide) (key : Key) → StaysInRow s (profile.presses s key)
+key_stays : (s : StationEndState) (key : Key) → StaysInRow s (profile.presses s key)
 key_stays s key = go (key_refusal (screen_at s) key)
   where
     go : (r : Option KeyRefusal) → StaysInRow s (key_by_refusal s key r)
     go (Some refusal) = tt
     go None = press_stays s key
 
-module _ (d : DisplayParts) (s : ExtendedSide) (given : ExtendedGives s.happened d) (key : Key) where
+module _ (d : DisplayParts) (s : ExtendedEndState) (given : ExtendedGives s.happened d) (key : Key) where
   abbrev held : Bool
   held = is_some s.happened.state.kept && waits_for_reset key
 
@@ -60,15 +60,15 @@ module _ (d : DisplayParts) (s : ExtendedSide) (given : ExtendedGives s.happened
   abbrev with_screen : ScreenParts → ProfileParts
   with_screen screen = record { screen = screen; alarms = d.alarms }
 
-  stays : (r : KeyReaction) → profile.presses (profile_side s) key ≡ r → StaysInRow (profile_side s) r
-  stays r e = subst (λ (x : KeyReaction). StaysInRow (profile_side s) x) e (key_stays (profile_side s) key)
+  stays : (r : KeyReaction) → profile.presses (profile_state s) key ≡ r → StaysInRow (profile_state s) r
+  stays r e = subst (λ (x : KeyReaction). StaysInRow (profile_state s) x) e (key_stays (profile_state s) key)
 
-  reacts : (r : KeyReaction) → held ≡ false → profile.presses (profile_side s) key ≡ r
+  reacts : (r : KeyReaction) → held ≡ false → profile.presses (profile_state s) key ≡ r
       → extended.presses s (Profile key) ≡ as_profile s r
   reacts r free e = ap (λ (t : Bool). if t then RefusesKey (Refused Locked)
-      else as_profile s (profile.presses (profile_side s) key)) free ∙ ap (as_profile s) e
+      else as_profile s (profile.presses (profile_state s) key)) free ∙ ap (as_profile s) e
 
-  comes : (new : ScreenParts) (next : StationSide) → profile.gives next.happened (with_screen new)
+  comes : (new : ScreenParts) (next : StationEndState) → profile.gives next.happened (with_screen new)
       → error_row s.happened.state.history ≡ error_row next.happened
       → ExtendedGives (with_profile s next).happened (record d { display = record d.display { screen = new } })
   comes new next gives row = record {
@@ -84,7 +84,7 @@ module _ (d : DisplayParts) (s : ExtendedSide) (given : ExtendedGives s.happened
 
   -- a key that doesn't wait does here what it does in the profile
   as_there : (new : ScreenParts) (result : Result (Option Answer) KeyRefusal) → held ≡ false
-      → IsPressedOnDisplay profile (with_screen d.display.screen) (with_screen new) (profile_side s) key result
+      → IsPressedOnDisplay profile (with_screen d.display.screen) (with_screen new) (profile_state s) key result
       → IsPressedOnDisplay extended d (record d { display = record d.display { screen = new } }) s (Profile key) result
   as_there new (Err refusal) free p = (
     reacts _ free p.0,
@@ -104,8 +104,8 @@ module _ (d : DisplayParts) (s : ExtendedSide) (given : ExtendedGives s.happened
     p.4,
     record { options = p.5.options; given = comes new p.0 p.5.given (stays _ p.3) },
   )
-  as_there new (Ok (Some Attention)) free p = (reacts _ free p.0, comes new (profile_side s) p.1 refl)
-  as_there new (Ok (Some SystemRequest)) free p = (reacts _ free p.0, comes new (profile_side s) p.1 refl)
+  as_there new (Ok (Some Attention)) free p = (reacts _ free p.0, comes new (profile_state s) p.1 refl)
+  as_there new (Ok (Some SystemRequest)) free p = (reacts _ free p.0, comes new (profile_state s) p.1 refl)
 
   pub key_pressed : (new : ExtendedParts) (result : Result (Option Answer) KeyRefusal)
       → length d.display.screen.cells ≡ 1920
@@ -126,12 +126,12 @@ module _ (d : DisplayParts) (s : ExtendedSide) (given : ExtendedGives s.happened
           subst (λ (r : Result (Option Answer) KeyRefusal). IsPressedOnDisplay extended d (record d { display = new }) s
           (Profile key) r) (sym locked) (
             ap (λ (t : Bool). if t then RefusesKey (Refused Locked)
-                else as_profile s (profile.presses (profile_side s) key)) e,
+                else as_profile s (profile.presses (profile_state s) key)) e,
             ap (λ (p : ExtendedParts). record d { display = p }) back,
           )
       go false e =
           let is = does (now_held ∙ e) in
-          let there = pressed (with_screen d.display.screen) (profile_side s)
+          let there = pressed (with_screen d.display.screen) (profile_state s)
           (record { shows = given.shows.gives; sounds = given.sounds }) size key new.screen result is
           (does_follow (refusals d.display.screen key) (edit_of d.display.screen key)
           (answer_to d.display.screen key) d.display.screen new.screen result is) in

@@ -28,10 +28,10 @@ use Rattle.ws_extended.proofs.ImageLaws.{image_unrefused}
 use Rattle.ws_extended.proofs.StateLaws.{ends_closed, error_resets, none_stands, plain, restored_row, restores}
 use Rattle.ws_extended.proofs.StateLaws.{saved_is_body}
 use Rattle.ws_end.specs.station.Displays.{KeyReactionOn, Silent}
-use Rattle.ws_end.specs.station.StationSide.{opcode_events}
+use Rattle.ws_end.specs.station.StationEndState.{opcode_events}
 use Rattle.ws_extended_station.specs.BesideProfile.{NoErrorStands}
 use Rattle.ws_extended_station.specs.ExtendedAlarms.{extended_alarms_in}
-use Rattle.ws_extended_station.specs.ExtendedDisplays.{ExtendedHappened, ExtendedSide, extended, with_state}
+use Rattle.ws_extended_station.specs.ExtendedDisplays.{ExtendedHappened, ExtendedEndState, extended, with_state}
 use Rattle.ws_extended_station.specs.ExtendedRecords.{record_fault, state_after_record}
 use Rattle.ws_extended_station.specs.SavedScreens.{BringsBack, ComesBack, IsSaved}
 use Rattle.ws_extended_station.specs.declared.extended_key.ExtendedKey.TheVariants.{Reset}
@@ -97,7 +97,7 @@ module _ (terminal : TerminalType) (saved : ExtendedState) (screen : ScreenParts
 
 -- RESET
 
-pub error_taken_back : (s : ExtendedSide) (screen : ScreenParts) → NoErrorStands s
+pub error_taken_back : (s : ExtendedEndState) (screen : ScreenParts) → NoErrorStands s
     → Gives s.happened.state.history screen → IsLegal screen → screen.writing ≡ None → (r : Record ExtendedElement)
     (text : List Element) → IsErrorText text → r.body ≡ WriteError ∷ map Text text → opcode_events r.opcode ≡ []
     → (extended.presses (with_state s (state_after_record s.happened.state r)) Reset
@@ -120,7 +120,7 @@ error_taken_back s screen none given legal closed r text texts body idle =
           at_state,
     )
 
-pub reset_idle : (s : ExtendedSide) → NoErrorStands s → extended.presses s Reset ≡ Silent s
+pub reset_idle : (s : ExtendedEndState) → NoErrorStands s → extended.presses s Reset ≡ Silent s
 reset_idle s none =
     let reaction : Option Kept → Option Kept → KeyReactionOn ExtendedHappened = λ k l.
     Silent (with_state s (record s.happened.state { history = reset_history s.happened.state.history k; kept = l })) in

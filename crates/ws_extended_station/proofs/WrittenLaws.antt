@@ -20,11 +20,11 @@ use Rattle.ws_extended.specs.declared.extended_element.ExtendedElement.{Extended
 use Rattle.ws_end.specs.Acts.{Arrives, Does, Happening, doing}
 use Rattle.ws_end.specs.Reaction.{Refuses, GoesOn}
 use Rattle.ws_end.specs.station.Displays.{KeyReactionOn, RefusesKey, Silent, Answers, Signals}
-use Rattle.ws_end.specs.station.StationManners.{at_key_on, key_on}
-use Rattle.ws_end.specs.station.StationReacting.{at_item_on, at_on, manner_on}
-use Rattle.ws_end.specs.station.StationSide.{opcode_answer}
+use Rattle.ws_end.specs.station.StationTransitions.{at_key_on, key_on}
+use Rattle.ws_end.specs.station.StationReacting.{at_item_on, at_on, transitions_on}
+use Rattle.ws_end.specs.station.StationEndState.{opcode_answer}
 use Rattle.ws_extended_station.specs.Bytewise.{by_bytes}
-use Rattle.ws_extended_station.specs.ExtendedDisplays.{ExtendedHappened, ExtendedSide, extended, extended_applies}
+use Rattle.ws_extended_station.specs.ExtendedDisplays.{ExtendedHappened, ExtendedEndState, extended, extended_applies}
 use Rattle.ws_extended_station.specs.ExtendedDisplays.{with_state}
 use Rattle.ws_extended_station.specs.ExtendedRecords.{record_fault, record_writes, state_after_record, told_items}
 use Rattle.ws_extended_station.specs.Written.{MayBeWritten}
@@ -49,7 +49,7 @@ answers_may : (opcode : Opcode) → AllMay (map by_bytes (opcode_answer opcode))
 answers_may CancelInvite = (inr (inr (inl (0, CancelInvite, refl))), tt)
 answers_may opcode = tt
 
-module _ (s : ExtendedSide) (r : Record ExtendedElement) where
+module _ (s : ExtendedEndState) (r : Record ExtendedElement) where
   applied_may : (o : Option Reason) → AllMay (at_item_on extended s (RecordItem r) (extended_applies s r o)).written
   applied_may (Some reason) = tt
   applied_may None =
@@ -62,7 +62,7 @@ module _ (s : ExtendedSide) (r : Record ExtendedElement) where
   record_may true = applied_may (record_fault s.happened.state r.body)
   record_may false = tt
 
-  pub record_written : (next : ExtendedSide) (writes : List (Item ℕ)) → extended.applies s r ≡ GoesOn next writes
+  pub record_written : (next : ExtendedEndState) (writes : List (Item ℕ)) → extended.applies s r ≡ GoesOn next writes
       → writes ≡ record_writes s.happened.terminal next.happened.state r
   record_written next writes = go (record_fault s.happened.state r.body)
     where
@@ -71,24 +71,24 @@ module _ (s : ExtendedSide) (r : Record ExtendedElement) where
       go (Some reason) e = absurd (cc)
       go None e =
           let after = state_after_record s.happened.state r in
-          let side : with_state s after ≡ next = cc in
+          let end_state : with_state s after ≡ next = cc in
           let wrote : record_writes s.happened.terminal after r ≡ writes = cc in
-          sym wrote ∙ ap (λ (n : ExtendedSide). record_writes s.happened.terminal n.happened.state r) side
+          sym wrote ∙ ap (λ (n : ExtendedEndState). record_writes s.happened.terminal n.happened.state r) end_state
 
-key_may : (s : ExtendedSide) (r : KeyReactionOn ExtendedHappened) → AllMay (at_key_on extended s r).written
+key_may : (s : ExtendedEndState) (r : KeyReactionOn ExtendedHappened) → AllMay (at_key_on extended s r).written
 key_may s (RefusesKey fault) = tt
 key_may s (Silent next) = tt
 key_may s (Answers next kind aid) = (inr (inl (screen_of s.happened.state.history, kind, aid, refl)), tt)
 key_may s (Signals opcode flags) = (inr (inr (inl (flags, opcode, refl))), tt)
 
-at_may : (s : ExtendedSide) (h : Happening ExtendedElement ExtendedKey) → AllMay (at_on extended s h).written
+at_may : (s : ExtendedEndState) (h : Happening ExtendedElement ExtendedKey) → AllMay (at_on extended s h).written
 at_may s (Arrives (TelnetItem t)) = telnets_may (station_answer s.options t).reply
 at_may s (Arrives (RecordItem r)) = record_may s r (station_allows_records s.options)
 at_may s (Does key) = key_may s (key_on extended s key)
 
-pub all_written : (s : ExtendedSide) (hs : List (Happening ExtendedElement ExtendedKey))
-    → AllMay (doing (manner_on extended) s hs).written
+pub all_written : (s : ExtendedEndState) (hs : List (Happening ExtendedElement ExtendedKey))
+    → AllMay (doing (transitions_on extended) s hs).written
 all_written s [] = tt
 all_written s (h ∷ hs) = both_may (at_on extended s h).written
-    (doing (manner_on extended) (at_on extended s h).side hs).written (at_may s h)
-    (all_written (at_on extended s h).side hs)
+    (doing (transitions_on extended) (at_on extended s h).state hs).written (at_may s h)
+    (all_written (at_on extended s h).state hs)

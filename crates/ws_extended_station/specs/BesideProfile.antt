@@ -12,14 +12,14 @@ use Rattle.ws_keys.specs.declared.key.Key.{Key}
 use Rattle.ws_extended.specs.ExtendedElements.{extended_rules}
 use Rattle.ws_extended.specs.declared.extended_element.ExtendedElement.{ExtendedElement}
 use Rattle.ws_extended.specs.declared.extended_element.ExtendedElement.TheVariants.{Profile}
-use Rattle.ws_end.specs.Acts.{Act, Came, Did, HasGone, ways}
-use Rattle.ws_end.specs.station.Displays.{SideOn}
+use Rattle.ws_end.specs.Acts.{Act, Came, Did, IsTrace, ways}
+use Rattle.ws_end.specs.station.Displays.{EndStateOn}
 use Rattle.ws_end.specs.Reaction.{Reaction, Refuses, GoesOn}
 use Rattle.ws_end.specs.declared.end_step.Applied.{Applied}
-use Rattle.ws_end.specs.station.StationReacting.{manner_on}
-use Rattle.ws_end.specs.station.StationSide.{StationSide, profile}
+use Rattle.ws_end.specs.station.StationReacting.{transitions_on}
+use Rattle.ws_end.specs.station.StationEndState.{StationEndState, profile}
 use Rattle.ws_extended_station.specs.Bytewise.{by_bytes}
-use Rattle.ws_extended_station.specs.ExtendedDisplays.{ExtendedSide, extended, with_profile}
+use Rattle.ws_extended_station.specs.ExtendedDisplays.{ExtendedEndState, extended, with_profile}
 use Rattle.ws_extended_station.specs.declared.extended_key.ExtendedKey.{ExtendedKey}
 use Rattle.ws_extended_station.specs.declared.extended_key.ExtendedKey.TheVariants.{Profile as ProfileKey}
 
@@ -38,30 +38,33 @@ act_there (Came byte) = Came byte
 act_there (Did key) = Did (ProfileKey key)
 
 -- no error stands on the station's display
-abbrev pub NoErrorStands : ExtendedSide → Type 0
+abbrev pub NoErrorStands : ExtendedEndState → Type 0
 NoErrorStands s = s.happened.state.kept ≡ None
 
 -- what a station of the profile does, at a station that live hosts use: it refuses for the same reason, or goes on with
 -- the same events, and writes the same, told by its bytes
-abbrev pub as_reacted : ExtendedSide → Reaction StationSide (List (Item AnswerPart))
-    → Reaction ExtendedSide (List (Item ℕ))
+abbrev pub as_reacted : ExtendedEndState → Reaction StationEndState (List (Item AnswerPart))
+    → Reaction ExtendedEndState (List (Item ℕ))
 as_reacted s (Refuses reason) = Refuses reason
 as_reacted s (GoesOn next items) = GoesOn (with_profile s next) (map by_bytes items)
 
 -- just these items have arrived, and the end stands on this side
-abbrev pub HaveJustArrived : {U H : Type 0} → List (Item U) → SideOn H → List ℕ → List (Item U) → SideOn H → Type 0
-HaveJustArrived arrived next bytes items side = (items ≡ arrived) × (side ≡ next)
+abbrev pub HaveJustArrived : {U H : Type 0} → List (Item U) → EndStateOn H → List ℕ → List (Item U) → EndStateOn H
+    → Type 0
+HaveJustArrived arrived next bytes items end_state = (items ≡ arrived) × (end_state ≡ next)
 
 -- at a station of the profile, after these bytes, the acts lead on, write and tell this, and just these items arrive
-abbrev pub ProfileGoes : StationSide → StationSide → List (Item Element) → List ℕ → List (Item Element)
+abbrev pub ProfileTraces : StationEndState → StationEndState → List (Item Element) → List ℕ → List (Item Element)
     → List (Act Key) → List ℕ → List Applied → Type 0
-ProfileGoes side next arrived bytes items acts written told =
-    HasGone (ways element_rules answer_rules (manner_on profile)) (HaveJustArrived arrived next) bytes items side acts
+ProfileTraces end_state next arrived bytes items acts written told =
+    IsTrace (ways element_rules answer_rules (transitions_on profile)) (HaveJustArrived arrived next) bytes items
+    end_state acts
     written told
 
 -- the same at a station that live hosts use
-abbrev pub ExtendedGoes : ExtendedSide → ExtendedSide → List (Item ExtendedElement) → List ℕ
+abbrev pub ExtendedTraces : ExtendedEndState → ExtendedEndState → List (Item ExtendedElement) → List ℕ
     → List (Item ExtendedElement) → List (Act ExtendedKey) → List ℕ → List Applied → Type 0
-ExtendedGoes side next arrived bytes items acts written told =
-    HasGone (ways extended_rules raw_rules (manner_on extended)) (HaveJustArrived arrived next) bytes items side acts
+ExtendedTraces end_state next arrived bytes items acts written told =
+    IsTrace (ways extended_rules raw_rules (transitions_on extended)) (HaveJustArrived arrived next) bytes items
+    end_state acts
     written told

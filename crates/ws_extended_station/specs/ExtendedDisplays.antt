@@ -14,10 +14,10 @@ use Rattle.ws_extended.specs.ExtendedViews.{ExtendedParts, Shows}
 use Rattle.ws_extended.specs.declared.extended_element.ExtendedElement.{ExtendedElement}
 use Rattle.ws_end.specs.station.Alarms.{alarm_count, alarms_of}
 use Rattle.ws_end.specs.declared.station.key_fault.KeyFault.TheVariants.{Key as Refused}
-use Rattle.ws_end.specs.station.Displays.{DisplayOf, SideOn, KeyReactionOn, RefusesKey, Silent, Answers, Signals}
+use Rattle.ws_end.specs.station.Displays.{DisplayOf, EndStateOn, KeyReactionOn, RefusesKey, Silent, Answers, Signals}
 use Rattle.ws_end.specs.station.Displays.{OnDisplay, on_display}
 use Rattle.ws_end.specs.Reaction.{Reaction, Refuses, GoesOn}
-use Rattle.ws_end.specs.station.StationSide.{StationSide, answer_record, profile}
+use Rattle.ws_end.specs.station.StationEndState.{StationEndState, answer_record, profile}
 use Rattle.ws_extended_station.specs.Bytewise.{by_bytes}
 use Rattle.ws_extended_station.specs.ExtendedRecords.{record_fault, record_writes, state_after_record}
 use Rattle.ws_extended_station.specs.declared.extended_key.ExtendedKey.{ExtendedKey}
@@ -54,45 +54,45 @@ abbrev pub new_happened : TerminalType → ExtendedHappened
 new_happened terminal = record { state = record { history = []; kept = None; text = 0 }; terminal = terminal }
 
 -- what a station on such a display has become: its options, and what has happened to the display
-abbrev pub ExtendedSide : Type 0
-ExtendedSide = SideOn ExtendedHappened
+abbrev pub ExtendedEndState : Type 0
+ExtendedEndState = EndStateOn ExtendedHappened
 
 -- a side whose display has come to another state
-abbrev pub with_state : ExtendedSide → ExtendedState → ExtendedSide
+abbrev pub with_state : ExtendedEndState → ExtendedState → ExtendedEndState
 with_state s state = record s { happened = record s.happened { state = state } }
 
 -- the side of a station of the profile in one on this display
-abbrev pub profile_side : ExtendedSide → StationSide
-profile_side s = record { options = s.options; happened = s.happened.state.history }
+abbrev pub profile_state : ExtendedEndState → StationEndState
+profile_state s = record { options = s.options; happened = s.happened.state.history }
 
 -- the side of a station on this display, with what happened to a station of the profile
-abbrev pub with_profile : ExtendedSide → StationSide → ExtendedSide
+abbrev pub with_profile : ExtendedEndState → StationEndState → ExtendedEndState
 with_profile s t = record {
   options = t.options;
   happened = record s.happened { state = record s.happened.state { history = t.happened } };
 }
 
 -- what the station does at a record, by the reason for which its display refuses it, if it does
-abbrev pub extended_applies : ExtendedSide → Record ExtendedElement → Option Reason
-    → Reaction ExtendedSide (List (Item ℕ))
+abbrev pub extended_applies : ExtendedEndState → Record ExtendedElement → Option Reason
+    → Reaction ExtendedEndState (List (Item ℕ))
 extended_applies s r (Some reason) = Refuses reason
 extended_applies s r None =
     let after = state_after_record s.happened.state r in
     GoesOn (with_state s after) (record_writes s.happened.terminal after r)
 
 -- what a station of the profile does at a key, as what a station on this display does
-abbrev pub as_profile : ExtendedSide → KeyReactionOn History → KeyReactionOn ExtendedHappened
+abbrev pub as_profile : ExtendedEndState → KeyReactionOn History → KeyReactionOn ExtendedHappened
 as_profile s (RefusesKey fault) = RefusesKey fault
 as_profile s (Silent next) = Silent (with_profile s next)
 as_profile s (Answers next kind aid) = Answers (with_profile s next) kind aid
 as_profile s (Signals opcode flags) = Signals opcode flags
 
 -- what the station makes of a key: as the profile, but where an error stands keys wait for Reset
-abbrev pub extended_presses : ExtendedSide → ExtendedKey → KeyReactionOn ExtendedHappened
+abbrev pub extended_presses : ExtendedEndState → ExtendedKey → KeyReactionOn ExtendedHappened
 extended_presses s Reset = Silent (with_state s (state_after_reset s.happened.state))
 extended_presses s (Profile key) =
     if is_some s.happened.state.kept && waits_for_reset key then RefusesKey (Refused Locked)
-    else as_profile s (profile.presses (profile_side s) key)
+    else as_profile s (profile.presses (profile_state s) key)
 
 -- the key sends a record; Reset sends nothing
 abbrev pub extended_sends : ExtendedKey → Bool
@@ -102,7 +102,7 @@ extended_sends (Profile key) = profile.sends key
 -- the bytes of a reply: at a record, those that it had the display write
 abbrev pub extended_written : DisplayParts → ExtendedReply → List ℕ
 extended_written d (Bytes bytes) = bytes
-extended_written d IsKept = d.told
+extended_written d IsKept = d.events
 
 -- the display that live hosts use; what it writes is told by its bytes
 abbrev pub extended : DisplayOf DisplayParts ExtendedElement ExtendedHappened (Unit {0}) ℕ ExtendedKey ExtendedReply

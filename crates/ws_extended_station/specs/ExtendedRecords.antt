@@ -15,7 +15,7 @@ use Rattle.ws_extended.specs.declared.ask.Ask.{Ask}
 use Rattle.ws_extended.specs.declared.ask.Ask.TheVariants.{Query, ReadScreen, ReadImmediate, ReadImmediateAlternate}
 use Rattle.ws_extended.specs.declared.ask.Ask.TheVariants.{SaveScreen as AskSave}
 use Rattle.ws_extended.specs.declared.extended_element.ExtendedElement.{ExtendedElement}
-use Rattle.ws_end.specs.station.StationSide.{opcode_answer, opcode_events}
+use Rattle.ws_end.specs.station.StationEndState.{opcode_answer, opcode_events}
 use Rattle.ws_extended_station.specs.Bytewise.{by_bytes}
 use Rattle.ws_extended.specs.Telling.{told_bytes}
 

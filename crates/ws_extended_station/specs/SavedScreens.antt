@@ -16,8 +16,8 @@ use Rattle.ws_extended.specs.declared.ask.Ask.TheVariants.{SaveScreen}
 use Rattle.ws_extended.specs.declared.extended_element.ExtendedElement.{ExtendedElement}
 use Rattle.ws_end.specs.station.Alarms.{alarms_of}
 use Rattle.ws_end.specs.station.Displays.{Silent}
-use Rattle.ws_end.specs.station.StationSide.{opcode_events}
-use Rattle.ws_extended_station.specs.ExtendedDisplays.{ExtendedSide, extended, with_state}
+use Rattle.ws_end.specs.station.StationEndState.{opcode_events}
+use Rattle.ws_extended_station.specs.ExtendedDisplays.{ExtendedEndState, extended, with_state}
 use Rattle.ws_extended_station.specs.declared.extended_key.ExtendedKey.TheVariants.{Reset}
 use Rattle.ws_extended_station.specs.ExtendedRecords.{record_fault, state_after_record}
 
@@ -46,8 +46,8 @@ pub record ComesBack (saved : ExtendedState) (screen : ScreenParts) (state : Ext
 
 -- Reset after this record, whose text leads the cursor, sends nothing and leaves the screen as it was, but for the lock
 -- and the cursor
-abbrev pub TakesErrorBack : ExtendedSide → ScreenParts → Record ExtendedElement → List Element → Type 0
-TakesErrorBack side screen r text = let stood : ExtendedState = state_after_record side.happened.state r in
-    (extended.presses (with_state side stood) Reset ≡ Silent (with_state side (state_after_reset stood)))
+abbrev pub TakesErrorBack : ExtendedEndState → ScreenParts → Record ExtendedElement → List Element → Type 0
+TakesErrorBack end_state screen r text = let stood : ExtendedState = state_after_record end_state.happened.state r in
+    (extended.presses (with_state end_state stood) Reset ≡ Silent (with_state end_state (state_after_reset stood)))
     × Gives (state_after_reset stood).history
     (record screen { locked = false; cursor = unwrap_or (text_cursor text None) screen.cursor })

@@ -11,7 +11,7 @@ use Rattle.ws_extended.specs.ExtendedStates.{ExtendedState}
 use Rattle.ws_extended.specs.Telling.{told_bytes}
 use Rattle.ws_extended.specs.declared.ask.Ask.{Ask}
 use Rattle.ws_end.specs.Reaction.{empty_record}
-use Rattle.ws_end.specs.station.StationSide.{answer_record}
+use Rattle.ws_end.specs.station.StationEndState.{answer_record}
 use Rattle.ws_extended_station.specs.Bytewise.{by_bytes}
 use Rattle.ws_extended_station.specs.ExtendedRecords.{told_opcode}
 

@@ -28,7 +28,7 @@ struct Front<'a> {
 
 // Carries out the elements of the profile with which the bytes begin, up to the first that is refused. Most records
 // have no others, and the profile's machine reads them fast.
-fn apply_front<'a>(display: &mut ExtendedScreen, bytes: &'a [u8]) -> Result<Front<'a>, Reason>
+fn apply_prefix<'a>(display: &mut ExtendedScreen, bytes: &'a [u8]) -> Result<Front<'a>, Reason>
     requires closed { display.old.screen.writing ≡ None }
     ensures open_ { IfOk result (λ front.
         is_some display.new.screen.writing ≡ allows_orders front.place) }
@@ -89,7 +89,7 @@ fn apply_spelled(display: &mut ExtendedScreen, bytes: &[u8]) -> Result<Heard, Re
         → bytes.now ≡ spelling_of extended_rules body → Shows state display.old
         → AreCarriedOut state body display.new result }
 {
-    let front = apply_front(display, bytes)?;
+    let front = apply_prefix(display, bytes)?;
     apply_rest(display, front)
 }
 

@@ -2,7 +2,7 @@
 ghost use Rattle.std.specs.Prelude.{◌≡◌, ◌≤◌, ◌+◌, ◌++◌, ◌∷◌, [], ℕ, None, length, map};
 ghost use Rattle.ws_record.specs.Encode.{plain_spelling};
 ghost use Rattle.ws_record.specs.RawBody.{raw_rules};
-ghost use Rattle.ws_end.specs.station.StationSide.{answer_record, opcode_answer};
+ghost use Rattle.ws_end.specs.station.StationEndState.{answer_record, opcode_answer};
 ghost use Rattle.ws_extended.specs.ExtendedStates.{ExtendedState};
 ghost use Rattle.ws_extended.specs.ExtendedViews.{Shows};
 ghost use Rattle.ws_extended_station.specs.Bytewise.{by_bytes, spelled_alike};
@@ -46,7 +46,7 @@ impl Model for ExtendedDisplay {
 
     ghost Value = { DisplayParts };
 
-    ghost view = { λ d. record { display = d.screen; alarms = d.alarms; terminal = d.terminal; told = d.told.items } };
+    ghost view = { λ d. record { display = d.screen; alarms = d.alarms; terminal = d.terminal; told = d.events.items } };
 
     // Between records no write is open.
     ghost invariant = { λ d. d.screen.screen.writing ≡ None };

@@ -27,14 +27,14 @@ ghost use Rattle.ws_end.specs.Acts.{Act, Happening, doing};
 ghost use Rattle.ws_end.specs.station.Alarms.{alarms_of};
 ghost use Rattle.ws_end.specs.station.Displays.{Silent};
 ghost use Rattle.ws_end.specs.Reaction.{GoesOn};
-ghost use Rattle.ws_end.specs.station.StationManners.{key_on, takes_on};
-ghost use Rattle.ws_end.specs.station.StationReacting.{manner_on};
-ghost use Rattle.ws_end.specs.station.StationSide.{StationSide, opcode_events, profile};
+ghost use Rattle.ws_end.specs.station.StationTransitions.{key_on, takes_on};
+ghost use Rattle.ws_end.specs.station.StationReacting.{transitions_on};
+ghost use Rattle.ws_end.specs.station.StationEndState.{StationEndState, opcode_events, profile};
 ghost use Rattle.ws_end.specs.declared.end_step.Applied.{Applied};
-ghost use Rattle.ws_extended_station.specs.BesideProfile.{ExtendedGoes, NoErrorStands, ProfileGoes, act_there, as_reacted, item_there};
+ghost use Rattle.ws_extended_station.specs.BesideProfile.{ExtendedTraces, NoErrorStands, ProfileTraces, act_there, as_reacted, item_there};
 ghost use Rattle.ws_extended_station.specs.Bytewise.{by_bytes};
 ghost use Rattle.ws_extended_station.specs.ExtendedAlarms.{extended_alarms_in};
-ghost use Rattle.ws_extended_station.specs.ExtendedDisplays.{ExtendedSide, as_profile, extended, profile_side, with_profile};
+ghost use Rattle.ws_extended_station.specs.ExtendedDisplays.{ExtendedEndState, as_profile, extended, profile_state, with_profile};
 ghost use Rattle.ws_extended_station.specs.ExtendedRecords.{record_writes, state_after_record};
 ghost use Rattle.ws_extended_station.specs.SavedScreens.{BringsBack, ComesBack, IsSaved, TakesErrorBack};
 ghost use Rattle.ws_extended_station.specs.Written.{MayBeWritten};
@@ -45,18 +45,18 @@ ghost use Rattle.ws_extended_station.specs.declared.extended_key.ExtendedKey.The
 /// spelled alike. So whatever bytes and keys of the profile come, it writes the same bytes, tells the same, and has
 /// the same screen.
 pub fn acts_as_profile()
-    ensures items { (s : ExtendedSide) (item : Item Element) → NoErrorStands s
+    ensures items { (s : ExtendedEndState) (item : Item Element) → NoErrorStands s
         → takes_on extended s (item_there item)
-        ≡ as_reacted s (takes_on profile (profile_side s) item) }
-    ensures keys { (s : ExtendedSide) (key : AKey) → NoErrorStands s
-        → key_on extended s (ProfileKey key) ≡ as_profile s (key_on profile (profile_side s) key) }
+        ≡ as_reacted s (takes_on profile (profile_state s) item) }
+    ensures keys { (s : ExtendedEndState) (key : AKey) → NoErrorStands s
+        → key_on extended s (ProfileKey key) ≡ as_profile s (key_on profile (profile_state s) key) }
     ensures spelled { (items : List (Item AnswerPart))
         → plain_spelling raw_rules (map by_bytes items) ≡ plain_spelling answer_rules items }
-    ensures runs { (bytes : List ℕ) (items arrived : List (Item Element)) (s : ExtendedSide)
-        (next : StationSide) (acts : List (Act AKey)) (written : List ℕ) (told : List Applied)
+    ensures runs { (bytes : List ℕ) (items arrived : List (Item Element)) (s : ExtendedEndState)
+        (next : StationEndState) (acts : List (Act AKey)) (written : List ℕ) (told : List Applied)
         → NoErrorStands s
-        → ProfileGoes (profile_side s) next arrived bytes items acts written told
-        → ExtendedGoes s (with_profile s next) (map item_there arrived) bytes
+        → ProfileTraces (profile_state s) next arrived bytes items acts written told
+        → ExtendedTraces s (with_profile s next) (map item_there arrived) bytes
         (map item_there items) (map act_there acts) written told }
 {}
 
@@ -85,21 +85,21 @@ pub fn only_writes_sound()
 /// Behind a record of Write Error Code and its text, Reset leaves the screen as it was but for the lock and the
 /// cursor, and no error stands. Where none stands it leaves all as it is. It never sends.
 pub fn reset_takes_errors_back()
-    ensures back { (s : ExtendedSide) (screen : ScreenParts) → NoErrorStands s
+    ensures back { (s : ExtendedEndState) (screen : ScreenParts) → NoErrorStands s
         → Gives s.happened.state.history screen → IsLegal screen → screen.writing ≡ None
         → (r : Record AnElement) (text : List Element) → IsErrorText text
         → r.body ≡ WriteError ∷ map Text text → opcode_events r.opcode ≡ []
         → TakesErrorBack s screen r text }
-    ensures none { (s : ExtendedSide) → NoErrorStands s → extended.presses s Reset ≡ Silent s }
+    ensures none { (s : ExtendedEndState) → NoErrorStands s → extended.presses s Reset ≡ Silent s }
     ensures silent { extended.sends Reset ≡ false }
 {}
 
 /// Whatever happens, nothing else is written than Telnet commands, answers to reads, empty records, and what was asked
 /// at once; and at a record first what it asks, told of the display that it leaves, and then the answer to its opcode.
 pub fn writes_nothing_else()
-    ensures all { (s : ExtendedSide) (happened : List (Happening AnElement AnExtendedKey))
-        → AllByRecursion MayBeWritten (doing (manner_on extended) s happened).written }
-    ensures record_ { (s next : ExtendedSide) (r : Record AnElement) (writes : List (Item ℕ))
+    ensures all { (s : ExtendedEndState) (happened : List (Happening AnElement AnExtendedKey))
+        → AllByRecursion MayBeWritten (doing (transitions_on extended) s happened).written }
+    ensures record_ { (s next : ExtendedEndState) (r : Record AnElement) (writes : List (Item ℕ))
         → extended.applies s r ≡ GoesOn next writes
         → writes ≡ record_writes s.happened.terminal next.happened.state r }
 {}

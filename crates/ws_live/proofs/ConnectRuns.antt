@@ -9,7 +9,7 @@ use Rattle.ws_code.specs.Device.{one_more}
 use Rattle.ws_code.specs.declared.fault.Fault.{Fault}
 use Rattle.ws_code.specs.declared.fault.Fault.TheVariants as fault
 use Rattle.ws_end.specs.attached.Attachments.{AttachedParts}
-use Rattle.ws_end.specs.attached.Deeds.{is_done}
+use Rattle.ws_end.specs.attached.Requests.{is_done}
 use Rattle.ws_end.specs.declared.attached.acted.Acted.{Acted}
 use Rattle.ws_end.specs.declared.end_step.Applied.{Applied}
 use Rattle.ws_end.specs.declared.station.key_fault.KeyFault.{KeyFault}

@@ -2,7 +2,7 @@ use Rattle.std.specs.Prelude.{codes}
 use Rattle.std.specs.Str.{IsUtf8, bytes_eq}
 use Rattle.std.proofs.Common.{◌≡◌, ℕ, ◌<◌, List, ◌++◌, true, false, length, inl, inr, refl, sym, ap, ◌∙◌, subst, arith}
 use Rattle.std.proofs.lemmas.Bool.{false≢true}
-use Rattle.ws_end.specs.declared.end_step.Order.TheVariants.{Send, Cancel}
+use Rattle.ws_end.specs.declared.end_step.HostRequest.TheVariants.{Send, Cancel}
 use Rattle.ws_session.specs.declared.world.Move.{Move}
 use Rattle.ws_session.specs.declared.world.Move.TheVariants as moves
 use Rattle.ws_live.specs.declared.live.serve_line.AnswerAwaited.{AnswerAwaited}

@@ -3,10 +3,10 @@ use Rattle.std.proofs.Common.{◌≡◌, ℕ, List, [], ◌∷◌, ◌++◌, fal
 use Rattle.std.proofs.Common.{subst}
 use Rattle.ws_code.specs.Device.{Devices}
 use Rattle.ws_code.specs.declared.fault.Fault.TheVariants as fault
-use Rattle.ws_end.specs.Conducts.{host_conduct}
+use Rattle.ws_end.specs.Behaviours.{host_behaviour}
 use Rattle.ws_end.specs.attached.Attachments.{AttachedParts, HasHeard}
 use Rattle.ws_end.specs.declared.host_end.host_event.HostEvent.{HostEvent}
-use Rattle.ws_end.specs.host_end.HostLeads.{HostParts}
+use Rattle.ws_end.specs.host_end.HostReached.{HostParts}
 use Rattle.ws_live.specs.declared.live.serve_line.AnswerAwaited.{AnswerAwaited}
 use Rattle.ws_live.specs.live.ServeText.{is_awaited}
 use Rattle.ws_live.specs.live.ServeText.{HaveToldBeforeAnswer}
@@ -23,11 +23,11 @@ module _ {S K : Type 0} (devices : Devices S K) where
   -- one thing more is told that isn't the answer
   pub told_behind : (awaited : AnswerAwaited) (from mid to : Parts) (told : List HostEvent) (one : HostEvent)
       → HaveToldBeforeAnswer devices awaited from told mid
-      → HasHeard host_conduct devices mid to (Some one) → is_awaited awaited one ≡ false
+      → HasHeard host_behaviour devices mid to (Some one) → is_awaited awaited one ≡ false
       → HaveToldBeforeAnswer devices awaited from (told ++ one ∷ []) to
   told_behind awaited from mid to [] one h heard other = (
     to,
-    subst (λ (z : Parts). HasHeard host_conduct devices z to (Some one)) h heard,
+    subst (λ (z : Parts). HasHeard host_behaviour devices z to (Some one)) h heard,
     other,
     refl,
   )

@@ -11,7 +11,7 @@ use Rattle.ws_keys.specs.Strokes.{keys_of}
 use Rattle.ws_keys.specs.declared.key.Key.{Key}
 use Rattle.ws_keys.specs.declared.key_run.KeyRun.{KeyRun}
 use Rattle.ws_end.specs.attached.Attachments.{AttachedParts}
-use Rattle.ws_end.specs.attached.Deeds.{is_done}
+use Rattle.ws_end.specs.attached.Requests.{is_done}
 use Rattle.ws_end.specs.declared.attached.acted.Acted.{Acted}
 use Rattle.ws_end.specs.declared.attached.acted.Acted.TheVariants as acted
 use Rattle.ws_end.specs.declared.station.key_fault.KeyFault.{KeyFault}

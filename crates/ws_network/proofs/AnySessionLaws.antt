@@ -6,7 +6,7 @@ use Rattle.ws_record.specs.RawBody.{raw_rules}
 use Rattle.ws_record.specs.declared.record.Item.TheVariants.{Telnet}
 use Rattle.ws_end.specs.attached.Attachments.{AttachedParts}
 use Rattle.ws_live.specs.declared.asked.live_asked.ServeAsked.{ServeAsked}
-use Rattle.ws_any_host.specs.AnyLeads.{AnyParts, AnyLeads}
+use Rattle.ws_any_host.specs.AnyReached.{AnyParts, AnyReached}
 use Rattle.ws_any_host.specs.AnyOptions.{new_negotiated, once_opened}
 use Rattle.ws_any_host.specs.declared.any_line.AnyLine.{AnyLine}
 use Rattle.ws_any_host.specs.declared.any_line.AnyLine.TheVariants.{Await}
@@ -32,7 +32,7 @@ module _ (asked : ServeAsked) (lines : List AnyLine) (came : Account)
 
   pub any_served : (host : AnyParts) (source : ConnectionReads) (from sink : ConnectionWrites) (bytes : List ℕ)
       (attached : AttachedParts AnyParts ConnectionReads ConnectionWrites) (begun : ℕ)
-      → AnyLeads host [] [] (once_opened new_negotiated) → Told from sink bytes
+      → AnyReached host [] [] (once_opened new_negotiated) → Told from sink bytes
       → bytes ≡ plain_spelling raw_rules (Telnet opening ∷ []) → attached ≡ new_at host source sink
       → source ≡ no_reads → from ≡ no_writes → begun ≡ 0 → RanAny attached begun
       → IsAnyServed asked lines came

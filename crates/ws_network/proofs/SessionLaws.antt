@@ -9,9 +9,9 @@ use Rattle.ws_record.specs.Encode.{plain_spelling}
 use Rattle.ws_record.specs.declared.record.Item.TheVariants.{Telnet}
 use Rattle.ws_stream.specs.Elements.{element_rules}
 use Rattle.ws_end.specs.attached.Attachments.{AttachedParts}
-use Rattle.ws_end.specs.host_end.HostLeads.{HostParts, HostLeads, unopened_host_side, side_after_open}
-use Rattle.ws_end.specs.station.StationManners.{new_side_on}
-use Rattle.ws_end.specs.station.Stations.{LeadsOn}
+use Rattle.ws_end.specs.host_end.HostReached.{HostParts, HostReached, unopened_host_end, state_after_open}
+use Rattle.ws_end.specs.station.StationTransitions.{new_state_on}
+use Rattle.ws_end.specs.station.Stations.{ReachedOn}
 use Rattle.ws_live.specs.declared.asked.live_asked.ConnectAsked.{ConnectAsked}
 use Rattle.ws_live.specs.declared.asked.live_asked.ServeAsked.{ServeAsked}
 use Rattle.ws_live.specs.declared.live.connect_line.StationLine.{StationLine}
@@ -70,7 +70,7 @@ module _ (display : LiveDisplay) (asked : ConnectAsked)
 
   pub connected : (station : StationOf display.on) (source : ConnectionReads) (sink : ConnectionWrites)
       (attached : AttachedParts (StationOf display.on) ConnectionReads ConnectionWrites) (begun : ℕ)
-      → LeadsOn display.on station [] [] (new_side_on display.on.does asked.terminal)
+      → ReachedOn display.on station [] [] (new_state_on display.on.does asked.terminal)
       → attached ≡ new_at station source sink → source ≡ no_reads → sink ≡ no_writes → begun ≡ 0
       → RanConnect attached begun → IsConnected display asked lines came
   connected station source sink attached begun new is read written none ran = record {
@@ -95,7 +95,7 @@ module _ (asked : ServeAsked) (lines : List HostLine) (came : Account)
 
   pub served : (host : HostParts) (source : ConnectionReads) (from sink : ConnectionWrites) (bytes : List ℕ)
       (attached : AttachedParts HostParts ConnectionReads ConnectionWrites) (begun : ℕ)
-      → HostLeads host [] [] (side_after_open unopened_host_side) → Told from sink bytes
+      → HostReached host [] [] (state_after_open unopened_host_end) → Told from sink bytes
       → bytes ≡ plain_spelling element_rules (Telnet opening ∷ [])
       → attached ≡ new_at host source sink → source ≡ no_reads → from ≡ no_writes → begun ≡ 0
       → RanServe attached begun → IsServed asked lines came

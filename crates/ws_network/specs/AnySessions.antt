@@ -8,7 +8,7 @@ use Rattle.ws_record.specs.RawBody.{raw_rules}
 use Rattle.ws_record.specs.declared.record.Item.TheVariants.{Telnet}
 use Rattle.ws_end.specs.attached.Attachments.{AttachedParts}
 use Rattle.ws_live.specs.live.LiveText.{Account}
-use Rattle.ws_any_host.specs.AnyLeads.{AnyParts, AnyLeads}
+use Rattle.ws_any_host.specs.AnyReached.{AnyParts, AnyReached}
 use Rattle.ws_any_host.specs.AnyOptions.{new_negotiated, once_opened}
 use Rattle.ws_any_host.specs.AnyText.{AnyRunsInTime}
 use Rattle.ws_any_host.specs.declared.any_line.AnyLine.{AnyLine}
@@ -21,7 +21,7 @@ use Rattle.ws_live.specs.declared.asked.live_asked.ServeAsked.{ServeAsked}
 -- a host whose opening went out carried out the lines, and then took what came
 pub record IsAnyServed (asked : ServeAsked) (lines : List AnyLine) (came : Account) : Type 0 where
   pub host : AnyParts
-  pub opened : AnyLeads host [] [] (once_opened new_negotiated)
+  pub opened : AnyReached host [] [] (once_opened new_negotiated)
   pub sink : ConnectionWrites
   pub told : WentOut timed_writer no_writes sink (plain_spelling raw_rules (Telnet opening ∷ []))
   pub to : (AttachedParts AnyParts ConnectionReads ConnectionWrites × ℕ) × ℕ

@@ -9,10 +9,10 @@ use Rattle.ws_record.specs.declared.record.Item.TheVariants.{Telnet}
 use Rattle.ws_extended.specs.ExtendedElements.{extended_rules}
 use Rattle.ws_extended_station.specs.ExtendedDisplays.{extended}
 use Rattle.ws_end.specs.attached.Attachments.{AttachedParts}
-use Rattle.ws_end.specs.host_end.HostLeads.{HostParts, HostLeads, unopened_host_side, side_after_open}
-use Rattle.ws_end.specs.station.StationManners.{new_side_on}
-use Rattle.ws_end.specs.station.StationSide.{profile}
-use Rattle.ws_end.specs.station.Stations.{LeadsOn}
+use Rattle.ws_end.specs.host_end.HostReached.{HostParts, HostReached, unopened_host_end, state_after_open}
+use Rattle.ws_end.specs.station.StationTransitions.{new_state_on}
+use Rattle.ws_end.specs.station.StationEndState.{profile}
+use Rattle.ws_end.specs.station.Stations.{ReachedOn}
 use Rattle.ws_stream.specs.Elements.{element_rules}
 use Rattle.ws_live.specs.live.ConnectLines.{station_language}
 use Rattle.ws_live.specs.live.ConnectText.{StationRunsInTime}
@@ -49,7 +49,7 @@ module _ (display : LiveDisplay) where
   pub record IsConnected (asked : ConnectAsked) (lines : List (StationLine display.on.Pressed)) (came : Account) : Type
       0 where
     pub station : StationOf display.on
-    pub new : LeadsOn display.on station [] [] (new_side_on display.on.does asked.terminal)
+    pub new : ReachedOn display.on station [] [] (new_state_on display.on.does asked.terminal)
     pub to : (AttachedParts (StationOf display.on) ConnectionReads ConnectionWrites × ℕ) × ℕ
     pub is_over : Bool
     pub ran : IsLiveText (WithClosing (StationRunsInTime display timed timed_waits asked.paint) asked.ready)
@@ -58,7 +58,7 @@ module _ (display : LiveDisplay) where
 -- a host end whose opening went out carried out the lines and answered on
 pub record IsServed (asked : ServeAsked) (lines : List HostLine) (came : Account) : Type 0 where
   pub host : HostParts
-  pub opened : HostLeads host [] [] (side_after_open unopened_host_side)
+  pub opened : HostReached host [] [] (state_after_open unopened_host_end)
   pub sink : ConnectionWrites
   pub told : WentOut timed_writer no_writes sink
       (plain_spelling element_rules (Telnet opening ∷ []))

@@ -5,7 +5,7 @@ use Rattle.ws_nego.specs.declared.terminal.TerminalType.TheVariants.{Ibm3179Mode
 use Rattle.ws_screen.specs.ScreenParts.{ScreenParts}
 use Rattle.ws_session.specs.declared.world.Event.{Event}
 use Rattle.ws_session.specs.declared.world.Move.{Move}
-use Rattle.ws_end.specs.station.StationSide.{screen_at}
+use Rattle.ws_end.specs.station.StationEndState.{screen_at}
 use Rattle.ws_session.specs.declared.world.Report.{Report}
 use Rattle.ws_session.specs.world.Reports.{IsReport}
 use Rattle.ws_session.specs.world.Session.{Session, new_session, after_moves}

@@ -42,7 +42,7 @@ use Rattle.ws_nego.specs.declared.terminal.TerminalType.TheVariants.{Ibm3179Mode
 use Rattle.ws_session.specs.declared.world.Event.{Event}
 use Rattle.ws_session.specs.declared.world.Move.{Move}
 use Rattle.ws_session.specs.world.Session.{Session, new_session, after_moves}
-use Rattle.ws_end.specs.station.StationSide.{screen_at}
+use Rattle.ws_end.specs.station.StationEndState.{screen_at}
 use Rattle.ws_live.specs.script.Script.{IsScript, IsFirstBad}
 use Rattle.ws_live.specs.script.ScriptFaults.{IsReadSoFar}
 use Rattle.ws_live.specs.printing.PlayLines.{IsPaintedPlayText, no_end_refuses}

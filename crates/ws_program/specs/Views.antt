@@ -10,7 +10,7 @@ use Rattle.ws_screen.specs.Bodies.{body_fault}
 use Rattle.ws_screen.specs.Events.{History}
 use Rattle.ws_screen.specs.Given.{Gives}
 use Rattle.ws_screen.specs.ScreenParts.{ScreenParts}
-use Rattle.ws_end.specs.station.StationSide.{after_record}
+use Rattle.ws_end.specs.station.StationEndState.{after_record}
 use Rattle.ws_extended.specs.declared.extended_answer_part.ExtendedAnswerPart.{ExtendedAnswerPart}
 use Rattle.ws_text.specs.AnswerLines.{answer_text}
 use Rattle.ws_text.specs.ExtendedAnswerLines.{told_item_text}

@@ -144,7 +144,7 @@ module _ {Place U : Type 0} (rules : Rules Place U) where
       let long = ap length (bytes_on bytes piece i k) in grind (arith, common_steps)
 
   -- What a piece gave that was used up to the end of a front of what is left of it, whatever led to the receiver.
-  pub record IsFronted (bytes : List ℕ) (items : List (Item U)) (piece : List ℕ) (i k : ℕ) (new : Receiving Place U)
+  pub record IsPrefixTaken (bytes : List ℕ) (items : List (Item U)) (piece : List ℕ) (i k : ℕ) (new : Receiving Place U)
       (result : Result (Fed U) Fault) : Type 0 where
     pub given : IsFedGiven (bytes ++ take i piece) items (take k (left_of piece i)) (i + k) new result
     pub held : (n : ℕ) → n < i + k → IsHeld rules items (bytes ++ take n piece)
@@ -154,7 +154,7 @@ module _ {Place U : Type 0} (rules : Rules Place U) where
   abbrev pub IsEachFronted : List ℕ → ℕ → ℕ → Receiving Place U → Receiving Place U → Result (Fed U) Fault → Type 0
   IsEachFronted piece i k old new result = (bytes : List ℕ) (items : List (Item U))
       → HasReceived rules old bytes items → length bytes + length piece + 1 < 2 ^ 64
-      → IsFronted bytes items piece i k new result
+      → IsPrefixTaken bytes items piece i k new result
 
   module _ (piece : List ℕ) (i k : ℕ) (old new : Receiving Place U) where
     pub fed_taken : (result : Result (Fed U) Fault) → IsEachFronted piece i k old new result → IfOk result (λ fed.

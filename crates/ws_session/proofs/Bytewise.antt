@@ -4,17 +4,17 @@ use Rattle.ws_session.proofs.Common as C
 use C.{◌≡◌, ◌+◌, List, [], ◌∷◌, ◌++◌, refl, ℕ, zero, suc, Option, Some, None, ap, inl, inr, length, if◌then◌else◌, Bool}
 use C.{true, false, nat_lt, TerminalType, ending_at, Item, answer_rules, element_rules, AnswerPart, Element, Refuses}
 use C.{GoesOn, Reaction, HostEvent, Event, Host, KeyRefused, SendRefused, Move, ToStation, ToHost, Cancel, Press}
-use C.{HostSide, host_takes, HostOutput, SendReaction, RefusesSend, Sends, StationSide, station_takes, KeyReaction}
-use C.{RefusesKey, is_refusal, refusals_in, Session, new_session, after_moves, after_move, down_bytes, station_did}
-use C.{station_gets, byte_to_station, up_bytes, host_did, host_gets, byte_to_host, events_with, bytes_to_station}
-use C.{bytes_to_host, station_pressed, host_sent}
+use C.{HostEndState, host_takes, HostOutput, SendReaction, RefusesSend, Sends, StationEndState, station_takes}
+use C.{KeyReaction, RefusesKey, is_refusal, refusals_in, Session, new_session, after_moves, after_move, down_bytes}
+use C.{station_did, station_gets, byte_to_station, up_bytes, host_did, host_gets, byte_to_host, events_with}
+use C.{bytes_to_station, bytes_to_host, station_pressed, host_sent}
 use Rattle.std.proofs.lemmas.Bool.{cases_Bool}
 use Rattle.ws_session.specs.declared.world.Move.TheVariants.{Send}
 use Rattle.ws_session.proofs.world.Worlds.{sound}
 
 module _ (P : Session → Type 0) where
   module _ (here : (w : Session) → P w → P (record w { at_station = w.at_station + 1 }))
-      (did : (w : Session) (r : Reaction StationSide (List (Item AnswerPart))) → P w → P (station_did w r)) where
+      (did : (w : Session) (r : Reaction StationEndState (List (Item AnswerPart))) → P w → P (station_did w r)) where
     byte_down : (w : Session) → P w → P (byte_to_station w)
     byte_down w p = by (nat_lt w.at_station (length (down_bytes w))) w.station_refused
         (ending_at element_rules w.down (w.at_station + 1)) where
@@ -30,7 +30,7 @@ module _ (P : Session → Type 0) where
     bytes_down (suc n) w p = bytes_down n _ (byte_down w p)
 
   module _ (here : (w : Session) → P w → P (record w { at_host = w.at_host + 1 }))
-      (did : (w : Session) (r : Reaction HostSide HostOutput) → P w → P (host_did w r)) where
+      (did : (w : Session) (r : Reaction HostEndState HostOutput) → P w → P (host_did w r)) where
     byte_up : (w : Session) → P w → P (byte_to_host w)
     byte_up w p =
         by (nat_lt w.at_host (length (up_bytes w))) w.host_refused (ending_at answer_rules w.up (w.at_host + 1)) where
@@ -62,13 +62,14 @@ tells : (events : List Event) (event : Option HostEvent) → refusals_in events 
 tells events None none = none
 tells events (Some event) none = one_more events (Host event) refl none
 
-station_item : (w : Session) (r : Reaction StationSide (List (Item AnswerPart))) → IsCalm w → IsCalm (station_did w r)
+station_item : (w : Session) (r : Reaction StationEndState (List (Item AnswerPart))) → IsCalm w → IsCalm
+    (station_did w r)
 station_item w (Refuses reason) calm = λ p q. cc
 station_item w (GoesOn station items) calm = calm
 
-host_item : (w : Session) (r : Reaction HostSide HostOutput) → IsCalm w → IsCalm (host_did w r)
+host_item : (w : Session) (r : Reaction HostEndState HostOutput) → IsCalm w → IsCalm (host_did w r)
 host_item w (Refuses reason) calm = λ p q. cc
-host_item w (GoesOn host told) calm = λ p q. tells w.events told.event (calm p q)
+host_item w (GoesOn host end_events) calm = λ p q. tells w.events end_events.event (calm p q)
 
 pressed : (w : Session) (r : KeyReaction) → IsCalm w → IsCalm (station_pressed w r)
 pressed w (RefusesKey fault) calm = λ p q. one_more w.events (KeyRefused fault) refl (calm p q)

@@ -17,15 +17,15 @@ pub use Rattle.ws_end.proofs.Common.{AnswerPart, Element, after_elements, after_
 pub use Rattle.ws_end.proofs.Common.{Edit, ScreenParts, open_write, Field, ReadKind, one_screen, edit_of, events_by}
 pub use Rattle.ws_end.proofs.Common.{key_refusal, read_answer, Read, Attention, SystemRequest, HostAnswer, Key, Send}
 pub use Rattle.ws_end.proofs.Common.{KeyRefusal, came_append, bytes_came, Act, all_came, Happening, doing, items_of}
-pub use Rattle.ws_end.proofs.Common.{HasGone, Arrives, as_list, Manner, Happen, HoldsItems, station_manner, host_manner}
-pub use Rattle.ws_end.proofs.Common.{empty_record, Refuses, GoesOn, TakesNoMore, AtHost, HostLeads, IsSent, IsSendFault}
-pub use Rattle.ws_end.proofs.Common.{HostParts, HostStands, HostSide, sent_record, is_outstanding, after_read}
-pub use Rattle.ws_end.proofs.Common.{event_output, ready_event, host_negotiates, host_reads, host_reads_by}
-pub use Rattle.ws_end.proofs.Common.{host_ends_cancel, signal, host_takes_record, SendReaction, RefusesSend, Sends}
-pub use Rattle.ws_end.proofs.Common.{host_cancel, host_send, answer_spelling, AtStation, StationParts, StationLeads}
-pub use Rattle.ws_end.proofs.Common.{StationSide, opcode_events, after_record, after_key, screen_at, opcode_answer}
-pub use Rattle.ws_end.proofs.Common.{station_applies, station_takes, KeyReaction, RefusesKey, station_key, answers_read}
-pub use Rattle.ws_end.proofs.Common.{key_by_refusal, answer_record}
+pub use Rattle.ws_end.proofs.Common.{IsTrace, Arrives, as_list, Transitions, Happen, HoldsItems, station_transitions}
+pub use Rattle.ws_end.proofs.Common.{host_transitions, empty_record, Refuses, GoesOn, TakesNoMore, AtHost, HostReached}
+pub use Rattle.ws_end.proofs.Common.{IsSent, IsSendFault, HostParts, HostStands, HostEndState, sent_record}
+pub use Rattle.ws_end.proofs.Common.{is_outstanding, after_read, event_output, ready_event, host_negotiates, host_reads}
+pub use Rattle.ws_end.proofs.Common.{host_reads_by, host_ends_cancel, signal, host_takes_record, SendReaction}
+pub use Rattle.ws_end.proofs.Common.{RefusesSend, Sends, host_cancel, host_send, answer_spelling, AtStation}
+pub use Rattle.ws_end.proofs.Common.{StationParts, StationReached, StationEndState, opcode_events, after_record}
+pub use Rattle.ws_end.proofs.Common.{after_key, screen_at, opcode_answer, station_applies, station_takes, KeyReaction}
+pub use Rattle.ws_end.proofs.Common.{RefusesKey, station_key, answers_read, key_by_refusal, answer_record}
 pub use Rattle.std.specs.List.{AllByRecursion}
 pub use Rattle.std.specs.Prelude.{◌||◌, filter}
 pub use Rattle.std.proofs.Common.{add-zero, length-take, unwrap_or, add-suc, replicate}
@@ -58,12 +58,12 @@ pub use Rattle.ws_keys.specs.Splits.{answer_of}
 pub use Rattle.ws_keys.proofs.KeyLaws.{aids_answer}
 pub use Rattle.ws_keys.proofs.ReadingLaws.{own_reading, same_reading}
 pub use Rattle.ws_keys.proofs.StationLaws.{same_apart}
-pub use Rattle.ws_end.specs.Acts.{AllTaken, Goes}
-pub use Rattle.ws_end.specs.Manners.{station_at_item, StationRefuses, HostRefuses, goes_on}
+pub use Rattle.ws_end.specs.Acts.{AllTaken, Traces}
+pub use Rattle.ws_end.specs.EndTransitions.{station_at_item, StationRefuses, HostRefuses, goes_on}
 pub use Rattle.ws_end.specs.Reaction.{Reaction}
 pub use Rattle.ws_session.specs.Telnets.{telnets}
 pub use Rattle.ws_end.specs.declared.end_step.Applied.{Applied}
-pub use Rattle.ws_end.specs.declared.end_step.Order.TheVariants.{Cancel as Cancelling}
+pub use Rattle.ws_end.specs.declared.end_step.HostRequest.TheVariants.{Cancel as Cancelling}
 pub use Rattle.ws_end.specs.declared.host_end.host_event.HostEvent.{HostEvent}
 pub use Rattle.ws_end.specs.declared.host_end.host_event.HostEvent.TheVariants.{Answer as Answered, Cancelled}
 pub use Rattle.ws_end.specs.declared.host_end.host_event.HostEvent.TheVariants.{Attention as AttentionCame}
@@ -87,12 +87,13 @@ pub use Rattle.ws_session.specs.declared.world.Move.TheVariants.{ToStation, ToHo
 pub use Rattle.ws_session.specs.declared.world.Move.TheVariants.{Send as SendMove}
 pub use Rattle.ws_end.specs.driver.Driven.{IsWhy}
 pub use Rattle.ws_end.specs.driver.Reacting.{at_reaction}
-pub use Rattle.ws_end.specs.host_end.HostLeads.{unopened_host_side}
+pub use Rattle.ws_end.specs.host_end.HostReached.{unopened_host_end}
 pub use Rattle.ws_end.specs.host_end.HostReacting.{host_driving}
-pub use Rattle.ws_end.specs.host_end.HostSide.{host_takes, HostOutput, host_sends_body, is_too_big, ready_by_terminal}
+pub use Rattle.ws_end.specs.host_end.HostEndState.{host_takes, HostOutput, host_sends_body, is_too_big}
+pub use Rattle.ws_end.specs.host_end.HostEndState.{ready_by_terminal}
 pub use Rattle.ws_session.specs.world.Answered.{answers_in, answer_in, items_coming, is_answer, answers_coming}
 pub use Rattle.ws_session.specs.world.Answered.{host_answers}
-pub use Rattle.ws_end.specs.station.StationSide.{Silent, Answers, Signals, sends, presses}
+pub use Rattle.ws_end.specs.station.StationEndState.{Silent, Answers, Signals, sends, presses}
 pub use Rattle.ws_session.specs.world.Crossings.{Crossing, with_piece_at, AreFaithful, HaveCrossed, IsStopped, all_sent}
 pub use Rattle.ws_session.specs.world.Crossings.{all_read}
 pub use Rattle.ws_session.specs.world.Deliveries.{delivery, three_deliveries}

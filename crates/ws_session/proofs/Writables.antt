@@ -5,8 +5,8 @@ use C.{AllByRecursion, ◌≡◌, List, [], ◌∷◌, refl, ◌∙◌, ℕ, Opt
 use C.{Bool, true, false, map, Reason, RecordBeforeNegotiation, IsTelnet, Telnet, HostState, Answer}
 use C.{station_allows_records, station_answer, IsInRange, Opcode, CancelInvite, NoOperation, PutGet, Item, RecordItem}
 use C.{TelnetItem, answer_rules, element_rules, AnswerPart, Element, body_fault, ReadKind, HostAnswer, Refuses, GoesOn}
-use C.{Reaction, HostSide, host_negotiates, host_reads, host_reads_by, host_ends_cancel, host_takes_record, host_takes}
-use C.{HostOutput, StationSide, opcode_answer, station_applies, station_takes, AreWritable}
+use C.{Reaction, HostEndState, host_negotiates, host_reads, host_reads_by, host_ends_cancel, host_takes_record}
+use C.{host_takes, HostOutput, StationEndState, opcode_answer, station_applies, station_takes, AreWritable}
 use Rattle.std.proofs.lemmas.Bool.{cases_Bool}
 use Rattle.ws_nego.proofs.Replies.{reply_in_range, Ranges, host_reply_in_range}
 
@@ -23,31 +23,32 @@ opcode_writable CancelInvite = (((record { chain = tt; ends = refl }, omega arit
 opcode_writable o = (tt, tt)
 
 -- what the station answers to an item that can be written can be written
-pub answers_writable : (side : StationSide) (item : Item Element) (next : StationSide) (writes : List (Item AnswerPart))
-    → IsInRange item → station_takes side item ≡ GoesOn next writes → AreWritable answer_rules writes
-answers_writable side (TelnetItem token) next writes range e =
-    let same : map TelnetItem (station_answer side.options token).reply ≡ writes = ap (written_of []) e in
-    rw (← same) (tokens_writable (station_answer side.options token).reply (reply_in_range side.options token range))
-answers_writable side (RecordItem r) next writes range e = elim (cases_Bool (station_allows_records side.options))
+pub answers_writable : (state : StationEndState) (item : Item Element) (next : StationEndState)
+    (writes : List (Item AnswerPart)) → IsInRange item → station_takes state item ≡ GoesOn next writes
+    → AreWritable answer_rules writes
+answers_writable state (TelnetItem token) next writes range e =
+    let same : map TelnetItem (station_answer state.options token).reply ≡ writes = ap (written_of []) e in
+    rw (← same) (tokens_writable (station_answer state.options token).reply (reply_in_range state.options token range))
+answers_writable state (RecordItem r) next writes range e = elim (cases_Bool (station_allows_records state.options))
     [ inl a ↦ by_fault _ refl (rw a at e) | inr a ↦ (let never = rw a at e in cc) ] where
-      by_fault : (o : Option Reason) → body_fault side.happened r.body ≡ o → station_applies side r
-          (body_fault side.happened r.body) ≡ GoesOn next writes → AreWritable answer_rules writes
+      by_fault : (o : Option Reason) → body_fault state.happened r.body ≡ o → station_applies state r
+          (body_fault state.happened r.body) ≡ GoesOn next writes → AreWritable answer_rules writes
       by_fault None f a =
-          let same : opcode_answer r.opcode ≡ writes = ap (written_of []) (sym (ap (station_applies side r) f) ∙ a) in
+          let same : opcode_answer r.opcode ≡ writes = ap (written_of []) (sym (ap (station_applies state r) f) ∙ a) in
           rw (← same) (opcode_writable r.opcode)
       by_fault (Some reason) f a =
-          let never : Refuses reason ≡ GoesOn next writes = sym (ap (station_applies side r) f) ∙ a in cc
+          let never : Refuses reason ≡ GoesOn next writes = sym (ap (station_applies state r) f) ∙ a in cc
 
 host_tokens_writable : (ts : List Telnet) → AllByRecursion IsTelnet ts → AreWritable element_rules (map TelnetItem ts)
 host_tokens_writable [] a = (tt, tt)
 host_tokens_writable (t ∷ ts) a = let rest = host_tokens_writable ts a.1 in ((tt, rest.0), (a.0, rest.1))
 
 -- what a reaction writes can be written
-abbrev pub WritesWell : Reaction HostSide HostOutput → Type 0
+abbrev pub WritesWell : Reaction HostEndState HostOutput → Type 0
 WritesWell (Refuses reason) = Unit {0}
-WritesWell (GoesOn end told) = AreWritable element_rules told.items
+WritesWell (GoesOn end end_events) = AreWritable element_rules end_events.items
 
-record_writes : (h : HostSide) (flags : ℕ) (o : Opcode) (parts : List AnswerPart)
+record_writes : (h : HostEndState) (flags : ℕ) (o : Opcode) (parts : List AnswerPart)
     → WritesWell (host_takes_record h flags o parts)
 record_writes h flags PutGet parts = by_kind _ where
   by_answer : (o : Option HostAnswer) → WritesWell (host_reads h o)
@@ -64,7 +65,7 @@ record_writes h flags CancelInvite [] = by_test _ where
 record_writes h flags NoOperation [] = (tt, tt)
 record_writes h flags o parts = tt
 
-pub host_writes_well : (h : HostSide) (item : Item AnswerPart) → IsInRange item → WritesWell (host_takes h item)
+pub host_writes_well : (h : HostEndState) (item : Item AnswerPart) → IsInRange item → WritesWell (host_takes h item)
 host_writes_well h (TelnetItem token) range = by_answer _ (host_reply_in_range h.options token range) where
   by_answer : (o : Option (Answer HostState)) → Ranges o → WritesWell (host_negotiates h o)
   by_answer None a = tt

@@ -5,7 +5,7 @@ use C.{IfOk, IfErr, ◌≡◌, ◌+◌, ◌≤◌, List, [], ◌++◌, refl, ◌
 use C.{length, length-append, ◌≢◌, Err, Ok, Result, ◌*◌, Writer, Reader, FailedWithin, Gave, most_reads, one_more}
 use C.{Fault, Write, Refused, Truncated, gave_more, gave_all, TerminalType, IsInGrammar, IsTruncated, Item}
 use C.{element_rules, Element, Place, Key, HaveBroughtPlayer, HasDone, IsRunFault, IsRun, refusal_count, behind, Player}
-use C.{outcome, due, later, AtStation, StationParts, StationLeads, StationSide, new_station_side}
+use C.{outcome, due, later, AtStation, StationParts, StationReached, StationEndState, new_station_end}
 use Rattle.ws_code.specs.declared.fault.Fault.TheVariants.{Read}
 use Rattle.ws_end.specs.declared.attached.run.Played.{Played}
 use Rattle.ws_end.proofs.attached.PlaySteps.{keys_taken}
@@ -29,16 +29,16 @@ module _ {R S : Type 0} (reader : Reader R) (writer : Writer S) (t : TerminalTyp
   -- before the first read the keys are pressed that wait for no record
   pub run_starts : (station : StationParts) (source : R) (sink here : S) (player : Player)
       → HasDone writer [] [] (record { station = station; records = 0; pressed = 0; keys_refused = 0 })
-      player sink here (outcome (new_station_side t) (due 0 keys)) → drop player.pressed keys ≡ later 0 keys
+      player sink here (outcome (new_station_end t) (due 0 keys)) → drop player.pressed keys ≡ later 0 keys
       → Reading reader source source 0 writer t keys sink here player
   run_starts station source sink here player done left = record {
     bytes = [];
     items = [];
     gave = gave_none _;
     come = record {
-      is_behind = record { leads = done.leads; taken = keys_taken _ 0 keys };
-      refused = done.refused 0 refl ∙ ap refusal_count (let e : 0 + (outcome (new_station_side t) (due 0 keys)).refused
-          ≡ (outcome (new_station_side t) (due 0 keys)).refused = omega arith in e);
+      is_behind = record { reached = done.reached; taken = keys_taken _ 0 keys };
+      refused = done.refused 0 refl ∙ ap refusal_count (let e : 0 + (outcome (new_station_end t) (due 0 keys)).refused
+          ≡ (outcome (new_station_end t) (due 0 keys)).refused = omega arith in e);
       records = done.records;
       left = left;
       few = omega (arith, done.records);
@@ -47,8 +47,9 @@ module _ {R S : Type 0} (reader : Reader R) (writer : Writer S) (t : TerminalTyp
     few = omega arith;
   }
 
-  pub start_fails : (station : StationParts) (source : R) (sink here : S) → StationLeads station [] [] (new_station_side
-      t) → FailedWithin writer sink here (text_of (outcome (new_station_side t) (due 0 keys)).written)
+  pub start_fails : (station : StationParts) (source : R) (sink here : S) → StationReached station [] []
+      (new_station_end
+      t) → FailedWithin writer sink here (text_of (outcome (new_station_end t) (due 0 keys)).written)
       → IsRun (asked t keys) (passing (on_devices writer reader) sink here source source)
       (Err Write)
   start_fails station source sink here l failed = record {
@@ -62,7 +63,7 @@ module _ {R S : Type 0} (reader : Reader R) (writer : Writer S) (t : TerminalTyp
       items = [];
       so_far = l.so_far.bytes;
       begun = station.live.begun;
-      holds = l.leads.holds;
+      holds = l.reached.holds;
       taken = keys_taken _ 0 keys;
       failed = failed;
     };
@@ -75,22 +76,22 @@ module _ {R S : Type 0} (reader : Reader R) (writer : Writer S) (t : TerminalTyp
         → reader.gives now room (Some []) now'
         → reader.failures now' ≡ reader.failures now
         → IfOk result (λ played. (played.station ≡ player.station) × (played.keys_refused
-        ≡ player.keys_refused) × AtStation player.station (λ bytes items side. IsInGrammar element_rules bytes items))
-        → IfErr result (λ fault. (bytes : List ℕ) (items : List (Item Element)) (side : StationSide)
-        → StationLeads player.station bytes items side → length bytes + 1 < 2 ^ 64
+        ≡ player.keys_refused) × AtStation player.station (λ bytes items state. IsInGrammar element_rules bytes items))
+        → IfErr result (λ fault. (bytes : List ℕ) (items : List (Item Element)) (state : StationEndState)
+        → StationReached player.station bytes items state → length bytes + 1 < 2 ^ 64
         → (fault ≡ Truncated (length bytes)) × IsTruncated {Place = Place} {U = Element} element_rules bytes)
         → IsRun (asked t keys) (passing (on_devices writer reader) sink here source now') result
     run_ends now' room (Ok played) h made same ok err = record {
       bytes = r.bytes;
       items = r.items;
       gave = gave_all reader source now now' reads r.bytes room r.gave one_left h made same;
-      accepted = ok.2 r.bytes r.items (behind (asked t keys) r.items).side r.come.is_behind.leads;
-      is_behind = record { leads = rw ok.0 r.come.is_behind.leads; taken = r.come.is_behind.taken };
+      accepted = ok.2 r.bytes r.items (behind (asked t keys) r.items).state r.come.is_behind.reached;
+      is_behind = record { reached = rw ok.0 r.come.is_behind.reached; taken = r.come.is_behind.taken };
       refused = ok.1 ∙ r.come.refused;
       wrote = r.come.wrote;
     }
     run_ends now' room (Err fault) h made same ok err =
-        let e = err r.bytes r.items (behind (asked t keys) r.items).side r.come.is_behind.leads
+        let e = err r.bytes r.items (behind (asked t keys) r.items).state r.come.is_behind.reached
         (omega (arith, r.few, one_left)) in
         rw e.0 (record {
           bytes = r.bytes;

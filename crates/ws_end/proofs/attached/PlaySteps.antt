@@ -1,4 +1,4 @@
--- What a front of a piece makes of a run's player.
+-- What a prefix of a piece makes of a run's player.
 
 use Rattle.ws_end.proofs.Common as C
 use C.{◌≡◌, ◌+◌, ◌≤◌, List, [], ◌∷◌, ◌++◌, refl, subst, ◌∙◌, ℕ, ◌<◌, take, drop, ap, sym, arith, take-append-drop, ◌^◌}
@@ -8,52 +8,52 @@ use C.{failed_within_both, TerminalType, Item, RecordItem, TelnetItem, element_r
 use C.{fault_of, HaveBroughtPlayer, HasDone, records_from, keys_left_from, IsRunFault, refusal_count, behind, run_text}
 use C.{RunUnwritten, Player, Refusal, At, EndStep, Presses, outcome, due, later, Moment, Outcome, idle_outcome}
 use C.{outcome_of_both, at_item, at_moment, AreTaken, records_in_item, moments_from, moments, AtStation, StationParts}
-use C.{StationLeads, is_record, StationSide, new_station_side, Applied, told_by, is_some, Option, AnswerPart, None, ◌⊎◌}
-use C.{IsFronted, Failed, Memory, GoesOn, Result, answer_rules, plain_spelling, station_takes}
+use C.{StationReached, is_record, StationEndState, new_station_end, Applied, event_by, is_some, Option, AnswerPart}
+use C.{None, ◌⊎◌, IsPrefixTaken, Failed, Memory, GoesOn, Result, answer_rules, plain_spelling, station_takes}
 use Rattle.std.proofs.lemmas.Bool.{cases_Bool}
 use Rattle.ws_end.specs.station.Moments.{Arrives}
 use Rattle.ws_end.specs.Reaction.{goes_on}
 use Rattle.ws_end.specs.station.Stations.{station_driving}
 use Rattle.ws_end.proofs.attached.Plays.{outcome_append, text_append, later_by, none_due, text_of}
 use Rattle.ws_end.specs.attached.StationRun.{asked, outflow}
-use Rattle.ws_end.specs.station.StationSide.{on_profile}
+use Rattle.ws_end.specs.station.StationEndState.{on_profile}
 
 -- the last of these bytes completes an item, at which the station goes on with this reply
-record TakesItem (new : StationParts) (bytes : List ℕ) (items : List (Item Element)) (side : StationSide)
+record TakesItem (new : StationParts) (bytes : List ℕ) (items : List (Item Element)) (state : StationEndState)
     (reply : List ℕ) : Type 0 where
   item : Item Element
-  next : StationSide
+  next : StationEndState
   writes : List (Item AnswerPart)
-  goes_on : station_takes side item ≡ GoesOn next writes
+  goes_on : station_takes state item ≡ GoesOn next writes
   spelled : reply ≡ plain_spelling answer_rules writes
-  leads : StationLeads new bytes (items ++ item ∷ []) next
+  reached : StationReached new bytes (items ++ item ∷ []) next
 
--- what a front gives at which the station goes on
-parts : (new : StationParts) (bytes : List ℕ) (items : List (Item Element)) (side : StationSide)
-    (step : EndStep Applied (List ℕ)) → IsFronted (station_driving on_profile) new bytes items side (Ok step)
-    → (StationLeads new bytes items side × (step.reply ≡ []) × (step.event ≡ None))
-    ⊎ ((taken : TakesItem new bytes items side step.reply) × (step.event ≡ told_by (is_record taken.item)))
-parts new bytes items side step (inl q) = inl q
-parts new bytes items side step (inr q) = inr (
-  record { item = q.0; next = q.1; writes = q.2; goes_on = q.3; spelled = q.4; leads = q.6 },
+-- what a prefix gives at which the station goes on
+parts : (new : StationParts) (bytes : List ℕ) (items : List (Item Element)) (state : StationEndState)
+    (step : EndStep Applied (List ℕ)) → IsPrefixTaken (station_driving on_profile) new bytes items state (Ok step)
+    → (StationReached new bytes items state × (step.reply ≡ []) × (step.event ≡ None))
+    ⊎ ((taken : TakesItem new bytes items state step.reply) × (step.event ≡ event_by (is_record taken.item)))
+parts new bytes items state step (inl q) = inl q
+parts new bytes items state step (inr q) = inr (
+  record { item = q.0; next = q.1; writes = q.2; goes_on = q.3; spelled = q.4; reached = q.6 },
   q.5,
 )
 
--- what a front gives is known, or its bytes
-pub known_step : (new : StationParts) (bytes : List ℕ) (items : List (Item Element)) (side : StationSide)
+-- what a prefix gives is known, or its bytes
+pub known_step : (new : StationParts) (bytes : List ℕ) (items : List (Item Element)) (state : StationEndState)
     (step is : Result (EndStep Applied (List ℕ)) Refusal) → step ≡ is
-    → IsFronted (station_driving on_profile) new bytes items side step
-    → IsFronted (station_driving on_profile) new bytes items side is
-known_step new bytes items side step is e f =
-    subst (λ (z : Result (EndStep Applied (List ℕ)) Refusal). IsFronted (station_driving on_profile) new bytes items
-    side z) e f
+    → IsPrefixTaken (station_driving on_profile) new bytes items state step
+    → IsPrefixTaken (station_driving on_profile) new bytes items state is
+known_step new bytes items state step is e f =
+    subst (λ (z : Result (EndStep Applied (List ℕ)) Refusal). IsPrefixTaken (station_driving on_profile) new bytes items
+    state z) e f
 
-pub known_bytes : (new : StationParts) (bytes front is : List ℕ) (items : List (Item Element)) (side : StationSide)
-    (step : Result (EndStep Applied (List ℕ)) Refusal) → front ≡ is
-    → IsFronted (station_driving on_profile) new (bytes ++ front) items side step
-    → IsFronted (station_driving on_profile) new (bytes ++ is) items side step
-known_bytes new bytes front is items side step e f =
-    subst (λ (z : List ℕ). IsFronted (station_driving on_profile) new (bytes ++ z) items side step) e f
+pub known_bytes : (new : StationParts) (bytes prefix is : List ℕ) (items : List (Item Element))
+    (state : StationEndState) (step : Result (EndStep Applied (List ℕ)) Refusal) → prefix ≡ is
+    → IsPrefixTaken (station_driving on_profile) new (bytes ++ prefix) items state step
+    → IsPrefixTaken (station_driving on_profile) new (bytes ++ is) items state step
+known_bytes new bytes prefix is items state step e f =
+    subst (λ (z : List ℕ). IsPrefixTaken (station_driving on_profile) new (bytes ++ z) items state step) e f
 
 -- ---- the moments of one item more
 
@@ -93,21 +93,21 @@ pub left_settled : (n : ℕ) (keys : List (ℕ × Key)) (items : List (Item Elem
 left_settled n keys [] = due_later n keys
 left_settled n keys (i ∷ items) = left_settled (n + records_in_item i) (later n keys) items
 
-taken_append : (s : StationSide) (ms ns : List Moment) → AreTaken s ms → AreTaken (outcome s ms).side ns
+taken_append : (s : StationEndState) (ms ns : List Moment) → AreTaken s ms → AreTaken (outcome s ms).state ns
     → AreTaken s (ms ++ ns)
 taken_append s [] ns a b = b
-taken_append s (m ∷ ms) ns a b = (a.0, taken_append (at_moment s m).side ms ns a.1 b)
+taken_append s (m ∷ ms) ns a b = (a.0, taken_append (at_moment s m).state ms ns a.1 b)
 
-pub keys_taken : (s : StationSide) (n : ℕ) (ks : List (ℕ × Key)) → AreTaken s (due n ks)
+pub keys_taken : (s : StationEndState) (n : ℕ) (ks : List (ℕ × Key)) → AreTaken s (due n ks)
 keys_taken s n [] = tt
 keys_taken s n (k ∷ ks) = elim (cases_Bool (nat_lt n k.0)) [
   | inl e ↦ rw e tt
-  | inr e ↦ rw e (refl, keys_taken (at_moment s (Presses k.1)).side n ks)
+  | inr e ↦ rw e (refl, keys_taken (at_moment s (Presses k.1)).state n ks)
 ]
 
 -- one record is counted, and no Telnet command
 -- a record ends where something is told
-ends_with : (event : Option Applied) (ends : Bool) → event ≡ told_by ends → is_some event ≡ ends
+ends_with : (event : Option Applied) (ends : Bool) → event ≡ event_by ends → is_some event ≡ ends
 ends_with event true e = ap is_some e
 ends_with event false e = ap is_some e
 
@@ -134,10 +134,10 @@ module _ {S : Type 0} (writer : Writer S) (t : TerminalType) (keys : List (ℕ �
     size = omega (arith, length-append bytes (take used piece), length-take-le used piece within)
 
     -- no item is complete
-    inside_comes : (reply : List ℕ) (to : S) → reply ≡ [] → StationLeads old.station longer items so_far.side
+    inside_comes : (reply : List ℕ) (to : S) → reply ≡ [] → StationReached old.station longer items so_far.state
         → WentOut writer now to reply → HaveBroughtPlayer (asked t keys) (outflow writer start to) old longer items
-    inside_comes reply to silent leads went = record {
-      is_behind = record { leads = leads; taken = c.is_behind.taken };
+    inside_comes reply to silent reached went = record {
+      is_behind = record { reached = reached; taken = c.is_behind.taken };
       refused = c.refused;
       records = c.records;
       left = c.left;
@@ -147,7 +147,7 @@ module _ {S : Type 0} (writer : Writer S) (t : TerminalType) (keys : List (ℕ �
     }
 
     module _ (reply : List ℕ)
-        (taken : TakesItem old.station longer items so_far.side reply) where
+        (taken : TakesItem old.station longer items so_far.state reply) where
       abbrev more : List (Item Element)
       more = items ++ taken.item ∷ []
 
@@ -155,21 +155,21 @@ module _ {S : Type 0} (writer : Writer S) (t : TerminalType) (keys : List (ℕ �
       due_then = due (records_from 0 items + records_in_item taken.item) (keys_left_from 0 keys items)
 
       abbrev did : Outcome
-      did = record { side = taken.next; written = taken.writes; refused = 0 }
+      did = record { state = taken.next; written = taken.writes; refused = 0 }
 
       abbrev keyed : Outcome
       keyed = outcome taken.next due_then
 
       one_more : behind (asked t keys) more ≡ outcome_of_both so_far (outcome_of_both did keyed)
-      one_more = ap (outcome (new_station_side t)) (moments_more 0 keys items _)
-          ∙ outcome_append _ _ _ ∙ ap (λ r. let a : Outcome = at_item so_far.side r in
-          outcome_of_both so_far (outcome_of_both a (outcome a.side due_then))) taken.goes_on
+      one_more = ap (outcome (new_station_end t)) (moments_more 0 keys items _)
+          ∙ outcome_append _ _ _ ∙ ap (λ r. let a : Outcome = at_item so_far.state r in
+          outcome_of_both so_far (outcome_of_both a (outcome a.state due_then))) taken.goes_on
 
-      taken_more : AreTaken (new_station_side t) (moments keys more)
+      taken_more : AreTaken (new_station_end t) (moments keys more)
       taken_more = rw (moments_more 0 keys items taken.item)
-          (taken_append (new_station_side t) (moments keys items) (Arrives taken.item ∷ due_then) c.is_behind.taken (
+          (taken_append (new_station_end t) (moments keys items) (Arrives taken.item ∷ due_then) c.is_behind.taken (
             ap goes_on taken.goes_on,
-            keys_taken (at_moment so_far.side (Arrives taken.item)).side
+            keys_taken (at_moment so_far.state (Arrives taken.item)).state
                 (records_from 0 items + records_in_item taken.item) (keys_left_from 0 keys items),
           ))
 
@@ -187,7 +187,7 @@ module _ {S : Type 0} (writer : Writer S) (t : TerminalType) (keys : List (ℕ �
           0 keys items) → records_in_item taken.item ≤ 1
           → HaveBroughtPlayer (asked t keys) (outflow writer start to) new longer more
       item_comes records new mid to is went done left one = record {
-        is_behind = record { leads = rw one_more done.leads; taken = taken_more };
+        is_behind = record { reached = rw one_more done.reached; taken = taken_more };
         refused = done.refused so_far.refused c.refused ∙ ap refusal_count
             (let e : so_far.refused + keyed.refused ≡ so_far.refused + (0 + keyed.refused) = omega arith in e)
             ∙ ap (λ (o : Outcome). refusal_count o.refused) (sym one_more);
@@ -206,9 +206,9 @@ module _ {S : Type 0} (writer : Writer S) (t : TerminalType) (keys : List (ℕ �
         after = drop used piece;
         split = ap (λ z. bytes ++ z) (sym (take-append-drop used piece)) ∙ sym (append_assoc bytes _ _);
         items = more;
-        so_far = taken.leads.so_far.bytes;
+        so_far = taken.reached.so_far.bytes;
         begun = old.station.live.begun;
-        holds = taken.leads.leads.holds;
+        holds = taken.reached.reached.holds;
         taken = taken_more;
         failed = failed;
       }
@@ -228,17 +228,17 @@ module _ {S : Type 0} (writer : Writer S) (t : TerminalType) (keys : List (ℕ �
           unwritten to (rw (← text) (failed_within_both writer start mid to
           (xs ++ reply) ys [] (went_out_both writer start now mid xs reply c.wrote went) failed))
 
-    -- ---- by what the front has done
+    -- ---- by what the prefix has done
     module _ (few : length bytes + length piece + 1 < 2 ^ 64) where
       room : length longer + 1 < 2 ^ 64
       room = omega (arith, few, size, within)
 
       module _ (step : EndStep Applied (List ℕ))
-          (fronted : IsFronted (station_driving on_profile) old.station longer items so_far.side (Ok step)) where
+          (prefixed : IsPrefixTaken (station_driving on_profile) old.station longer items so_far.state (Ok step)) where
         -- the reply isn't written
         pub reply_fails : (to : S) → FailedWithin writer now to step.reply
             → RunUnwritten (asked t keys) (outflow writer start to) (bytes ++ piece)
-        reply_fails to failed = elim (parts old.station longer items so_far.side step fronted) [
+        reply_fails to failed = elim (parts old.station longer items so_far.state step prefixed) [
           | inl i ↦ (let none = rw i.1 at failed in
               absurd (let e : 0 < 0 = omega (arith, none.within) in omega (arith, e)))
           | inr taken ↦ reply_unwritten step.reply taken.0 to failed
@@ -247,7 +247,7 @@ module _ {S : Type 0} (writer : Writer S) (t : TerminalType) (keys : List (ℕ �
         -- it ends no record
         pub no_record : (to : S) → is_some step.event ≡ false → WentOut writer now to step.reply
             → (next : List (Item Element)) × HaveBroughtPlayer (asked t keys) (outflow writer start to) old longer next
-        no_record to e went = elim (parts old.station longer items so_far.side step fronted) [
+        no_record to e went = elim (parts old.station longer items so_far.state step prefixed) [
           | inl i ↦ (items, inside_comes step.reply to i.1 i.0 went)
           | inr taken ↦ (let item : Item Element = taken.0.item in
               let one : records_in_item item ≡ 0 = one_of item (is_some step.event)
@@ -256,10 +256,10 @@ module _ {S : Type 0} (writer : Writer S) (t : TerminalType) (keys : List (ℕ �
               let settled = left_settled 0 keys items in
               let none : due (records_from 0 items + records_in_item item)
               (keys_left_from 0 keys items) ≡ [] = ap (λ n. due n (keys_left_from 0 keys items)) same ∙ settled.0 in
-              let side : StationSide = taken.0.next in
+              let state : StationEndState = taken.0.next in
               let done : HasDone writer longer
-              (items ++ item ∷ []) (record old { records = old.records }) old to to (idle_outcome side) = record {
-                leads = taken.0.leads;
+              (items ++ item ∷ []) (record old { records = old.records }) old to to (idle_outcome state) = record {
+                reached = taken.0.reached;
                 refused = λ n is. is ∙ ap refusal_count (let f : n ≡ n + 0 = omega arith in f);
                 records = refl;
                 wrote = went_out_none writer to;
@@ -267,7 +267,7 @@ module _ {S : Type 0} (writer : Writer S) (t : TerminalType) (keys : List (ℕ �
                 items ++ item ∷ [],
                 item_comes step.reply taken.0 _ old to to (omega (arith, one)) went
                     (subst (λ (ms : List Moment). HasDone writer longer (items ++ item ∷ [])
-                    (record old { records = old.records }) old to to (outcome side ms)) (sym none) done) (c.left
+                    (record old { records = old.records }) old to to (outcome state ms)) (sym none) done) (c.left
                     ∙ sym settled.1 ∙ ap (λ n. later n (keys_left_from 0 keys items)) (sym same)) (omega (arith, one)),
               ))
         ]
@@ -275,7 +275,7 @@ module _ {S : Type 0} (writer : Writer S) (t : TerminalType) (keys : List (ℕ �
         -- it ends one
         module _ (ends : is_some step.event ≡ true) (records : ℕ) (is : records ≡ min (old.records + 1) (2 ^ 64 - 1))
             (mid : S) (went : WentOut writer now mid step.reply) where
-          counts : (item : Item Element) → step.event ≡ told_by (is_record item) → (records_in_item item ≡ 1)
+          counts : (item : Item Element) → step.event ≡ event_by (is_record item) → (records_in_item item ≡ 1)
               × (records ≡ old.records + records_in_item item) × (records ≡ records_from 0 items + records_in_item item)
           counts item e =
               let one : records_in_item item ≡ 1 = one_of_record item (is_some step.event)
@@ -284,59 +284,61 @@ module _ {S : Type 0} (writer : Writer S) (t : TerminalType) (keys : List (ℕ �
               omega (arith, one, is, c.few, few) in
               (one, f, f ∙ ap (λ n. n + records_in_item item) c.records)
 
-          now_due : (item : Item Element) → step.event ≡ told_by (is_record item) → due records (drop old.pressed keys)
+          now_due : (item : Item Element) → step.event ≡ event_by (is_record item) → due records (drop old.pressed keys)
               ≡ due (records_from 0 items + records_in_item item) (keys_left_from 0 keys items)
           now_due item e = ap (λ z. due z (drop old.pressed keys)) (counts item e).2
               ∙ ap (due (records_from 0 items + records_in_item item)) c.left
 
-          pub record_comes : (new : Player) (to : S) → AtStation old.station (λ bytes items side. length bytes + 1
-              < 2 ^ 64 → HasDone writer bytes items (record old { records = records }) new mid to (outcome side
+          pub record_comes : (new : Player) (to : S) → AtStation old.station (λ bytes items state. length bytes + 1
+              < 2 ^ 64 → HasDone writer bytes items (record old { records = records }) new mid to (outcome state
               (due records (drop old.pressed keys)))) → drop new.pressed keys ≡ later records (drop old.pressed keys)
               → (next : List (Item Element))
               × HaveBroughtPlayer (asked t keys) (outflow writer start to) new longer next
-          record_comes new to done left = elim (parts old.station longer items so_far.side step fronted) [
+          record_comes new to done left = elim (parts old.station longer items so_far.state step prefixed) [
             | inl i ↦ absurd (let e : true ≡ false = sym ends ∙ ap is_some i.2 in cc)
             | inr taken ↦ (let item : Item Element = taken.0.item in
                 let n = counts item taken.1 in (
                   items ++ item ∷ [],
                   item_comes step.reply taken.0 _ new mid to n.1 went (rw (← now_due item taken.1) (done longer (items
-                      ++ item ∷ []) taken.0.next taken.0.leads room))
+                      ++ item ∷ []) taken.0.next taken.0.reached room))
                       (left ∙ ap (λ z. later z (drop old.pressed keys)) n.2
                       ∙ ap (later (records_from 0 items + records_in_item item)) c.left) (omega (arith, n.0)),
                 ))
           ]
 
-          pub keys_fail : (to : S) → AtStation old.station (λ bytes items side. length bytes + 1 < 2 ^ 64 → FailedWithin
-              writer mid to (text_of (outcome side (due records (drop old.pressed keys))).written))
+          pub keys_fail : (to : S) → AtStation old.station (λ bytes items state. length bytes + 1 < 2 ^ 64
+              → FailedWithin
+              writer mid to (text_of (outcome state (due records (drop old.pressed keys))).written))
               → RunUnwritten (asked t keys) (outflow writer start to) (bytes ++ piece)
-          keys_fail to failed = elim (parts old.station longer items so_far.side step fronted) [
+          keys_fail to failed = elim (parts old.station longer items so_far.state step prefixed) [
             | inl i ↦ absurd (let e : true ≡ false = sym ends ∙ ap is_some i.2 in cc)
             | inr taken ↦ keys_unwritten step.reply taken.0 mid to went
                 (rw (← now_due taken.0.item taken.1) (failed longer (items ++ taken.0.item ∷ [])
-                taken.0.next taken.0.leads room))
+                taken.0.next taken.0.reached room))
           ]
 
--- the byte behind a front is refused, or its item
+-- the byte behind a prefix is refused, or its item
 pub refused_as : {S : Type 0} (writer : Writer S) (t : TerminalType) (keys : List (ℕ × Key))
     (start now : S) (old : Player) (new : StationParts) (bytes : List ℕ) (items : List (Item Element))
     → HaveBroughtPlayer (asked t keys) (outflow writer start now) old bytes items
-    → (piece front : List ℕ) (byte : ℕ) (rest : List ℕ)
-    → piece ≡ front ++ byte ∷ rest → HoldsItems element_rules (bytes ++ front) items → (refusal : Refusal)
-    → IsFronted (station_driving on_profile) new (bytes ++ (front ++ byte ∷ [])) items (behind (asked t keys) items).side
-    (Err refusal)
+    → (piece prefix : List ℕ) (byte : ℕ) (rest : List ℕ)
+    → piece ≡ prefix ++ byte ∷ rest → HoldsItems element_rules (bytes ++ prefix) items → (refusal : Refusal)
+    → IsPrefixTaken (station_driving on_profile) new (bytes ++ (prefix ++ byte ∷ [])) items
+    (behind (asked t keys) items).state (Err refusal)
     → IsRunFault (asked t keys) (outflow writer start now) (length bytes) (bytes ++ piece) (fault_of refusal)
-refused_as writer t keys start now old new bytes items c piece front byte rest split held (At place reason) f =
-    let upto : (bytes ++ front) ++ byte ∷ [] ≡ bytes ++ (front ++ byte ∷ []) = append_assoc bytes front (byte ∷ []) in
-    let at : place ≡ length (bytes ++ front) =
-    omega (arith, f.0.0, ap length upto, length-append (bytes ++ front) (byte ∷ [])) in
+refused_as writer t keys start now old new bytes items c piece prefix byte rest split held (At place reason) f =
+    let upto : (bytes ++ prefix) ++ byte ∷ [] ≡ bytes ++ (prefix ++ byte ∷ []) = append_assoc bytes prefix
+    (byte ∷ []) in
+    let at : place ≡ length (bytes ++ prefix) =
+    omega (arith, f.0.0, ap length upto, length-append (bytes ++ prefix) (byte ∷ [])) in
     record {
       before = bytes;
-      front = front;
+      prefix = prefix;
       byte = byte;
       after = rest;
-      split = ap (λ z. bytes ++ z) split ∙ sym (append_assoc bytes front (byte ∷ rest));
+      split = ap (λ z. bytes ++ z) split ∙ sym (append_assoc bytes prefix (byte ∷ rest));
       at_place = at;
-      prompt = omega (arith, at, length-append bytes front);
+      prompt = omega (arith, at, length-append bytes prefix);
       items = items;
       station = old.station;
       is_behind = c.is_behind;
@@ -344,8 +346,8 @@ refused_as writer t keys start now old new bytes items c piece front byte rest s
       why = rw upto f.0.1;
       wrote = c.wrote;
     }
-refused_as writer t keys start now old new bytes items c piece front byte rest split held Failed f = f.0
-refused_as writer t keys start now old new bytes items c piece front byte rest split held Memory f =
+refused_as writer t keys start now old new bytes items c piece prefix byte rest split held Failed f = f.0
+refused_as writer t keys start now old new bytes items c piece prefix byte rest split held Memory f =
     absurd (elim f.0 [ inl q ↦ cc q.0 | inr item ↦ item.so.3 ])
 
 -- a fault of a last read is one where that read began earlier
@@ -355,7 +357,7 @@ pub fault_within : (t : TerminalType) (keys : List (ℕ × Key)) {S : Type 0} (w
     → IsRunFault (asked t keys) (outflow writer start now) first' bytes fault
 fault_within t keys writer start now first first' bytes (Refused place reason) le f = record {
   before = f.before;
-  front = f.front;
+  prefix = f.prefix;
   byte = f.byte;
   after = f.after;
   split = f.split;

@@ -8,7 +8,7 @@ use Rattle.ws_code.specs.Device.{Writer, Reader, WentOut, FailedWithin, Gave, Ga
 use Rattle.ws_end.specs.declared.refusal.Refusal.{Refusal}
 use Rattle.ws_end.specs.declared.refusal.Refusal.TheVariants.{At, Failed, Memory}
 use Rattle.ws_end.specs.Acts.{Act, all_came, as_list}
-use Rattle.ws_end.specs.Conduct.{Conduct}
+use Rattle.ws_end.specs.Behaviour.{Behaviour}
 
 -- the end, its devices, the bytes that were read and that it hasn't taken yet, and whether it takes no more: a write
 -- has failed, or the end has refused a byte
@@ -36,66 +36,67 @@ module _ {E S K : Type 0} (writer : Writer K) where
   HasWrittenBeside from to bytes = WentOut writer from.sink to.sink bytes
       × (to ≡ record from { sink = to.sink })
 
-  -- only a proper front of them went out, and from then on it takes no more; nothing else has changed
+  -- only a proper prefix of them went out, and from then on it takes no more; nothing else has changed
   abbrev pub HasFailedBeside : AttachedParts E S K → AttachedParts E S K → List ℕ → Type 0
   HasFailedBeside from to bytes = FailedWithin writer from.sink to.sink bytes
       × (to ≡ record from { sink = to.sink; broken = true })
 
 -- what holds of what an end told: where it told something, or a write failed, and nothing is known of what it told
-abbrev pub IfTold : {Event : Type 0} → Result (Option Event) Fault → (List Event → Type 0) → Type 0
-IfTold (Ok (Some event)) Holds = Holds (event ∷ [])
-IfTold {Event} (Err fault.Write) Holds = (told : List Event) × Holds told
-IfTold result Holds = Unit {0}
+abbrev pub IfEvents : {Event : Type 0} → Result (Option Event) Fault → (List Event → Type 0) → Type 0
+IfEvents (Ok (Some event)) Holds = Holds (event ∷ [])
+IfEvents {Event} (Err fault.Write) Holds = (events : List Event) × Holds events
+IfEvents result Holds = Unit {0}
 
-module _ {E Deed Event : Type 0} (conduct : Conduct E Deed Event) where
+module _ {E Request Event : Type 0} (behaviour : Behaviour E Request Event) where
   -- The bytes came, and this was told at the last of them: at the first of them nothing was told, and at the others
   -- nothing was written or told before the last.
-  pub record TellsAtLast (old new : E) (bytes : List ℕ) (told : List Event) : Type 0 where
+  pub record TellsAtLast (old new : E) (bytes : List ℕ) (events : List Event) : Type 0 where
     pub heard : List ℕ
     pub others : List ℕ
     pub split : bytes ≡ heard ++ others
     pub before : E
     pub written : List ℕ
-    pub led : conduct.goes old (all_came heard) written [] before
+    pub led : behaviour.traces old (all_came heard) written [] before
     pub later : List ℕ
-    pub led_on : conduct.goes before (all_came others) later told new
-    pub first : (n : ℕ) → n < length others → conduct.silent before (take n others)
+    pub led_on : behaviour.traces before (all_came others) later events new
+    pub first : (n : ℕ) → n < length others → behaviour.silent before (take n others)
 
   module _ {S K : Type 0} where
     -- of the bytes that waited it took these, and told this at the last of them
-    pub record TakesFirst (from to : AttachedParts E S K) (told : List Event) : Type 0 where
+    pub record TakesFirst (from to : AttachedParts E S K) (events : List Event) : Type 0 where
       pub bytes : List ℕ
-      pub tells : TellsAtLast from.end to.end bytes told
+      pub tells : TellsAtLast from.end to.end bytes events
       pub kept : from.waiting ≡ bytes ++ to.waiting
       pub unread : to.source ≡ from.source
 
     -- of the bytes that waited and those that the source gave it took these, and told this at the last of them
     pub record HearsFirst (reader : Reader S) (from to : AttachedParts E S K)
-        (told : List Event) : Type 0 where
+        (events : List Event) : Type 0 where
       pub bytes : List ℕ
       pub given : List ℕ
       pub reads : ℕ
-      pub tells : TellsAtLast from.end to.end bytes told
+      pub tells : TellsAtLast from.end to.end bytes events
       pub kept : from.waiting ++ given ≡ bytes ++ to.waiting
       pub gave : Gave reader from.source to.source reads given
 
-module _ {E S K Deed Event : Type 0} (conduct : Conduct E Deed Event) (devices : Devices S K)
+module _ {E S K Request Event : Type 0} (behaviour : Behaviour E Request Event) (devices : Devices S K)
   where
     -- at an end on a source and a sink: the acts led on, and what the end wrote in them went out
-    pub record HaveLed (from to : AttachedParts E S K) (acts : List (Act Deed)) (told : List Event) : Type 0 where
+    pub record HaveLed (from to : AttachedParts E S K) (acts : List (Act Request)) (events : List Event) : Type 0 where
       pub written : List ℕ
-      pub led : conduct.goes from.end acts written told to.end
+      pub led : behaviour.traces from.end acts written events to.end
       pub wrote : WentOut devices.writer from.sink to.sink written
 
-    -- at an end on a source and a sink: the acts led on, and only a proper front of what the end wrote in them went out
-    pub record HaveLedUnwritten (from to : AttachedParts E S K) (acts : List (Act Deed)) : Type 0 where
+    -- at an end on a source and a sink: the acts led on, and only a proper prefix of what the end wrote in them went
+    -- out
+    pub record HaveLedUnwritten (from to : AttachedParts E S K) (acts : List (Act Request)) : Type 0 where
       pub written : List ℕ
-      pub told : List Event
-      pub led : conduct.goes from.end acts written told to.end
+      pub events : List Event
+      pub led : behaviour.traces from.end acts written events to.end
       pub failed : FailedWithin devices.writer from.sink to.sink written
 
     -- why a send doesn't come through: for want of memory, with nothing changed, or since a write has failed
-    abbrev pub IsSendFailure : AttachedParts E S K → AttachedParts E S K → List (Act Deed) → Fault → Type 0
+    abbrev pub IsSendFailure : AttachedParts E S K → AttachedParts E S K → List (Act Request) → Fault → Type 0
     IsSendFailure from to acts fault.Memory = to ≡ from
     IsSendFailure from to acts fault.Write = HaveLedUnwritten from to acts × (to.broken ≡ true)
     IsSendFailure from to acts why = ⊥
@@ -103,13 +104,13 @@ module _ {E S K Deed Event : Type 0} (conduct : Conduct E Deed Event) (devices :
     -- bytes came, and the end refused the one after them; at the last of them it wrote and told nothing
     pub record HasRefusedByte (from to : AttachedParts E S K) (bytes : List ℕ) (byte : ℕ) (why : Fault) : Type 0 where
       pub heard : List ℕ
-      pub front : List ℕ
-      pub split : bytes ≡ heard ++ front
+      pub prefix : List ℕ
+      pub split : bytes ≡ heard ++ prefix
       pub written : List ℕ
       pub before : E
-      pub led : conduct.goes from.end (all_came heard) written [] before
+      pub led : behaviour.traces from.end (all_came heard) written [] before
       pub refusal : Refusal
-      pub refused : conduct.refuses before front byte refusal to.end
+      pub refused : behaviour.refuses before prefix byte refusal to.end
       pub is : why ≡ fault_of refusal
       pub wrote : WentOut devices.writer from.sink to.sink written
 
@@ -154,15 +155,15 @@ module _ {E S K Deed Event : Type 0} (conduct : Conduct E Deed Event) (devices :
         ⊎ ((bytes : List ℕ) × (byte : ℕ) × (given : List ℕ) × (reads : ℕ) × IsByteFault from to bytes byte why
         × (from.waiting ++ given ≡ bytes ++ byte ∷ to.waiting) × Gave devices.reader from.source to.source reads given)
 
-module _ {E S K Deed Event : Type 0} (conduct : Conduct E Deed Event) (devices : Devices S K) where
+module _ {E S K Request Event : Type 0} (behaviour : Behaviour E Request Event) (devices : Devices S K) where
   -- What a call that hears comes to.
   pub record HearsNext (from to : AttachedParts E S K) (result : Result (Option Event) Fault) : Type 0 where
     -- what came, and that nothing was told before the last byte that was taken
-    pub heard : IfOk result (HasHeard conduct devices from to)
-    pub first : IfTold result (HearsFirst conduct devices.reader from to)
+    pub heard : IfOk result (HasHeard behaviour devices from to)
+    pub first : IfEvents result (HearsFirst behaviour devices.reader from to)
     -- a broken end goes nowhere
     pub broken : from.broken ≡ true → (result ≡ Err fault.Failed) × (to ≡ from)
     -- what stopped it, and whether that breaks it
-    pub fault : from.broken ≡ false → IfErr result (IsHearFault conduct devices from to)
+    pub fault : from.broken ≡ false → IfErr result (IsHearFault behaviour devices from to)
     pub works : OnOk result (to.broken ≡ false)
     pub breaks : IfErr result (λ why. to.broken ≡ breaks why)

@@ -10,7 +10,7 @@ use Rattle.ws_stream.specs.declared.element.Element.{Element}
 use Rattle.ws_keys.specs.declared.key.Key.{Key}
 use Rattle.ws_end.specs.declared.attached.player.Player.{Player}
 use Rattle.ws_end.specs.station.Moments.{Outcome, later, records_in_item}
-use Rattle.ws_end.specs.station.StationLeads.{StationLeads}
+use Rattle.ws_end.specs.station.StationReached.{StationReached}
 use Rattle.ws_end.specs.attached.StationRun.{Asked, asked, Outflow, outflow, IsBehind, behind, HasWrittenAll}
 use Rattle.ws_end.specs.attached.StationRun.{refusal_count}
 
@@ -42,7 +42,7 @@ module _ {S : Type 0} (writer : Writer S) where
   -- the player has done this, and what it wrote went out
   pub record HasDone (bytes : List ℕ) (items : List (Item Element)) (old new : Player) (from to : S)
       (did : Outcome) : Type 0 where
-    pub leads : StationLeads new.station bytes items did.side
+    pub reached : StationReached new.station bytes items did.state
     pub refused : (before : ℕ) → old.keys_refused ≡ refusal_count before
         → new.keys_refused ≡ refusal_count (before + did.refused)
     pub records : new.records ≡ old.records

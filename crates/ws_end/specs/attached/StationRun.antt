@@ -17,9 +17,9 @@ use Rattle.ws_keys.specs.declared.key.Key.{Key}
 use Rattle.ws_end.specs.declared.attached.run.Played.{Played}
 use Rattle.ws_end.specs.Acts.{HoldsItems}
 use Rattle.ws_end.specs.station.Moments.{Outcome, outcome, AreTaken, moments}
-use Rattle.ws_end.specs.station.StationLeads.{StationParts, StationLeads}
+use Rattle.ws_end.specs.station.StationReached.{StationParts, StationReached}
 use Rattle.ws_end.specs.Reaction.{Refuses}
-use Rattle.ws_end.specs.station.StationSide.{new_station_side, station_takes, on_profile}
+use Rattle.ws_end.specs.station.StationEndState.{new_station_end, station_takes, on_profile}
 use Rattle.ws_end.specs.driver.Driven.{Completes}
 use Rattle.ws_end.specs.station.Stations.{station_driving}
 
@@ -74,7 +74,7 @@ passing devices sink sink' source source' =
 module _ (run : Asked) where
   -- what a new station has done after these items and the keys that were due
   abbrev pub behind : List (Item Element) → Outcome
-  behind items = outcome (new_station_side run.terminal) (moments run.keys items)
+  behind items = outcome (new_station_end run.terminal) (moments run.keys items)
 
   -- what a new station has written after these items and the keys that were due
   abbrev pub run_text : List (Item Element) → List ℕ
@@ -82,11 +82,11 @@ module _ (run : Asked) where
 
   -- no item of these is refused, where the keys are pressed that are due
   abbrev pub AreTakenAll : List (Item Element) → Type 0
-  AreTakenAll items = AreTaken (new_station_side run.terminal) (moments run.keys items)
+  AreTakenAll items = AreTaken (new_station_end run.terminal) (moments run.keys items)
 
   -- the bytes hold these items, none of them is refused, and the station is one after them and the keys that were due
   pub record IsBehind (bytes : List ℕ) (items : List (Item Element)) (station : StationParts) : Type 0 where
-    pub leads : StationLeads station bytes items (behind items).side
+    pub reached : StationReached station bytes items (behind items).state
     pub taken : AreTakenAll items
 
   module _ {S : Type 0} (out : Outflow S) where
@@ -95,22 +95,22 @@ module _ (run : Asked) where
     HasWrittenAll items = WentOut out.writer out.from out.to (run_text items)
 
     -- A byte of these is refused, and not one of the first so many; all that was to be written before it went out. The
-    -- station stood after a front of the bytes before it, and no item is complete with the others.
+    -- station stood after a prefix of the bytes before it, and no item is complete with the others.
     pub record RunRefuses (first : ℕ) (bytes : List ℕ) (at : ℕ × Reason) : Type 0 where
       pub before : List ℕ
-      pub front : List ℕ
+      pub prefix : List ℕ
       pub byte : ℕ
       pub after : List ℕ
-      pub split : bytes ≡ (before ++ front) ++ byte ∷ after
-      pub at_place : at.0 ≡ length (before ++ front)
+      pub split : bytes ≡ (before ++ prefix) ++ byte ∷ after
+      pub at_place : at.0 ≡ length (before ++ prefix)
       pub prompt : first ≤ at.0
       pub items : List (Item Element)
       pub station : StationParts
       pub is_behind : IsBehind before items station
-      pub inside : HoldsItems element_rules (before ++ front) items
-      pub why : IsRefused element_rules ((before ++ front) ++ byte ∷ []) at.0 at.1
-          ⊎ Completes (station_driving on_profile) ((before ++ front) ++ byte ∷ []) items
-          (λ item. station_takes (behind items).side item ≡ Refuses at.1)
+      pub inside : HoldsItems element_rules (before ++ prefix) items
+      pub why : IsRefused element_rules ((before ++ prefix) ++ byte ∷ []) at.0 at.1
+          ⊎ Completes (station_driving on_profile) ((before ++ prefix) ++ byte ∷ []) items
+          (λ item. station_takes (behind items).state item ≡ Refuses at.1)
       pub wrote : HasWrittenAll items
 
     -- A write failed, in what was to be written after items of these bytes.

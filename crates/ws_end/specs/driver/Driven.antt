@@ -17,7 +17,7 @@ use Rattle.ws_record.specs.declared.news.News.{News}
 use Rattle.ws_record.specs.declared.news.News.TheVariants as news
 use Rattle.ws_record.specs.declared.record.Item.{Item}
 use Rattle.ws_record.specs.declared.record.Item.TheVariants.{Record as RecordItem, Telnet as TelnetItem}
-use Rattle.ws_end.specs.Acts.{HasGone, Manner, HoldsItems, all_came, as_list, ways}
+use Rattle.ws_end.specs.Acts.{IsTrace, Transitions, HoldsItems, all_came, as_list, protocol_of}
 use Rattle.ws_end.specs.Ends.{IsShut}
 use Rattle.ws_end.specs.Reaction.{Refuses, GoesOn}
 use Rattle.ws_end.specs.declared.end_step.EndFed.{EndFed}
@@ -26,25 +26,25 @@ use Rattle.ws_end.specs.declared.refusal.Refusal.{Refusal}
 use Rattle.ws_end.specs.declared.refusal.Refusal.TheVariants.{At, Failed, Memory}
 use Rattle.ws_end.specs.declared.driver.halt.Halt.{Halt}
 use Rattle.ws_end.specs.declared.driver.halt.Halt.TheVariants as halt
-use Rattle.ws_end.specs.driver.Reacting.{ReactingOf, Reacts, reacting_manner}
+use Rattle.ws_end.specs.driver.Reacting.{ReactingOf, Reacts, reacting_transitions}
 
 -- what a driver keeps
 pub record Driven (R K Place : Type 0) : Type 0 where
   pub live : Watching Place
-  pub keep : K
+  pub collector : K
   pub reacts : R
   pub ended : Option Refusal
 
 -- what a driver stands on: the rules of what comes, what keeps the open record, and what reacts
-pub record Driving (R K Place U Deed Event Reply : Type 0) : Type 1 where
+pub record Driving (R K Place U Request Event Reply : Type 0) : Type 1 where
   pub rules : Rules Place U
-  pub keeper : Keeper U K
-  pub does : ReactingOf R U Deed Event Reply
+  pub collects : Keeper U K
+  pub does : ReactingOf R U Request Event Reply
 
 -- it is driven by these rules, with this keep
-abbrev pub driving : {R K Place U Deed Event Reply : Type 0} → Rules Place U → Keeper U K → ReactingOf R U Deed Event Reply
-    → Driving R K Place U Deed Event Reply
-driving rules keeper does = record { rules = rules; keeper = keeper; does = does }
+abbrev pub driving : {R K Place U Request Event Reply : Type 0} → Rules Place U → Keeper U K
+    → ReactingOf R U Request Event Reply → Driving R K Place U Request Event Reply
+driving rules collects does = record { rules = rules; collects = collects; does = does }
 
 -- the refusal of a byte that stands at this place
 abbrev pub refusal_of : ℕ → Halt → Refusal
@@ -61,35 +61,36 @@ TellsNothing (Err why) = Unit {0}
 abbrev pub TakesNoMore : {R K Place : Type 0} → Driven R K Place → Type 0
 TakesNoMore driver = IsShut driver.ended driver.live.taken
 
-module _ {R K Place U Deed Event Reply : Type 0} (d : Driving R K Place U Deed Event Reply) where
-  -- its manner
-  abbrev pub manner_of : Manner d.does.Side U d.does.V Deed Event
-  manner_of = reacting_manner d.does
+module _ {R K Place U Request Event Reply : Type 0} (d : Driving R K Place U Request Event Reply) where
+  -- its transitions
+  abbrev pub transitions_of : Transitions d.does.State U d.does.V Request Event
+  transitions_of = reacting_transitions d.does
 
   -- The bytes lead to the driver: they hold these items, none of them is refused, and what was done at them left it on
-  -- this side.
-  pub record LeadsTo (driver : Driven R K Place) (bytes : List ℕ) (items : List (Item U)) (side : d.does.Side) : Type 0
+  -- this state.
+  pub record IsReached (driver : Driven R K Place) (bytes : List ℕ) (items : List (Item U))
+      (state : d.does.State) : Type 0
     where
       pub so_far : RecordSoFar U
-      pub leads : Leads d.rules driver.live bytes items so_far
-      pub kept : d.keeper.holds driver.keep so_far.units (drop 10 so_far.bytes)
-      pub stands : d.does.stands driver.reacts items side
+      pub reached : Leads d.rules driver.live bytes items so_far
+      pub kept : d.collects.holds driver.collector so_far.units (drop 10 so_far.bytes)
+      pub stands : d.does.stands driver.reacts items state
       pub works : driver.ended ≡ None
 
   -- this holds of whatever led to the driver
-  abbrev pub AtDriver : Driven R K Place → (List ℕ → List (Item U) → d.does.Side → Type 0) → Type 0
-  AtDriver driver Holds = (bytes : List ℕ) (items : List (Item U)) (side : d.does.Side)
-      → LeadsTo driver bytes items side → Holds bytes items side
+  abbrev pub AtDriver : Driven R K Place → (List ℕ → List (Item U) → d.does.State → Type 0) → Type 0
+  AtDriver driver Holds = (bytes : List ℕ) (items : List (Item U)) (state : d.does.State)
+      → IsReached driver bytes items state → Holds bytes items state
 
   -- After these bytes others come: none of their items is refused, this is written and told, and then this holds.
-  abbrev pub Come : (List ℕ → List (Item U) → d.does.Side → Type 0) → List ℕ → List (Item U) → d.does.Side → List ℕ
+  abbrev pub Come : (List ℕ → List (Item U) → d.does.State → Type 0) → List ℕ → List (Item U) → d.does.State → List ℕ
       → List ℕ → List Event → Type 0
-  Come Then bytes items side came =
-      HasGone (ways d.rules d.does.out manner_of) Then bytes items side (all_came {Deed = Deed} came)
+  Come Then bytes items state came =
+      IsTrace (protocol_of d.rules d.does.out transitions_of) Then bytes items state (all_came {Request = Request} came)
 
   -- nothing is written or told at these bytes
-  abbrev pub AreSilent : List ℕ → List (Item U) → d.does.Side → List ℕ → Type 0
-  AreSilent bytes items side came = Come (λ bytes' items' side'. Unit {0}) bytes items side came [] []
+  abbrev pub AreSilent : List ℕ → List (Item U) → d.does.State → List ℕ → Type 0
+  AreSilent bytes items state came = Come (λ bytes' items' state'. Unit {0}) bytes items state came [] []
 
   -- the last of these bytes completes an item, and so it reacts
   pub record Completes (bytes : List ℕ) (items : List (Item U)) (Q : Item U → Type 0) : Type 0 where
@@ -97,62 +98,63 @@ module _ {R K Place U Deed Event Reply : Type 0} (d : Driving R K Place U Deed E
     pub holds : HoldsItems d.rules bytes (items ++ item ∷ [])
     pub so : Q item
 
-  -- Why the last of these bytes is refused, where the others led to this side: no stream begins so, or the item that it
-  -- completes is refused; or memory is wanting for a unit that is kept, or an item that isn't refused.
-  abbrev pub IsWhy : Refusal → List ℕ → List (Item U) → d.does.Side → Type 0
-  IsWhy (At place reason) bytes items side = (length bytes ≡ place + 1)
+  -- Why the last of these bytes is refused, where the others led to this state: no stream begins so, or the item that
+  -- it completes is refused; or memory is wanting for a unit that is kept, or an item that isn't refused.
+  abbrev pub IsWhy : Refusal → List ℕ → List (Item U) → d.does.State → Type 0
+  IsWhy (At place reason) bytes items state = (length bytes ≡ place + 1)
       × (IsRefused d.rules bytes place reason
-      ⊎ Completes bytes items (λ item. d.does.takes side item ≡ Refuses reason))
-  IsWhy Memory bytes items side =
-      (d.keeper.may_answer NoMemory × EndIn bytes (λ before last. CompletesUnit d.rules before items last))
-      ⊎ Completes bytes items (λ item. (next : d.does.Side) × (made : d.does.Made)
-      × (d.does.takes side item ≡ GoesOn next made) × d.does.wants made)
-  IsWhy Failed bytes items side = ⊥
+      ⊎ Completes bytes items (λ item. d.does.takes state item ≡ Refuses reason))
+  IsWhy Memory bytes items state =
+      (d.collects.may_answer NoMemory × EndIn bytes (λ before last. CompletesUnit d.rules before items last))
+      ⊎ Completes bytes items (λ item. (next : d.does.State) × (made : d.does.Made)
+      × (d.does.takes state item ≡ GoesOn next made) × d.does.wants made)
+  IsWhy Failed bytes items state = ⊥
 
   -- The last of these bytes completes no item, and nothing is written or told; or one, at which it goes on so.
-  abbrev pub GoesOnAt : Driven R K Place → List ℕ → List (Item U) → d.does.Side → EndStep Event Reply → Type 0
-  GoesOnAt new bytes items side step = (LeadsTo new bytes items side × (d.does.written new.reacts step.reply ≡ [])
-      × (step.event ≡ None)) ⊎ ((item : Item U) × (next : d.does.Side) × (made : d.does.Made)
-      × (d.does.takes side item ≡ GoesOn next made)
+  abbrev pub GoesOnAt : Driven R K Place → List ℕ → List (Item U) → d.does.State → EndStep Event Reply → Type 0
+  GoesOnAt new bytes items state step = (IsReached new bytes items state × (d.does.written new.reacts step.reply ≡ [])
+      × (step.event ≡ None)) ⊎ ((item : Item U) × (next : d.does.State) × (made : d.does.Made)
+      × (d.does.takes state item ≡ GoesOn next made)
       × (d.does.written new.reacts step.reply ≡ plain_spelling d.does.out (d.does.puts item made).items)
-      × (step.event ≡ (d.does.puts item made).event) × LeadsTo new bytes (items ++ item ∷ []) next)
+      × (step.event ≡ (d.does.puts item made).event) × IsReached new bytes (items ++ item ∷ []) next)
 
   -- what the last of these bytes gives, where no item is complete before it
-  abbrev pub IsFronted : Driven R K Place → List ℕ → List (Item U) → d.does.Side
+  abbrev pub IsPrefixTaken : Driven R K Place → List ℕ → List (Item U) → d.does.State
       → Result (EndStep Event Reply) Refusal → Type 0
-  IsFronted new bytes items side (Ok step) = GoesOnAt new bytes items side step
-  IsFronted new bytes items side (Err why) = IsWhy why bytes items side × d.does.stands new.reacts items side
+  IsPrefixTaken new bytes items state (Ok step) = GoesOnAt new bytes items state step
+  IsPrefixTaken new bytes items state (Err why) = IsWhy why bytes items state × d.does.stands new.reacts items state
 
-  -- What a front of a piece gives, of which no item is complete before its last byte.
-  pub record DriverFronts (old : Driven R K Place) (piece : List ℕ) (new : Driven R K Place)
-      (front : EndFed Event Reply) : Type 0 where
-    pub within : front.used ≤ length piece
-    pub used : front.step ≢ Err Failed → 0 < front.used
-    pub fronted : AtDriver old (λ bytes items side. length bytes + length piece < 2 ^ 64
-        → IsFronted new (bytes ++ take front.used piece) items side front.step)
-    pub first : AtDriver old (λ bytes items side. (n : ℕ) → n < front.used
+  -- What a prefix of a piece gives, of which no item is complete before its last byte.
+  pub record TakesPrefix (old : Driven R K Place) (piece : List ℕ) (new : Driven R K Place)
+      (prefix : EndFed Event Reply) : Type 0 where
+    pub within : prefix.used ≤ length piece
+    pub used : prefix.step ≢ Err Failed → 0 < prefix.used
+    pub prefixed : AtDriver old (λ bytes items state. length bytes + length piece < 2 ^ 64
+        → IsPrefixTaken new (bytes ++ take prefix.used piece) items state prefix.step)
+    pub first : AtDriver old (λ bytes items state. (n : ℕ) → n < prefix.used
         → HoldsItems d.rules (bytes ++ take n piece) items)
-    pub counted : old.live.taken + front.used < 2 ^ 64 → new.live.taken ≡ old.live.taken + front.used
-    pub ended : old.ended ≡ None → MatchResult front.step (λ step. new.ended ≡ None) (λ why. new.ended ≡ Some why)
-    pub seen : TellsNothing front.step → d.does.shown new.reacts ≡ d.does.shown old.reacts
-    pub stays : OnErr front.step (new.reacts ≡ old.reacts)
+    pub counted : old.live.taken + prefix.used < 2 ^ 64 → new.live.taken ≡ old.live.taken + prefix.used
+    pub ended : old.ended ≡ None → MatchResult prefix.step (λ step. new.ended ≡ None) (λ why. new.ended ≡ Some why)
+    pub seen : TellsNothing prefix.step → d.does.shown new.reacts ≡ d.does.shown old.reacts
+    pub stays : OnErr prefix.step (new.reacts ≡ old.reacts)
 
   -- what the bytes bring: they lead on, and this is written and told; or the last of them is refused, after others at
   -- which nothing is
-  abbrev pub Bring : List ℕ → List (Item U) → d.does.Side → List ℕ → Driven R K Place
+  abbrev pub Bring : List ℕ → List (Item U) → d.does.State → List ℕ → Driven R K Place
       → Result (EndStep Event Reply) Refusal → Type 0
-  Bring bytes items side came new (Ok step) =
-      Come (LeadsTo new) bytes items side came (d.does.written new.reacts step.reply) (as_list step.event)
-  Bring bytes items side came new (Err why) = (0 < length came)
-      × Come (λ bytes' items' side'. IsWhy why (bytes' ++ drop (length came - 1) came) items' side'
-      × d.does.stands new.reacts items' side') bytes items side (take (length came - 1) came) [] []
+  Bring bytes items state came new (Ok step) =
+      Come (IsReached new) bytes items state came (d.does.written new.reacts step.reply) (as_list step.event)
+  Bring bytes items state came new (Err why) = (0 < length came)
+      × Come (λ bytes' items' state'. IsWhy why (bytes' ++ drop (length came - 1) came) items' state'
+      × d.does.stands new.reacts items' state') bytes items state (take (length came - 1) came) [] []
 
   -- A driver that isn't stopped takes these bytes, which end where it refuses one.
   pub record DriverTakes (old : Driven R K Place) (came : List ℕ) (new : Driven R K Place)
       (result : Result (EndStep Event Reply) Refusal) : Type 0 where
     -- what they bring, and that nothing came before the last of them
-    pub brings : AtDriver old (λ bytes items side. Bring bytes items side came new result)
-    pub first : AtDriver old (λ bytes items side. (n : ℕ) → n < length came → AreSilent bytes items side (take n came))
+    pub brings : AtDriver old (λ bytes items state. Bring bytes items state came new result)
+    pub first : AtDriver old (λ bytes items state. (n : ℕ) → n < length came → AreSilent bytes items state
+        (take n came))
     -- how many were taken, and whether it goes on
     pub counted : new.live.taken ≡ old.live.taken + length came
     pub ended : MatchResult result (λ step. new.ended ≡ None) (λ why. new.ended ≡ Some why)
@@ -195,10 +197,10 @@ module _ {R K Place U Deed Event Reply : Type 0} (d : Driving R K Place U Deed E
 
   -- what is made of news that came with the last byte; a subnegotiation and the open record are taken out
   abbrev pub IsNewsTaken : Driven R K Place → News → Driven R K Place → Result (EndStep Event Reply) Halt → Type 0
-  IsNewsTaken old (news.Close head) new result = (new ≡ record old { keep = new.keep; reacts = new.reacts })
-      × OnOk result (d.keeper.holds new.keep [] [])
+  IsNewsTaken old (news.Close head) new result = (new ≡ record old { collector = new.collector; reacts = new.reacts })
+      × OnOk result (d.collects.holds new.collector [] [])
       × ((units : List U) → IsChain d.rules d.rules.first units → length (spelling_of d.rules units) ≤ 65525
-      → d.keeper.holds old.keep units (spelling_of d.rules units)
+      → d.collects.holds old.collector units (spelling_of d.rules units)
       → Reacts d.does old.reacts (RecordItem (record_of head units)) new.reacts result)
   IsNewsTaken old (news.Telnet word) new result = old.live.begun ≡ [] → (left : ASub)
       × (new ≡ record old { live = record old.live { sub = left }; reacts = new.reacts })

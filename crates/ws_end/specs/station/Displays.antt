@@ -22,7 +22,7 @@ use Rattle.ws_end.specs.declared.station.answer.TheConstants.{ATN, SRQ}
 use Rattle.ws_end.specs.Reaction.{Reaction, Refuses, GoesOn}
 
 -- a station's options, and what has happened to its display
-pub record SideOn (H : Type 0) : Type 0 where
+pub record EndStateOn (H : Type 0) : Type 0 where
   pub options : StationState
   pub happened : H
 
@@ -30,8 +30,8 @@ pub record SideOn (H : Type 0) : Type 0 where
 -- body
 pub data KeyReactionOn (H : Type 0) : Type 0 where
   RefusesKey : KeyFault → KeyReactionOn H
-  Silent : SideOn H → KeyReactionOn H
-  Answers : SideOn H → ReadKind → ℕ → KeyReactionOn H
+  Silent : EndStateOn H → KeyReactionOn H
+  Answers : EndStateOn H → ReadKind → ℕ → KeyReactionOn H
   Signals : Opcode → ℕ → KeyReactionOn H
 
 -- A display, by what it does: the rules of what it writes, what has happened to a new one, which displays what happened
@@ -46,9 +46,9 @@ pub record DisplayOf (D U H PlaceV V K R : Type 0) : Type 1 where
   pub shown : D → ScreenParts
   pub sounds : H → ℕ
   pub sounded : D → ℕ
-  pub applies : SideOn H → Record U → Reaction (SideOn H) (List (Item V))
+  pub applies : EndStateOn H → Record U → Reaction (EndStateOn H) (List (Item V))
   pub sends : K → Bool
-  pub presses : SideOn H → K → KeyReactionOn H
+  pub presses : EndStateOn H → K → KeyReactionOn H
   pub answer : ScreenParts → ReadKind → ℕ → Item V
   pub written : D → R → List ℕ
 
@@ -83,27 +83,28 @@ on_display {D} {P} {U} {H} {PlaceV} {V} {K} {R} rules does = record {
 module _ {D U H PlaceV V K R : Type 0} (d : DisplayOf D U H PlaceV V K R) where
   -- what a record gives a display: the display that it comes to and what is written; or the reason for which the record
   -- is refused
-  abbrev pub IsApplied : D → SideOn H → Record U → Result R Reason → Type 0
-  IsApplied new side r (Ok reply) = (next : SideOn H) × (writes : List (Item V))
-      × (d.applies side r ≡ GoesOn next writes) × (d.written new reply ≡ plain_spelling d.out writes)
-      × (next.options ≡ side.options) × d.gives next.happened new
-  IsApplied new side r (Err reason) = d.applies side r ≡ Refuses reason
+  abbrev pub IsApplied : D → EndStateOn H → Record U → Result R Reason → Type 0
+  IsApplied new state r (Ok reply) = (next : EndStateOn H) × (writes : List (Item V))
+      × (d.applies state r ≡ GoesOn next writes) × (d.written new reply ≡ plain_spelling d.out writes)
+      × (next.options ≡ state.options) × d.gives next.happened new
+  IsApplied new state r (Err reason) = d.applies state r ≡ Refuses reason
 
-  -- the display is one that the side gives that the station comes to
-  pub record ComesTo (new : D) (side next : SideOn H) : Type 0 where
-    pub options : next.options ≡ side.options
+  -- the display is one that the state gives that the station comes to
+  pub record ComesTo (new : D) (state next : EndStateOn H) : Type 0 where
+    pub options : next.options ≡ state.options
     pub given : d.gives next.happened new
 
   -- what a key gives a display: its refusal, with the display as it was; or the display that it comes to, and what it
   -- sends
-  abbrev pub IsPressedOnDisplay : D → D → SideOn H → K → Result (Option Answer) KeyRefusal → Type 0
-  IsPressedOnDisplay old new side key (Err refusal) = (d.presses side key ≡ RefusesKey (Refused refusal)) × (new ≡ old)
-  IsPressedOnDisplay old new side key (Ok None) = (next : SideOn H) × (d.presses side key ≡ Silent next)
-      × ComesTo new side next
-  IsPressedOnDisplay old new side key (Ok (Some (Read body))) = (next : SideOn H) × (kind : ReadKind) × (aid : ℕ)
-      × (d.presses side key ≡ Answers next kind aid) × (body ≡ answer_bytes kind (d.shows side.happened) aid)
-      × ComesTo new side next
-  IsPressedOnDisplay old new side key (Ok (Some Attention)) = (d.presses side key ≡ Signals NoOperation ATN)
-      × d.gives side.happened new
-  IsPressedOnDisplay old new side key (Ok (Some SystemRequest)) = (d.presses side key ≡ Signals NoOperation SRQ)
-      × d.gives side.happened new
+  abbrev pub IsPressedOnDisplay : D → D → EndStateOn H → K → Result (Option Answer) KeyRefusal → Type 0
+  IsPressedOnDisplay old new state key (Err refusal) = (d.presses state key ≡ RefusesKey (Refused refusal)) ×
+      (new ≡ old)
+  IsPressedOnDisplay old new state key (Ok None) = (next : EndStateOn H) × (d.presses state key ≡ Silent next)
+      × ComesTo new state next
+  IsPressedOnDisplay old new state key (Ok (Some (Read body))) = (next : EndStateOn H) × (kind : ReadKind) × (aid : ℕ)
+      × (d.presses state key ≡ Answers next kind aid) × (body ≡ answer_bytes kind (d.shows state.happened) aid)
+      × ComesTo new state next
+  IsPressedOnDisplay old new state key (Ok (Some Attention)) = (d.presses state key ≡ Signals NoOperation ATN)
+      × d.gives state.happened new
+  IsPressedOnDisplay old new state key (Ok (Some SystemRequest)) = (d.presses state key ≡ Signals NoOperation SRQ)
+      × d.gives state.happened new

@@ -7,60 +7,60 @@ use Rattle.ws_stream.specs.declared.answer_part.AnswerPart.{AnswerPart}
 use Rattle.ws_stream.specs.declared.element.Element.{Element}
 use Rattle.ws_keys.specs.declared.key.Key.{Key}
 use Rattle.ws_end.specs.Reaction.{Reaction, Refuses, GoesOn, empty_record, goes_on}
-use Rattle.ws_end.specs.station.StationSide.{StationSide, screen_at, station_takes, KeyReaction, RefusesKey, Silent}
-use Rattle.ws_end.specs.station.StationSide.{Answers, Signals, station_key, answer_record}
+use Rattle.ws_end.specs.station.StationEndState.{StationEndState, screen_at, station_takes, KeyReaction, RefusesKey}
+use Rattle.ws_end.specs.station.StationEndState.{Silent, Answers, Signals, station_key, answer_record}
 
 -- what happens to a station: an item arrives, or a key is pressed
 pub data Moment : Type 0 where
   Arrives : Item Element → Moment
   Presses : Key → Moment
 
--- what a station does: the side that it comes to, what it writes, and how many keys it refuses
+-- what a station does: the state that it comes to, what it writes, and how many keys it refuses
 pub record Outcome : Type 0 where
-  pub side : StationSide
+  pub state : StationEndState
   pub written : List (Item AnswerPart)
   pub refused : ℕ
 
 -- nothing comes of it
-abbrev pub idle_outcome : StationSide → Outcome
-idle_outcome s = record { side = s; written = []; refused = 0 }
+abbrev pub idle_outcome : StationEndState → Outcome
+idle_outcome s = record { state = s; written = []; refused = 0 }
 
 -- what comes of one moment and then of another
 abbrev pub outcome_of_both : Outcome → Outcome → Outcome
-outcome_of_both a b = record { side = b.side; written = a.written ++ b.written; refused = a.refused + b.refused }
+outcome_of_both a b = record { state = b.state; written = a.written ++ b.written; refused = a.refused + b.refused }
 
 -- at an item; where it refuses one it does nothing
-abbrev pub at_item : StationSide → Reaction StationSide (List (Item AnswerPart)) → Outcome
+abbrev pub at_item : StationEndState → Reaction StationEndState (List (Item AnswerPart)) → Outcome
 at_item s (Refuses reason) = idle_outcome s
-at_item s (GoesOn next items) = record { side = next; written = items; refused = 0 }
+at_item s (GoesOn next items) = record { state = next; written = items; refused = 0 }
 
 -- what comes of a key, by what the station makes of it
-abbrev pub at_key : StationSide → KeyReaction → Outcome
-at_key s (RefusesKey fault) = record { side = s; written = []; refused = 1 }
+abbrev pub at_key : StationEndState → KeyReaction → Outcome
+at_key s (RefusesKey fault) = record { state = s; written = []; refused = 1 }
 at_key s (Silent next) = idle_outcome next
 at_key s (Answers next kind aid) =
-    record { side = next; written = answer_record (screen_at s) kind aid ∷ []; refused = 0 }
-at_key s (Signals opcode flags) = record { side = s; written = empty_record flags opcode ∷ []; refused = 0 }
+    record { state = next; written = answer_record (screen_at s) kind aid ∷ []; refused = 0 }
+at_key s (Signals opcode flags) = record { state = s; written = empty_record flags opcode ∷ []; refused = 0 }
 
 -- what comes of a moment
-abbrev pub at_moment : StationSide → Moment → Outcome
+abbrev pub at_moment : StationEndState → Moment → Outcome
 at_moment s (Arrives item) = at_item s (station_takes s item)
 at_moment s (Presses key) = at_key s (station_key s key)
 
 -- at one moment after another
-abbrev pub outcome : StationSide → List Moment → Outcome
+abbrev pub outcome : StationEndState → List Moment → Outcome
 outcome s [] = idle_outcome s
-outcome s (m ∷ ms) = outcome_of_both (at_moment s m) (outcome (at_moment s m).side ms)
+outcome s (m ∷ ms) = outcome_of_both (at_moment s m) (outcome (at_moment s m).state ms)
 
 -- the station doesn't refuse what arrives
-abbrev pub is_taken : StationSide → Moment → Bool
+abbrev pub is_taken : StationEndState → Moment → Bool
 is_taken s (Arrives item) = goes_on (station_takes s item)
 is_taken s (Presses key) = true
 
 -- the station refuses none of what arrives in these moments
-abbrev pub AreTaken : StationSide → List Moment → Type 0
+abbrev pub AreTaken : StationEndState → List Moment → Type 0
 AreTaken s [] = Unit {0}
-AreTaken s (m ∷ ms) = (is_taken s m ≡ true) × AreTaken (at_moment s m).side ms
+AreTaken s (m ∷ ms) = (is_taken s m ≡ true) × AreTaken (at_moment s m).state ms
 
 -- Keys at their numbers: each is pressed as soon as all before it are and so many records have been applied.
 

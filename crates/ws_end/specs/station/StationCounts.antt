@@ -18,4 +18,4 @@ records_in (TelnetItem token ∷ items) = records_in items
 
 -- the bytes of a body are kept, where they are no more than a record has room for
 abbrev pub keeps_body : List ℕ → List ℕ → Type 0
-keeps_body kept told = length told ≤ MAX_BODY_BYTES → kept ≡ told
+keeps_body kept units = length units ≤ MAX_BODY_BYTES → kept ≡ units

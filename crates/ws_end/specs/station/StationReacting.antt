@@ -5,14 +5,14 @@ use Rattle.ws_code.specs.Keep.{Keeper}
 use Rattle.ws_code.specs.declared.keep.Kept.TheVariants.{GoOn}
 use Rattle.ws_nego.specs.Station.{StationState}
 use Rattle.ws_record.specs.declared.record.Item.{Item}
-use Rattle.ws_end.specs.Acts.{Doing, Happening, Manner, as_list}
+use Rattle.ws_end.specs.Acts.{Doing, Happening, Transitions, as_list}
 use Rattle.ws_end.specs.Reaction.{Output, Reaction}
 use Rattle.ws_end.specs.declared.end_step.Applied.{Applied}
 use Rattle.ws_end.specs.driver.Driven.{Driven, Driving, driving}
-use Rattle.ws_end.specs.driver.Reacting.{ReactingOf, at_reaction, reacting_manner, reacts_at}
-use Rattle.ws_end.specs.station.Displays.{DisplayOf, OnDisplay, SideOn}
+use Rattle.ws_end.specs.driver.Reacting.{ReactingOf, at_reaction, reacting_transitions, reacts_at}
+use Rattle.ws_end.specs.station.Displays.{DisplayOf, OnDisplay, EndStateOn}
 use Rattle.ws_end.specs.station.StationCounts.{is_record, keeps_body, records_in}
-use Rattle.ws_end.specs.station.StationManners.{at_key_on, key_on, takes_on, told_by}
+use Rattle.ws_end.specs.station.StationTransitions.{at_key_on, key_on, takes_on, event_by}
 
 -- what reacts at a station: its options, its display, and how many records it has applied
 pub record StationKept (D : Type 0) : Type 0 where
@@ -22,30 +22,30 @@ pub record StationKept (D : Type 0) : Type 0 where
 
 -- what a station tells at an item: of a record that it was applied, of a Telnet command nothing
 abbrev pub applied_by : {U : Type 0} → Item U → List Applied
-applied_by item = as_list (told_by (is_record item))
+applied_by item = as_list (event_by (is_record item))
 
 -- what a station puts out at an item: what it writes, and that a record was applied
 abbrev pub station_puts : {U V : Type 0} → Item U → List (Item V) → Output V Applied
-station_puts item items = record { items = items; event = told_by (is_record item) }
+station_puts item items = record { items = items; event = event_by (is_record item) }
 
 -- the bytes of an open record's body are kept
 abbrev pub body_keeper : {U : Type 0} → Keeper U (List ℕ)
 body_keeper = record {
-  holds = λ kept units told. keeps_body kept told;
+  holds = λ kept units events. keeps_body kept events;
   may_answer = λ answer. answer ≡ GoOn;
 }
 
 module _ {D U H PlaceV V K R : Type 0} (d : DisplayOf D U H PlaceV V K R) where
-  -- the options and the display are those of this side, and the records among these items are counted
-  pub record StationStands (station : StationKept D) (items : List (Item U)) (side : SideOn H) : Type 0 where
-    pub options : station.options ≡ side.options
-    pub given : d.gives side.happened station.screen
+  -- the options and the display are those of this state, and the records among these items are counted
+  pub record StationStands (station : StationKept D) (items : List (Item U)) (state : EndStateOn H) : Type 0 where
+    pub options : station.options ≡ state.options
+    pub given : d.gives state.happened station.screen
     pub counted : station.records ≡ min (records_in items) (2 ^ 64 - 1)
 
   -- how a station reacts; it takes no memory
   abbrev pub station_reacting : ReactingOf (StationKept D) U K Applied R
   station_reacting = record {
-    Side = SideOn H;
+    State = EndStateOn H;
     Made = List (Item V);
     PlaceV = PlaceV;
     V = V;
@@ -53,7 +53,7 @@ module _ {D U H PlaceV V K R : Type 0} (d : DisplayOf D U H PlaceV V K R) where
     out = d.out;
     takes = takes_on d;
     puts = station_puts;
-    acts = λ side key. at_key_on d side (key_on d side key);
+    acts = λ state key. at_key_on d state (key_on d state key);
     stands = StationStands;
     written = λ station reply. d.written station.screen reply;
     wants = λ items. ⊥;
@@ -61,16 +61,17 @@ module _ {D U H PlaceV V K R : Type 0} (d : DisplayOf D U H PlaceV V K R) where
   }
 
   -- what a station has done after an item: it has gone on as it reacts; at a refused one nothing
-  abbrev pub at_item_on : SideOn H → Item U → Reaction (SideOn H) (List (Item V)) → Doing (SideOn H) V Applied
+  abbrev pub at_item_on : EndStateOn H → Item U → Reaction (EndStateOn H) (List (Item V)) → Doing
+      (EndStateOn H) V Applied
   at_item_on s item = at_reaction (station_puts item) s
 
   -- what a station has done after each thing that happens
-  abbrev pub at_on : SideOn H → Happening U K → Doing (SideOn H) V Applied
+  abbrev pub at_on : EndStateOn H → Happening U K → Doing (EndStateOn H) V Applied
   at_on = reacts_at station_reacting
 
-  -- the manner of a station: what it does at items and keys, and which items it takes
-  abbrev pub manner_on : Manner (SideOn H) U V K Applied
-  manner_on = reacting_manner station_reacting
+  -- the transitions of a station: what it does at items and keys, and which items it takes
+  abbrev pub transitions_on : Transitions (EndStateOn H) U V K Applied
+  transitions_on = reacting_transitions station_reacting
 
 -- a station: what comes to it, how it keeps an open record, and how it reacts
 abbrev pub station_driving : (on : OnDisplay)

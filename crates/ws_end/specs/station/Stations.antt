@@ -13,9 +13,9 @@ use Rattle.ws_end.specs.declared.end_step.Applied.{Applied}
 use Rattle.ws_end.specs.declared.end_step.EndStep.{EndStep}
 use Rattle.ws_end.specs.declared.station.key_fault.KeyFault.{KeyFault}
 use Rattle.ws_end.specs.declared.station.answer.TheConstants.{ATN, SRQ}
-use Rattle.ws_end.specs.driver.Driven.{AtDriver, DriverPushes, LeadsTo}
-use Rattle.ws_end.specs.station.Displays.{OnDisplay, SideOn, RefusesKey, Silent, Answers, Signals}
-use Rattle.ws_end.specs.station.StationManners.{new_side_on, key_on}
+use Rattle.ws_end.specs.driver.Driven.{AtDriver, DriverPushes, IsReached}
+use Rattle.ws_end.specs.station.Displays.{OnDisplay, EndStateOn, RefusesKey, Silent, Answers, Signals}
+use Rattle.ws_end.specs.station.StationTransitions.{new_state_on, key_on}
 pub use Rattle.ws_end.specs.station.StationReacting.{PartsOn, station_driving}
 
 -- a station that stands on this
@@ -26,24 +26,24 @@ StationOf on = PartsOn on.Parts on.Place
 abbrev pub ItemsOf : OnDisplay → Type 0
 ItemsOf on = List (Item on.Reads)
 
--- the sides on which it may stand
-abbrev pub SideOf : OnDisplay → Type 0
-SideOf on = SideOn on.Happened
+-- the states in which it may stand
+abbrev pub EndStateOf : OnDisplay → Type 0
+EndStateOf on = EndStateOn on.Happened
 
 module _ (on : OnDisplay) where
   -- The bytes lead to the station: they hold these items, none of them is refused, and what the station did at them and
-  -- at the keys between them left it on this side.
-  abbrev pub LeadsOn : StationOf on → List ℕ → ItemsOf on → SideOf on → Type 0
-  LeadsOn = LeadsTo (station_driving on)
+  -- at the keys between them left it in this state.
+  abbrev pub ReachedOn : StationOf on → List ℕ → ItemsOf on → EndStateOf on → Type 0
+  ReachedOn = IsReached (station_driving on)
 
-  -- this holds of whatever led to the station: the bytes, their items, and the side on which they left it
-  abbrev pub AtStationOn : StationOf on → (List ℕ → ItemsOf on → SideOf on → Type 0) → Type 0
+  -- this holds of whatever led to the station: the bytes, their items, and the state in which they left it
+  abbrev pub AtStationOn : StationOf on → (List ℕ → ItemsOf on → EndStateOf on → Type 0) → Type 0
   AtStationOn = AtDriver (station_driving on)
 
   -- the station has taken no byte and no key
   pub record FreshOn (station : StationOf on) : Type 0 where
     pub terminal : TerminalType
-    pub leads : LeadsOn station [] [] (new_side_on on.does terminal)
+    pub reached : ReachedOn station [] [] (new_state_on on.does terminal)
 
   -- the reply of what a byte gives, or why it is refused
   abbrev pub reply_of : Result (EndStep Applied on.Replied) Refusal → Result on.Replied Refusal
@@ -57,15 +57,15 @@ module _ (on : OnDisplay) where
 
   -- what a key gives: its refusal, with the station as it was; or what it sends: nothing, a read's answer, Attention or
   -- System Request
-  abbrev pub IsKeyedOn : StationOf on → StationOf on → List ℕ → ItemsOf on → SideOf on → on.Pressed
+  abbrev pub IsKeyedOn : StationOf on → StationOf on → List ℕ → ItemsOf on → EndStateOf on → on.Pressed
       → Result (Option Answer) KeyFault → Type 0
-  IsKeyedOn old new bytes items side key (Err fault) = (key_on on.does side key ≡ RefusesKey fault) × (new ≡ old)
-  IsKeyedOn old new bytes items side key (Ok None) = (next : SideOf on) × (key_on on.does side key ≡ Silent next)
-      × LeadsOn new bytes items next
-  IsKeyedOn old new bytes items side key (Ok (Some (Read body))) = (next : SideOf on) × (kind : ReadKind) × (aid : ℕ)
-      × (key_on on.does side key ≡ Answers next kind aid)
-      × (body ≡ answer_bytes kind (on.does.shows side.happened) aid) × LeadsOn new bytes items next
-  IsKeyedOn old new bytes items side key (Ok (Some Attention)) = (key_on on.does side key ≡ Signals NoOperation ATN)
-      × LeadsOn new bytes items side
-  IsKeyedOn old new bytes items side key (Ok (Some SystemRequest)) = (key_on on.does side key ≡ Signals NoOperation SRQ)
-      × LeadsOn new bytes items side
+  IsKeyedOn old new bytes items state key (Err fault) = (key_on on.does state key ≡ RefusesKey fault) × (new ≡ old)
+  IsKeyedOn old new bytes items state key (Ok None) = (next : EndStateOf on) × (key_on on.does state key ≡ Silent next)
+      × ReachedOn new bytes items next
+  IsKeyedOn old new bytes items state key (Ok (Some (Read body))) = (next : EndStateOf on) × (kind : ReadKind) ×
+      (aid : ℕ) × (key_on on.does state key ≡ Answers next kind aid)
+      × (body ≡ answer_bytes kind (on.does.shows state.happened) aid) × ReachedOn new bytes items next
+  IsKeyedOn old new bytes items state key (Ok (Some Attention)) = (key_on on.does state key ≡ Signals NoOperation ATN)
+      × ReachedOn new bytes items state
+  IsKeyedOn old new bytes items state key (Ok (Some SystemRequest)) = (key_on on.does state key
+      ≡ Signals NoOperation SRQ) × ReachedOn new bytes items state

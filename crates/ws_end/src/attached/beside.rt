@@ -1,4 +1,4 @@
-//! What goes to the other side beside what an end writes.
+//! What goes to the other end beside what an end writes.
 ghost use Rattle.std.specs.Prelude.{◌≡◌, Err, true, false, OnOk, IfErr};
 ghost use Rattle.ws_end.specs.attached.Attachments.{HasWrittenBeside, HasFailedBeside};
 

@@ -8,7 +8,7 @@ ghost use Rattle.ws_stream.specs.AnswerParts.{answer_rules};
 ghost use Rattle.ws_stream.specs.Elements.{element_rules};
 ghost use Rattle.ws_end.specs.station.Moments.{Presses, at_moment, outcome, due, later};
 ghost use Rattle.ws_end.specs.attached.Playing.{AtPlayer, HasDone, IsBrought};
-ghost use Rattle.ws_end.specs.station.StationLeads.{AtStation};
+ghost use Rattle.ws_end.specs.station.StationReached.{AtStation};
 ghost use Rattle.ws_end.specs.attached.StationRun.{IsRunFault, outflow};
 
 use crate::attached::writing::{fault_of, press_key};
@@ -29,16 +29,16 @@ pub(crate) struct Player {
 impl Player {
     // Presses a key, and writes what it sends.
     fn press<S: Sink>(&mut self, sink: &mut S, key: Key) -> Result<(), Fault>
-        ensures done { OnOk result (AtStation self.old.station (λ bytes items side.
+        ensures done { OnOk result (AtStation self.old.station (λ bytes items state.
             length bytes + 1 < 2 ^ 64
             → HasDone S.writer bytes items self.old self.new sink.old sink.new (at_moment
-            side (Presses key)))) }
+            state (Presses key)))) }
         ensures place { (self.new.pressed ≡ self.old.pressed)
             × (self.new.records ≡ self.old.records) }
         ensures fault { IfErr result (λ fault. (fault ≡ Fault.Write)
-            × AtStation self.old.station (λ bytes items side. length bytes + 1 < 2 ^ 64
+            × AtStation self.old.station (λ bytes items state. length bytes + 1 < 2 ^ 64
             → FailedWithin S.writer sink.old sink.new (plain_spelling answer_rules
-            (at_moment side (Presses key)).written))) }
+            (at_moment state (Presses key)).written))) }
     {
         match press_key(&mut self.station, sink, key) {
             Ok(Acted::Done) => Ok(()),
@@ -56,16 +56,16 @@ impl Player {
         sink: &mut S,
         keys: &[(u32, Key)],
     ) -> Result<(), Fault>
-        ensures done { OnOk result (AtStation self.old.station (λ bytes items side.
+        ensures done { OnOk result (AtStation self.old.station (λ bytes items state.
             length bytes + 1 < 2 ^ 64
             → HasDone S.writer bytes items self.old self.new sink.old sink.new (outcome
-            side (due self.old.records (drop self.old.pressed keys.now))))) }
+            state (due self.old.records (drop self.old.pressed keys.now))))) }
         ensures left { OnOk result (drop self.new.pressed keys.now
             ≡ later self.old.records (drop self.old.pressed keys.now)) }
         ensures fault { IfErr result (λ fault. (fault ≡ Fault.Write)
-            × AtStation self.old.station (λ bytes items side. length bytes + 1 < 2 ^ 64
+            × AtStation self.old.station (λ bytes items state. length bytes + 1 < 2 ^ 64
             → FailedWithin S.writer sink.old sink.new (plain_spelling answer_rules
-            (outcome side (due self.old.records (drop self.old.pressed keys.now))).written))) }
+            (outcome state (due self.old.records (drop self.old.pressed keys.now))).written))) }
     {
         while self.pressed < keys.len() {
             let next = keys[self.pressed];
@@ -78,7 +78,7 @@ impl Player {
         Ok(())
     }
 
-    // Takes a front of the piece, writes what it gives, and behind a record presses the keys that are due.
+    // Takes a prefix of the piece, writes what it gives, and behind a record presses the keys that are due.
     fn take<S: Sink>(
         &mut self,
         sink: &mut S,
@@ -96,7 +96,7 @@ impl Player {
             (λ run start bytes. IsRunFault run (outflow S.writer start sink.new)
             (length bytes) (bytes ++ piece.now) fault)) }
     {
-        let EndFed { used, step } = self.station.take_front(piece);
+        let EndFed { used, step } = self.station.take_prefix(piece);
         match step {
             Ok(step) => {
                 write_whole(sink, self.station.display().bytes(&step.reply))?;
@@ -137,8 +137,8 @@ impl Player {
     pub(crate) fn finish(mut self) -> Result<Played, Fault>
         ensures played { IfOk result (λ played. (played.station ≡ self.station)
             × (played.keys_refused ≡ self.keys_refused)
-            × AtStation self.station (λ bytes items side. IsInGrammar element_rules bytes items)) }
-        ensures truncated { IfErr result (λ fault. AtStation self.station (λ bytes items side.
+            × AtStation self.station (λ bytes items state. IsInGrammar element_rules bytes items)) }
+        ensures truncated { IfErr result (λ fault. AtStation self.station (λ bytes items state.
             length bytes + 1 < 2 ^ 64 → (fault ≡ Fault.Truncated (length bytes))
             × IsTruncated element_rules bytes)) }
     {

@@ -1,10 +1,10 @@
 //! A station that reads a source to its end.
 ghost use Rattle.std.specs.Prelude.{[]};
 ghost use Rattle.ws_nego.specs.declared.terminal.TerminalType.{TerminalType as ATerminal};
-ghost use Rattle.ws_end.specs.station.StationLeads.{IsFresh, StationLeads};
+ghost use Rattle.ws_end.specs.station.StationReached.{IsFresh, StationReached};
 ghost use Rattle.ws_code.specs.Device.{on_devices};
 ghost use Rattle.ws_end.specs.attached.StationRun.{IsRun, asked, passing};
-ghost use Rattle.ws_end.specs.station.StationSide.{new_station_side};
+ghost use Rattle.ws_end.specs.station.StationEndState.{new_station_end};
 
 use crate::Station;
 use crate::attached::player::Player;
@@ -36,7 +36,7 @@ pub fn run_station<R: Source, S: Sink>(
     keys: &[(u32, Key)],
 ) -> Result<Played, Fault>
     requires { IsFresh station }
-    ensures { (terminal : ATerminal) → StationLeads station [] [] (new_station_side terminal)
+    ensures { (terminal : ATerminal) → StationReached station [] [] (new_station_end terminal)
         → IsRun (asked terminal keys.now) (passing (on_devices S.writer R.reader)
         sink.old sink.new source.old source.new) result }
 {

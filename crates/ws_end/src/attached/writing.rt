@@ -1,9 +1,9 @@
 //! What an end does at bytes or a key, and writes at once into a sink: the steps of `Attached` and of `run_station`.
 ghost use Rattle.std.specs.Prelude.{◌≡◌, ◌<◌, ◌≤◌, [], true, length, take, IfOk, IfErr};
 ghost use Rattle.ws_end.specs.Acts.{all_came, as_list};
-ghost use Rattle.ws_end.specs.attached.Deeds.{WritesDeed, key_judged};
+ghost use Rattle.ws_end.specs.attached.Requests.{WritesRequest, key_judged};
 ghost use Rattle.ws_end.specs.attached.Attachments as spec;
-ghost use Rattle.ws_end.specs.attached.Attachments.{breaks, IfTold, TellsAtLast};
+ghost use Rattle.ws_end.specs.attached.Attachments.{breaks, IfEvents, TellsAtLast};
 ghost use Rattle.ws_end.specs.attached.Written.{HasWritten, IsUnheard};
 ghost use Rattle.ws_end.specs.station.Displays.{on_display as on};
 
@@ -16,7 +16,7 @@ use ws_code::{Fault, Sink, write_whole};
 #[derive(Drop)]
 pub(crate) struct Heard<T> {
     pub(crate) used: usize,
-    pub(crate) told: Result<Option<T>, Fault>,
+    pub(crate) event: Result<Option<T>, Fault>,
 }
 
 // Takes bytes of the piece as `End::feed` does, and writes what the end answers. An end that is shut refuses the first,
@@ -31,30 +31,30 @@ pub(crate) fn hear_piece<E: End, K: Sink>(
     ensures within { result.used ≤ length piece.now }
     ensures some { 0 < result.used }
     // What was written, and that nothing was told before the last byte.
-    ensures heard { IfOk result.told (λ told. HasWritten E.conduct K.writer
-        end.old end.new sink.old sink.new (all_came (take result.used piece.now)) (as_list told)) }
-    ensures first { IfTold result.told
-        (TellsAtLast E.conduct end.old end.new (take result.used piece.now)) }
+    ensures heard { IfOk result.event (λ event. HasWritten E.behaviour K.writer
+        end.old end.new sink.old sink.new (all_came (take result.used piece.now)) (as_list event)) }
+    ensures first { IfEvents result.event
+        (TellsAtLast E.behaviour end.old end.new (take result.used piece.now)) }
     // What stopped it, which breaks the end.
-    ensures fault { IfErr result.told (IsUnheard E.conduct K.writer
+    ensures fault { IfErr result.event (IsUnheard E.behaviour K.writer
         end.old end.new sink.old sink.new (take result.used piece.now)) }
-    ensures breaks { IfErr result.told (λ fault. breaks fault ≡ true) }
+    ensures breaks { IfErr result.event (λ fault. breaks fault ≡ true) }
 {
     let EndFed { used, step } = end.feed(piece);
     match step {
         Ok(step) => match write_whole(sink, end.bytes(&step.reply)) {
             Ok(()) => Heard {
                 used,
-                told: Ok(step.event),
+                event: Ok(step.event),
             },
             Err(fault) => Heard {
                 used,
-                told: Err(fault),
+                event: Err(fault),
             },
         },
         Err(refusal) => Heard {
             used: used.max(1),
-            told: Err(fault_of(refusal)),
+            event: Err(fault_of(refusal)),
         },
     }
 }
@@ -77,7 +77,7 @@ pub(crate) fn press_key<D: StationDisplay, K: Sink>(
     sink: &mut K,
     key: D::Key,
 ) -> Result<Acted<KeyFault>, Fault>
-    ensures { WritesDeed K.writer (key_judged (on D.Commands.rules D.does) key)
+    ensures { WritesRequest K.writer (key_judged (on D.Commands.rules D.does) key)
         station.old station.new sink.old sink.new result }
 {
     match station.key(key) {

@@ -18,16 +18,16 @@ pub trait Reacts: Drop {
     /// The bodies of the records that come.
     type Body: Body;
     /// What is kept of the open one.
-    type Keep: Keep<<Self::Body as Code>::Unit>;
+    type Collector: Keep<<Self::Body as Code>::Unit>;
     /// What is done at it.
-    type Deed;
+    type Request;
     /// What it tells.
     type Event: Drop;
     /// What it writes. It may be short where its bytes are kept elsewhere.
     type Reply: Drop;
 
     // How it reacts.
-    ghost does: { ReactingOf Self Self.Body.Unit Self.Deed Self.Event Self.Reply };
+    ghost does: { ReactingOf Self Self.Body.Unit Self.Request Self.Event Self.Reply };
 
     /// A reply of no bytes.
     fn silence() -> Self::Reply
@@ -54,13 +54,13 @@ pub trait Reacts: Drop {
     fn record(
         &mut self,
         head: Head,
-        keep: &mut Self::Keep,
+        collector: &mut Self::Collector,
     ) -> Result<EndStep<Self::Event, Self::Reply>, Halt>
         ensures reacted { (units : List Self.Body.Unit)
             → IsChain Self.Body.rules Self.Body.rules.first units
             → length (spelling_of Self.Body.rules units) ≤ 65525
-            → Self.Keep.keeper.holds keep.old units (spelling_of Self.Body.rules units)
+            → Self.Collector.keeper.holds collector.old units (spelling_of Self.Body.rules units)
             → HasReacted does self.old (RecordItem (record_of head units)) self.new result }
-        ensures emptied { OnOk result (Self.Keep.keeper.holds keep.new [] []) }
+        ensures emptied { OnOk result (Self.Collector.keeper.holds collector.new [] []) }
         ensures settled { Settles does self.old self.new result };
 }

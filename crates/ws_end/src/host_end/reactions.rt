@@ -2,11 +2,11 @@
 ghost use Rattle.std.specs.Prelude.{◌≡◌, []};
 ghost use Rattle.ws_end.specs.driver.Reacting.{Settles};
 ghost use Rattle.ws_end.specs.host_end.HostReacting.{HostReacts, host_reacting};
-ghost use Rattle.ws_end.specs.host_end.HostSide.{host_takes_record, host_reads_by, host_ends_cancel, ready_event, asked_read};
-ghost use Rattle.ws_end.specs.host_end.HostSide as side_spec;
+ghost use Rattle.ws_end.specs.host_end.HostEndState.{host_takes_record, host_reads_by, host_ends_cancel, ready_event, asked_read};
+ghost use Rattle.ws_end.specs.host_end.HostEndState as side_spec;
 
 use super::Host;
-use crate::end_step::Order;
+use crate::end_step::HostRequest;
 use crate::station::answer::{ATN, SRQ};
 use crate::{Halt, HostEvent, HostStep, Reacts};
 use arrayvec::ArrayVec;
@@ -18,7 +18,7 @@ use ws_record::{Head, Opcode, Telnet};
 use ws_stream::{AnswerPart, Answers};
 
 // Nothing is written, and this is told.
-fn told(event: Option<HostEvent>) -> HostStep
+fn event_step(event: Option<HostEvent>) -> HostStep
     ensures { result ≡ record { reply = []; event = event } }
 {
     HostStep {
@@ -43,9 +43,9 @@ fn signal(flags: u16) -> Option<HostEvent>
 impl Reacts for Host {
     type Body = Answers;
 
-    type Keep = Vec<AnswerPart>;
+    type Collector = Vec<AnswerPart>;
 
-    type Deed = Order;
+    type Request = HostRequest;
 
     type Event = HostEvent;
 
@@ -72,8 +72,8 @@ impl Reacts for Host {
         }
     }
 
-    fn record(&mut self, head: Head, keep: &mut Vec<AnswerPart>) -> Result<HostStep, Halt> {
-        let units = mem::replace(keep, Vec::new(self.alloc));
+    fn record(&mut self, head: Head, collector: &mut Vec<AnswerPart>) -> Result<HostStep, Halt> {
+        let units = mem::replace(collector, Vec::new(self.alloc));
         if !self.options.records_allowed() {
             return Err(Halt::Refused(Reason::RecordBeforeNegotiation));
         }
@@ -102,8 +102,8 @@ impl Host {
         opcode: Opcode,
         parts: &[AnswerPart],
     ) -> Result<HostStep, Halt>
-        ensures reacted { HostReacts self.old self.new (λ side.
-            (host_takes_record side flags opcode parts.now)) result }
+        ensures reacted { HostReacts self.old self.new (λ state.
+            (host_takes_record state flags opcode parts.now)) result }
         ensures settled { Settles host_reacting self.old self.new result }
     {
         if opcode == Opcode::PutGet {
@@ -114,15 +114,15 @@ impl Host {
         }
         match opcode {
             Opcode::CancelInvite => self.end_cancel(),
-            Opcode::NoOperation => Ok(told(signal(flags))),
+            Opcode::NoOperation => Ok(event_step(signal(flags))),
             _ => Err(Halt::Refused(Reason::UnaskedAnswer)),
         }
     }
 
     // Takes an answer to the asked read.
     fn take_answer(&mut self, parts: &[AnswerPart]) -> Result<HostStep, Halt>
-        ensures reacted { HostReacts self.old self.new (λ side.
-            (host_reads_by side (asked_read side) parts.now)) result }
+        ensures reacted { HostReacts self.old self.new (λ state.
+            (host_reads_by state (asked_read state) parts.now)) result }
         ensures settled { Settles host_reacting self.old self.new result }
     {
         let Some(kind) = self.kept.pending() else {
@@ -132,7 +132,7 @@ impl Host {
         match split_answer(self.alloc, &self.kept, kind, parts) {
             Ok(answer) => {
                 self.kept.cancel_read();
-                Ok(told(Some(HostEvent::Answer(answer))))
+                Ok(event_step(Some(HostEvent::Answer(answer))))
             }
             Err(HostFault::Reason(reason)) => Err(Halt::Refused(reason)),
             Err(HostFault::Memory) => Err(Halt::Memory),
@@ -141,8 +141,8 @@ impl Host {
 
     // Takes the end of a cancel.
     fn end_cancel(&mut self) -> Result<HostStep, Halt>
-        ensures reacted { HostReacts self.old self.new (λ side.
-            (host_ends_cancel side side.cancelling)) result }
+        ensures reacted { HostReacts self.old self.new (λ state.
+            (host_ends_cancel state state.cancelling)) result }
         ensures settled { Settles host_reacting self.old self.new result }
     {
         if !self.cancelling {
@@ -150,6 +150,6 @@ impl Host {
         }
         self.kept.cancel_read(); // The read is over too.
         self.cancelling = false;
-        Ok(told(Some(HostEvent::Cancelled)))
+        Ok(event_step(Some(HostEvent::Cancelled)))
     }
 }

@@ -1,9 +1,9 @@
 //! What a host end sends.
 ghost use Rattle.std.specs.Prelude.{◌≡◌, ◌≢◌, ◌<◌, ◌+◌, ◌^◌, Err, length, IsSome, OnErr, MatchResult};
-ghost use Rattle.ws_end.specs.declared.end_step.Order.TheVariants.{Send as Sending, Cancel as Cancelling};
-ghost use Rattle.ws_end.specs.host_end.HostLeads.{AtHost, IsSent, IsSendFault, CarriesOut};
+ghost use Rattle.ws_end.specs.declared.end_step.HostRequest.TheVariants.{Send as Sending, Cancel as Cancelling};
+ghost use Rattle.ws_end.specs.host_end.HostReached.{AtHost, IsSent, IsSendFault, CarriesOut};
 ghost use Rattle.ws_end.specs.host_end.HostReacting.{HostStands};
-ghost use Rattle.ws_end.specs.host_end.HostSide.{HostSide, RefusesSend, host_send, host_cancel, is_outstanding};
+ghost use Rattle.ws_end.specs.host_end.HostEndState.{HostEndState, RefusesSend, host_send, host_cancel, is_outstanding};
 
 use super::Host;
 use crate::station::apply::CANCEL;
@@ -24,10 +24,10 @@ impl Driver<Host> {
     pub fn send(&mut self, opcode: Opcode, body: &[Element]) -> Result<Vec<u8>, SendFault>
         requires other { opcode ≢ Opcode.CancelInvite }
         // What goes out; or why not, which changes nothing.
-        ensures sent { AtHost self.old (λ bytes items side. length bytes + 1 < 2 ^ 64
+        ensures sent { AtHost self.old (λ bytes items state. length bytes + 1 < 2 ^ 64
             → MatchResult result (λ sent.
-            IsSent self.new bytes items (host_send side opcode body.now) sent.items) (IsSendFault
-            (host_send side opcode body.now))) }
+            IsSent self.new bytes items (host_send state opcode body.now) sent.items) (IsSendFault
+            (host_send state opcode body.now))) }
         ensures same { OnErr result (self.new ≡ self.old) }
         // Nothing at the greatest count or after a refusal.
         ensures full { self.old.live.taken + 1 ≡ 2 ^ 64
@@ -72,10 +72,10 @@ impl Driver<Host> {
     ///
     /// `Failed`, `NotAllowed`, or `NoReadToCancel`; nothing is then changed.
     pub fn cancel(&mut self) -> Result<ArrayVec<u8, 12>, SendFault>
-        ensures sent { AtHost self.old (λ bytes items side. length bytes + 1 < 2 ^ 64
+        ensures sent { AtHost self.old (λ bytes items state. length bytes + 1 < 2 ^ 64
             → MatchResult result (λ sent.
-            IsSent self.new bytes items (host_cancel side) sent.items) (λ fault.
-            host_cancel side ≡ RefusesSend fault)) }
+            IsSent self.new bytes items (host_cancel state) sent.items) (λ fault.
+            host_cancel state ≡ RefusesSend fault)) }
         ensures same { OnErr result (self.new ≡ self.old) }
         ensures wanting { result ≢ Err SendFault.Memory }
         ensures full { self.old.live.taken + 1 ≡ 2 ^ 64
@@ -95,16 +95,16 @@ impl Driver<Host> {
         Ok(ArrayVec::from(CANCEL))
     }
 
-    /// Carries out an order to send: one of Cancel Invite is a cancel.
+    /// Carries out a request to send: one of Cancel Invite is a cancel.
     ///
     /// # Errors
     ///
     /// As `send` and `cancel`.
-    pub fn order_send(&mut self, opcode: Opcode, body: &[Element]) -> Result<Sent, SendFault>
+    pub fn request_send(&mut self, opcode: Opcode, body: &[Element]) -> Result<Sent, SendFault>
         ensures { CarriesOut (Sending opcode body.now) self.old self.new result }
     {
         match opcode {
-            Opcode::CancelInvite => self.order_cancel(),
+            Opcode::CancelInvite => self.request_cancel(),
             _ => match self.send(opcode, body) {
                 Ok(bytes) => Ok(Sent::Record(bytes)),
                 Err(fault) => Err(fault),
@@ -112,12 +112,12 @@ impl Driver<Host> {
         }
     }
 
-    /// Carries out an order to cancel.
+    /// Carries out a request to cancel.
     ///
     /// # Errors
     ///
     /// As `cancel`.
-    pub fn order_cancel(&mut self) -> Result<Sent, SendFault>
+    pub fn request_cancel(&mut self) -> Result<Sent, SendFault>
         ensures { CarriesOut Cancelling self.old self.new result }
     {
         match self.cancel() {
@@ -128,8 +128,8 @@ impl Driver<Host> {
 
     // Whether the body would disturb a read or a cancel.
     fn is_disturbed(&self, body: &[Element]) -> bool
-        ensures { (side : HostSide) → HostStands self.now.reacts side
-            → result ≡ is_outstanding side body.now }
+        ensures { (state : HostEndState) → HostStands self.now.reacts state
+            → result ≡ is_outstanding state body.now }
     {
         !body.is_empty() && (self.reacts.kept.pending().is_some() || self.reacts.cancelling)
     }

@@ -9,11 +9,11 @@ ghost use Rattle.ws_screen.specs.Bodies.{after_elements, body_fault};
 ghost use Rattle.ws_screen.specs.Events.{History};
 ghost use Rattle.ws_screen.specs.Faults.{refusal};
 ghost use Rattle.ws_screen.specs.Given.{Gives};
-ghost use Rattle.ws_end.specs.station.StationSide.{OfBody};
+ghost use Rattle.ws_end.specs.station.StationEndState.{OfBody};
 ghost use Rattle.ws_end.specs.station.Alarms.{alarm_count, alarms_in};
-ghost use Rattle.ws_end.specs.station.StationSide as spec;
-ghost use Rattle.ws_end.specs.station.StationSide.{opcode_events, after_record, opcode_answer};
-ghost use Rattle.ws_end.specs.host_end.HostSide.{sent_record};
+ghost use Rattle.ws_end.specs.station.StationEndState as spec;
+ghost use Rattle.ws_end.specs.station.StationEndState.{opcode_events, after_record, opcode_answer};
+ghost use Rattle.ws_end.specs.host_end.HostEndState.{sent_record};
 
 use crate::station::alarm::count_alarm;
 use arrayvec::ArrayVec;

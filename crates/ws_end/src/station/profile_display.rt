@@ -3,7 +3,7 @@ ghost use Rattle.std.specs.Prelude.{refl, ◌≡◌};
 ghost use Rattle.ws_screen.specs.Events.{History};
 ghost use Rattle.ws_stream.specs.declared.answer_part.AnswerPart.{AnswerPart};
 ghost use Rattle.ws_stream.specs.declared.answer_place.AnswerPlace.{AnswerPlace};
-ghost use Rattle.ws_end.specs.station.StationSide.{profile};
+ghost use Rattle.ws_end.specs.station.StationEndState.{profile};
 
 use crate::StationDisplay;
 use crate::station::apply::{apply_kept, opcode_reply};
@@ -28,7 +28,7 @@ pub struct ProfileDisplay {
 
 impl Model for ProfileDisplay {
     ghost use Rattle.std.specs.Prelude.{◌≡◌, None};
-    ghost use Rattle.ws_end.specs.station.StationSide.{ProfileParts};
+    ghost use Rattle.ws_end.specs.station.StationEndState.{ProfileParts};
 
     ghost Value = { ProfileParts };
 

@@ -12,9 +12,9 @@ use ws_record::{Head, Telnet};
 impl<D: StationDisplay> Reacts for AtStation<D> {
     type Body = D::Commands;
 
-    type Keep = BodyBytes;
+    type Collector = BodyBytes;
 
-    type Deed = D::Key;
+    type Request = D::Key;
 
     type Event = Applied;
 
@@ -40,14 +40,14 @@ impl<D: StationDisplay> Reacts for AtStation<D> {
     fn record(
         &mut self,
         head: Head,
-        keep: &mut BodyBytes,
+        collector: &mut BodyBytes,
     ) -> Result<EndStep<Applied, D::Reply>, Halt> {
         if !self.options.records_allowed() {
             return Err(Halt::Refused(Reason::RecordBeforeNegotiation));
         }
-        match self.display.apply(head, keep.as_slice()) {
+        match self.display.apply(head, collector.as_slice()) {
             Ok(reply) => {
-                keep.clear();
+                collector.clear();
                 self.records = self.records.saturating_add(1);
                 Ok(EndStep {
                     reply,

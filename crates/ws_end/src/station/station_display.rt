@@ -7,8 +7,8 @@ ghost use Rattle.ws_stream.specs.AnswerParts.{answer_rules};
 ghost use Rattle.ws_screen.specs.ScreenParts.{ScreenParts};
 ghost use Rattle.ws_screen.specs.declared.read_kind.ReadKind.{ReadKind as AReadKind};
 ghost use Rattle.ws_end.specs.station.Alarms.{alarm_count};
-ghost use Rattle.ws_end.specs.station.StationSide.{answer_record};
-ghost use Rattle.ws_end.specs.station.Displays.{DisplayOf, SideOn, IsApplied, IsPressedOnDisplay};
+ghost use Rattle.ws_end.specs.station.StationEndState.{answer_record};
+ghost use Rattle.ws_end.specs.station.Displays.{DisplayOf, EndStateOn, IsApplied, IsPressedOnDisplay};
 
 use ws_code::{Body, Reason};
 use ws_keys::{Answer, KeyRefusal};
@@ -57,11 +57,11 @@ pub trait StationDisplay: Drop {
     ///
     /// The first reason for which an element is refused; the display is then as it was.
     fn apply(&mut self, head: Head, kept: &[u8]) -> Result<Self::Reply, Reason>
-        ensures applied { (side : SideOn Happened) (units : List Self.Commands.Unit)
+        ensures applied { (state : EndStateOn Happened) (units : List Self.Commands.Unit)
             → IsChain Self.Commands.rules Self.Commands.rules.first units
             → kept.now ≡ spelling_of Self.Commands.rules units
-            → does.gives side.happened self.old
-            → IsApplied does self.new side (record_of head units) result }
+            → does.gives state.happened self.old
+            → IsApplied does self.new state (record_of head units) result }
         ensures same { OnErr result (self.new ≡ self.old) };
 
     /// Whether a key sends a record.
@@ -74,8 +74,8 @@ pub trait StationDisplay: Drop {
     ///
     /// As `ws_keys::press`; the display is then as it was.
     fn press(&mut self, key: Self::Key) -> Result<Option<Answer>, KeyRefusal>
-        ensures pressed { (side : SideOn Happened) → does.gives side.happened self.old
-            → IsPressedOnDisplay does self.old self.new side key result }
+        ensures pressed { (state : EndStateOn Happened) → does.gives state.happened self.old
+            → IsPressedOnDisplay does self.old self.new state key result }
         ensures same { OnErr result (self.new ≡ self.old) };
 
     /// The screen.
@@ -84,7 +84,7 @@ pub trait StationDisplay: Drop {
 
     /// How many alarms have sounded, up to 18,446,744,073,709,551,615.
     fn alarms(&self) -> u64
-        ensures told { result ≡ does.sounded self.now }
+        ensures reported { result ≡ does.sounded self.now }
         ensures sounded { (h : Happened) → does.gives h self.now
             → result ≡ alarm_count (does.sounds h) };
 

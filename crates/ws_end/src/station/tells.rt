@@ -6,7 +6,7 @@ ghost use Rattle.ws_end.specs.station.Alarms.{alarm_count};
 ghost use Rattle.ws_end.specs.station.StationReacting.{StationStands};
 ghost use Rattle.ws_end.specs.station.Stations.{AtStationOn};
 ghost use Rattle.ws_end.specs.station.StationCounts.{records_in};
-ghost use Rattle.ws_end.specs.station.Displays.{SideOn};
+ghost use Rattle.ws_end.specs.station.Displays.{EndStateOn};
 ghost use Rattle.ws_end.specs.station.Displays.{on_display as on};
 
 use super::AtStation;
@@ -38,7 +38,7 @@ impl<D: StationDisplay> Driver<AtStation<D>> {
     /// How many records it has applied to its screen.
     pub fn records(&self) -> u64
         ensures count { result ≡ self.now.reacts.records }
-        ensures applied { AtStationOn (on D.Commands.rules D.does) self.now (λ bytes items side.
+        ensures applied { AtStationOn (on D.Commands.rules D.does) self.now (λ bytes items state.
             result ≡ records_in items) }
     {
         // There are no more of them than bytes, which are counted.
@@ -51,12 +51,12 @@ impl<D: StationDisplay> Driver<AtStation<D>> {
     /// station's whole life, and stops at 18,446,744,073,709,551,615.
     pub fn alarms(&self) -> u64
         ensures count { result ≡ D.does.sounded self.now.reacts.screen }
-        ensures sounded { AtStationOn (on D.Commands.rules D.does) self.now (λ bytes items side.
-            result ≡ alarm_count (D.does.sounds side.happened)) }
+        ensures sounded { AtStationOn (on D.Commands.rules D.does) self.now (λ bytes items state.
+            result ≡ alarm_count (D.does.sounds state.happened)) }
         // So too after a byte that it refused.
-        ensures stopped { (items : List (Item D.Commands.Unit)) (side : SideOn D.Happened)
-            → StationStands D.does self.now.reacts items side
-            → result ≡ alarm_count (D.does.sounds side.happened) }
+        ensures stopped { (items : List (Item D.Commands.Unit)) (state : EndStateOn D.Happened)
+            → StationStands D.does self.now.reacts items state
+            → result ≡ alarm_count (D.does.sounds state.happened) }
     {
         self.reacts.display.alarms()
     }

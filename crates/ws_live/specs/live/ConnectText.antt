@@ -9,8 +9,8 @@ use Rattle.ws_code.specs.declared.fault.Fault.TheVariants as fault
 use Rattle.ws_screen.specs.ScreenParts.{ScreenParts}
 use Rattle.ws_end.specs.Acts.{Did}
 use Rattle.ws_end.specs.attached.Attachments.{AttachedParts, HaveLedUnwritten, HasHeard, IsHearFault}
-use Rattle.ws_end.specs.attached.Deeds.{HasActed, is_done, key_judged}
-use Rattle.ws_end.specs.Conducts.{station_conduct}
+use Rattle.ws_end.specs.attached.Requests.{HasActed, is_done, key_judged}
+use Rattle.ws_end.specs.Behaviours.{station_behaviour}
 use Rattle.ws_end.specs.declared.attached.acted.Acted.{Acted}
 use Rattle.ws_end.specs.declared.attached.acted.Acted.TheVariants as acted
 use Rattle.ws_end.specs.declared.end_step.Applied.{Applied}
@@ -130,11 +130,11 @@ module _ {S K : Type 0} (at : AttachedDisplay S K) where
 
   -- one call of `hear` leads from there to there, and tells this
   abbrev pub Hears : AttachedStation → Option Applied → AttachedStation → Type 0
-  Hears from heard to = HasHeard (station_conduct at.on) at.devices from to heard
+  Hears from heard to = HasHeard (station_behaviour at.on) at.devices from to heard
 
   -- one call of `hear` failed for this
   abbrev pub HearsFault : AttachedStation → Fault → AttachedStation → Type 0
-  HearsFault from why to = IsHearFault (station_conduct at.on) at.devices from to why
+  HearsFault from why to = IsHearFault (station_behaviour at.on) at.devices from to why
 
   -- a key was pressed: what it sends went out, or it was refused, and nothing is changed; no byte was read or taken
   abbrev pub IsKeyPressed : KeyAt at → AttachedStation → Acted KeyFault → AttachedStation → Type 0
@@ -143,7 +143,7 @@ module _ {S K : Type 0} (at : AttachedDisplay S K) where
   -- a key was pressed, and what it sends didn't go out
   abbrev pub IsKeyUnwritten : KeyAt at → AttachedStation → AttachedStation → Type 0
   IsKeyUnwritten key from to =
-      HaveLedUnwritten (station_conduct at.on) at.devices from to (Did key ∷ [])
+      HaveLedUnwritten (station_behaviour at.on) at.devices from to (Did key ∷ [])
 
   -- records were applied one after another, and before each it wasn't yet met
   abbrev pub HasWaited : (at.on.Parts → Type 0) → AttachedStation → List Applied → AttachedStation → Type 0

@@ -4,7 +4,7 @@ use Rattle.std.specs.Prelude.{◌≡◌, ℕ, List, [], false}
 use Rattle.ws_code.specs.Code.{Rules}
 use Rattle.ws_code.specs.Device.{Devices}
 use Rattle.ws_end.specs.station.Displays.{DisplayOf, OnDisplay, on_display}
-use Rattle.ws_end.specs.station.StationSide.{ProfileParts}
+use Rattle.ws_end.specs.station.StationEndState.{ProfileParts}
 use Rattle.ws_live.specs.live.Waits.{WatchTells}
 use Rattle.ws_live.specs.script.KeyWords.{KeyWords}
 

@@ -4,7 +4,7 @@ use Rattle.std.specs.Prelude.{◌≡◌, ◌≢◌, ◌⊎◌, ℕ, ◌+◌, ◌
 use Rattle.std.specs.Str.{IsUtf8}
 use Rattle.ws_record.specs.declared.opcode.Opcode.{Opcode}
 use Rattle.ws_record.specs.declared.record.Record.{Record}
-use Rattle.ws_end.specs.declared.end_step.Order.TheVariants.{Send, Cancel}
+use Rattle.ws_end.specs.declared.end_step.HostRequest.TheVariants.{Send, Cancel}
 use Rattle.ws_stream.specs.declared.element.Element.{Element}
 use Rattle.ws_stream.specs.Elements.{element_rules}
 use Rattle.ws_text.specs.ElementWords.{element_wording}

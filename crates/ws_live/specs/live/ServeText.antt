@@ -7,9 +7,9 @@ use Rattle.ws_code.specs.Device.{most_reads, Devices}
 use Rattle.ws_code.specs.declared.fault.Fault.{Fault}
 use Rattle.ws_code.specs.declared.fault.Fault.TheVariants as fault
 use Rattle.ws_end.specs.attached.Attachments.{AttachedParts, HasHeard, IsHearFault}
-use Rattle.ws_end.specs.attached.Deeds.{HasActed, order_judged}
-use Rattle.ws_end.specs.host_end.HostLeads.{HostParts}
-use Rattle.ws_end.specs.Conducts.{host_conduct}
+use Rattle.ws_end.specs.attached.Requests.{HasActed, request_judged}
+use Rattle.ws_end.specs.host_end.HostReached.{HostParts}
+use Rattle.ws_end.specs.Behaviours.{host_behaviour}
 use Rattle.ws_end.specs.declared.attached.acted.Acted.{Acted}
 use Rattle.ws_end.specs.declared.attached.acted.Acted.TheVariants as acted
 use Rattle.ws_end.specs.declared.host_end.host_event.HostEvent.{HostEvent}
@@ -80,7 +80,7 @@ module _ {S K : Type 0} (devices : Devices S K) where
   abbrev pub HaveToldBeforeAnswer : AnswerAwaited → AttachedHost → List HostEvent → AttachedHost → Type 0
   HaveToldBeforeAnswer awaited from [] to = to ≡ from
   HaveToldBeforeAnswer awaited from (event ∷ more) to = (mid : AttachedHost)
-      × HasHeard host_conduct devices from mid (Some event)
+      × HasHeard host_behaviour devices from mid (Some event)
       × (is_awaited awaited event ≡ false) × HaveToldBeforeAnswer awaited mid more to
 
 -- What a wait comes to, at a watch that tells of a source whether the read that failed was late.
@@ -96,21 +96,21 @@ module _ {S K : Type 0} (on : WatchedDevices S K) where
   -- the host end heard the station, and tells nothing more: the station closed, or a fault came
   abbrev pub HostHearsNone : WatchedHost → LineResult → WatchedHost → Type 0
   HostHearsNone from came to =
-      (HasHeard host_conduct on.devices from to None × (came.outcome ≡ Ok Ended) × (came.text ≡ []))
+      (HasHeard host_behaviour on.devices from to None × (came.outcome ≡ Ok Ended) × (came.text ≡ []))
       ⊎ ((why : Fault) × (late : Bool)
-      × IsHearFault host_conduct on.devices from to why × (why ≡ fault.Read → on.tells.is_late to.source late)
+      × IsHearFault host_behaviour on.devices from to why × (why ≡ fault.Read → on.tells.is_late to.source late)
       × (came.outcome ≡ unheard_outcome late why) × (came.text ≡ unheard_text why))
 
   -- the host end heard the station up to the first thing that it tells, which is printed, or none came
   abbrev pub HostHearsOne : WatchedHost → LineResult → WatchedHost → Type 0
   HostHearsOne from came to =
-      ((event : HostEvent) × HasHeard host_conduct on.devices from to (Some event)
+      ((event : HostEvent) × HasHeard host_behaviour on.devices from to (Some event)
       × (came.outcome ≡ Ok Done) × (came.text ≡ told_text event))
       ⊎ HostHearsNone from came to
 
   -- the answer that is awaited is told, and printed
   abbrev pub AnswerComes : AnswerAwaited → WatchedHost → LineResult → WatchedHost → Type 0
-  AnswerComes awaited from came to = (event : HostEvent) × HasHeard host_conduct on.devices from to (Some event)
+  AnswerComes awaited from came to = (event : HostEvent) × HasHeard host_behaviour on.devices from to (Some event)
       × (is_awaited awaited event ≡ true) × (came.outcome ≡ Ok Done) × (came.text ≡ told_text event)
 
   -- The host end heard the station up to the answer, and printed all that it told: after some things the answer came;
@@ -130,7 +130,7 @@ module _ {S K : Type 0} (on : WatchedDevices S K) where
   abbrev pub HostDoes : LinesDo HostLine WatchedHost
   HostDoes NoLine from came to = (to ≡ from) × (came.outcome ≡ Ok Nothing) × (came.text ≡ [])
   HostDoes (Give order) from came to = (given : Result (Acted SendFault) Fault) × (from.broken ≡ false)
-      × HasActed on.devices (order_judged order) from to given
+      × HasActed on.devices (request_judged order) from to given
       × (came.outcome ≡ given_outcome given) × (came.text ≡ given_text given)
   HostDoes Await from came to = HostHearsOne from came to
   HostDoes (AwaitAnswer awaited) from came to = HearsAnswer awaited from came to

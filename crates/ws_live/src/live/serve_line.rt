@@ -1,5 +1,5 @@
 ghost use Rattle.std.specs.Prelude.{◌≡◌, ◌++◌, [], ◌<◌, ℕ, List as Seq, true, length, codes, IfOk, IfErr, MatchOption};
-ghost use Rattle.ws_end.specs.declared.end_step.Order.TheVariants.{Send};
+ghost use Rattle.ws_end.specs.declared.end_step.HostRequest.TheVariants.{Send};
 ghost use Rattle.ws_live.specs.live.LiveScript.{IsBlockFault};
 ghost use Rattle.ws_live.specs.live.ServeLines.{IsHostLine, IsOneLine, OpensHostBlock, host_language};
 ghost use Rattle.ws_live.specs.live.ServeLines as Spec;
@@ -17,7 +17,7 @@ use std::alloc::Global;
 use std::str;
 use ws_code::Aid;
 use ws_record::Opcode;
-use ws_session::{Move, Order};
+use ws_session::{HostRequest, Move};
 use ws_stream::Commands;
 use ws_text::{TextFault, read_elements};
 
@@ -36,7 +36,7 @@ pub enum HostLine {
     /// An empty line, a comment, or the end of the lines that belong to the one before.
     Nothing,
     /// The host end is told to send a record, or to cancel its read.
-    Give(Order),
+    Give(HostRequest),
     /// The host end takes what the station sends, until it tells something.
     Await,
     /// The host end takes what the station sends, until it tells this answer.
@@ -62,7 +62,7 @@ impl LiveLine for HostLine {
         }
         match sent_alone(line) {
             Some(opcode) => match read_elements::<Commands>(alloc, opcode, inside) {
-                Ok(body) => Ok(HostLine::Give(Order::Send(opcode, body))),
+                Ok(body) => Ok(HostLine::Give(HostRequest::Send(opcode, body))),
                 Err(TextFault::Line(at)) => Err(ScriptFault::Line(at.saturating_add(1))),
                 Err(TextFault::Memory) => Err(ScriptFault::Memory),
             },
@@ -120,7 +120,7 @@ fn read_word(word: &str) -> Result<HostLine, LineFault>
 {
     match word {
         "await" => Ok(HostLine::Await),
-        "cancel" => Ok(HostLine::Give(Order::Cancel)),
+        "cancel" => Ok(HostLine::Give(HostRequest::Cancel)),
         "close" => Ok(HostLine::Wire(WireLine::Close)),
         "end" => Ok(HostLine::Nothing),
         "show" => Ok(HostLine::Show),
@@ -148,7 +148,7 @@ fn read_command(
 {
     match command {
         "send" => match read_move(alloc, command, words) {
-            Ok(Move::Send(opcode, body)) => Ok(HostLine::Give(Order::Send(opcode, body))),
+            Ok(Move::Send(opcode, body)) => Ok(HostLine::Give(HostRequest::Send(opcode, body))),
             Ok(_) => Err(LineFault::Bad),
             Err(fault) => Err(fault),
         },

@@ -5,21 +5,22 @@ use C.{flat_map, ◌≡◌, ◌+◌, ◌≤◌, List, [], ◌∷◌, ◌++◌, r
 use C.{arith, ◌^◌, min, inl, inr, length, append_assoc, add-zero, length-append, length-drop, length-take, ◌-◌}
 use C.{take-add, cases_lt, flat_map-append, length-take-le, append-nil, take_all, take-take, drop-drop, came_append}
 use C.{Act, all_came, Refusal, At, Event, Through, WireParts, reported, HasMemory, Comes, AreDelivered}
-use Rattle.ws_end.specs.Conduct.{Conduct}
+use Rattle.ws_end.specs.Behaviour.{Behaviour}
 use Rattle.ws_session.specs.world.Wires.{AtEnd, HasCome, Telling}
 use Rattle.ws_session.proofs.world.Crossed.{past}
 
-module _ {E Deed Told : Type 0} (conduct : Conduct E Deed Told) (telling : Telling Told) where
+module _ {E Request EndEvent : Type 0} (behaviour : Behaviour E Request EndEvent) (telling : Telling EndEvent) where
   -- bytes at which the end goes on
-  pub goes_come : (old new : E) (bytes : List ℕ) (reply : List ℕ)
-      (told : List Told) (to to' : WireParts) (events events' : List Event) → conduct.goes old (all_came bytes) reply told new
-      → (conduct.over old → ⊥) → to' ≡ record to { bytes = to.bytes ++ reply } → events' ≡ events ++ flat_map telling.tells told
-      → HasCome conduct telling old bytes new to to' events events'
-  goes_come old new bytes reply told to to' events events' led works t e = record {
+  pub traces_come : (old new : E) (bytes : List ℕ) (reply : List ℕ)
+      (end_events : List EndEvent) (to to' : WireParts) (events events' : List Event) → behaviour.traces old
+      (all_came bytes) reply end_events new → (behaviour.over old → ⊥) → to' ≡ record to { bytes = to.bytes ++ reply }
+      → events' ≡ events ++ flat_map telling.tells end_events → HasCome behaviour telling old bytes new to to' events
+      events'
+  traces_come old new bytes reply end_events to to' events events' led works t e = record {
     written = reply;
-    events = flat_map telling.tells told;
+    events = flat_map telling.tells end_events;
     comes = record {
-      told = told;
+      end_events = end_events;
       why = None;
       through = led;
       reports = refl;
@@ -31,21 +32,21 @@ module _ {E Deed Told : Type 0} (conduct : Conduct E Deed Told) (telling : Telli
   }
 
   -- bytes of which it refuses one
-  pub refused_come : (stays : (e : E) → conduct.goes e [] [] [] e) (old new : E) (bytes front after : List ℕ) (byte : ℕ)
-      (why : Refusal) → bytes ≡ front ++ byte ∷ after
-      → HasMemory (Some why) → (to : WireParts) (events events' : List Event) → conduct.refuses old front byte why new
-      → conduct.over new → (conduct.over old → (new ≡ old) × (reported conduct telling [] (Some why) ≡ []))
-      → events' ≡ events ++ reported conduct telling [] (Some why)
-      → HasCome conduct telling old bytes new to to events events'
-  refused_come stays old new bytes front after byte why split memory to events events' r o same e = record {
+  pub refused_come : (stays : (e : E) → behaviour.traces e [] [] [] e) (old new : E) (bytes prefix after : List ℕ)
+      (byte : ℕ) (why : Refusal) → bytes ≡ prefix ++ byte ∷ after
+      → HasMemory (Some why) → (to : WireParts) (events events' : List Event)
+      → behaviour.refuses old prefix byte why new → behaviour.over new →
+      (behaviour.over old → (new ≡ old) × (reported behaviour telling [] (Some why) ≡ [])) → events' ≡ events
+      ++ reported behaviour telling [] (Some why) → HasCome behaviour telling old bytes new to to events events'
+  refused_come stays old new bytes prefix after byte why split memory to events events' r o same e = record {
     written = [];
-    events = reported conduct telling [] (Some why);
+    events = reported behaviour telling [] (Some why);
     comes = record {
-      told = [];
+      end_events = [];
       why = Some why;
       through = record {
         before = [];
-        front = front;
+        prefix = prefix;
         byte = byte;
         after = after;
         split = split;
@@ -63,9 +64,9 @@ module _ {E Deed Told : Type 0} (conduct : Conduct E Deed Told) (telling : Telli
   }
 
   -- no byte
-  pub none_comes : ((e : E) → conduct.goes e [] [] [] e) → (e : E) → Comes conduct telling e [] e [] []
+  pub none_comes : ((e : E) → behaviour.traces e [] [] [] e) → (e : E) → Comes behaviour telling e [] e [] []
   none_comes stays e = record {
-    told = [];
+    end_events = [];
     why = None;
     through = stays e;
     reports = refl;
@@ -73,87 +74,91 @@ module _ {E Deed Told : Type 0} (conduct : Conduct E Deed Told) (telling : Telli
     stays = λ o. (refl, refl, refl);
   }
 
-  reported_behind : (told more : List Told) (why : Option Refusal) → flat_map telling.tells told
-      ++ reported conduct telling more why ≡ reported conduct telling (told ++ more) why
-  reported_behind told more None = sym (flat_map-append telling.tells told more)
-  reported_behind told more (Some (At place reason)) =
-      sym (append_assoc (flat_map telling.tells told) (flat_map telling.tells more) (telling.refusal place reason ∷ []))
-      ∙ ap (λ z. z ++ telling.refusal place reason ∷ []) (sym (flat_map-append telling.tells told more))
-  reported_behind told more (Some why) = sym (flat_map-append telling.tells told more)
+  reported_behind : (end_events more : List EndEvent) (why : Option Refusal) → flat_map telling.tells end_events
+      ++ reported behaviour telling more why ≡ reported behaviour telling (end_events ++ more) why
+  reported_behind end_events more None = sym (flat_map-append telling.tells end_events more)
+  reported_behind end_events more (Some (At place reason)) =
+      sym (append_assoc (flat_map telling.tells end_events) (flat_map telling.tells more)
+      (telling.refusal place reason ∷ [])) ∙ ap (λ z. z ++ telling.refusal place reason ∷ [])
+      (sym (flat_map-append telling.tells end_events more))
+  reported_behind end_events more (Some why) = sym (flat_map-append telling.tells end_events more)
 
-  module _ (follows : (a b c : E) (xs ys : List (Act Deed)) (v w : List ℕ) (s t : List Told) → conduct.goes a xs v s b
-      → conduct.goes b ys w t c → conduct.goes a (xs ++ ys) (v ++ w) (s ++ t) c) where
-    -- bytes, and then further ones
-    pub come_on : (a b c : E) (xs ys : List ℕ) (v w : List ℕ) (s t : List Event)
-        → Comes conduct telling a xs b v s → Comes conduct telling b ys c w t
-        → Comes conduct telling a (xs ++ ys) c (v ++ w) (s ++ t)
-    come_on a b c xs ys v w s t p q = first p.why p.through p.reports p.has_memory where
-      both : conduct.over a → (c ≡ a) × (v ++ w ≡ []) × (s ++ t ≡ [])
-      both o =
-          let n = p.stays o in
-          let m = q.stays (subst conduct.over (sym n.0) o) in
-          (m.0 ∙ n.0, ap (λ z. z ++ w) n.1 ∙ m.1, ap (λ z. z ++ t) n.2 ∙ m.2)
+  module _ (follows : (a b c : E) (xs ys : List (Act Request)) (v w : List ℕ) (s t : List EndEvent)
+      → behaviour.traces a xs v s b → behaviour.traces b ys w t c → behaviour.traces a (xs ++ ys) (v ++ w) (s ++ t) c)
+    where
+      -- bytes, and then further ones
+      pub come_on : (a b c : E) (xs ys : List ℕ) (v w : List ℕ) (s t : List Event)
+          → Comes behaviour telling a xs b v s → Comes behaviour telling b ys c w t
+          → Comes behaviour telling a (xs ++ ys) c (v ++ w) (s ++ t)
+      come_on a b c xs ys v w s t p q = first p.why p.through p.reports p.has_memory where
+        both : behaviour.over a → (c ≡ a) × (v ++ w ≡ []) × (s ++ t ≡ [])
+        both o =
+            let n = p.stays o in
+            let m = q.stays (subst behaviour.over (sym n.0) o) in
+            (m.0 ∙ n.0, ap (λ z. z ++ w) n.1 ∙ m.1, ap (λ z. z ++ t) n.2 ∙ m.2)
 
-      second : (why : Option Refusal) → Through conduct b ys w q.told why c
-          → t ≡ reported conduct telling q.told why → HasMemory why
-          → conduct.goes a (all_came xs) v p.told b → s ≡ flat_map telling.tells p.told
-          → Comes conduct telling a (xs ++ ys) c (v ++ w) (s ++ t)
-      second None h f memory g e = record {
-        told = p.told ++ q.told;
-        why = None;
-        through = subst (λ (z : List (Act Deed)). conduct.goes a z (v ++ w) (p.told ++ q.told) c) (sym (came_append xs ys)) (follows a b c (all_came xs) (all_came ys) v w p.told q.told g h);
-        reports = rw (e, f) (reported_behind p.told q.told None);
-        has_memory = tt;
-        stays = both;
-      }
-      second (Some why) h f memory g e = record {
-        told = p.told ++ q.told;
-        why = Some why;
-        through = record {
-          before = xs ++ h.before;
-          front = h.front;
-          byte = h.byte;
-          after = h.after;
-          split = ap (λ z. xs ++ z) h.split ∙ sym (append_assoc xs h.before (h.front ++ h.byte ∷ h.after));
-          last = h.last;
-          led = rw (came_append xs h.before) (follows a b h.last (all_came xs) (all_came h.before) v w p.told q.told g
-              h.led);
-          refused = h.refused;
-          is_over = h.is_over;
-        };
-        reports = rw (e, f) (reported_behind p.told q.told (Some why));
-        has_memory = memory;
-        stays = both;
-      }
+        second : (why : Option Refusal) → Through behaviour b ys w q.end_events why c
+            → t ≡ reported behaviour telling q.end_events why → HasMemory why
+            → behaviour.traces a (all_came xs) v p.end_events b → s ≡ flat_map telling.tells p.end_events
+            → Comes behaviour telling a (xs ++ ys) c (v ++ w) (s ++ t)
+        second None h f memory g e = record {
+          end_events = p.end_events ++ q.end_events;
+          why = None;
+          through = subst (λ (z : List (Act Request)). behaviour.traces a z (v ++ w) (p.end_events ++ q.end_events) c)
+              (sym (came_append xs ys)) (follows a b c (all_came xs) (all_came ys) v w p.end_events q.end_events g h);
+          reports = rw (e, f) (reported_behind p.end_events q.end_events None);
+          has_memory = tt;
+          stays = both;
+        }
+        second (Some why) h f memory g e = record {
+          end_events = p.end_events ++ q.end_events;
+          why = Some why;
+          through = record {
+            before = xs ++ h.before;
+            prefix = h.prefix;
+            byte = h.byte;
+            after = h.after;
+            split = ap (λ z. xs ++ z) h.split ∙ sym (append_assoc xs h.before (h.prefix ++ h.byte ∷ h.after));
+            last = h.last;
+            led = rw (came_append xs h.before) (follows a b h.last (all_came xs)
+                (all_came h.before) v w p.end_events q.end_events g
+                h.led);
+            refused = h.refused;
+            is_over = h.is_over;
+          };
+          reports = rw (e, f) (reported_behind p.end_events q.end_events (Some why));
+          has_memory = memory;
+          stays = both;
+        }
 
-      first : (why : Option Refusal) → Through conduct a xs v p.told why b
-          → s ≡ reported conduct telling p.told why → HasMemory why
-          → Comes conduct telling a (xs ++ ys) c (v ++ w) (s ++ t)
-      first None g e memory = second q.why q.through q.reports q.has_memory g e
-      first (Some why) h e memory =
-          let n = q.stays h.is_over in
-          record {
-            told = p.told;
-            why = Some why;
-            through = rw (n.0, n.1, append-nil v) (record {
-              before = h.before;
-              front = h.front;
-              byte = h.byte;
-              after = h.after ++ ys;
-              split = ap (λ z. z ++ ys) h.split ∙ append_assoc h.before (h.front ++ h.byte ∷ h.after) ys
-                  ∙ ap (λ z. h.before ++ z) (append_assoc h.front (h.byte ∷ h.after) ys);
-              last = h.last;
-              led = h.led;
-              refused = h.refused;
-              is_over = h.is_over;
-            });
-            reports = rw (n.2, append-nil s) e;
-            has_memory = memory;
-            stays = both;
-          }
+        first : (why : Option Refusal) → Through behaviour a xs v p.end_events why b
+            → s ≡ reported behaviour telling p.end_events why → HasMemory why
+            → Comes behaviour telling a (xs ++ ys) c (v ++ w) (s ++ t)
+        first None g e memory = second q.why q.through q.reports q.has_memory g e
+        first (Some why) h e memory =
+            let n = q.stays h.is_over in
+            record {
+              end_events = p.end_events;
+              why = Some why;
+              through = rw (n.0, n.1, append-nil v) (record {
+                before = h.before;
+                prefix = h.prefix;
+                byte = h.byte;
+                after = h.after ++ ys;
+                split = ap (λ z. z ++ ys) h.split ∙ append_assoc h.before (h.prefix ++ h.byte ∷ h.after) ys
+                    ∙ ap (λ z. h.before ++ z) (append_assoc h.prefix (h.byte ∷ h.after) ys);
+                last = h.last;
+                led = h.led;
+                refused = h.refused;
+                is_over = h.is_over;
+              });
+              reports = rw (n.2, append-nil s) e;
+              has_memory = memory;
+              stays = both;
+            }
 
-  pub none_delivered : ((e : E) → conduct.goes e [] [] [] e) → (now : AtEnd E)
-      → length now.from.bytes + 1 < 2 ^ 64 → AreDelivered conduct telling now 0 now
+  pub none_delivered : ((e : E) → behaviour.traces e [] [] [] e) → (now : AtEnd E)
+      → length now.from.bytes + 1 < 2 ^ 64 → AreDelivered behaviour telling now 0 now
   none_delivered stays now few = record {
     bytes = [];
     written = [];
@@ -166,7 +171,7 @@ module _ {E Deed Told : Type 0} (conduct : Conduct E Deed Told) (telling : Telli
     told_is = sym (append-nil now.events);
   }
 
-  module _ (old mid : AtEnd E) (n : ℕ) (d : AreDelivered conduct telling old n mid) where
+  module _ (old mid : AtEnd E) (n : ℕ) (d : AreDelivered behaviour telling old n mid) where
     -- so many came, and no byte more was written
     came : (mid.from.at ≡ old.from.at + min n (length old.from.bytes - old.from.at))
         × (length mid.from.bytes ≡ length old.from.bytes)
@@ -183,7 +188,7 @@ module _ {E Deed Told : Type 0} (conduct : Conduct E Deed Told) (telling : Telli
     more_wait k left all more = omega (arith, all, more, came)
 
     -- all have come
-    pub all_delivered : (m : ℕ) → n ≤ m → length mid.from.bytes ≤ mid.from.at → AreDelivered conduct telling old m mid
+    pub all_delivered : (m : ℕ) → n ≤ m → length mid.from.bytes ≤ mid.from.at → AreDelivered behaviour telling old m mid
     all_delivered m le all =
         let rest : List ℕ = drop old.from.at old.from.bytes in
         let whole : length rest ≤ n = omega (arith, all, came, length-drop old.from.at old.from.bytes) in
@@ -201,18 +206,18 @@ module _ {E Deed Told : Type 0} (conduct : Conduct E Deed Told) (telling : Telli
 
     -- so many, or all that were in flight
     pub all_come : (k m : ℕ) → old.from.at + k ≡ length old.from.bytes → n ≡ min m k
-        → AreDelivered conduct telling old m mid
+        → AreDelivered behaviour telling old m mid
     all_come k m all is = elim (cases_lt m k) [
       | inl h ↦ rw (← (let q : n ≡ m = omega (arith, is, h) in q)) d
       | inr h ↦ all_delivered m (omega (arith, is, h)) (omega (arith, h, is, all, came))
     ]
 
-    module _ (follows : (a b c : E) (xs ys : List (Act Deed)) (v w : List ℕ) (s t : List Told)
-        → conduct.goes a xs v s b → conduct.goes b ys w t c → conduct.goes a (xs ++ ys) (v ++ w) (s ++ t) c)
+    module _ (follows : (a b c : E) (xs ys : List (Act Request)) (v w : List ℕ) (s t : List EndEvent)
+        → behaviour.traces a xs v s b → behaviour.traces b ys w t c → behaviour.traces a (xs ++ ys) (v ++ w) (s ++ t) c)
         (new : AtEnd E) where
       -- so many more
-      pub more_delivered : (m : ℕ) → AreDelivered conduct telling mid m new
-          → AreDelivered conduct telling old (n + m) new
+      pub more_delivered : (m : ℕ) → AreDelivered behaviour telling mid m new
+          → AreDelivered behaviour telling old (n + m) new
       more_delivered m e =
           let rest : List ℕ = drop old.from.at old.from.bytes in
           let next : drop mid.from.at mid.from.bytes ≡ drop n rest =
@@ -239,8 +244,8 @@ module _ {E Deed Told : Type 0} (conduct : Conduct E Deed Told) (telling : Telli
       pub some_delivered : (k left used : ℕ) → old.from.at + k ≡ length old.from.bytes → n + left ≤ k → used ≤ left
           → (xs : List ℕ) → xs ≡ take used (take left (drop mid.from.at mid.from.bytes))
           → new.from ≡ record mid.from { at = mid.from.at + used }
-          → HasCome conduct telling mid.end xs new.end mid.to new.to mid.events new.events
-          → AreDelivered conduct telling old (n + used) new
+          → HasCome behaviour telling mid.end xs new.end mid.to new.to mid.events new.events
+          → AreDelivered behaviour telling old (n + used) new
       some_delivered k left used all more within xs is on h =
           let flight : List ℕ = drop mid.from.at mid.from.bytes in
           let piece : xs ≡ take used flight = is ∙ take-take used left flight within in

@@ -8,7 +8,7 @@ use C.{is_body, AnswerPart, Element, after_elements, after_end, body_fault, by_h
 use C.{History, Edit, fields, pending_read, open_write, Field, ReadKind, Alike, open_write_alike, layout_alike}
 use C.{elements_alike, end_alike, body_fault_alike, pending-elements, pending-end, answer_parts, edit_of, events_by}
 use C.{is_answered, read_answer, answer_of, HostAnswer, Send, aids_answer, own_reading, same_reading, same_apart}
-use C.{HostSide, sent_record, is_outstanding, after_read, StationSide, opcode_events, after_record, after_key}
+use C.{HostEndState, sent_record, is_outstanding, after_read, StationEndState, opcode_events, after_record, after_key}
 use C.{screen_at, opcode_answer}
 use Rattle.std.proofs.lemmas.List.FromFn.{length-map-range_with_len}
 use Rattle.ws_nego.specs.Exchange.{after_token_move, ToStation, ToHost}
@@ -25,7 +25,8 @@ use Rattle.ws_session.proofs.world.Turns.{at_turn, no_reply, up_reply, up_done, 
 use Rattle.ws_session.proofs.world.Turns.{Stop as StopMark}
 
 -- a token comes to the station
-module _ {t : TerminalType} {ex : Exchange} {s : StationSide} {h : HostSide} {token : Telnet} {ts us : List Telnet}
+module _ {t : TerminalType} {ex : Exchange} {s : StationEndState} {h : HostEndState} {token : Telnet}
+    {ts us : List Telnet}
     {ds : List Posted} {es : List Sent} {later : List HostAnswer} (b : Between t ex s h
     (token ∷ ts) us ds es later) where
   pub station_token : (es ≡ [])
@@ -37,7 +38,8 @@ module _ {t : TerminalType} {ex : Exchange} {s : StationSide} {h : HostSide} {to
       (none, x_down_count b.exchanges, betweens (x_down b.exchanges) b.host_ready (inl none) b.screens b.turn b.waits)
 
 -- a token comes to the host end
-module _ {t : TerminalType} {ex : Exchange} {s : StationSide} {h : HostSide} {token : Telnet} {ts us : List Telnet}
+module _ {t : TerminalType} {ex : Exchange} {s : StationEndState} {h : HostEndState} {token : Telnet}
+    {ts us : List Telnet}
     {ds : List Posted} {es : List Sent} {later : List HostAnswer} (b : Between t ex s h ts
     (token ∷ us) ds es later) where
   pub host_token : (a : Answer HostState) → host_answer h.options token ≡ Some a
@@ -99,7 +101,7 @@ waits_more places asked es later Stop w = more es later w where
   more (e ∷ es) later w = more es later w
 
 -- a record comes to the station, which doesn't refuse it
-module _ {t : TerminalType} {ex : Exchange} {s : StationSide} {h : HostSide} {us : List Telnet} {d : Posted}
+module _ {t : TerminalType} {ex : Exchange} {s : StationEndState} {h : HostEndState} {us : List Telnet} {d : Posted}
     {ds : List Posted} {es : List Sent} {later : List HostAnswer} (b : Between t ex s h [] us (d ∷ ds) es later) where
   pub station_record : (station_allows_records s.options ≡ true) × (body_fault s.happened (record_of d).body ≡ None)
       × Between t ex (record { options = s.options; happened = after_record s.happened (record_of d) }) h [] us ds
@@ -115,7 +117,8 @@ module _ {t : TerminalType} {ex : Exchange} {s : StationSide} {h : HostSide} {us
 
 -- RECORDS COME TO THE HOST END
 
-module _ {t : TerminalType} {ex : Exchange} {s : StationSide} {h : HostSide} {ts : List Telnet} {ds : List Posted}
+module _ {t : TerminalType} {ex : Exchange} {s : StationEndState} {h : HostEndState} {ts : List Telnet}
+    {ds : List Posted}
     {e : Sent} {es : List Sent} {later : List HostAnswer} (b : Between t ex s h ts [] ds (e ∷ es) later) where
   host_ready_for : host_allows_records h.options ≡ true
   host_ready_for =
@@ -134,7 +137,8 @@ waits_any p q a o (Signal flags ∷ es) later n w = waits_any p q a o es later n
 unasked : {h kept : History} {ds : List Posted} → Screens h kept ds → Screens h (cancelled ∷ kept) ds
 unasked {kept = k} c = screened c.alike c.fits c.within (open_write_alike (cancelled ∷ k) k refl ∙ c.closed)
 
-module _ {t : TerminalType} {ex : Exchange} {s : StationSide} {h : HostSide} {ts : List Telnet} {ds : List Posted}
+module _ {t : TerminalType} {ex : Exchange} {s : StationEndState} {h : HostEndState} {ts : List Telnet}
+    {ds : List Posted}
     {es : List Sent} {later : List HostAnswer} where
   pub host_reply : {parts : List AnswerPart} → Between t ex s h ts [] ds (Replies parts ∷ es) later
       → (kind : ReadKind) × (x : HostAnswer) × (rest : List HostAnswer) × (host_allows_records h.options ≡ true)
@@ -192,7 +196,8 @@ keyed {h} {kept} {ds} o c =
     screened (c.alike ∙ posted_alike h (events_by o ++ h) e ds) (fit_alike h (events_by o ++ h) e ds c.fits)
     (same_apart 0 (fields h) (fields (events_by o ++ h)) (layout_alike h (events_by o ++ h) e) c.within) c.closed
 
-module _ {t : TerminalType} {ex : Exchange} {s : StationSide} {h : HostSide} {ts us : List Telnet} {ds : List Posted}
+module _ {t : TerminalType} {ex : Exchange} {s : StationEndState} {h : HostEndState} {ts us : List Telnet}
+    {ds : List Posted}
     {es : List Sent} {later : List HostAnswer} (b : Between t ex s h ts us ds es later) where
   -- a key that leaves what is pending, and sends nothing
   pub key_silent : (o : Option Edit) → pending_read (events_by o ++ s.happened) ≡ pending_read s.happened

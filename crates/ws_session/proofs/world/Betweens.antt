@@ -8,8 +8,8 @@ use C.{Opcode, CancelInvite, NoOperation, PutGet, Item, RecordItem, TelnetItem, 
 use C.{element_rules, AnswerPart, Element, after_elements, after_end, body_fault, by_host, layouts, read_left_by}
 use C.{History, ended, fields, AreApart, pending_read, open_write, Field, ReadKind, Alike, layout_alike, elements_alike}
 use C.{end_alike, body_fault_alike, layout_same, by_host-append, read_answer, HostAnswer, same_apart, empty_record}
-use C.{telnets, HostEvent, AttentionCame, RequestCame, Event, Host, HostSide, sent_record, ready_event, signal}
-use C.{ready_by_terminal, answers_in, answer_in, host_answers, StationSide, opcode_events, after_record, Session}
+use C.{telnets, HostEvent, AttentionCame, RequestCame, Event, Host, HostEndState, sent_record, ready_event, signal}
+use C.{ready_by_terminal, answers_in, answer_in, host_answers, StationEndState, opcode_events, after_record, Session}
 use C.{events_with}
 use Rattle.ws_nego.proofs.Exchanges.{Exchanges}
 use Rattle.ws_record.proofs.Flights.{InFlight}
@@ -99,7 +99,7 @@ pub record Screens (happened kept : History) (ds : List Posted) : Type 0 where
   pub within : AreApart 0 (fields happened)
   pub closed : open_write kept ≡ None
 
-pub record Between (t : TerminalType) (ex : Exchange) (s : StationSide) (h : HostSide) (ts us : List Telnet)
+pub record Between (t : TerminalType) (ex : Exchange) (s : StationEndState) (h : HostEndState) (ts us : List Telnet)
     (ds : List Posted) (es : List Sent) (later : List HostAnswer) : Type 0 where
   pub exchanges : Exchanges t ex s.options h.options ts us
   pub host_ready : (ds ≡ []) ⊎ (host_allows_records h.options ≡ true)
@@ -113,7 +113,7 @@ abbrev pub screened : {happened kept : History} {ds : List Posted} → Alike kep
     → Fit happened ds → AreApart 0 (fields happened) → open_write kept ≡ None → Screens happened kept ds
 screened a f w c = record { alike = a; fits = f; within = w; closed = c }
 
-abbrev pub betweens : {t : TerminalType} {ex : Exchange} {s : StationSide} {h : HostSide} {ts us : List Telnet}
+abbrev pub betweens : {t : TerminalType} {ex : Exchange} {s : StationEndState} {h : HostEndState} {ts us : List Telnet}
     {ds : List Posted} {es : List Sent} {later : List HostAnswer} → Exchanges t ex s.options h.options ts us
     → (ds ≡ []) ⊎ (host_allows_records h.options ≡ true) → (es ≡ []) ⊎ (station_allows_records s.options ≡ true)
     → Screens s.happened h.kept ds → TurnAt (pending_read h.kept) h.cancelling (pending_read s.happened) (marks_down ds)

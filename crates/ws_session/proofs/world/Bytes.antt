@@ -6,11 +6,11 @@ use C.{length, append_assoc, if◌then◌else◌, ◌⊎◌, Bool, true, false, 
 use C.{append-nil, RecordBeforeNegotiation, Telnet, Exchange, after_exchange, MoveDown, MoveUp, host_allows_records}
 use C.{HostState, host_answer, Answer, station_allows_records, station_answer, TerminalType, ending_at, Opcode}
 use C.{CancelInvite, NoOperation, PutGet, Item, RecordItem, TelnetItem, answer_rules, element_rules, AnswerPart}
-use C.{Element, body_fault, HostAnswer, Refuses, GoesOn, telnets, Answered, Cancelled, Host, HostSide, after_read}
+use C.{Element, body_fault, HostAnswer, Refuses, GoesOn, telnets, Answered, Cancelled, Host, HostEndState, after_read}
 use C.{event_output, ready_event, host_negotiates, host_reads, host_reads_by, host_ends_cancel, signal}
-use C.{host_takes_record, host_takes, answers_in, answer_in, StationSide, after_record, opcode_answer, station_applies}
-use C.{station_takes, Session, down_bytes, station_did, station_gets, byte_to_station, up_bytes, host_did, host_gets}
-use C.{byte_to_host}
+use C.{host_takes_record, host_takes, answers_in, answer_in, StationEndState, after_record, opcode_answer}
+use C.{station_applies, station_takes, Session, down_bytes, station_did, station_gets, byte_to_station, up_bytes}
+use C.{host_did, host_gets, byte_to_host}
 use Rattle.std.proofs.lemmas.Bool.{cases_Bool}
 use Rattle.ws_nego.proofs.Exchanges.{up_next, x_none, full_station, full_host}
 use Rattle.ws_record.proofs.Flights.{ByteComes, InFlight, written, Inside, comes, Whole}
@@ -22,7 +22,7 @@ use Rattle.ws_session.proofs.world.Betweens.{Signal, Posted, posted, sounds, tok
 use Rattle.ws_session.proofs.world.Betweens.{Sent, ups, Up}
 
 module _ (t : TerminalType) where
-  takes_record : (s : StationSide) (d : Posted) → station_allows_records s.options ≡ true
+  takes_record : (s : StationEndState) (d : Posted) → station_allows_records s.options ≡ true
       → body_fault s.happened (record_of d).body ≡ None → station_takes s (RecordItem (record_of d)) ≡ GoesOn
       (record { options = s.options; happened = after_record s.happened (record_of d) })
       (opcode_answer (record_of d).opcode)
@@ -53,7 +53,7 @@ module _ (t : TerminalType) where
         let same : RecordItem (record_of d) ≡ item = cc in
         let tail : posted ds ≡ rest = cc in
         let found = station_record b in
-        let next : StationSide =
+        let next : StationEndState =
         record { options = w.station.options; happened = after_record w.station.happened (record_of d) } in
         rw (← same) (rw (takes_record w.station d found.0 found.1 ∙ ap (GoesOn next) (answer_items d))
         (downs refl refl (sounds [] us ds (es ++ answers_to d) later ex found.2 (rw tail down)
@@ -88,8 +88,8 @@ module _ (t : TerminalType) where
 -- A byte comes to the host end of a session.
 
 module _ (t : TerminalType) where
-  takes_by : (h : HostSide) (flags : ℕ) (o : Opcode) (parts : List AnswerPart) → host_allows_records h.options ≡ true
-      → host_takes h (RecordItem (record { flags = flags; opcode = o; body = parts }))
+  takes_by : (h : HostEndState) (flags : ℕ) (o : Opcode) (parts : List AnswerPart) → host_allows_records h.options
+      ≡ true → host_takes h (RecordItem (record { flags = flags; opcode = o; body = parts }))
       ≡ host_takes_record h flags o parts
   takes_by h flags o parts allows =
       ap (λ (b : Bool). if b then host_takes_record h flags o parts else Refuses RecordBeforeNegotiation) allows
@@ -124,7 +124,7 @@ module _ (t : TerminalType) where
         w.up (w.at_host + 1) (sents es) → w.answered ≡ answers_in w.events ++ later → w.station_refused ≡ false
         → w.host_refused ≡ false → Up t ex w.up (w.at_host + 1) ds (host_did byte_off (host_takes w.host (item_of e)))
     host_arrives_record ex n ts ds (Replies parts) es later b down up answered sg hg =
-        let h : HostSide = w.host in
+        let h : HostEndState = w.host in
         let found = host_reply b in
         let x : HostAnswer = found.1 in
         let takes : host_takes h (item_of (Replies parts)) ≡ GoesOn
@@ -135,7 +135,7 @@ module _ (t : TerminalType) where
         ∙ ap (λ l. l ++ found.2) (sym (flat_map-append answer_in w.events (Host (Answered x) ∷ []))))
         (omega (arith, n, with_none w.down)) sg hg) refl refl)
     host_arrives_record ex n ts ds Ends es later b down up answered sg hg =
-        let h : HostSide = w.host in
+        let h : HostEndState = w.host in
         let found = host_end b in
         let takes : host_takes h (item_of Ends) ≡ GoesOn (after_read h false)
         (event_output (Some Cancelled)) = takes_by h 0 CancelInvite [] found.0 ∙ ap (host_ends_cancel h) found.1 in
@@ -143,7 +143,7 @@ module _ (t : TerminalType) where
         (ups refl refl (sounds ts [] ds es later ex found.2 (same_down ts ds down) up (answered ∙ ap (λ l. l ++ later)
         (sym (quiet_told w.events (Some Cancelled) refl))) (omega (arith, n, with_none w.down)) sg hg) refl refl)
     host_arrives_record ex n ts ds (Signal flags) es later b down up answered sg hg =
-        let h : HostSide = w.host in
+        let h : HostEndState = w.host in
         let found = host_signal b in
         rw (takes_by h flags NoOperation [] found.0) (ups refl refl (sounds ts [] ds es later ex found.1 (same_down ts
         ds down) up (answered ∙ ap (λ l. l ++ later) (sym (quiet_told w.events (signal flags) (signal_silent flags))))

@@ -8,9 +8,9 @@ use Rattle.ws_code.specs.Device.{Devices}
 use Rattle.ws_session.specs.declared.world.line.Line.{Line}
 use Rattle.ws_session.specs.world.Carried.{all_brought}
 
-pub faithful_front : (cs ds : List Crossing) → AreFaithful (cs ++ ds) → AreFaithful cs
-faithful_front [] ds f = tt
-faithful_front (c ∷ cs) ds f = (f.0, faithful_front cs ds f.1)
+pub faithful_prefix : (cs ds : List Crossing) → AreFaithful (cs ++ ds) → AreFaithful cs
+faithful_prefix [] ds f = tt
+faithful_prefix (c ∷ cs) ds f = (f.0, faithful_prefix cs ds f.1)
 
 pub faithful_back : (cs ds : List Crossing) → AreFaithful (cs ++ ds) → AreFaithful ds
 faithful_back [] ds f = f
@@ -51,11 +51,11 @@ pub kept : (wire : WireParts) (count : ℕ) (cs : List Crossing) → all_sent cs
     ≡ wire
 kept wire count cs sent f =
     let flight = drop wire.at wire.bytes in
-    let front = take wire.at wire.bytes in
+    let prefix = take wire.at wire.bytes in
     let more = take count flight in
     let same : with_piece_at wire.bytes wire.at more ≡ wire.bytes =
-    ap (λ z. front ++ (more ++ z)) (sym (drop-drop (length more) wire.at wire.bytes) ∙ past count flight)
-    ∙ ap (λ z. front ++ z) (take-append-drop count flight) ∙ take-append-drop wire.at wire.bytes in
+    ap (λ z. prefix ++ (more ++ z)) (sym (drop-drop (length more) wire.at wire.bytes) ∙ past count flight)
+    ∙ ap (λ z. prefix ++ z) (take-append-drop count flight) ∙ take-append-drop wire.at wire.bytes in
     ap (λ (l : List ℕ). let z : WireParts = record wire { bytes = l } in z)
     (ap (with_piece_at wire.bytes wire.at) (faithful_read cs f ∙ sent) ∙ same)
 

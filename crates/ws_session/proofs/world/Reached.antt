@@ -7,8 +7,8 @@ use C.{spelling_of, AreBytes, TerminalType, arrived, plain_spelling, item_spelli
 use C.{CanBeEncoded, header, NoOperation, PutGet, Item, header_length, answer_rules, element_rules, AnswerPart, Element}
 use C.{ScreenParts, IsLegal, ReadKind, one_screen, answer_parts, key_refusal, answer_of, Read, Attention, SystemRequest}
 use C.{HostAnswer, Key, Send, KeyRefusal, empty_record, SendFault, SendFailed, NoMemory, ATN, SRQ, KeyFault, KeyFailed}
-use C.{NotReady, Event, KeyRefused, SendRefused, Move, Press, AtHost, HostLeads, HostParts, IsSent, HostSide}
-use C.{SendReaction, RefusesSend, answer_spelling, AtStation, StationParts, StationLeads, StationSide, screen_at}
+use C.{NotReady, Event, KeyRefused, SendRefused, Move, Press, AtHost, HostReached, HostParts, IsSent, HostEndState}
+use C.{SendReaction, RefusesSend, answer_spelling, AtStation, StationParts, StationReached, StationEndState, screen_at}
 use C.{KeyReaction, RefusesKey, Silent, Answers, Signals, station_key, answers_read, key_by_refusal, presses}
 use C.{answer_record, AreWritable, WorldParts, RunsWith, Runs, IsGiven, IsKey, Session, new_session, after_moves}
 use C.{after_move, down_bytes, up_bytes, station_pressed, host_sent, after_press, after_send}
@@ -16,37 +16,37 @@ use Rattle.ws_code.specs.Aid.{IsAid}
 use Rattle.ws_record.proofs.Flights.{writable_append, still_led, not_more}
 use Rattle.ws_keys.specs.declared.answer.Answer.{Answer}
 use Rattle.ws_keys.proofs.WholeLaws.{answer_whole, answer_short}
-use Rattle.ws_end.specs.declared.end_step.Order.{Order}
+use Rattle.ws_end.specs.declared.end_step.HostRequest.{HostRequest}
 use Rattle.ws_end.specs.declared.end_step.Sent.{Sent}
-use Rattle.ws_end.specs.host_end.HostLeads.{CarriesOut, sent_bytes}
-use Rattle.ws_end.specs.host_end.HostSide.{host_orders}
-use Rattle.ws_end.proofs.EndDeeds.{refrains}
+use Rattle.ws_end.specs.host_end.HostReached.{CarriesOut, sent_bytes}
+use Rattle.ws_end.specs.host_end.HostEndState.{host_requests}
+use Rattle.ws_end.proofs.EndRequests.{refrains}
 use Rattle.ws_session.proofs.world.Betweens.{Sound}
 use Rattle.ws_session.proofs.world.Worlds.{sound}
 use Rattle.ws_end.specs.station.Stations.{IsKeyedOn}
-use Rattle.ws_end.specs.station.StationSide.{on_profile}
+use Rattle.ws_end.specs.station.StationEndState.{on_profile}
 
 pub more_moves : (moves : List Move) (move : Move) (w : Session) → after_moves w (moves ++ move ∷ []) ≡ after_move
     (after_moves w moves) move
 more_moves [] move w = refl
 more_moves (m ∷ moves) move w = more_moves moves move _
 
--- what holds of the bytes that came to an end, of their items and of its side
+-- what holds of the bytes that came to an end, of their items and of its state
 abbrev pub OfStation : Type 1
-OfStation = List ℕ → List (Item Element) → StationSide → Type 0
+OfStation = List ℕ → List (Item Element) → StationEndState → Type 0
 
 abbrev pub OfHost : Type 1
-OfHost = List ℕ → List (Item AnswerPart) → HostSide → Type 0
+OfHost = List ℕ → List (Item AnswerPart) → HostEndState → Type 0
 
 module _ {S : OfStation} {H : OfHost} {t : TerminalType} {w : Session} {old : WorldParts} (r : RunsWith S H t old w) where
   pub is_sound : Sound t w
-  is_sound = subst (Sound t) (sym r.reached) (sound t r.moves)
+  is_sound = subst (Sound t) (sym r.by_moves) (sound t r.moves)
 
   pub going_station : w.station_refused ≡ false
   going_station = is_sound.station_going
 
   pub reached_by : (move : Move) → after_move w move ≡ after_moves (new_session t) (r.moves ++ move ∷ [])
-  reached_by move = ap (λ z. after_move z move) r.reached ∙ sym (more_moves r.moves move (new_session t))
+  reached_by move = ap (λ z. after_move z move) r.by_moves ∙ sym (more_moves r.moves move (new_session t))
 
   pub going_host : w.host_refused ≡ false
   going_host = is_sound.host_going
@@ -62,7 +62,7 @@ module _ {S : OfStation} {H : OfHost} {t : TerminalType} {w : Session} {old : Wo
     runs_with S' H' next new does down up at_station at_host writable_down writable_up station host events =
         subst (RunsWith S' H' t new) (sym does) (record {
           moves = r.moves ++ move ∷ [];
-          reached = sym does ∙ reached_by move;
+          by_moves = sym does ∙ reached_by move;
           down = down;
           up = up;
           at_station = at_station;
@@ -76,42 +76,42 @@ module _ {S : OfStation} {H : OfHost} {t : TerminalType} {w : Session} {old : Wo
 
     pub runs_on : (next : Session) (new : WorldParts) → after_move w move ≡ next → new.down ≡ down_bytes next
         → new.up ≡ up_bytes next → new.at_station ≡ next.at_station → new.at_host ≡ next.at_host
-        → AreWritable element_rules next.down → AreWritable answer_rules next.up → StationLeads new.station
+        → AreWritable element_rules next.down → AreWritable answer_rules next.up → StationReached new.station
         (take next.at_station (down_bytes next)) (arrived element_rules next.down next.at_station) next.station
-        → HostLeads new.host (take next.at_host (up_bytes next)) (arrived answer_rules next.up next.at_host) next.host
+        → HostReached new.host (take next.at_host (up_bytes next)) (arrived answer_rules next.up next.at_host) next.host
         → new.events ≡ next.events → Runs t new (after_move w move)
-    runs_on next new = runs_with (StationLeads new.station) (HostLeads new.host) next new
+    runs_on next new = runs_with (StationReached new.station) (HostReached new.host) next new
 
     -- at which the station writes
-    pub station_writes : (Then : OfStation) (side : StationSide) (items : List (Item AnswerPart)) (n : ℕ)
+    pub station_writes : (Then : OfStation) (state : StationEndState) (items : List (Item AnswerPart)) (n : ℕ)
         (answered : List HostAnswer) (station : StationParts) (text : List ℕ) (at : ℕ)
-        → after_move w move ≡ record w { station = side; up = w.up ++ items; at_station = n; answered = answered }
+        → after_move w move ≡ record w { station = state; up = w.up ++ items; at_station = n; answered = answered }
         → text ≡ plain_spelling answer_rules items → AreWritable answer_rules items → at ≡ n
-        → Then (take n (down_bytes w)) (arrived element_rules w.down n) side
+        → Then (take n (down_bytes w)) (arrived element_rules w.down n) state
         → RunsWith Then H t (record old { station = station; up = old.up ++ text; at_station = at }) (after_move w move)
-    station_writes Then side items n answered station text at does spelled fit same leads =
-        runs_with Then H (record w { station = side; up = w.up ++ items; at_station = n; answered = answered })
+    station_writes Then state items n answered station text at does spelled fit same reached =
+        runs_with Then H (record w { station = state; up = w.up ++ items; at_station = n; answered = answered })
         (record old { station = station; up = old.up ++ text; at_station = at }) does r.down
         (ap₂ (λ x y. x ++ y) r.up spelled ∙ sym (flat_map-append (item_spelling answer_rules) w.up items))
-        same r.at_host r.writable_down (writable_append answer_rules w.up items r.writable_up fit) leads
+        same r.at_host r.writable_down (writable_append answer_rules w.up items r.writable_up fit) reached
         (still_led answer_rules (λ x its. H x its w.host) w.up items w.at_host
         (not_more answer_rules w.up w.at_host _ is_sound.up) r.host) r.events
 
     -- at which the host end does
-    pub host_writes : (Then : OfHost) (side : HostSide) (items : List (Item Element)) (n : ℕ) (events : List Event)
-        (host : HostParts) (text : List ℕ) (at : ℕ) (told : List Event)
-        → after_move w move ≡ record w { host = side; down = w.down ++ items; at_host = n; events = events }
-        → text ≡ plain_spelling element_rules items → AreWritable element_rules items → at ≡ n → told ≡ events
-        → Then (take n (up_bytes w)) (arrived answer_rules w.up n) side
-        → RunsWith S Then t (record old { host = host; down = old.down ++ text; at_host = at; events = told })
+    pub host_writes : (Then : OfHost) (state : HostEndState) (items : List (Item Element)) (n : ℕ) (events : List Event)
+        (host : HostParts) (text : List ℕ) (at : ℕ) (end_events : List Event)
+        → after_move w move ≡ record w { host = state; down = w.down ++ items; at_host = n; events = events }
+        → text ≡ plain_spelling element_rules items → AreWritable element_rules items → at ≡ n → end_events ≡ events
+        → Then (take n (up_bytes w)) (arrived answer_rules w.up n) state
+        → RunsWith S Then t (record old { host = host; down = old.down ++ text; at_host = at; events = end_events })
         (after_move w move)
-    host_writes Then side items n events host text at told does spelled fit same is leads =
-        runs_with S Then (record w { host = side; down = w.down ++ items; at_host = n; events = events })
-        (record old { host = host; down = old.down ++ text; at_host = at; events = told }) does
+    host_writes Then state items n events host text at end_events does spelled fit same is reached =
+        runs_with S Then (record w { host = state; down = w.down ++ items; at_host = n; events = events })
+        (record old { host = host; down = old.down ++ text; at_host = at; events = end_events }) does
         (ap₂ (λ x y. x ++ y) r.down spelled ∙ sym (flat_map-append (item_spelling element_rules) w.down items)) r.up
         r.at_station same (writable_append element_rules w.down items r.writable_down fit) r.writable_up
         (still_led element_rules (λ x its. S x its w.station) w.down items w.at_station
-        (not_more element_rules w.down w.at_station _ is_sound.down) r.station) leads is
+        (not_more element_rules w.down w.at_station _ is_sound.down) r.station) reached is
 
 -- The host end of a running session sends or cancels.
 
@@ -128,28 +128,29 @@ pub few_up : {t : TerminalType} {w : Session} {old : WorldParts} → Runs t old 
 few_up {w = w} r few = omega (arith, few, ap (λ z. length z) r.up, length-take w.at_host (up_bytes w))
 
 module _ {t : TerminalType} {w : Session} {old : WorldParts} (r : Runs t old w) (move : Move)
-    (order : Order) (moves_by : after_move w move ≡ after_send w (host_orders w.host order)) where
+    (request : HostRequest) (moves_by : after_move w move ≡ after_send w (host_requests w.host request)) where
   host_wrote : length old.up + 1 < 2 ^ 64 → (host : HostParts) (text : List ℕ)
-      → AtHost old.host (λ bytes items side. length bytes + 1 < 2 ^ 64 → IsSent host bytes items
-      (host_orders side order) text)
-      → Runs t (record old { host = host; down = old.down ++ text }) (after_send w (host_orders w.host order))
+      → AtHost old.host (λ bytes items state. length bytes + 1 < 2 ^ 64 → IsSent host bytes items
+      (host_requests state request) text)
+      → Runs t (record old { host = host; down = old.down ++ text }) (after_send w (host_requests w.host request))
   host_wrote few host text p =
       let x = p _ _ _ r.host (few_up r few) in
-      rw (← moves_by) (host_writes r move (HostLeads host) x.0
+      rw (← moves_by) (host_writes r move (HostReached host) x.0
       (x.1 ∷ []) w.at_host w.events host text old.at_host old.events
-      (moves_by ∙ by_going w (host_orders w.host order) (going_host r) ∙ ap (host_sent w) x.2)
+      (moves_by ∙ by_going w (host_requests w.host request) (going_host r) ∙ ap (host_sent w) x.2)
       (x.3 ∙ sym (append-nil (item_spelling element_rules x.1))) ((x.4, tt), (x.5, tt)) r.at_host r.events x.6)
 
-  host_refrained : (fault : SendFault) → host_orders w.host order ≡ RefusesSend fault
-      → Runs t (record old { events = old.events ++ SendRefused fault ∷ [] }) (after_send w (host_orders w.host order))
+  host_refrained : (fault : SendFault) → host_requests w.host request ≡ RefusesSend fault
+      → Runs t (record old { events = old.events ++ SendRefused fault ∷ [] })
+      (after_send w (host_requests w.host request))
   host_refrained fault e = rw (← moves_by) (runs_on r move (record w { events = w.events ++ SendRefused fault ∷ [] })
       (record old { events = old.events ++ SendRefused fault ∷ [] }) (moves_by ∙ by_going w _ (going_host r)
       ∙ ap (host_sent w) e) r.down r.up r.at_station r.at_host r.writable_down r.writable_up r.station r.host
       (ap (λ z. z ++ SendRefused fault ∷ []) r.events))
 
   pub host_gives : length old.up + 1 < 2 ^ 64 → (host : HostParts) (sent : Result Sent SendFault) (new : WorldParts)
-      → CarriesOut order old.host host sent → IsGiven (record old { host = host }) sent new
-      → Runs t new (after_send w (host_orders w.host order))
+      → CarriesOut request old.host host sent → IsGiven (record old { host = host }) sent new
+      → Runs t new (after_send w (host_requests w.host request))
   host_gives few host (Ok sent) new c is = rw is (host_wrote few host (sent_bytes sent) c.sent)
   host_gives few host (Err NoMemory) new c is = absurd is
   host_gives few host (Err fault) new c is = rw (is, c.same)
@@ -170,7 +171,7 @@ abbrev AidIs : KeyReaction → Type 0
 AidIs (Answers next kind aid) = IsAid aid
 AidIs reaction = Unit {0}
 
-aid_is : (s : StationSide) (key : Key) → IsKey key → AidIs (station_key s key)
+aid_is : (s : StationEndState) (key : Key) → IsKey key → AidIs (station_key s key)
 aid_is s key h = by_ready _ where
   by_kind : (aid : ℕ) → IsAid aid → (o : Option ReadKind) → AidIs (answers_read s aid o)
   by_kind aid h None = tt
@@ -197,8 +198,8 @@ module _ {t : TerminalType} {w : Session} {old : WorldParts} (r : Runs t old w) 
 
   module _ (few : length old.down + 1 < 2 ^ 64) (station : StationParts) where
     abbrev Keys : Result (Option Answer) KeyFault → Type 0
-    Keys result = AtStation old.station (λ bytes items side. length bytes + 1 < 2 ^ 64
-        → IsKeyedOn on_profile old.station station bytes items side key result)
+    Keys result = AtStation old.station (λ bytes items state. length bytes + 1 < 2 ^ 64
+        → IsKeyedOn on_profile old.station station bytes items state key result)
 
     pub key_silent : Keys (Ok None) → Runs t (record old { station = station }) (after_press w key)
     key_silent p =
@@ -215,15 +216,15 @@ module _ {t : TerminalType} {w : Session} {old : WorldParts} (r : Runs t old w) 
         r.down r.up r.at_station r.at_host r.writable_down r.writable_up (rw k.1 r.station) r.host
         (ap (λ z. z ++ KeyRefused fault ∷ []) r.events)
 
-    wrote : (side : StationSide) (item : Item AnswerPart) (told : List HostAnswer)
+    wrote : (state : StationEndState) (item : Item AnswerPart) (end_events : List HostAnswer)
         (text : List ℕ) → text ≡ item_spelling answer_rules item → CanBeEncoded answer_rules item → IsInRange item
-        → StationLeads station (take w.at_station (down_bytes w)) (arrived element_rules w.down w.at_station) side
-        → after_press w key ≡ record w { station = side; up = w.up ++ item ∷ []; answered = told }
+        → StationReached station (take w.at_station (down_bytes w)) (arrived element_rules w.down w.at_station) state
+        → after_press w key ≡ record w { station = state; up = w.up ++ item ∷ []; answered = end_events }
         → Runs t (record old { station = station; up = old.up ++ text }) (after_press w key)
-    wrote side item told text spelled fit range leads does =
-        station_writes r (Press key) (StationLeads station) side
-        (item ∷ []) w.at_station told station text old.at_station does
-        (spelled ∙ sym (append-nil (item_spelling answer_rules item))) ((fit, tt), (range, tt)) r.at_station leads
+    wrote state item end_events text spelled fit range reached does =
+        station_writes r (Press key) (StationReached station) state
+        (item ∷ []) w.at_station end_events station text old.at_station does
+        (spelled ∙ sym (append-nil (item_spelling answer_rules item))) ((fit, tt), (range, tt)) r.at_station reached
 
     pub key_wrote : IsKey key → IsLegal old.station.reacts.screen.screen → AreBytes old.station.reacts.screen.screen.cells
         → old.station.reacts.screen.screen.cursor < 1920 → (answer : Answer) → Keys (Ok (Some answer))

@@ -6,8 +6,8 @@ use C.{◌^◌, inl, inr, length, length-drop, if◌then◌else◌, Bool, true, 
 use C.{append-nil, drop_all, Rules, Telnet, Exchange, TablesAgree, NothingInFlight, MoveDown, MoveUp, exchange_after}
 use C.{after_all_to_station, after_all_to_host, after_three_deliveries, host_allows_records, station_allows_records}
 use C.{TerminalType, agrees, settled_quiet, settled_station, settled_host, plain_spelling, Item, answer_rules}
-use C.{element_rules, AnswerPart, Field, ReadKind, HostAnswer, Refuses, GoesOn, Reaction, telnets, Move, HostSide}
-use C.{HostOutput, answers_in, items_coming, is_answer, answers_coming, StationSide, delivery, three_deliveries}
+use C.{element_rules, AnswerPart, Field, ReadKind, HostAnswer, Refuses, GoesOn, Reaction, telnets, Move, HostEndState}
+use C.{HostOutput, answers_in, items_coming, is_answer, answers_coming, StationEndState, delivery, three_deliveries}
 use C.{refusals_in, Report, IsReport, IsOpened, Session, new_session, after_moves, IsQuiet, down_bytes, station_did}
 use C.{byte_to_station, up_bytes, host_did, byte_to_host, bytes_to_station, bytes_to_host}
 use Rattle.ws_nego.proofs.Exchanges.{x_few}
@@ -18,9 +18,9 @@ use Rattle.ws_session.proofs.world.Betweens.{Replies, tokens, posted, Posted, Wa
 use Rattle.ws_session.proofs.world.Bytes.{next_down, next_up}
 use Rattle.ws_session.proofs.world.Worlds.{sound}
 
-pub front_empty : {X : Type 0} (xs ys : List X) → xs ++ ys ≡ [] → xs ≡ []
-front_empty [] ys e = refl
-front_empty (x ∷ xs) ys e = cc
+pub prefix_empty : {X : Type 0} (xs ys : List X) → xs ++ ys ≡ [] → xs ≡ []
+prefix_empty [] ys e = refl
+prefix_empty (x ∷ xs) ys e = cc
 
 pub no_tokens : {U : Type 0} (ts : List Telnet) → tokens {U = U} ts ≡ [] → ts ≡ []
 no_tokens [] e = refl
@@ -30,9 +30,9 @@ module _ (t : TerminalType) where
   quiet_agrees : (w : Session) → Sound t w → IsQuiet w → TablesAgree w.station.options w.host.options
   quiet_agrees w s q =
       let x = s.between.exchanges in
-      let ts : s.ts ≡ [] = no_tokens s.ts (front_empty _ _
+      let ts : s.ts ≡ [] = no_tokens s.ts (prefix_empty _ _
       (quiet _ _ _ (subst (λ n. InFlight element_rules w.down n (tokens s.ts ++ posted s.ds)) q.to_station s.down))) in
-      let us : s.us ≡ [] = no_tokens s.us (front_empty _ _
+      let us : s.us ≡ [] = no_tokens s.us (prefix_empty _ _
       (quiet _ w.up _ (subst (λ n. InFlight answer_rules w.up n (tokens s.us ++ sents s.es)) q.to_host s.up))) in
       let P : Exchange → Type 0 = λ e. NothingInFlight e → TablesAgree e.station e.host in
       subst (λ z. TablesAgree z w.host.options) x.station (subst (λ z. TablesAgree s.ex.station z) x.host
@@ -103,13 +103,13 @@ grows_on u v w a b = (omega (arith, a.0, b.0), omega (arith, a.1, b.1))
 still : (w : Session) → Grows w w
 still w = (omega arith, omega arith)
 
-station_item : (w : Session) (r : Reaction StationSide (List (Item AnswerPart))) → Grows w (station_did w r)
+station_item : (w : Session) (r : Reaction StationEndState (List (Item AnswerPart))) → Grows w (station_did w r)
 station_item w (Refuses reason) = still w
 station_item w (GoesOn station items) = (omega arith, omega (arith, total_append answer_rules w.up items))
 
-host_item : (w : Session) (r : Reaction HostSide HostOutput) → Grows w (host_did w r)
+host_item : (w : Session) (r : Reaction HostEndState HostOutput) → Grows w (host_did w r)
 host_item w (Refuses reason) = still w
-host_item w (GoesOn host told) = (omega (arith, total_append element_rules w.down told.items), omega arith)
+host_item w (GoesOn host end_events) = (omega (arith, total_append element_rules w.down end_events.items), omega arith)
 
 grown_down : (n : ℕ) (w : Session) → Grows w (bytes_to_station n w)
 grown_down n w = bytes_down (Grows w) (λ v g. g) (λ v r g. grows_on w v (station_did v r) g (station_item v r)) n w
@@ -121,7 +121,7 @@ grown_up n w = bytes_up (Grows w) (λ v g. g) (λ v r g. grows_on w v (host_did 
 module _ (t : TerminalType) where
   record AllDown (ex : Exchange) (w : Session) : Type 0 where
     sound_is : Sound t w
-    leads : sound_is.ex ≡ after_all_to_station ex
+    reached : sound_is.ex ≡ after_all_to_station ex
     none : sound_is.ds ≡ []
 
   no_records : (ts : List Telnet) (ds : List Posted) → tokens ts ++ posted ds ≡ [] → ds ≡ []
@@ -133,10 +133,10 @@ module _ (t : TerminalType) where
   down_done w s ex e at =
       let rest : tokens s.ts ++ posted s.ds ≡ [] = quiet element_rules w.down (tokens s.ts ++ posted s.ds)
       (rw (← at) s.down) in
-      let ts : s.ts ≡ [] = no_tokens s.ts (front_empty (tokens s.ts) (posted s.ds) rest) in
+      let ts : s.ts ≡ [] = no_tokens s.ts (prefix_empty (tokens s.ts) (posted s.ds) rest) in
       let same : after_all_to_station s.ex ≡ s.ex = ap (λ (l : List Telnet). exchange_after
       (replicate (length l) MoveDown) s.ex) (s.between.exchanges.to_station ∙ ts) in
-      record { sound_is = s; leads = sym same ∙ e; none = no_records s.ts s.ds rest }
+      record { sound_is = s; reached = sym same ∙ e; none = no_records s.ts s.ds rest }
 
   full_down : (n : ℕ) (w : Session) (s : Sound t w) (ex : Exchange) → after_all_to_station s.ex ≡ after_all_to_station ex
       → length (down_bytes w) ≤ w.at_station + n → AllDown ex (bytes_to_station n w)
@@ -150,7 +150,7 @@ module _ (t : TerminalType) where
 
   record AllUp (ex : Exchange) (ds : List Posted) (w : Session) : Type 0 where
     sound_is : Sound t w
-    leads : sound_is.ex ≡ after_all_to_host ex
+    reached : sound_is.ex ≡ after_all_to_host ex
     same : sound_is.ds ≡ ds
     arrived_is : w.at_host ≡ length (up_bytes w)
 
@@ -159,10 +159,10 @@ module _ (t : TerminalType) where
   up_done w s ex ds e same at =
       let rest : tokens s.us ++ sents s.es ≡ [] = quiet answer_rules w.up (tokens s.us ++ sents s.es)
       (rw (← at) s.up) in
-      let us : s.us ≡ [] = no_tokens s.us (front_empty (tokens s.us) (sents s.es) rest) in
+      let us : s.us ≡ [] = no_tokens s.us (prefix_empty (tokens s.us) (sents s.es) rest) in
       let fixed : after_all_to_host s.ex ≡ s.ex = ap (λ (l : List Telnet). exchange_after
       (replicate (length l) MoveUp) s.ex) (s.between.exchanges.to_host ∙ us) in
-      record { sound_is = s; leads = sym fixed ∙ e; same = same; arrived_is = at }
+      record { sound_is = s; reached = sym fixed ∙ e; same = same; arrived_is = at }
 
   full_up : (n : ℕ) (w : Session) (s : Sound t w) (ex : Exchange) (ds : List Posted) → after_all_to_host s.ex
       ≡ after_all_to_host ex → s.ds ≡ ds → length (up_bytes w) ≤ w.at_host + n → AllUp ex ds (bytes_to_host n w)
@@ -190,7 +190,7 @@ module _ (t : TerminalType) where
       let g : Grows w v = grown_down all w in
       let h : Grows v (bytes_to_host all v) = grown_up all v in
       let d = full_down all w s s.ex refl (omega (arith, g.0, h.0, c.down)) in
-      full_up all v d.sound_is (after_all_to_station s.ex) [] (ap after_all_to_host d.leads) d.none
+      full_up all v d.sound_is (after_all_to_station s.ex) [] (ap after_all_to_host d.reached) d.none
       (omega (arith, h.1, c.up))
 
   one_grows : (all : ℕ) (w : Session) → Grows w (after_moves w (delivery all))
@@ -216,7 +216,7 @@ module _ (t : TerminalType) where
       let c = delivered all x2 b.sound_is c3 in
       let last = c.sound_is in
       let turn : Exchange → Exchange = λ e. after_all_to_host (after_all_to_station e) in
-      let is : last.ex ≡ after_three_deliveries s.ex = c.leads ∙ ap turn (b.leads ∙ ap turn a.leads) in
+      let is : last.ex ≡ after_three_deliveries s.ex = c.reached ∙ ap turn (b.reached ∙ ap turn a.reached) in
       let x = s.between.exchanges in
       let quiet_is : NothingInFlight last.ex =
       subst NothingInFlight (ap after_three_deliveries x.is ∙ sym is) (settled_quiet t x.moves) in
@@ -235,8 +235,8 @@ module _ (t : TerminalType) where
 -- What holds of every session, in the words of its report.
 
 -- nothing is left behind so many of the bytes
-all_gone : (bytes : List ℕ) (n : ℕ) → n ≤ length bytes → drop n bytes ≡ [] → n ≡ length bytes
-all_gone bytes n few e = omega (arith, few, length-drop n bytes, ap length e)
+all_trace : (bytes : List ℕ) (n : ℕ) → n ≤ length bytes → drop n bytes ≡ [] → n ≡ length bytes
+all_trace bytes n few e = omega (arith, few, length-drop n bytes, ap length e)
 
 none_left : (bytes : List ℕ) (n : ℕ) → n ≡ length bytes → drop n bytes ≡ []
 none_left bytes n e = drop_all n bytes (omega (arith, e))
@@ -262,9 +262,9 @@ module _ (t : TerminalType) (ms : List Move) (report : Report) (r : IsReport rep
         → TablesAgree report.station.reacts.options report.host.reacts.options
     tables_agree d u =
         let s = sound t ms in
-        let at_station : now.at_station ≡ length (down_bytes now) = all_gone (down_bytes now) now.at_station
+        let at_station : now.at_station ≡ length (down_bytes now) = all_trace (down_bytes now) now.at_station
         (not_more element_rules now.down now.at_station _ s.down) (sym r.to_station ∙ d) in
-        let at_host : now.at_host ≡ length (up_bytes now) = all_gone (up_bytes now) now.at_host
+        let at_host : now.at_host ≡ length (up_bytes now) = all_trace (up_bytes now) now.at_host
         (not_more answer_rules now.up now.at_host _ s.up) (sym r.to_host ∙ u) in
         rw r.station_options (rw r.host_options (agree_when_quiet t ms
         (record { to_station = at_station; to_host = at_host })))

@@ -12,8 +12,8 @@ use C.{Press, SendMove, sent_record, is_outstanding, SendReaction, RefusesSend, 
 use C.{host_sends_body, is_too_big, answers_in, answer_in, after_key, screen_at, RefusesKey, station_key, sends}
 use C.{answers_read, key_by_refusal, presses, Session, new_session, after_moves, after_move, byte_to_station}
 use C.{byte_to_host, bytes_to_station, bytes_to_host, station_pressed, host_sent, after_press, after_send}
-use Rattle.ws_end.specs.declared.end_step.Order.TheVariants.{Send as Sending}
-use Rattle.ws_end.specs.host_end.HostSide.{host_orders}
+use Rattle.ws_end.specs.declared.end_step.HostRequest.TheVariants.{Send as Sending}
+use Rattle.ws_end.specs.host_end.HostEndState.{host_requests}
 use Rattle.std.proofs.lemmas.Bool.{cases_Bool}
 use Rattle.ws_nego.proofs.Exchanges.{Exchanges}
 use Rattle.ws_record.proofs.Flights.{start_inside, InFlight, written}
@@ -28,8 +28,9 @@ use Rattle.ws_session.proofs.world.Bytes.{byte_down, byte_up}
 use Rattle.ws_session.proofs.world.Turns.{Free, at}
 
 module _ (t : TerminalType) where
-  untold : (w : Session) (e : Event) → answer_in e ≡ [] → Sound t w → Sound t (record w { events = w.events ++ e ∷ [] })
-  untold w e quiet s = sounds s.ts s.us s.ds s.es s.later s.ex s.between s.down s.up
+  no_event : (w : Session) (e : Event) → answer_in e ≡ [] → Sound t w → Sound t
+      (record w { events = w.events ++ e ∷ [] })
+  no_event w e quiet s = sounds s.ts s.us s.ds s.es s.later s.ex s.between s.down s.up
       (s.answered ∙ ap (λ l. l ++ s.later) (sym (quiet_event w.events e quiet))) s.count s.station_going s.host_going
 
   must_allow : (b : Bool) → (true && not b) ≡ false → b ≡ true
@@ -76,7 +77,7 @@ module _ (t : TerminalType) where
     by_refusal : (key : Key) → (sends key && not (station_allows_records w.station.options)) ≡ false
         → (r : Option KeyRefusal) → Sound t (station_pressed w (key_by_refusal w.station key r))
     by_refusal key e None = by_key key e
-    by_refusal key e (Some refusal) = untold w (KeyRefused _) refl s
+    by_refusal key e (Some refusal) = no_event w (KeyRefused _) refl s
 
     pub press : (key : Key) → Sound t (after_press w key)
     press key = subst (λ (z : Bool). Sound t (station_pressed w
@@ -84,7 +85,7 @@ module _ (t : TerminalType) where
           by_test : (b : Bool) → (sends key && not (station_allows_records w.station.options)) ≡ b
               → Sound t (station_pressed w (if b then RefusesKey NotReady else key_by_refusal w.station key
               (key_refusal (screen_at w.station) key)))
-          by_test true e = untold w (KeyRefused NotReady) refl s
+          by_test true e = no_event w (KeyRefused NotReady) refl s
           by_test false e = by_refusal key e _
 
     -- SENDS
@@ -97,11 +98,11 @@ module _ (t : TerminalType) where
     send_body : (o : Opcode) → is_stop o ≡ false → (body : List Element)
         → Sound t (host_sent w (host_send w.host o body))
     send_body o other body = elim (cases_Bool (host_allows_records w.host.options)) [
-      | inr e ↦ rw e (untold w (SendRefused NotAllowed) refl s)
+      | inr e ↦ rw e (no_event w (SendRefused NotAllowed) refl s)
       | inl ready ↦ elim (cases_Bool (is_outstanding w.host body)) [
-        | inl e ↦ rw (ready, e) (untold w (SendRefused ReadOutstanding) refl s)
+        | inl e ↦ rw (ready, e) (no_event w (SendRefused ReadOutstanding) refl s)
         | inr out ↦ elim (cases_Bool (is_body body)) [
-          | inr e ↦ rw (ready, out, e) (untold w (SendRefused BadSequence) refl s)
+          | inr e ↦ rw (ready, out, e) (no_event w (SendRefused BadSequence) refl s)
           | inl ok ↦ rw (ready, out, ok) (by_fault ok ready out (body_fault w.host.kept body) refl)
         ]
       ]
@@ -113,7 +114,7 @@ module _ (t : TerminalType) where
             kept = after_end (after_elements w.host.kept body);
             cancelling = w.host.cancelling;
           }) (RecordItem (sent_record o body))))
-      by_size ok ready out none true = untold w (SendRefused TooBig) refl s
+      by_size ok ready out none true = no_event w (SendRefused TooBig) refl s
       by_size ok ready out none false = sounds s.ts s.us (s.ds ++ Body o other body ok ∷ []) s.es s.later s.ex
           (sends_body s.between o other body ok ready out none) (sent_down (Body o other body ok)) s.up s.answered
           (omega (arith, s.count, with_posted w.down (Body o other body ok ∷ []))) s.station_going s.host_going
@@ -122,11 +123,11 @@ module _ (t : TerminalType) where
           → (f : Option Reason) → body_fault w.host.kept body ≡ f
           → Sound t (host_sent w (host_sends_body w.host o body f))
       by_fault ok ready out None none = by_size ok ready out none (is_too_big (sent_record o body))
-      by_fault ok ready out (Some reason) e = untold w (SendRefused (RefusedByScreen reason)) refl s
+      by_fault ok ready out (Some reason) e = no_event w (SendRefused (RefusedByScreen reason)) refl s
 
     pub cancel : Sound t (host_sent w (host_cancel w.host))
     cancel = elim (cases_Bool (host_allows_records w.host.options)) [
-      | inr e ↦ rw e (untold w (SendRefused NotAllowed) refl s)
+      | inr e ↦ rw e (no_event w (SendRefused NotAllowed) refl s)
       | inl ready ↦ rw ready (by_test ready (pending_read w.host.kept) refl w.host.cancelling refl)
     ] where
       by_test : host_allows_records w.host.options ≡ true → (o : Option ReadKind) → pending_read w.host.kept ≡ o
@@ -136,9 +137,9 @@ module _ (t : TerminalType) where
       by_test ready (Some kind) e false f = sounds s.ts s.us (s.ds ++ Stop ∷ []) s.es s.later s.ex
           (sends_cancel s.between kind ready e f) (sent_down Stop) s.up
           s.answered (omega (arith, s.count, with_posted w.down (Stop ∷ []))) s.station_going s.host_going
-      by_test ready o e c f = untold w (SendRefused NoReadToCancel) refl s
+      by_test ready o e c f = no_event w (SendRefused NoReadToCancel) refl s
 
-    pub by_opcode : (o : Opcode) (body : List Element) → Sound t (host_sent w (host_orders w.host (Sending o body)))
+    pub by_opcode : (o : Opcode) (body : List Element) → Sound t (host_sent w (host_requests w.host (Sending o body)))
     by_opcode CancelInvite body = cancel
     by_opcode o body = send_body o refl body
 
@@ -157,7 +158,7 @@ module _ (t : TerminalType) where
   bytes_up (suc n) w s = bytes_up n (byte_to_host w) (byte_up t w s)
 
   move : (w : Session) (m : Move) → Sound t w → Sound t (after_move w m)
-  move w (SendMove o body) s = going t w s (host_orders w.host (Sending o body)) (by_opcode t w s o body)
+  move w (SendMove o body) s = going t w s (host_requests w.host (Sending o body)) (by_opcode t w s o body)
   move w Cancel s = going t w s (host_cancel w.host) (cancel t w s)
   move w (ToStation n) s = bytes_down n w s
   move w (ToHost n) s = bytes_up n w s

@@ -31,24 +31,24 @@ module _ {S R : Type 0} (line : Passage S R) where
     pub unread : line.source' ≡ line.source
 
   -- all the bytes went out, and the source gave its end after so many bytes, which are too few and stand at the
-  -- slice's front
+  -- slice's prefix
   pub record IsCutShort (bytes slice : List ℕ) (at : ℕ) : Type 0 where
     pub wrote : HasPassed bytes
     pub given : List ℕ
     pub counted : at ≡ length given
     pub fewer : at < length bytes
-    pub at_front : take at slice ≡ given
+    pub at_prefix : take at slice ≡ given
     pub gave : GaveAll line.devices.reader line.source line.source' given
     pub few : gave.count ≤ at
 
-  -- all the bytes went out, and a read failed after too few bytes, which stand at the slice's front
+  -- all the bytes went out, and a read failed after too few bytes, which stand at the slice's prefix
   pub record IsUnread (bytes slice : List ℕ) : Type 0 where
     pub wrote : HasPassed bytes
     pub given : List ℕ
     pub at : ℕ
     pub counted : at ≡ length given
     pub fewer : at < length bytes
-    pub at_front : take at slice ≡ given
+    pub at_prefix : take at slice ≡ given
     pub failed : ReadFailed line.devices.reader line.source line.source' given
     pub few : failed.count ≤ at
 

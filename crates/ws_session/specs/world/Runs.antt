@@ -19,10 +19,10 @@ use Rattle.ws_end.specs.declared.host_end.send_fault.SendFault.TheVariants.{Memo
 use Rattle.ws_session.specs.declared.world.Event.{Event}
 use Rattle.ws_session.specs.declared.world.Event.TheVariants.{SendRefused}
 use Rattle.ws_session.specs.declared.world.Move.{Move}
-use Rattle.ws_end.specs.host_end.HostLeads.{HostParts, HostLeads, sent_bytes}
-use Rattle.ws_end.specs.host_end.HostSide.{HostSide}
-use Rattle.ws_end.specs.station.StationSide.{StationSide}
-use Rattle.ws_end.specs.station.StationLeads.{StationParts, StationLeads}
+use Rattle.ws_end.specs.host_end.HostReached.{HostParts, HostReached, sent_bytes}
+use Rattle.ws_end.specs.host_end.HostEndState.{HostEndState}
+use Rattle.ws_end.specs.station.StationEndState.{StationEndState}
+use Rattle.ws_end.specs.station.StationReached.{StationParts, StationReached}
 use Rattle.ws_record.specs.Arrived.{arrived}
 use Rattle.ws_session.specs.world.Wires.{AtEnd, at_end}
 use Rattle.ws_session.specs.world.Session.{Session, new_session, after_moves, down_bytes, up_bytes}
@@ -59,11 +59,11 @@ abbrev pub AreWritable : {Place U : Type 0} → Rules Place U → List (Item U) 
 AreWritable rules items = CanAllBeEncoded rules items × AllByRecursion IsInRange items
 
 -- The running session is this world of whole items: some moves lead to it; what each end has taken is what has arrived
--- of the other's spelling, and this holds of that, of its items and of the end's side.
-pub record RunsWith (AtStation : List ℕ → List (Item Element) → StationSide → Type 0) (AtHost : List ℕ
-    → List (Item AnswerPart) → HostSide → Type 0) (t : TerminalType) (now : WorldParts) (w : Session) : Type 0 where
+-- of the other's spelling, and this holds of that, of its items and of the end's state.
+pub record RunsWith (AtStation : List ℕ → List (Item Element) → StationEndState → Type 0) (AtHost : List ℕ
+    → List (Item AnswerPart) → HostEndState → Type 0) (t : TerminalType) (now : WorldParts) (w : Session) : Type 0 where
   pub moves : List Move
-  pub reached : w ≡ after_moves (new_session t) moves
+  pub by_moves : w ≡ after_moves (new_session t) moves
   pub down : now.down ≡ down_bytes w
   pub up : now.up ≡ up_bytes w
   pub at_station : now.at_station ≡ w.at_station
@@ -76,7 +76,7 @@ pub record RunsWith (AtStation : List ℕ → List (Item Element) → StationSid
 
 -- the running session is this world, and what has arrived leads to both ends
 abbrev pub Runs : TerminalType → WorldParts → Session → Type 0
-Runs t now w = RunsWith (StationLeads now.station) (HostLeads now.host) t now w
+Runs t now w = RunsWith (StationReached now.station) (HostReached now.host) t now w
 
 -- a key's AID is one
 abbrev pub IsKey : Key → Type 0

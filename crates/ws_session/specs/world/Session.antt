@@ -15,7 +15,7 @@ use Rattle.ws_keys.specs.declared.key.Key.{Key}
 use Rattle.ws_keys.specs.declared.host_answer.HostAnswer.{HostAnswer}
 use Rattle.ws_stream.specs.AnswerParts.{answer_rules}
 use Rattle.ws_keys.specs.Splits.{answer_of}
-use Rattle.ws_end.specs.declared.end_step.Order.TheVariants.{Send as Sending, Cancel as Cancelling}
+use Rattle.ws_end.specs.declared.end_step.HostRequest.TheVariants.{Send as Sending, Cancel as Cancelling}
 use Rattle.ws_end.specs.declared.station.key_fault.KeyFault.TheVariants.{Failed as KeyFailed}
 use Rattle.ws_end.specs.declared.host_end.host_event.HostEvent.{HostEvent}
 use Rattle.ws_end.specs.declared.host_end.send_fault.SendFault.TheVariants.{Failed as SendFailed}
@@ -25,16 +25,17 @@ use Rattle.ws_session.specs.declared.world.Event.TheVariants.{HostRefused}
 use Rattle.ws_session.specs.declared.world.Move.{Move}
 use Rattle.ws_session.specs.declared.world.Move.TheVariants.{Send, Cancel, ToStation, ToHost, Key as Press}
 use Rattle.ws_end.specs.Reaction.{Reaction, Refuses, GoesOn, empty_record}
-use Rattle.ws_end.specs.station.StationSide.{StationSide, new_station_side, screen_at, station_takes, KeyReaction}
-use Rattle.ws_end.specs.station.StationSide.{RefusesKey, Silent, Answers, Signals, station_key, answer_record}
-use Rattle.ws_end.specs.host_end.HostSide.{HostSide, new_host_side, HostOutput, host_takes, SendReaction, RefusesSend}
-use Rattle.ws_end.specs.host_end.HostSide.{Sends, host_orders}
+use Rattle.ws_end.specs.station.StationEndState.{StationEndState, new_station_end, screen_at, station_takes}
+use Rattle.ws_end.specs.station.StationEndState.{KeyReaction, RefusesKey, Silent, Answers, Signals, station_key}
+use Rattle.ws_end.specs.station.StationEndState.{answer_record}
+use Rattle.ws_end.specs.host_end.HostEndState.{HostEndState, new_host_end, HostOutput, host_takes, SendReaction}
+use Rattle.ws_end.specs.host_end.HostEndState.{RefusesSend, Sends, host_requests}
 
 -- a session in whole items: both ends, all items that each has written, how many of their bytes have arrived, and what
 -- was told
 pub record Session : Type 0 where
-  pub station : StationSide
-  pub host : HostSide
+  pub station : StationEndState
+  pub host : HostEndState
   pub down : List (Item Element)  -- all that the host end has written
   pub up : List (Item AnswerPart)  -- all that the station has written
   pub at_station : ℕ  -- so many bytes of the former's spelling have arrived
@@ -47,8 +48,8 @@ pub record Session : Type 0 where
 -- a session at its start: the host end's first token is in flight
 abbrev pub new_session : TerminalType → Session
 new_session terminal = record {
-  station = new_station_side terminal;
-  host = new_host_side;
+  station = new_station_end terminal;
+  host = new_host_end;
   down = TelnetItem opening ∷ [];
   up = [];
   at_station = 0;
@@ -76,7 +77,7 @@ abbrev pub to_host : Session → List ℕ
 to_host w = drop w.at_host (up_bytes w)
 
 -- the session after what the station made of an item: it goes on and writes, or its refusal is told
-abbrev pub station_did : Session → Reaction StationSide (List (Item AnswerPart)) → Session
+abbrev pub station_did : Session → Reaction StationEndState (List (Item AnswerPart)) → Session
 station_did w (Refuses reason) =
     record w { station_refused = true; events = w.events ++ StationRefused (w.at_station - 1) reason ∷ [] }
 station_did w (GoesOn station items) = record w { station = station; up = w.up ++ items }
@@ -94,11 +95,11 @@ events_with events None = events
 events_with events (Some event) = events ++ Host event ∷ []
 
 -- the session after what the host end made of an item: it goes on, writes and tells, or its refusal is told
-abbrev pub host_did : Session → Reaction HostSide HostOutput → Session
+abbrev pub host_did : Session → Reaction HostEndState HostOutput → Session
 host_did w (Refuses reason) =
     record w { host_refused = true; events = w.events ++ HostRefused (w.at_host - 1) reason ∷ [] }
-host_did w (GoesOn host told) =
-    record w { host = host; down = w.down ++ told.items; events = events_with w.events told.event }
+host_did w (GoesOn host output) =
+    record w { host = host; down = w.down ++ output.items; events = events_with w.events output.event }
 
 -- the session after a byte that arrived at the host end, and completed this item or none; a host end that has refused
 -- takes none
@@ -163,8 +164,8 @@ after_send w sends = host_sent w (if w.host_refused then RefusesSend SendFailed 
 
 -- the session after a move
 abbrev pub after_move : Session → Move → Session
-after_move w (Send opcode body) = after_send w (host_orders w.host (Sending opcode body))
-after_move w Cancel = after_send w (host_orders w.host Cancelling)
+after_move w (Send opcode body) = after_send w (host_requests w.host (Sending opcode body))
+after_move w Cancel = after_send w (host_requests w.host Cancelling)
 after_move w (ToStation n) = bytes_to_station n w
 after_move w (ToHost n) = bytes_to_host n w
 after_move w (Press key) = after_press w key

@@ -8,7 +8,7 @@ use Rattle.ws_end.specs.declared.end_step.Applied.{Applied}
 use Rattle.ws_end.specs.declared.host_end.host_event.HostEvent.{HostEvent}
 use Rattle.ws_session.specs.declared.world.Event.{Event}
 use Rattle.ws_session.specs.declared.world.Event.TheVariants.{Host, StationRefused, HostRefused}
-use Rattle.ws_end.specs.Conduct.{Conduct}
+use Rattle.ws_end.specs.Behaviour.{Behaviour}
 use Rattle.ws_session.specs.world.Through.{Through}
 
 -- all that one end has written for the other, and how many bytes of it have arrived
@@ -34,8 +34,8 @@ HasMemory (Some Memory) = ⊥
 HasMemory why = Unit {0}
 
 -- what a session tells of an end: what the end tells, and a byte that it refuses
-pub record Telling (Told : Type 0) : Type 0 where
-  pub tells : Told → List Event
+pub record Telling (EndEvent : Type 0) : Type 0 where
+  pub tells : EndEvent → List Event
   pub refusal : ℕ → Reason → Event
 
 -- of a station, a refusal alone
@@ -46,28 +46,29 @@ station_telling = record { tells = λ applied. []; refusal = λ place reason. St
 abbrev pub host_telling : Telling HostEvent
 host_telling = record { tells = λ event. Host event ∷ []; refusal = λ place reason. HostRefused place reason }
 
-module _ {E Deed Told : Type 0} (conduct : Conduct E Deed Told) (telling : Telling Told) where
+module _ {E Request EndEvent : Type 0} (behaviour : Behaviour E Request EndEvent) (telling : Telling EndEvent) where
   -- what a report tells of it
-  abbrev pub reported : List Told → Option Refusal → List Event
-  reported told (Some (At place reason)) = flat_map telling.tells told ++ telling.refusal place reason ∷ []
-  reported told why = flat_map telling.tells told
+  abbrev pub reported : List EndEvent → Option Refusal → List Event
+  reported end_events (Some (At place reason)) = flat_map telling.tells end_events ++ telling.refusal place reason ∷ []
+  reported end_events why = flat_map telling.tells end_events
 
   -- Bytes come: the end goes on, or refuses one of them. One that has refused a byte stays as it is.
   pub record Comes (old : E) (bytes : List ℕ) (new : E) (written : List ℕ) (events : List Event) : Type 0 where
-    pub told : List Told
+    pub end_events : List EndEvent
     pub why : Option Refusal
-    pub through : Through conduct old bytes written told why new
-    pub reports : events ≡ reported told why
+    pub through : Through behaviour old bytes written end_events why new
+    pub reports : events ≡ reported end_events why
     pub has_memory : HasMemory why
-    pub stays : conduct.over old → (new ≡ old) × (written ≡ []) × (events ≡ [])
+    pub stays : behaviour.over old → (new ≡ old) × (written ≡ []) × (events ≡ [])
 
   -- bytes came to it, and what it wrote is on its way
-  pub record HasCome (old : E) (bytes : List ℕ) (new : E) (to to' : WireParts) (told told' : List Event) : Type 0 where
+  pub record HasCome (old : E) (bytes : List ℕ) (new : E) (to to' : WireParts)
+      (end_events end_events' : List Event) : Type 0 where
     pub written : List ℕ
     pub events : List Event
     pub comes : Comes old bytes new written events
     pub to_is : to' ≡ record to { bytes = to.bytes ++ written }
-    pub told_is : told' ≡ told ++ events
+    pub told_is : end_events' ≡ end_events ++ events
 
   -- so many of the bytes in flight have come to an end, or all where there were fewer
   pub record AreDelivered (old : AtEnd E) (count : ℕ) (new : AtEnd E) : Type 0 where

@@ -15,7 +15,7 @@ pub(crate) trait Reported: End {
 
     // What the end tells.
     fn event(event: Option<Self::Event>) -> Option<Event>
-        ensures told { as_list result ≡ flat_map telling.tells (as_list event) };
+        ensures reported { as_list result ≡ flat_map telling.tells (as_list event) };
 
     // That it has refused a byte.
     fn refused(place: u64, reason: Reason) -> Event
@@ -26,7 +26,7 @@ impl Reported for Station {
     ghost telling = { station_telling };
 
     fn event(_event: Option<Applied>) -> Option<Event>
-        ensures told { as_list result ≡ flat_map (λ applied. []) (as_list _event) }
+        ensures reported { as_list result ≡ flat_map (λ applied. []) (as_list _event) }
     {
         None
     }
@@ -40,8 +40,8 @@ impl Reported for HostEnd {
     ghost telling = { host_telling };
 
     fn event(event: Option<HostEvent>) -> Option<Event>
-        ensures told { as_list result
-            ≡ flat_map (λ told. HostEventOf told ∷ []) (as_list event) }
+        ensures reported { as_list result
+            ≡ flat_map (λ end_events. HostEventOf end_events ∷ []) (as_list event) }
     {
         match event {
             Some(event) => Some(Event::Host(event)),
@@ -62,7 +62,7 @@ pub(crate) fn deliver<E: Reported>(
     events: &mut Vec<Event>,
     count: usize,
 ) -> Result<(), Fault>
-    ensures come { OnOk result (AreDelivered E.conduct E.telling
+    ensures come { OnOk result (AreDelivered E.behaviour E.telling
         (at_end end.old from.old to.old events.old.items) count
         (at_end end.new from.new to.new events.new.items)) }
     ensures fault { IfErr result (λ fault. fault ≡ Fault.Memory) }
@@ -88,7 +88,7 @@ fn come<E: Reported>(
     ensures within { IfOk result (λ used. used ≤ length piece.now) }
     ensures some { IfOk result (λ used. 0 < used) }
     // What it brings; memory alone may be wanting.
-    ensures come { IfOk result (λ used. HasCome E.conduct E.telling
+    ensures come { IfOk result (λ used. HasCome E.behaviour E.telling
         end.old (take used piece.now) end.new to.old to.new events.old.items events.new.items) }
     ensures fault { IfErr result (λ fault. fault ≡ Fault.Memory) }
 {
@@ -108,8 +108,8 @@ fn come<E: Reported>(
 
 // What a report tells of a refusal. One for want of memory ends the session.
 fn refused<E: Reported>(refusal: Refusal) -> Result<Option<Event>, Fault>
-    ensures told { IfOk result (λ event. as_list event
-        ≡ reported E.conduct E.telling [] (Some refusal)) }
+    ensures reported { IfOk result (λ event. as_list event
+        ≡ reported E.behaviour E.telling [] (Some refusal)) }
     ensures memory { OnOk result (HasMemory (Some refusal)) }
     ensures fault { IfErr result (λ fault. fault ≡ Fault.Memory) }
 {
@@ -122,7 +122,7 @@ fn refused<E: Reported>(refusal: Refusal) -> Result<Option<Event>, Fault>
 
 // What a report tells, if anything.
 pub(crate) fn tell(events: &mut Vec<Event>, event: Option<Event>) -> Result<(), Fault>
-    ensures told { OnOk result (events.new.items ≡ events.old.items ++ as_list event) }
+    ensures reported { OnOk result (events.new.items ≡ events.old.items ++ as_list event) }
     ensures fault { IfErr result (λ fault. fault ≡ Fault.Memory) }
 {
     let Some(event) = event else {

@@ -1,6 +1,6 @@
 use Rattle.std.proofs.Common.{Option, true, ap}
 use Rattle.ws_keys.specs.declared.host_answer.HostAnswer.{HostAnswer}
-use Rattle.ws_end.specs.host_end.HostLeads.{host_driving}
+use Rattle.ws_end.specs.host_end.HostReached.{host_driving}
 use Rattle.ws_c.specs.Calls.{crossed}
 use Rattle.ws_c.specs.declared.host.HeldHost.{HeldHost}
 use Rattle.ws_c.proofs.HeldLaws.{stays_none}

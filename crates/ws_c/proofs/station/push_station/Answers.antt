@@ -1,6 +1,6 @@
 use Rattle.std.proofs.Common.{◌≡◌, ◌∙◌, false, Option, None, refl, subst, sym}
 use Rattle.ws_end.specs.declared.end_step.Applied.{Applied}
-use Rattle.ws_end.specs.station.StationSide.{on_profile}
+use Rattle.ws_end.specs.station.StationEndState.{on_profile}
 use Rattle.ws_end.specs.station.Stations.{station_driving}
 use Rattle.ws_c.specs.Calls.{crossed}
 use Rattle.ws_c.specs.Pushes.{IsPush}

@@ -1,7 +1,7 @@
 use Rattle.std.proofs.Common.{◌-◌, length, take, drop, arith, sym, subst}
 use Rattle.std.proofs.lemmas.Grind.{common_steps}
 use Rattle.ws_code.specs.Device.{WentOut}
-use Rattle.ws_code.proofs.DeviceLaws.{went_out_one, went_out_both, take_front, length_rest}
+use Rattle.ws_code.proofs.DeviceLaws.{went_out_one, went_out_both, take_prefix, length_rest}
 use Rattle.ws_code.proofs.device.write_whole.Goals as goal
 
 pub loop-at-preserved : goal.loop-at-preserved
@@ -16,7 +16,7 @@ loop-at-preserved g c =
     record {
       within = omega (arith, c.in-Ok.ensures.ok.0, length_rest bytes at);
       went_out = subst (WentOut g.S.Sink.writer c.args.sink.now c.write.new.self)
-          (sym (take_front bytes at c.in-Ok.taken c.loop-at.invariant.within)) both;
+          (sym (take_prefix bytes at c.in-Ok.taken c.loop-at.invariant.within)) both;
     }
 
 pub returns-in-Err-clause-ok : goal.returns-in-Err-clause-ok

@@ -1,5 +1,5 @@
 use Rattle.std.proofs.Common.{refl, false}
-use Rattle.rows_session.specs.SecondDisplay.{profile_side}
+use Rattle.rows_session.specs.SecondDisplay.{profile_state}
 use Rattle.rows_session.specs.contracts.second_display.SecondDisplay.{the_view}
 use Rattle.rows_session.proofs.SecondKeys.{second_pressed}
 use Rattle.rows_session.proofs.second_display.SecondDisplayStationDisplay.press.Goals as goal
@@ -7,7 +7,7 @@ use Rattle.rows_session.proofs.second_display.SecondDisplayStationDisplay.press.
 pub returns-in-Some-clause-pressed : goal.returns-in-Some-clause-pressed
 returns-in-Some-clause-pressed c = rw c.in-Some.is (rw (← c.self.view_is) (λ side given.
     second_pressed (the_view c.self.inside) c.press.new.self side c.in-Some.key c.press.result given
-    (c.press.ensures.pressed (profile_side side) given.shown)))
+    (c.press.ensures.pressed (profile_state side) given.shown)))
 
 pub returns-in-None-clause-pressed : goal.returns-in-None-clause-pressed
 returns-in-None-clause-pressed c = rw c.in-None.is (rw (← c.self.view_is) (λ side given. (

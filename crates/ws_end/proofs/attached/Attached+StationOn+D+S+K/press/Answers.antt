@@ -1,8 +1,8 @@
 use Rattle.ws_end.proofs.Common.{rules, [], ◌∷◌, subst, Did, AttachedParts}
-use Rattle.ws_end.specs.attached.Deeds.{IfDone}
+use Rattle.ws_end.specs.attached.Requests.{IfDone}
 use Rattle.ws_end.specs.station.Stations.{PartsOn}
 use Rattle.ws_end.specs.station.StationActs.{IsKeyTakenOn}
-use Rattle.ws_end.proofs.EndDeeds.{refused_then, unmoved}
+use Rattle.ws_end.proofs.EndRequests.{refused_then, unmoved}
 use Rattle.ws_end.proofs.attached.Attached+StationOn+D+S+K.press.Goals as goal
 use Rattle.ws_end.proofs.attached.Attachings.{has_led}
 use Rattle.ws_end.specs.station.Displays.{on_display}
@@ -12,7 +12,7 @@ returns-in-Ok g c = record {
   done = has_led _ _ c.args.self.now _ _ c.self.view_is (Did c.args.key ∷ []) [] c.in-Ok.ensures.pressed;
   refused = refused_then c.in-Ok.acted c.in-Ok.ensures.refused
       (λ fault same. unmoved _ _ c.self.view_is _ _ same.0 same.1);
-  told = rw (← c.self.view_is) c.in-Ok.ensures.told;
+  reported = rw (← c.self.view_is) c.in-Ok.ensures.reported;
   taken = subst (λ (z : AttachedParts (PartsOn _ _) _ _). IfDone c.in-Ok.acted
       (IsKeyTakenOn (on_display g.D.Commands.Code.rules g.D.StationDisplay.does) z.end c.args.key))
       c.self.view_is c.in-Ok.ensures.taken;

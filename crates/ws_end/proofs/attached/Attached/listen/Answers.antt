@@ -4,7 +4,7 @@ use Rattle.ws_end.specs.attached.Attachments.{TakesFirst, HearsFirst}
 use Rattle.ws_end.proofs.attached.Attached.listen.Goals as goal
 use Rattle.ws_end.proofs.attached.Attachings.{gave_on, reads_on, reads_heard, reads_fail, at_once, heard_at_once}
 use Rattle.ws_end.proofs.attached.Attachings.{fails_at_once, hearing_endless}
-use Rattle.ws_end.proofs.attached.FirstTold.{if_told_on, hears_at_once, hears_behind}
+use Rattle.ws_end.proofs.attached.FirstEvents.{if_events_on, hears_at_once, hears_behind}
 
 pub returns-in-Ok-Some-clause-heard : goal.returns-in-Ok-Some-clause-heard
 returns-in-Ok-Some-clause-heard g c =
@@ -46,7 +46,7 @@ pub returns-in-Err-take_waiting-clause-fault : goal.returns-in-Err-take_waiting-
 returns-in-Err-take_waiting-clause-fault g c =
     let i = c.loop.invariant in
     let f = c.in-Ok-true.ensures.some in
-    reads_fail g.E.End.conduct (on_devices g.K.Sink.writer g.S.Source.reader)
+    reads_fail g.E.End.behaviour (on_devices g.K.Sink.writer g.S.Source.reader)
     g.met.E.End.follows c.args.self.now c.loop.self _ c.take_waiting-in-loop.new.self c.self.view_is i.0 i.1
     c.loop.counter i.2 i.3 i.6 (omega (arith, c.loop-test.true)) c.fill.new.self c.fill.new.source f.0 f.1
     (f.2 c.in-Ok-true.field-0-test) c.in-Err-take_waiting.fault c.in-Err-take_waiting.ensures.fault
@@ -75,9 +75,9 @@ returns-in-Ok-Some-clause-first g c =
     hears_at_once _ g.met.E.End.follows _ _ _ _ (rw c.in-Ok-Some.field-0-is at c.in-Ok-Some.ensures.first)
 
 pub returns-in-Err-clause-first : goal.returns-in-Err-clause-first
-returns-in-Err-clause-first g c = if_told_on
-    (TakesFirst g.E.End.conduct c.args.self.now c.take_waiting.new.self)
-    (HearsFirst g.E.End.conduct g.S.Source.reader c.args.self.now c.take_waiting.new.self)
+returns-in-Err-clause-first g c = if_events_on
+    (TakesFirst g.E.End.behaviour c.args.self.now c.take_waiting.new.self)
+    (HearsFirst g.E.End.behaviour g.S.Source.reader c.args.self.now c.take_waiting.new.self)
     (Err c.in-Err.fault) (hears_at_once _ g.met.E.End.follows _ _ _) c.in-Err.ensures.first
 
 pub returns-in-Ok-Some-take_waiting-clause-first : goal.returns-in-Ok-Some-take_waiting-clause-first
@@ -86,7 +86,7 @@ returns-in-Ok-Some-take_waiting-clause-first g c =
     let f = c.in-Ok-true.ensures.some in
     hears_behind _ g.met.E.End.follows _ c.args.self.now c.loop.self _ c.take_waiting-in-loop.new.self
     c.self.view_is i.0 i.1 i.2.written c.fill.new.self c.fill.new.source (c.loop.counter + 1) i.2.led i.3
-    (gave_on g.E.End.conduct (on_devices g.K.Sink.writer g.S.Source.reader)
+    (gave_on g.E.End.behaviour (on_devices g.K.Sink.writer g.S.Source.reader)
     g.met.E.End.follows c.args.self.now c.loop.self _ c.take_waiting-in-loop.new.self c.self.view_is i.0 i.1
     c.loop.counter i.2 i.3 i.6 (omega (arith, c.loop-test.true)) c.fill.new.self c.fill.new.source f.0 f.1
     (f.2 c.in-Ok-true.field-0-test)) _
@@ -96,18 +96,18 @@ pub returns-in-Err-take_waiting-clause-first : goal.returns-in-Err-take_waiting-
 returns-in-Err-take_waiting-clause-first g c =
     let i = c.loop.invariant in
     let f = c.in-Ok-true.ensures.some in
-    if_told_on (TakesFirst g.E.End.conduct (record {
+    if_events_on (TakesFirst g.E.End.behaviour (record {
       end = c.self.inside.end;
       source = c.fill.new.source;
       sink = c.self.inside.sink;
       waiting = c.fill.new.self;
       broken = c.self.inside.broken;
     }) c.take_waiting-in-loop.new.self)
-    (HearsFirst g.E.End.conduct g.S.Source.reader c.args.self.now
+    (HearsFirst g.E.End.behaviour g.S.Source.reader c.args.self.now
     c.take_waiting-in-loop.new.self) (Err c.in-Err-take_waiting.fault)
     (hears_behind _ g.met.E.End.follows _ c.args.self.now c.loop.self _ c.take_waiting-in-loop.new.self
     c.self.view_is i.0 i.1 i.2.written c.fill.new.self c.fill.new.source (c.loop.counter + 1) i.2.led i.3
-    (gave_on g.E.End.conduct (on_devices g.K.Sink.writer g.S.Source.reader)
+    (gave_on g.E.End.behaviour (on_devices g.K.Sink.writer g.S.Source.reader)
     g.met.E.End.follows c.args.self.now c.loop.self _ c.take_waiting-in-loop.new.self c.self.view_is i.0 i.1
     c.loop.counter i.2 i.3 i.6 (omega (arith, c.loop-test.true)) c.fill.new.self c.fill.new.source f.0 f.1
     (f.2 c.in-Ok-true.field-0-test))) c.in-Err-take_waiting.ensures.first

@@ -3,7 +3,7 @@ use Rattle.ws_end.proofs.Common.{true, Err, Ok, as_list, AttachedParts}
 use Rattle.ws_end.specs.attached.Attachments.{TellsAtLast, TakesFirst}
 use Rattle.ws_end.proofs.attached.Attached.take.Goals as goal
 use Rattle.ws_end.proofs.attached.Attachings.{has_led, unheard}
-use Rattle.ws_end.proofs.attached.FirstTold.{if_told_on, takes_first}
+use Rattle.ws_end.proofs.attached.FirstEvents.{if_events_on, takes_first}
 
 -- the bytes that wait are those that were taken, and those that still do
 parted : (waiting inside left : List ℕ) (used : ℕ) → inside ≡ waiting → left ≡ drop used inside
@@ -40,8 +40,8 @@ returns-in-Ok-clause-first g c =
     let used = c.hear_piece-used.result.used in
     let inside = c.self.inside in
     let first = rw c.as_slice.ensures at (rw c.in-Ok.is at c.hear_piece-used.ensures.first) in
-    if_told_on (TellsAtLast g.E.End.conduct inside.end c.hear_piece-used.new.end (take used inside.waiting))
-    (TakesFirst g.E.End.conduct c.args.self.now (record {
+    if_events_on (TellsAtLast g.E.End.behaviour inside.end c.hear_piece-used.new.end (take used inside.waiting))
+    (TakesFirst g.E.End.behaviour c.args.self.now (record {
       end = c.hear_piece-used.new.end;
       source = inside.source;
       sink = c.hear_piece-used.new.sink;
@@ -56,8 +56,8 @@ returns-in-Err-clause-first g c =
     let used = c.hear_piece-used.result.used in
     let inside = c.self.inside in
     let first = rw c.as_slice.ensures at (rw c.in-Err.is at c.hear_piece-used.ensures.first) in
-    if_told_on (TellsAtLast g.E.End.conduct inside.end c.hear_piece-used.new.end (take used inside.waiting))
-    (TakesFirst g.E.End.conduct c.args.self.now (record {
+    if_events_on (TellsAtLast g.E.End.behaviour inside.end c.hear_piece-used.new.end (take used inside.waiting))
+    (TakesFirst g.E.End.behaviour c.args.self.now (record {
       end = c.hear_piece-used.new.end;
       source = inside.source;
       sink = c.hear_piece-used.new.sink;

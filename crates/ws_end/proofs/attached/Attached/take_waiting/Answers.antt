@@ -2,7 +2,7 @@ use Rattle.ws_end.proofs.Common.{[], ◌++◌, refl, ◌∙◌, Err}
 use Rattle.ws_end.specs.attached.Attachments.{TakesFirst}
 use Rattle.ws_end.proofs.attached.Attached.take_waiting.Goals as goal
 use Rattle.ws_end.proofs.attached.Attachings.{taking_starts, further, take_fails}
-use Rattle.ws_end.proofs.attached.FirstTold.{if_told_on, takes_behind}
+use Rattle.ws_end.proofs.attached.FirstEvents.{if_events_on, takes_behind}
 
 pub loop-self-init : goal.loop-self-init
 loop-self-init g c = record {
@@ -56,6 +56,6 @@ returns-in-Ok-Some-clause-first g c =
 pub returns-in-Err-clause-first : goal.returns-in-Err-clause-first
 returns-in-Err-clause-first g c =
     let i = c.loop-self.invariant in
-    if_told_on (TakesFirst g.E.End.conduct c.loop-self.self c.take.new.self)
-    (TakesFirst g.E.End.conduct c.args.self.now c.take.new.self) (Err c.in-Err.fault)
+    if_events_on (TakesFirst g.E.End.behaviour c.loop-self.self c.take.new.self)
+    (TakesFirst g.E.End.behaviour c.args.self.now c.take.new.self) (Err c.in-Err.fault)
     (takes_behind _ g.met.E.End.follows _ _ _ i.bytes i.led.written i.led.led i.left i.unread) c.in-Err.ensures.first

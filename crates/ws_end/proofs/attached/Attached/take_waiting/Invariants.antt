@@ -9,7 +9,7 @@ decreases-loop-self g l = length l.self.waiting
 abbrev pub invariant-loop-self : goal.invariant-loop-self
 invariant-loop-self g l = record {
   bytes : List ℕ;
-  led : HaveLed g.E.End.conduct (on_devices g.K.Sink.writer g.S.Source.reader)
+  led : HaveLed g.E.End.behaviour (on_devices g.K.Sink.writer g.S.Source.reader)
       l.fn.self l.self (all_came bytes) [];
   left : l.fn.self.waiting ≡ bytes ++ l.self.waiting;
   unread : l.self.source ≡ l.fn.self.source;

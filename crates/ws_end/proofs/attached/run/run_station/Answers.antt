@@ -1,5 +1,5 @@
 use Rattle.ws_end.proofs.Common.{◌≡◌, ◌≤◌, [], take, arith, length, length-take-le, err_from_is_err_and, take_some}
-use Rattle.ws_end.proofs.Common.{new_station_side}
+use Rattle.ws_end.proofs.Common.{new_station_end}
 use Rattle.ws_end.proofs.attached.PlayRuns.{run_starts, start_fails, run_ends, run_unread, fits, reads_on, run_stops}
 use Rattle.ws_end.proofs.attached.PlayRuns.{run_endless}
 use Rattle.ws_end.proofs.attached.run.run_station.Goals as goal
@@ -8,11 +8,11 @@ pub returns-in_err-press_due : goal.returns-in_err-press_due
 returns-in_err-press_due g c =
     let p = err_from_is_err_and c.from_residual.result c.from_residual.ensures.1 in
     rw (p.1, p.2) (λ t l. rw c.in_err-press_due.ensures.fault.0
-    (start_fails _ _ t _ _ _ _ _ l (c.in_err-press_due.ensures.fault.1 [] [] (new_station_side t) l (omega arith))))
+    (start_fails _ _ t _ _ _ _ _ l (c.in_err-press_due.ensures.fault.1 [] [] (new_station_end t) l (omega arith))))
 
 pub loop-init : goal.loop-init
 loop-init g c = λ t l. run_starts _ _ t _ _ _ _ _ _
-    (c.in_ok-press_due.ensures.done [] [] (new_station_side t) l (omega arith)) c.in_ok-press_due.ensures.left
+    (c.in_ok-press_due.ensures.done [] [] (new_station_end t) l (omega arith)) c.in_ok-press_due.ensures.left
 
 pub returns-in-Ok-eq0 : goal.returns-in-Ok-eq0
 returns-in-Ok-eq0 g c = λ t l.

@@ -1,7 +1,7 @@
 use Rattle.ws_end.proofs.Common.{refl, ℕ, ◌+◌, ◌-◌, ◌≡◌, ◌∙◌, ap, arith, take, inl, inr, as_list}
 use Rattle.ws_end.specs.attached.Attachments.{TellsAtLast}
 use Rattle.ws_end.proofs.Feedings.{last_of, with_next}
-use Rattle.ws_end.proofs.attached.FirstTold.{if_told_ok, untold_refusal, tells_at_once}
+use Rattle.ws_end.proofs.attached.FirstEvents.{if_events_ok, untold_refusal, tells_at_once}
 use Rattle.ws_end.proofs.attached.writing.hear_piece.Goals as goal
 
 pub returns-in-Err-write_whole-clause-fault : goal.returns-in-Err-write_whole-clause-fault
@@ -16,7 +16,7 @@ returns-in-Err-write_whole-clause-fault g c =
         failed.0,
         record {
           written = g.E.End.written c.feed-used.new.self c.in-Ok.step.reply;
-          told = as_list c.in-Ok.step.event;
+          events = as_list c.in-Ok.step.event;
           led = rw c.in-Ok.is at c.feed-used.ensures.fed;
           failed = rw c.bytes.ensures.value at failed.1;
         },
@@ -38,7 +38,7 @@ returns-in-Err-clause-fault g c =
 pub returns-in-Ok-write_whole-clause-first : goal.returns-in-Ok-write_whole-clause-first
 returns-in-Ok-write_whole-clause-first g c =
     let used = c.feed-used.result.used in
-    if_told_ok (TellsAtLast g.E.End.conduct c.args.end.now c.feed-used.new.self
+    if_events_ok (TellsAtLast g.E.End.behaviour c.args.end.now c.feed-used.new.self
     (take used c.args.piece.now)) c.in-Ok.step.event
     (tells_at_once _ _ _ c.args.piece.now used _ _ c.feed-used.ensures.within (g.met.E.End.stays _)
     (rw c.in-Ok.is at c.feed-used.ensures.fed) (rw c.in-Ok.is at c.feed-used.ensures.first))

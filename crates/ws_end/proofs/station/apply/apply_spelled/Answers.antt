@@ -37,14 +37,14 @@ loop-used-init c =
     }
 
 pub apply-requires : goal.apply-requires
-apply-requires c = λ order.
+apply-requires c = λ request.
     let now = c.loop-used in
     let run = c.run-run in
     let values = take run.result.used (left_of c.args.bytes.now now.used) in
     let whole = ran_some c.args.screen.now
     (take now.used c.args.bytes.now) now.screen (reading_of now.machine) now.invariant.applied values
     (reading_of run.new.self) run.new.at run.new.keep run.result.end run.ensures.run _ c.in-Some.is in
-    whole_finds_write _ _ _ _ _ _ _ _ _ whole order
+    whole_finds_write _ _ _ _ _ _ _ _ _ whole request
 
 pub returns-in_err-apply-clause-fault : goal.returns-in_err-apply-clause-fault
 returns-in_err-apply-clause-fault c =
@@ -76,7 +76,7 @@ loop-used-preserved c =
     let k : ℕ = run.result.used in
     let values = take k (left_of bytes i) in
     let to = reading_of run.new.self in
-    let front : take (i + k) bytes ≡ take i bytes ++ values = sym (bytes_on [] bytes i k) in
+    let prefix : take (i + k) bytes ≡ take i bytes ++ values = sym (bytes_on [] bytes i k) in
     let inside : i + k ≤ length bytes = omega (arith, run.ensures.used, length_rest bytes i, now.invariant.inside) in
     elim c.match-slot.branch [
       | in-Some+in_ok-apply w ↦
@@ -86,10 +86,10 @@ loop-used-preserved c =
           record {
             inside = inside;
             stands = whole.stands;
-            applied = applied_at from _ _ w.apply.new.self _ _ _ _ _ front w.screen-is refl refl
+            applied = applied_at from _ _ w.apply.new.self _ _ _ _ _ prefix w.screen-is refl refl
                 (whole_applied from _ _ _ _ _ to _ _ whole _
                 (sym w.in_ok-apply.ensures.fault) w.in_ok-apply.ensures.events w.in_ok-apply.ensures.open_);
-            counted = counted_at _ _ to _ _ front w.alarms-is (counted_more _ (reading_of now.machine) _
+            counted = counted_at _ _ to _ _ prefix w.alarms-is (counted_more _ (reading_of now.machine) _
                 now.invariant.counted values to run.new.at run.new.keep run.result.end run.ensures.run element
                 w.in-Some.is _ w.count_alarm-alarms.ensures.sounds w.count_alarm-alarms.ensures.silent);
           }
@@ -99,8 +99,8 @@ loop-used-preserved c =
           record {
             inside = inside;
             stands = on.1;
-            applied = applied_at from _ _ _ _ _ _ _ _ front w.screen-is refl refl on.0;
-            counted = counted_at _ _ to _ _ front w.alarms-is (counted_still _ (reading_of now.machine) _
+            applied = applied_at from _ _ _ _ _ _ _ _ prefix w.screen-is refl refl on.0;
+            counted = counted_at _ _ to _ _ prefix w.alarms-is (counted_still _ (reading_of now.machine) _
                 now.invariant.counted values to run.new.at run.new.keep run.result.end run.ensures.run
                 (empty run.new.keep w.in_default.not-Some) c.in_default-end.not-Bad);
           }

@@ -7,7 +7,7 @@ use Rattle.ws_record.specs.RawBody.{raw_rules}
 use Rattle.ws_extended.specs.Asking.{asks_in, first_ask}
 use Rattle.ws_extended.specs.declared.ask.Ask.{Ask}
 use Rattle.ws_end.specs.station.Alarms.{alarm_count, alarms_of}
-use Rattle.ws_end.specs.station.StationSide.{opcode_answer}
+use Rattle.ws_end.specs.station.StationEndState.{opcode_answer}
 use Rattle.ws_end.proofs.AlarmLaws.{counts_added}
 use Rattle.ws_extended_station.specs.Bytewise.{by_bytes}
 use Rattle.ws_extended_station.specs.ExtendedAlarms.{extended_alarms_in}
@@ -17,10 +17,10 @@ use Rattle.ws_extended_station.proofs.AlarmLaws.{alarms_behind_record}
 use Rattle.ws_extended_station.proofs.extended_display.ExtendedDisplayStationDisplay.apply.Goals as goal
 
 pub returns-in-Ok-clause-applied : goal.returns-in-Ok-clause-applied
-returns-in-Ok-clause-applied c = rw (← c.self.view_is) (λ side units chain kept given.
+returns-in-Ok-clause-applied c = rw (← c.self.view_is) (λ end_state units chain kept given.
     let r = record_of c.args.head units in
-    let state = side.happened.state in
-    let terminal = side.happened.terminal in
+    let state = end_state.happened.state in
+    let terminal = end_state.happened.terminal in
     let applied = c.in-Ok.ensures.applied state units chain kept given.shows in
     let after = state_after_record state r in
     let answer = map by_bytes (opcode_answer c.args.head.opcode) in
@@ -29,9 +29,9 @@ returns-in-Ok-clause-applied c = rw (← c.self.view_is) (λ side units chain ke
     c.clear.ensures
     ∙ ap (λ (t : TerminalType). plain_spelling raw_rules (told_items t after c.in-Ok.heard.asked.ask)) given.terminal_is
     ∙ ap (λ (ask : Option Ask). plain_spelling raw_rules (told_items terminal after ask)) applied.0.asks in (
-      with_state side after,
+      with_state end_state after,
       record_writes terminal after r,
-      ap (extended_applies side r) applied.0.unrefused,
+      ap (extended_applies end_state r) applied.0.unrefused,
       c.put_opcode_answer.ensures.answer ∙ ap (λ (bytes : List ℕ). bytes ++ plain_spelling raw_rules answer) told
           ∙ sym (flat_map-append (item_spelling raw_rules)
           (told_items terminal after (first_ask (asks_in units))) answer),
@@ -46,6 +46,6 @@ returns-in-Ok-clause-applied c = rw (← c.self.view_is) (λ side units chain ke
     ))
 
 pub returns-in-Err-clause-applied : goal.returns-in-Err-clause-applied
-returns-in-Err-clause-applied c = rw (← c.self.view_is) (λ side units chain kept given.
-    ap (extended_applies side (record_of c.args.head units))
-    (c.in-Err.ensures.applied side.happened.state units chain kept given.shows))
+returns-in-Err-clause-applied c = rw (← c.self.view_is) (λ end_state units chain kept given.
+    ap (extended_applies end_state (record_of c.args.head units))
+    (c.in-Err.ensures.applied end_state.happened.state units chain kept given.shows))

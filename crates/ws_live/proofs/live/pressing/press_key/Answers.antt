@@ -4,7 +4,7 @@ use Rattle.ws_code.specs.declared.fault.Fault.{Fault}
 use Rattle.ws_text.proofs.Prints.{prints_none}
 use Rattle.ws_end.specs.declared.attached.acted.Acted.TheVariants.{Done}
 use Rattle.ws_live.specs.declared.live.Closing.{Closing}
-use Rattle.ws_end.proofs.EndDeeds.{unwritten_alone}
+use Rattle.ws_end.proofs.EndRequests.{unwritten_alone}
 use Rattle.ws_live.proofs.live.pressing.press_key.Goals as goal
 
 pub returns-in-Ok-Done-clause-runs : goal.returns-in-Ok-Done-clause-runs

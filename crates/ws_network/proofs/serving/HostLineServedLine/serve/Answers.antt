@@ -1,7 +1,7 @@
 use Rattle.std.specs.Option.{is_some}
 use Rattle.std.specs.Prelude.{MatchOption}
 use Rattle.std.proofs.Common.{◌≡◌, ◌∙◌, []}
-use Rattle.ws_end.specs.host_end.HostLeads.{unopened_host_side}
+use Rattle.ws_end.specs.host_end.HostReached.{unopened_host_end}
 use Rattle.ws_network.proofs.SessionLaws.{judged, served}
 use Rattle.ws_live.specs.declared.live.serve_line.HostLine.TheVariants.{Await}
 use Rattle.ws_live.specs.live.ServeText.{HostRunsInTime}
@@ -26,7 +26,7 @@ returns-clause-served g c =
       served c.args.asked.now ran.0 (account all_well ran.1)
           ((c.carry_at_host-outcome.new.attached, c.carry_at_host-outcome.new.ahead), c.carry_at_host-outcome.new.watch)
           c.open.new.self c.new-source.result c.new-sink.result c.write_whole.new.sink c.as_slice.result.now
-          c.new-attached.result c.new.result (c.open.ensures.opened [] [] unopened_host_side c.new-host.ensures)
+          c.new-attached.result c.new.result (c.open.ensures.opened [] [] unopened_host_end c.new-host.ensures)
           c.in_ok-write_whole.ensures.ok (c.as_slice.ensures.value ∙ c.open.ensures.reply) c.new-attached.ensures
           c.new-source.ensures c.new-sink.ensures c.new.ensures ran.3,
       ran.4,

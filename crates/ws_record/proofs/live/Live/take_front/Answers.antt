@@ -4,7 +4,7 @@ use Rattle.ws_record.proofs.FrontParts.{part_at_none, part_at_one, part_in_value
 use Rattle.ws_record.proofs.Lives.{advance_values, carries_values, holds_values, holds_iac, word_advance, more_advance}
 use Rattle.ws_record.proofs.Lives.{part_held, word_kept, values_kept}
 use Rattle.ws_record.proofs.OpenRecords.{plain_front}
-use Rattle.ws_record.proofs.live.Live.take_front.Goals as goal
+use Rattle.ws_record.proofs.live.Live.take_prefix.Goals as goal
 
 pub invariant_of-self : goal.invariant_of-self
 invariant_of-self g c = word_begun _ _ _ _ c.go_on-word.ensures

@@ -2,7 +2,7 @@ use Rattle.ws_session.proofs.Common.{[], ◌++◌, refl, subst, ◌∙◌, take,
 use Rattle.ws_session.proofs.Common.{flat_map-append, err_from_is_err_and, Crossing, Runs, WorldParts, new_session}
 use Rattle.ws_session.proofs.Common.{after_moves}
 use Rattle.ws_session.specs.world.Carried.{brought_down, brought_up}
-use Rattle.ws_session.proofs.world.Crossed.{brought_more, crossed_on, faithful_back, faithful_front, stop_behind}
+use Rattle.ws_session.proofs.world.Crossed.{brought_more, crossed_on, faithful_back, faithful_prefix, stop_behind}
 use Rattle.ws_session.proofs.world.Reached.{more_moves, weaker_ok}
 use Rattle.ws_session.proofs.world.World.run_carried.Goals as goal
 
@@ -32,7 +32,7 @@ loop-step-preserved g c =
       went_down = crossed_on _ _ _ _ _ q.0 i.went_down q.2;
       went_up = crossed_on _ _ _ _ i.ups q.1 i.went_up q.3;
       runs = λ f h.
-          let p = i.runs (faithful_front _ q.0 f) (faithful_front i.ups q.1 h) in
+          let p = i.runs (faithful_prefix _ q.0 f) (faithful_prefix i.ups q.1 h) in
           let same = q.6 (faithful_back _ q.0 f) (faithful_back i.ups q.1 h) in
           let ran = c.in_ok-take.ensures.taken t w (subst (λ (z : WorldParts). Runs t z w) (sym same) p.0) in (
             rw (longer, more_moves _ _ _) ran,

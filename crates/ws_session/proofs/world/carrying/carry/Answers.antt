@@ -6,12 +6,12 @@ use Rattle.std.proofs.lemmas.Grind.{common_steps}
 use Rattle.std.proofs.lemmas.Slice.{take-put_mid_below}
 use Rattle.ws_session.proofs.world.carrying.carry.Goals as goal
 
--- the front of a slice behind a read into the rest of it
-front_more : (xs ys zs : List ℕ) (at n : ℕ) → at ≤ length xs → n ≤ length ys → take (at + n) (take at xs ++ (ys ++ zs))
+-- the prefix of a slice behind a read into the rest of it
+prefix_more : (xs ys zs : List ℕ) (at n : ℕ) → at ≤ length xs → n ≤ length ys → take (at + n) (take at xs ++ (ys ++ zs))
     ≡ take at xs ++ take n ys
-front_more xs ys zs at n h k =
-    let front : length (take at xs) ≡ at = length-take-le at xs h in
-    ap (λ j. take (j + n) (take at xs ++ (ys ++ zs))) (sym front) ∙ take-append-add (take at xs) (ys ++ zs) n
+prefix_more xs ys zs at n h k =
+    let prefix : length (take at xs) ≡ at = length-take-le at xs h in
+    ap (λ j. take (j + n) (take at xs ++ (ys ++ zs))) (sym prefix) ∙ take-append-add (take at xs) (ys ++ zs) n
     ∙ ap (λ z. take at xs ++ z) (take-append-le n ys zs k)
 
 -- which is within the slice
@@ -36,7 +36,7 @@ loop-at-preserved g c =
       gave = (
         inv.gave.0 + 1,
         omega (arith, inv.gave.1),
-        rw (front_more _ into _ at n inv.within c.in-Ok.ensures.ok.0) more,
+        rw (prefix_more _ into _ at n inv.within c.in-Ok.ensures.ok.0) more,
       );
     }
 
@@ -52,7 +52,7 @@ returns-in-Ok-eq0-clause-fault g c =
       given = take at slice;
       counted = sym (length-take-le at slice inv.within);
       fewer = omega arith;
-      at_front = take-put_mid_below at (length slice - at) slice c.read.new.into at (omega arith) inv.within;
+      at_prefix = take-put_mid_below at (length slice - at) slice c.read.new.into at (omega arith) inv.within;
       gave = record {
         before = c.loop-at.source;
         count = inv.gave.0;
@@ -78,7 +78,7 @@ returns-in-Err-clause-fault g c =
       at = at;
       counted = sym (length-take-le at slice inv.within);
       fewer = omega arith;
-      at_front = take-put_mid_below at (length slice - at) slice c.read.new.into at (omega arith) inv.within;
+      at_prefix = take-put_mid_below at (length slice - at) slice c.read.new.into at (omega arith) inv.within;
       failed = record {
         before = c.loop-at.source;
         count = inv.gave.0;

@@ -18,7 +18,7 @@ loop-left-preserved g c =
     record {
       gone = i.gone + used;
       all = omega (arith, i.all, within);
-      come = some_delivered g.E.End.conduct g.E.Reported.telling
+      come = some_delivered g.E.End.behaviour g.E.Reported.telling
           (at_end c.args.end.now c.args.from.now c.args.to.now c.args.events.now.items)
           (at_end l.end l.from l.to l.events.items) i.gone i.come g.met.E.End.follows
           (at_end c.come.new.end c.skip.new.self c.come.new.to c.come.new.events.items) c.in_flight.result l.left used
@@ -31,7 +31,7 @@ pub returns-clause-come : goal.returns-clause-come
 returns-clause-come g c =
     let l = c.loop-left in
     let i = l.invariant in
-    all_come g.E.End.conduct g.E.Reported.telling
+    all_come g.E.End.behaviour g.E.Reported.telling
     (at_end c.args.end.now c.args.from.now c.args.to.now c.args.events.now.items)
     (at_end l.end l.from l.to l.events.items) i.gone i.come c.in_flight.result c.args.count c.in_flight.ensures.left
     (omega (arith, i.all, c.loop-left-test.false, c.in_flight.ensures.left))

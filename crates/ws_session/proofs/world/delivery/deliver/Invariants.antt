@@ -9,6 +9,6 @@ abbrev pub invariant-loop-left : goal.invariant-loop-left
 invariant-loop-left g l = record {
   gone : ℕ;
   all : gone + l.left ≡ min l.count (length l.fn.from.bytes - l.fn.from.at);
-  come : AreDelivered g.E.End.conduct g.E.Reported.telling
+  come : AreDelivered g.E.End.behaviour g.E.Reported.telling
       (at_end l.fn.end l.fn.from l.fn.to l.fn.events.items) gone (at_end l.end l.from l.to l.events.items);
 }

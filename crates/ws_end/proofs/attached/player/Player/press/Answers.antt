@@ -1,5 +1,5 @@
 use Rattle.ws_end.proofs.Common.{subst, IsKeyTaken}
-use Rattle.ws_end.specs.attached.Deeds.{IfDone}
+use Rattle.ws_end.specs.attached.Requests.{IfDone}
 use Rattle.ws_end.proofs.attached.Plays.{taken_done, press_failed, refused_done}
 use Rattle.ws_end.proofs.attached.player.Player.press.Goals as goal
 
@@ -7,18 +7,18 @@ pub returns-in-Ok-Done-clause-done : goal.returns-in-Ok-Done-clause-done
 returns-in-Ok-Done-clause-done g c =
     let taken = subst (λ o. IfDone o (IsKeyTaken c.args.self.now.station c.args.key))
     c.in-Ok-Done.field-0-is c.in-Ok-Done.ensures.taken in
-    λ bytes items side l few. taken_done _ _ bytes items side _ _ _ _ l few c.in-Ok-Done.ensures.pressed taken
+    λ bytes items state l few. taken_done _ _ bytes items state _ _ _ _ l few c.in-Ok-Done.ensures.pressed taken
 
 pub returns-in-Ok-Refused-clause-done : goal.returns-in-Ok-Refused-clause-done
 returns-in-Ok-Refused-clause-done g c =
     let same = rw c.in-Ok-Refused.field-0-is at c.in-Ok-Refused.ensures.refused in
-    let refusal = rw c.in-Ok-Refused.field-0-is at c.in-Ok-Refused.ensures.told in
-    λ bytes items side l few.
-    refused_done _ _ bytes items side _ _ _ _ l few _ _ same.0 same.1 refusal c.saturating_add-self.ensures
+    let refusal = rw c.in-Ok-Refused.field-0-is at c.in-Ok-Refused.ensures.reported in
+    λ bytes items state l few.
+    refused_done _ _ bytes items state _ _ _ _ l few _ _ same.0 same.1 refusal c.saturating_add-self.ensures
 
 pub returns-in-Err-clause-fault : goal.returns-in-Err-clause-fault
 returns-in-Err-clause-fault g c = (
   c.in-Err.ensures.fault.0,
-  λ bytes items side l few. press_failed _ c.args.self.now bytes items side _
+  λ bytes items state l few. press_failed _ c.args.self.now bytes items state _
       c.press_key.new.station _ _ l few c.in-Err.ensures.fault.1,
 )

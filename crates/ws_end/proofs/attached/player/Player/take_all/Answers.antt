@@ -14,13 +14,13 @@ returns-in_err-used-clause-fault g c =
     let i = c.loop-used.used in
     let inv = c.loop-used.invariant in
     rw (p.1, p.2) (λ start t bytes items h few.
-    let front = bytes ++ take i piece in
+    let prefix = bytes ++ take i piece in
     let so_far = inv.1 start t bytes items h few in
-    let whole : front ++ left_of piece i ≡ bytes ++ piece = append_assoc bytes (take i piece) (left_of piece i)
+    let whole : prefix ++ left_of piece i ≡ bytes ++ piece = append_assoc bytes (take i piece) (left_of piece i)
     ∙ ap (λ z. bytes ++ z) (left_joined piece i) in
-    rw (← whole) (fault_within t c.args.keys.now g.S.Sink.writer start c.take.new.sink (length front)
-    (length bytes) (front ++ left_of piece i) _ (omega (arith, length-append bytes (take i piece)))
-    (c.in_err-used.ensures.fault start t front so_far.0 so_far.1 (room_next bytes piece i few inv.0))))
+    rw (← whole) (fault_within t c.args.keys.now g.S.Sink.writer start c.take.new.sink (length prefix)
+    (length bytes) (prefix ++ left_of piece i) _ (omega (arith, length-append bytes (take i piece)))
+    (c.in_err-used.ensures.fault start t prefix so_far.0 so_far.1 (room_next bytes piece i few inv.0))))
 
 pub loop-used-preserved : goal.loop-used-preserved
 loop-used-preserved g c = (

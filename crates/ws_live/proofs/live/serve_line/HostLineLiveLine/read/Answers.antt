@@ -2,7 +2,7 @@ use Rattle.std.specs.Prelude.{min}
 use Rattle.std.proofs.Common.{◌+◌, ◌-◌, ◌^◌, refl, sym, ap, ◌∙◌, inl, inr}
 use Rattle.ws_text.specs.BodyLines.{new_record}
 use Rattle.ws_text.specs.Items.{with_more}
-use Rattle.ws_end.specs.declared.end_step.Order.TheVariants.{Send}
+use Rattle.ws_end.specs.declared.end_step.HostRequest.TheVariants.{Send}
 use Rattle.ws_live.specs.declared.live.serve_line.HostLine.TheVariants.{Give}
 use Rattle.ws_live.proofs.ServeWords.{some_text, bad_words, no_words}
 use Rattle.ws_live.proofs.live.serve_line.HostLineLiveLine.read.Goals as goal

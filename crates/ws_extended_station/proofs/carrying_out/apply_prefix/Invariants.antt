@@ -7,7 +7,7 @@ use Rattle.ws_extended.specs.ExtendedViews.{Shows}
 use Rattle.ws_extended.specs.declared.extended_element.ExtendedElement.{ExtendedElement}
 use Rattle.ws_extended.specs.declared.extended_place.ExtendedPlace.TheVariants.{InProfile}
 use Rattle.ws_extended_station.specs.CarriedOut.{IsUnderWay}
-use Rattle.ws_extended_station.proofs.carrying_out.apply_front.Given as goal
+use Rattle.ws_extended_station.proofs.carrying_out.apply_prefix.Given as goal
 
 -- the elements so far are carried out, and weren't refused
 abbrev pub invariant-loop-element : goal.invariant-loop-element

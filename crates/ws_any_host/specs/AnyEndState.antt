@@ -60,12 +60,12 @@ send_fault n r =
 -- what such a host has done after a send: the record is written; at a refused one nothing
 abbrev pub any_at_send : Negotiated → Record ℕ → Option SendFault → Doing Negotiated ℕ AnyEvent
 any_at_send n r (Some fault) = idle n
-any_at_send n r None = record { side = n; written = RecordItem r ∷ []; told = [] }
+any_at_send n r None = record { state = n; written = RecordItem r ∷ []; told = [] }
 
 -- how such a host reacts: its caller sends records; no memory is wanted for what it makes of an item
 abbrev pub any_reacting : ReactingOf Negotiated ℕ (Record ℕ) AnyEvent (List ℕ)
 any_reacting = record {
-  Side = Negotiated;
+  State = Negotiated;
   Made = AnyOutput;
   PlaceV = Unit {0};
   V = ℕ;
@@ -74,7 +74,7 @@ any_reacting = record {
   takes = any_takes;
   puts = λ item output. output;
   acts = λ n r. any_at_send n r (send_fault n r);
-  stands = λ host items side. host ≡ side;
+  stands = λ host items state. host ≡ state;
   written = λ host reply. reply;
   wants = λ output. ⊥;
   shown = λ host. tt;

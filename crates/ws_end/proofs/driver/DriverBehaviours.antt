@@ -1,27 +1,27 @@
--- A driver, as whoever attaches it sees it: what its feeds give, by its conduct.
+-- A driver, as whoever attaches it sees it: what its feeds give, by its behaviour.
 
 use Rattle.ws_end.proofs.Common as C
 use C.{◌≡◌, ◌+◌, List, [], ◌∷◌, ◌++◌, refl, ◌∙◌, ℕ, suc, ◌<◌, Some, None, IsSome, take, drop, ap, sym, arith, inl, inr}
 use C.{cases_lt, length, Err, Ok, Result, take-take, length-take-le, ◌-◌, ◌^◌, Item, Option, Failed}
 use Rattle.std.proofs.Math.Seq.{drop-append_seam}
-use Rattle.ws_end.specs.Conduct.{TakesSome}
+use Rattle.ws_end.specs.Behaviour.{TakesSome}
 use Rattle.ws_end.specs.declared.refusal.Refusal.{Refusal}
 use Rattle.ws_end.specs.declared.end_step.EndFed.{EndFed}
 use Rattle.ws_end.specs.declared.end_step.EndStep.{EndStep}
-use Rattle.ws_end.proofs.Shuts.{none_leads}
+use Rattle.ws_end.proofs.Shuts.{none_reached}
 use Rattle.ws_end.proofs.Feedings.{value_at}
-use Rattle.ws_end.specs.driver.Conducting.{driver_conduct, DriverRefuses}
-use Rattle.ws_end.specs.driver.Driven.{Driven, Driving, LeadsTo, DriverFeeds, TakesNoMore}
+use Rattle.ws_end.specs.driver.DriverBehaviour.{driver_behaviour, DriverRefuses}
+use Rattle.ws_end.specs.driver.Driven.{Driven, Driving, IsReached, DriverFeeds, TakesNoMore}
 
-module _ {R K Place U Deed Event Reply : Type 0} (d : Driving R K Place U Deed Event Reply) (old : Driven R K Place)
-    (piece : List ℕ) (some : 0 < length piece) (new : Driven R K Place) where
+module _ {R K Place U Request Event Reply : Type 0} (d : Driving R K Place U Request Event Reply)
+    (old : Driven R K Place) (piece : List ℕ) (some : 0 < length piece) (new : Driven R K Place) where
   abbrev Written : Driven R K Place → Reply → List ℕ
   Written driver reply = d.does.written driver.reacts reply
 
   -- one to which bytes lead, and that can count one more, isn't stopped
-  works : (bytes : List ℕ) (items : List (Item U)) (side : d.does.Side) → LeadsTo d old bytes items side
+  works : (bytes : List ℕ) (items : List (Item U)) (state : d.does.State) → IsReached d old bytes items state
       → length bytes + 1 < 2 ^ 64 → TakesNoMore old → ⊥
-  works bytes items side l few = none_leads old.ended old.live.taken (length bytes) l.works l.leads.count few
+  works bytes items state l few = none_reached old.ended old.live.taken (length bytes) l.works l.reached.count few
 
   -- a byte is refused
   module _ (used : ℕ) (why : Refusal) (f : DriverFeeds d old piece new (record { used = used; step = Err why })) where
@@ -35,7 +35,7 @@ module _ {R K Place U Deed Event Reply : Type 0} (d : Driving R K Place U Deed E
         let last : suc m ≡ used = omega (arith, any) in
         let v = value_at piece m (omega (arith, f.within, any)) in
         let size : length (take used piece) - 1 ≡ m = omega (arith, length-take-le used piece f.within) in
-        let front : take (length (take used piece) - 1) (take used piece) ≡ take m piece = ap (λ (n : ℕ). take n
+        let prefix : take (length (take used piece) - 1) (take used piece) ≡ take m piece = ap (λ (n : ℕ). take n
         (take used piece)) size ∙ take-take m used piece (omega arith) in
         let upto : take used piece ≡ take m piece ++ v.0 ∷ [] = ap (λ (n : ℕ). take n piece) (sym last) ∙ v.3 in
         let long : length (take m piece) ≡ m = length-take-le m piece (omega (arith, f.within, any)) in
@@ -46,12 +46,12 @@ module _ {R K Place U Deed Event Reply : Type 0} (d : Driving R K Place U Deed E
           v.1,
           v.2,
           record {
-            led = λ bytes items side l few. rw (front, behind) at ((f.takes (works bytes items side l
-                (omega (arith, few)))).brings bytes items side l).1;
-            counted = λ bytes items side l few. omega (
+            led = λ bytes items state l few. rw (prefix, behind) at ((f.takes (works bytes items state l
+                (omega (arith, few)))).brings bytes items state l).1;
+            counted = λ bytes items state l few. omega (
               arith,
-              (f.takes (works bytes items side l (omega (arith, few)))).counted,
-              l.leads.count,
+              (f.takes (works bytes items state l (omega (arith, few)))).counted,
+              l.reached.count,
               last,
               length-take-le used piece f.within,
               long,
@@ -66,20 +66,20 @@ module _ {R K Place U Deed Event Reply : Type 0} (d : Driving R K Place U Deed E
       | inl any ↦ at_last any
       | inr none ↦ (let v = value_at piece 0 some in
           let is : used ≡ 0 = omega (arith, none) in
-          let never = λ (bytes : List ℕ) (items : List (Item U)) (side : d.does.Side) (l : LeadsTo d old bytes items side)
-          (few : length bytes + 1 < 2 ^ 64). absurd {A = ⊥} (omega (
+          let never = λ (bytes : List ℕ) (items : List (Item U)) (state : d.does.State)
+          (l : IsReached d old bytes items state) (few : length bytes + 1 < 2 ^ 64). absurd {A = ⊥} (omega (
             arith,
             is,
             length-take-le used piece f.within,
-            ((f.takes (works bytes items side l few)).brings bytes items side l).0,
+            ((f.takes (works bytes items state l few)).brings bytes items state l).0,
           )) in
           rw is (
             v.0,
             v.1,
             v.2,
             record {
-              led = λ bytes items side l few. absurd (never bytes items side l (omega (arith, few)));
-              counted = λ bytes items side l few. absurd (never bytes items side l (omega (arith, few)));
+              led = λ bytes items state l few. absurd (never bytes items state l (omega (arith, few)));
+              counted = λ bytes items state l few. absurd (never bytes items state l (omega (arith, few)));
               seen = f.seen tt;
               shut = λ shut. (refl, (let e = (f.stopped shut).0 in cc), (f.stopped shut).2);
             },
@@ -87,10 +87,10 @@ module _ {R K Place U Deed Event Reply : Type 0} (d : Driving R K Place U Deed E
     ]
 
   pub takes_some : (fed : EndFed Event Reply) → DriverFeeds d old piece new fed
-      → TakesSome (driver_conduct d) Written old piece new fed
+      → TakesSome (driver_behaviour d) Written old piece new fed
   takes_some fed f = by fed.step refl where
     by : (step : Result (EndStep Event Reply) Refusal) → fed.step ≡ step
-        → TakesSome (driver_conduct d) Written old piece new fed
+        → TakesSome (driver_behaviour d) Written old piece new fed
     by (Ok step) is =
         let works : TakesNoMore old → ⊥ = λ shut. cc (is, (f.stopped shut).0) in
         let t = f.takes works in
@@ -98,12 +98,12 @@ module _ {R K Place U Deed Event Reply : Type 0} (d : Driving R K Place U Deed E
           within = f.within;
           some = f.some some (λ e. cc (is, e));
           fed = record {
-            led = λ bytes items side l few. rw is at (t.brings bytes items side l);
+            led = λ bytes items state l few. rw is at (t.brings bytes items state l);
             shut = λ shut. absurd (works shut);
           };
           first = λ n lt. record {
-            led = λ bytes items side l few. rw (take-take n fed.used piece (omega (arith, lt))) at (t.first bytes items
-                side l n (omega (arith, lt, length-take-le fed.used piece f.within)));
+            led = λ bytes items state l few. rw (take-take n fed.used piece (omega (arith, lt))) at (t.first bytes items
+                state l n (omega (arith, lt, length-take-le fed.used piece f.within)));
             shut = λ shut. absurd (works shut);
           };
           refused = tt;

@@ -25,8 +25,8 @@ use Rattle.ws_screen.specs.States.{pending_read}
 use Rattle.ws_stream.specs.declared.answer_part.AnswerPart.{AnswerPart}
 use Rattle.ws_keys.specs.declared.host_answer.HostAnswer.{HostAnswer}
 use Rattle.ws_keys.specs.Readings.{read_answer}
-use Rattle.ws_end.specs.declared.end_step.Order.{Order}
-use Rattle.ws_end.specs.declared.end_step.Order.TheVariants.{Send, Cancel}
+use Rattle.ws_end.specs.declared.end_step.HostRequest.{HostRequest}
+use Rattle.ws_end.specs.declared.end_step.HostRequest.TheVariants.{Send, Cancel}
 use Rattle.ws_end.specs.declared.host_end.host_event.HostEvent.{HostEvent}
 use Rattle.ws_end.specs.declared.host_end.host_event.HostEvent.TheVariants.{Ready, Answer as Answered, Attention}
 use Rattle.ws_end.specs.declared.host_end.host_event.HostEvent.TheVariants.{SystemRequest, Cancelled}
@@ -38,17 +38,17 @@ use Rattle.ws_end.specs.Reaction.{Output, Reaction, Refuses, GoesOn, empty_recor
 use Rattle.ws_end.specs.declared.station.answer.TheConstants.{ATN, SRQ}
 
 -- what a host end has become: its options, the events of the screen that it keeps, and whether a cancel is unanswered
-pub record HostSide : Type 0 where
+pub record HostEndState : Type 0 where
   pub options : HostState
   pub kept : History
   pub cancelling : Bool
 
--- the side of a host end that has written its opening, and to which nothing has happened since
-abbrev pub new_host_side : HostSide
-new_host_side = record { options = after_open new_host; kept = []; cancelling = false }
+-- the state of a host end that has written its opening, and to which nothing has happened since
+abbrev pub new_host_end : HostEndState
+new_host_end = record { options = after_open new_host; kept = []; cancelling = false }
 
 -- the read that the host end has asked and that isn't answered
-abbrev pub asked_read : HostSide → Option ReadKind
+abbrev pub asked_read : HostEndState → Option ReadKind
 asked_read h = pending_read h.kept
 
 -- what the host end writes at an item, and what it tells its caller
@@ -61,7 +61,7 @@ event_output event = record { items = []; event = event }
 
 -- what the host end tells is an answer
 abbrev pub TellsAnswer : HostOutput → Type 0
-TellsAnswer told = (answer : HostAnswer) × (told.event ≡ Some (Answered answer))
+TellsAnswer output = (answer : HostAnswer) × (output.event ≡ Some (Answered answer))
 
 -- the event that a session is ready, by the terminal that was accepted
 abbrev pub ready_by_terminal : Option TerminalType → Option HostEvent
@@ -76,28 +76,28 @@ ready_event was_allowed now =
 
 -- what the host end makes of its answer to a Telnet command: it is written; where there is none, the terminal isn't
 -- supported
-abbrev pub host_negotiates : HostSide → Option (Answer HostState) → Reaction HostSide HostOutput
+abbrev pub host_negotiates : HostEndState → Option (Answer HostState) → Reaction HostEndState HostOutput
 host_negotiates h None = Refuses UnsupportedTerminal
 host_negotiates h (Some answer) =
     GoesOn (record { options = answer.after; kept = h.kept; cancelling = h.cancelling })
     (record { items = map TelnetItem answer.reply; event = ready_event (host_allows_records h.options) answer.after })
 
 -- the host end after the end of a read: nothing is pending on the screen that it keeps, and the keyboard is locked
-abbrev pub after_read : HostSide → Bool → HostSide
+abbrev pub after_read : HostEndState → Bool → HostEndState
 after_read h cancelling = record { options = h.options; kept = cancelled ∷ h.kept; cancelling = cancelling }
 
 -- what the host end makes of what is read from an answer: it is told; or the answer doesn't fit the read that was asked
-abbrev pub host_reads : HostSide → Option HostAnswer → Reaction HostSide HostOutput
+abbrev pub host_reads : HostEndState → Option HostAnswer → Reaction HostEndState HostOutput
 host_reads h None = Refuses AnswerMismatch
 host_reads h (Some answer) = GoesOn (after_read h h.cancelling) (event_output (Some (Answered answer)))
 
 -- what the host end makes of an answer, which it takes only while a read is asked
-abbrev pub host_reads_by : HostSide → Option ReadKind → List AnswerPart → Reaction HostSide HostOutput
+abbrev pub host_reads_by : HostEndState → Option ReadKind → List AnswerPart → Reaction HostEndState HostOutput
 host_reads_by h None parts = Refuses UnaskedAnswer
 host_reads_by h (Some kind) parts = host_reads h (read_answer kind (fields h.kept) parts)
 
 -- what the host end makes of the answer to a cancel, which it takes only while one is unanswered
-abbrev pub host_ends_cancel : HostSide → Bool → Reaction HostSide HostOutput
+abbrev pub host_ends_cancel : HostEndState → Bool → Reaction HostEndState HostOutput
 host_ends_cancel h false = Refuses UnaskedAnswer
 host_ends_cancel h true = GoesOn (after_read h false) (event_output (Some Cancelled))
 
@@ -112,14 +112,14 @@ signal flags =
     else (if has_flag SRQ flags then Some SystemRequest else None)
 
 -- what the host end makes of a record, by its opcode: an answer, the answer to a cancel, or a key without data
-abbrev pub host_takes_record : HostSide → ℕ → Opcode → List AnswerPart → Reaction HostSide HostOutput
+abbrev pub host_takes_record : HostEndState → ℕ → Opcode → List AnswerPart → Reaction HostEndState HostOutput
 host_takes_record h flags PutGet parts = host_reads_by h (asked_read h) parts
 host_takes_record h flags CancelInvite [] = host_ends_cancel h h.cancelling
 host_takes_record h flags NoOperation [] = GoesOn h (event_output (signal flags))
 host_takes_record h flags opcode parts = Refuses UnaskedAnswer
 
 -- what the host end does at an item: it answers a Telnet command, tells a record, or refuses the item for a reason
-abbrev pub host_takes : HostSide → Item AnswerPart → Reaction HostSide HostOutput
+abbrev pub host_takes : HostEndState → Item AnswerPart → Reaction HostEndState HostOutput
 host_takes h (TelnetItem token) = host_negotiates h (host_answer h.options token)
 host_takes h (RecordItem r) =
     if host_allows_records h.options then host_takes_record h r.flags r.opcode r.body
@@ -128,10 +128,10 @@ host_takes h (RecordItem r) =
 -- what the host end does when it is to send: it refuses, or goes on and writes a record
 pub data SendReaction : Type 0 where
   RefusesSend : SendFault → SendReaction
-  Sends : HostSide → Item Element → SendReaction
+  Sends : HostEndState → Item Element → SendReaction
 
 -- a read is asked or a cancel is unanswered, and the body isn't empty, so that it would disturb it
-abbrev pub is_outstanding : HostSide → List Element → Bool
+abbrev pub is_outstanding : HostEndState → List Element → Bool
 is_outstanding h [] = false
 is_outstanding h (e ∷ es) = is_some (asked_read h) || h.cancelling
 
@@ -144,7 +144,7 @@ abbrev pub is_too_big : Record Element → Bool
 is_too_big r = not (nat_lt (length (record_bytes element_rules r)) (2 ^ 16))
 
 -- what becomes of a body that is to be sent: the screen refuses it, it is too long for a record, or it is sent
-abbrev pub host_sends_body : HostSide → Opcode → List Element → Option Reason → SendReaction
+abbrev pub host_sends_body : HostEndState → Opcode → List Element → Option Reason → SendReaction
 host_sends_body h opcode body (Some reason) = RefusesSend (RefusedByScreen reason)
 host_sends_body h opcode body None =
     if is_too_big (sent_record opcode body) then RefusesSend TooBig
@@ -156,7 +156,7 @@ host_sends_body h opcode body None =
     (RecordItem (sent_record opcode body))
 
 -- what the host end does at a send, by the first fault that applies
-abbrev pub host_send : HostSide → Opcode → List Element → SendReaction
+abbrev pub host_send : HostEndState → Opcode → List Element → SendReaction
 host_send h opcode body =
     if not (host_allows_records h.options) then RefusesSend NotAllowed
     else (if is_outstanding h body then RefusesSend ReadOutstanding
@@ -165,15 +165,15 @@ host_send h opcode body =
 
 -- what the host end does at a cancel, by the first fault that applies: it sends an empty Cancel Invite where a read is
 -- asked
-abbrev pub host_cancel : HostSide → SendReaction
+abbrev pub host_cancel : HostEndState → SendReaction
 host_cancel h =
     if not (host_allows_records h.options) then RefusesSend NotAllowed
     else (if is_some (asked_read h) && not h.cancelling
     then Sends (record { options = h.options; kept = h.kept; cancelling = true }) (empty_record 0 CancelInvite)
     else RefusesSend NoReadToCancel)
 
--- what the host end does at an order: a send of Cancel Invite is a cancel
-abbrev pub host_orders : HostSide → Order → SendReaction
-host_orders h (Send CancelInvite body) = host_cancel h
-host_orders h (Send opcode body) = host_send h opcode body
-host_orders h Cancel = host_cancel h
+-- what the host end does at a request: a send of Cancel Invite is a cancel
+abbrev pub host_requests : HostEndState → HostRequest → SendReaction
+host_requests h (Send CancelInvite body) = host_cancel h
+host_requests h (Send opcode body) = host_send h opcode body
+host_requests h Cancel = host_cancel h

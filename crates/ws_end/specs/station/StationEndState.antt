@@ -26,24 +26,24 @@ use Rattle.ws_keys.specs.Keys.{key_refusal, edit_of, events_by}
 use Rattle.ws_end.specs.station.Alarms.{alarm_count, alarms_of}
 use Rattle.ws_end.specs.declared.station.key_fault.KeyFault.TheVariants.{Key as Refused}
 use Rattle.ws_end.specs.Reaction.{Reaction, Refuses, GoesOn, empty_record}
-use Rattle.ws_end.specs.station.Displays.{DisplayOf, SideOn, KeyReactionOn, OnDisplay, on_display}
+use Rattle.ws_end.specs.station.Displays.{DisplayOf, EndStateOn, KeyReactionOn, OnDisplay, on_display}
 pub use Rattle.ws_end.specs.station.Displays.{RefusesKey, Silent, Answers, Signals}
-use Rattle.ws_end.specs.station.StationManners.{takes_on, key_on}
+use Rattle.ws_end.specs.station.StationTransitions.{takes_on, key_on}
 use Rattle.ws_stream.specs.AnswerParts.{answer_rules}
 use Rattle.ws_screen.specs.Given.{Gives}
 use Rattle.ws_end.specs.declared.station.answer.TheConstants.{ATN, SRQ}
 use Rattle.ws_stream.specs.Elements.{element_rules}
 
 -- what a station has become: its options, and the events of its screen
-abbrev pub StationSide : Type 0
-StationSide = SideOn History
+abbrev pub StationEndState : Type 0
+StationEndState = EndStateOn History
 
--- the side of a station to which nothing has happened
-abbrev pub new_station_side : TerminalType → StationSide
-new_station_side terminal = record { options = new_station terminal; happened = [] }
+-- the state of a station to which nothing has happened
+abbrev pub new_station_end : TerminalType → StationEndState
+new_station_end terminal = record { options = new_station terminal; happened = [] }
 
 -- the screen of a station: what its events give
-abbrev pub screen_at : StationSide → ScreenParts
+abbrev pub screen_at : StationEndState → ScreenParts
 screen_at s = screen_of s.happened
 
 -- what a record's opcode does to the screen at its end (RFC 1205, section 4)
@@ -64,8 +64,8 @@ opcode_answer opcode = []
 
 -- what the station does at a record, by the first reason for which the screen refuses its body: it refuses it, or
 -- carries it out
-abbrev pub station_applies : StationSide → Record Element → Option Reason
-    → Reaction StationSide (List (Item AnswerPart))
+abbrev pub station_applies : StationEndState → Record Element → Option Reason
+    → Reaction StationEndState (List (Item AnswerPart))
 station_applies s r (Some reason) = Refuses reason
 station_applies s r None =
     GoesOn (record { options = s.options; happened = after_record s.happened r }) (opcode_answer r.opcode)
@@ -81,25 +81,25 @@ sends Attention = true
 sends SystemRequest = true
 sends key = false
 
--- the side of a station after a key that it took: its screen has the key's edit
-abbrev pub after_key : StationSide → Key → StationSide
+-- the state of a station after a key that it took: its screen has the key's edit
+abbrev pub after_key : StationEndState → Key → StationEndState
 after_key s key =
     record { options = s.options; happened = events_by (edit_of (screen_at s) key) ++ s.happened }
 
 -- what the station makes of an AID: it answers the pending read (where there is none, the screen refuses the key)
-abbrev pub answers_read : StationSide → ℕ → Option ReadKind → KeyReaction
+abbrev pub answers_read : StationEndState → ℕ → Option ReadKind → KeyReaction
 answers_read s aid None = Silent (after_key s (Send aid))
 answers_read s aid (Some kind) = Answers (after_key s (Send aid)) kind aid
 
 -- what the station makes of a key that the screen doesn't refuse
-abbrev pub presses : StationSide → Key → KeyReaction
+abbrev pub presses : StationEndState → Key → KeyReaction
 presses s (Send aid) = answers_read s aid (screen_at s).pending
 presses s Attention = Signals NoOperation ATN
 presses s SystemRequest = Signals NoOperation SRQ
 presses s key = Silent (after_key s key)
 
 -- what the station makes of a key, by the refusal of the screen, if it refuses it
-abbrev pub key_by_refusal : StationSide → Key → Option KeyRefusal → KeyReaction
+abbrev pub key_by_refusal : StationEndState → Key → Option KeyRefusal → KeyReaction
 key_by_refusal s key (Some refusal) = RefusesKey (Refused refusal)
 key_by_refusal s key None = presses s key
 
@@ -136,11 +136,11 @@ profile = record {
 }
 
 -- what the station does at an item: it answers a Telnet command, carries out a record, or refuses it for a reason
-abbrev pub station_takes : StationSide → Item Element → Reaction StationSide (List (Item AnswerPart))
+abbrev pub station_takes : StationEndState → Item Element → Reaction StationEndState (List (Item AnswerPart))
 station_takes = takes_on profile
 
 -- what the station makes of a key: until records are allowed it refuses one that sends
-abbrev pub station_key : StationSide → Key → KeyReaction
+abbrev pub station_key : StationEndState → Key → KeyReaction
 station_key = key_on profile
 
 -- what a station of the profile stands on

@@ -9,7 +9,7 @@ use Rattle.ws_extended.proofs.OpenWrites.{finds_write}
 use Rattle.ws_extended_station.specs.CarriedOut.{IsUnderWay}
 use Rattle.ws_extended_station.proofs.CarryingOut.{none_done, one_more, one_refused, stands_up}
 use Rattle.ws_extended_station.proofs.Units.{empty}
-use Rattle.ws_extended_station.proofs.carrying_out.apply_front.Goals as goal
+use Rattle.ws_extended_station.proofs.carrying_out.apply_prefix.Goals as goal
 
 pub loop-element-init : goal.loop-element-init
 loop-element-init c =

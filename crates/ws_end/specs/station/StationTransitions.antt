@@ -10,24 +10,24 @@ use Rattle.ws_end.specs.declared.station.key_fault.KeyFault.TheVariants.{NotRead
 use Rattle.ws_end.specs.declared.end_step.Applied.{Applied}
 use Rattle.ws_end.specs.Reaction.{Reaction, Refuses, GoesOn, empty_record}
 use Rattle.ws_end.specs.Acts.{Doing, idle}
-use Rattle.ws_end.specs.station.Displays.{DisplayOf, SideOn, KeyReactionOn, RefusesKey, Silent, Answers, Signals}
+use Rattle.ws_end.specs.station.Displays.{DisplayOf, EndStateOn, KeyReactionOn, RefusesKey, Silent, Answers, Signals}
 
 -- what a station tells at the end of a record: it has applied it
 abbrev pub applied : Applied
 applied = record {}
 
 -- what a station tells, by whether a record ended
-abbrev pub told_by : Bool → Option Applied
-told_by ends_record = if ends_record then Some applied else None
+abbrev pub event_by : Bool → Option Applied
+event_by ends_record = if ends_record then Some applied else None
 
 module _ {D U H PlaceV V K R : Type 0} (d : DisplayOf D U H PlaceV V K R) where
-  -- the side of a station to which nothing has happened
-  abbrev pub new_side_on : TerminalType → SideOn H
-  new_side_on terminal = record { options = new_station terminal; happened = d.fresh terminal }
+  -- the state of a station to which nothing has happened
+  abbrev pub new_state_on : TerminalType → EndStateOn H
+  new_state_on terminal = record { options = new_station terminal; happened = d.fresh terminal }
 
   -- what a station does at an item: it answers a Telnet command, hands a record to its display, and refuses one before
   -- records are allowed
-  abbrev pub takes_on : SideOn H → Item U → Reaction (SideOn H) (List (Item V))
+  abbrev pub takes_on : EndStateOn H → Item U → Reaction (EndStateOn H) (List (Item V))
   takes_on s (TelnetItem token) =
       let answer = station_answer s.options token in
       GoesOn (record { options = answer.after; happened = s.happened }) (map TelnetItem answer.reply)
@@ -35,17 +35,17 @@ module _ {D U H PlaceV V K R : Type 0} (d : DisplayOf D U H PlaceV V K R) where
       if station_allows_records s.options then d.applies s r else Refuses RecordBeforeNegotiation
 
   -- what a station makes of a key: it hands it to its display; until records are allowed it refuses one that sends
-  abbrev pub key_on : SideOn H → K → KeyReactionOn H
+  abbrev pub key_on : EndStateOn H → K → KeyReactionOn H
   key_on s key =
       if d.sends key && not (station_allows_records s.options) then RefusesKey NotReady else d.presses s key
 
   -- what a station has done after a key: it has gone on, and written what the key sends; at a refused one nothing
-  abbrev pub at_key_on : SideOn H → KeyReactionOn H → Doing (SideOn H) V Applied
+  abbrev pub at_key_on : EndStateOn H → KeyReactionOn H → Doing (EndStateOn H) V Applied
   at_key_on s (RefusesKey fault) = idle s
   at_key_on s (Silent next) = idle next
   at_key_on s (Answers next kind aid) = record {
-    side = next;
+    state = next;
     written = d.answer (d.shows s.happened) kind aid ∷ [];
-    told = [];
+    events = [];
   }
-  at_key_on s (Signals opcode flags) = record { side = s; written = empty_record flags opcode ∷ []; told = [] }
+  at_key_on s (Signals opcode flags) = record { state = s; written = empty_record flags opcode ∷ []; events = [] }
