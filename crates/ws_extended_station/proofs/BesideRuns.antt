@@ -24,7 +24,7 @@ use Rattle.ws_extended.specs.ExtendedElements.{extended_rules}
 use Rattle.ws_extended.specs.declared.extended_element.ExtendedElement.{ExtendedElement}
 use Rattle.ws_extended.proofs.ProfileBodies.{profile_body, profile_spelled}
 use Rattle.ws_end.specs.Acts.{Act, AllTaken, Arrives, Came, Did, Does, Doing, Happen, Happening, IsTrace, HoldsItems}
-use Rattle.ws_end.specs.Acts.{bytes_of, doing, IsHappeningTaken, items_of, one_then, ways}
+use Rattle.ws_end.specs.Acts.{bytes_of, doing, IsHappeningTaken, items_of, one_then, protocol_of}
 use Rattle.ws_end.specs.Reaction.{Reaction, Refuses, GoesOn, goes_on}
 use Rattle.ws_end.specs.declared.end_step.Applied.{Applied}
 use Rattle.ws_end.specs.station.Displays.{KeyReactionOn, RefusesKey, Silent, Answers, Signals}
@@ -160,7 +160,7 @@ items_of_there (Does key ∷ hs) = items_of_there hs
 -- THE SAME IS DONE
 
 abbrev done_there : ExtendedEndState → Doing StationEndState AnswerPart Applied → Doing ExtendedEndState ℕ Applied
-done_there s d = record { state = with_profile s d.state; written = map by_bytes d.written; told = d.events }
+done_there s d = record { state = with_profile s d.state; written = map by_bytes d.written; events = d.events }
 
 at_item_there : (s : ExtendedEndState) (item : Item Element) (r : Reaction StationEndState (List (Item AnswerPart)))
     → at_item_on extended s (item_there item) (as_reacted s r)
@@ -219,15 +219,15 @@ doing_there s (h ∷ hs) none =
     ∙ ap (λ (items : List (Item ℕ)). let d : Doing ExtendedEndState ℕ Applied = record {
       state = with_profile s behind.state;
       written = items;
-      told = first.told ++ behind.told;
+      events = first.events ++ behind.events;
     } in d) (sym (map-append by_bytes first.written behind.written))
 
 pub runs_there : (bytes : List ℕ) (items arrived : List (Item Element)) (s : ExtendedEndState) (next : StationEndState)
     (acts : List (Act Key)) (written : List ℕ) (told : List Applied) → NoErrorStands s
-    → IsTrace (ways element_rules answer_rules (transitions_on profile)) (HaveJustArrived arrived next) bytes items
+    → IsTrace (protocol_of element_rules answer_rules (transitions_on profile)) (HaveJustArrived arrived next) bytes items
     (profile_state s) acts
     written told
-    → IsTrace (ways extended_rules raw_rules (transitions_on extended))
+    → IsTrace (protocol_of extended_rules raw_rules (transitions_on extended))
     (HaveJustArrived (map item_there arrived) (with_profile s next))
     bytes (map item_there items) s (map act_there acts) written told
 runs_there bytes items arrived s next acts written told none gone =

@@ -12,7 +12,7 @@ use Rattle.ws_keys.specs.declared.key.Key.{Key}
 use Rattle.ws_extended.specs.ExtendedElements.{extended_rules}
 use Rattle.ws_extended.specs.declared.extended_element.ExtendedElement.{ExtendedElement}
 use Rattle.ws_extended.specs.declared.extended_element.ExtendedElement.TheVariants.{Profile}
-use Rattle.ws_end.specs.Acts.{Act, Came, Did, IsTrace, ways}
+use Rattle.ws_end.specs.Acts.{Act, Came, Did, IsTrace, protocol_of}
 use Rattle.ws_end.specs.station.Displays.{EndStateOn}
 use Rattle.ws_end.specs.Reaction.{Reaction, Refuses, GoesOn}
 use Rattle.ws_end.specs.declared.end_step.Applied.{Applied}
@@ -57,7 +57,7 @@ HaveJustArrived arrived next bytes items end_state = (items ≡ arrived) × (end
 abbrev pub ProfileTraces : StationEndState → StationEndState → List (Item Element) → List ℕ → List (Item Element)
     → List (Act Key) → List ℕ → List Applied → Type 0
 ProfileTraces end_state next arrived bytes items acts written told =
-    IsTrace (ways element_rules answer_rules (transitions_on profile)) (HaveJustArrived arrived next) bytes items
+    IsTrace (protocol_of element_rules answer_rules (transitions_on profile)) (HaveJustArrived arrived next) bytes items
     end_state acts
     written told
 
@@ -65,6 +65,6 @@ ProfileTraces end_state next arrived bytes items acts written told =
 abbrev pub ExtendedTraces : ExtendedEndState → ExtendedEndState → List (Item ExtendedElement) → List ℕ
     → List (Item ExtendedElement) → List (Act ExtendedKey) → List ℕ → List Applied → Type 0
 ExtendedTraces end_state next arrived bytes items acts written told =
-    IsTrace (ways extended_rules raw_rules (transitions_on extended)) (HaveJustArrived arrived next) bytes items
+    IsTrace (protocol_of extended_rules raw_rules (transitions_on extended)) (HaveJustArrived arrived next) bytes items
     end_state acts
     written told

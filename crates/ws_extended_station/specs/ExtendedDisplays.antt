@@ -102,7 +102,7 @@ extended_sends (Profile key) = profile.sends key
 -- the bytes of a reply: at a record, those that it had the display write
 abbrev pub extended_written : DisplayParts → ExtendedReply → List ℕ
 extended_written d (Bytes bytes) = bytes
-extended_written d IsKept = d.events
+extended_written d IsKept = d.told
 
 -- the display that live hosts use; what it writes is told by its bytes
 abbrev pub extended : DisplayOf DisplayParts ExtendedElement ExtendedHappened (Unit {0}) ℕ ExtendedKey ExtendedReply

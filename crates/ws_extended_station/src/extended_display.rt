@@ -46,7 +46,7 @@ impl Model for ExtendedDisplay {
 
     ghost Value = { DisplayParts };
 
-    ghost view = { λ d. record { display = d.screen; alarms = d.alarms; terminal = d.terminal; told = d.events.items } };
+    ghost view = { λ d. record { display = d.screen; alarms = d.alarms; terminal = d.terminal; told = d.told.items } };
 
     // Between records no write is open.
     ghost invariant = { λ d. d.screen.screen.writing ≡ None };
