@@ -1,8 +1,8 @@
 -- The lines that tell a station's state and what is on its screen, as a text in bytes. Numbers are in decimal, bytes in
 -- upper case hex.
 
-use Rattle.std.specs.Prelude.{◌≡◌, ℕ, ◌+◌, ◌-◌, ◌*◌, ◌/◌, List, [], ◌∷◌, ◌++◌, Bool, Option, None, Some, codes, position}
-use Rattle.std.specs.Prelude.{if◌then◌else◌, slice_range}
+use Rattle.std.specs.Prelude.{◌≡◌, ℕ, ◌+◌, ◌-◌, ◌*◌, ◌/◌, List, [], ◌∷◌, ◌++◌, Bool, Option, None, Some, codes}
+use Rattle.std.specs.Prelude.{if◌then◌else◌, position, slice_range}
 use Rattle.std.specs.Fmt.{decimal}
 use Rattle.std.specs.List.{flat_map}
 use Rattle.hex.specs.Hex.{encode_upper}

@@ -11,8 +11,8 @@ use Rattle.ws_text.specs.ItemLines.{cell_text, hex_behind_blank}
 use Rattle.ws_printing.specs.Characters.{after_blank, without_last_blanks}
 use Rattle.ws_printing.specs.PlayLines.{answer_line, host_event_text}
 
--- a field of an answer: its first cell, its content where there is any, and the text that this shows, without the blanks
--- at its end
+-- a field of an answer: its first cell, its content where there is any, and the text that this shows, without the
+-- blanks at its end
 abbrev pub told_field : ReadField → List ℕ
 told_field field = codes "  field " ++ cell_text field.address ++ hex_behind_blank field.content
     ++ after_blank shown_char (without_last_blanks shown_char field.content) ++ codes "\n"

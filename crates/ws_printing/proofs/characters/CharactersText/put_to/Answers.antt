@@ -14,7 +14,8 @@ loop-one-preserved g c =
     let shows = g.T.Showing.shows in
     let all = c.args.self.now.0.now in
     let i = c.loop-one.one-index in
-    prints_same (ap (λ k. characters_text shows (take i all) ++ encode_utf8 k) (c.character.ensures ∙ ap shows c.one-item.is)
+    prints_same (ap (λ k. characters_text shows (take i all) ++ encode_utf8 k)
+    (c.character.ensures ∙ ap shows c.one-item.is)
     ∙ sym (flat_map_more (λ x. encode_utf8 (shows x)) all i c.one-item.result c.loop-one-test.true))
     (prints_both c.loop-one.invariant c.put_to-output.ensures)
 
