@@ -28,15 +28,6 @@ fn tell_state(host: &HostEnd, state: &mut StateTold) -> Status
     Status::Done
 }
 
-fn look_at_state(alloc: Global, handle: &mut Handle, state: &mut StateTold) -> Status
-    ensures { OnHost handle.old.owned.value handle.new.owned.value
-        (λ old new. (new ≡ old) × (result ≡ Status.Done) × (state.new ≡ host_state_told old.held.end))
-        (HoldsNone result (state.new ≡ no_state)) }
-{
-    *state = StateTold::nothing();
-    on_host!(alloc, handle, |host| tell_state(&host.held.end, state))
-}
-
 /// Tells whether records are allowed, a refused byte, and of the kept screen the cursor and its field, the keyboard's
 /// lock, the lights, the read that is asked and the number of fields. No record is counted.
 ///
@@ -47,7 +38,13 @@ pub extern "C" fn ws_c_host_state(alloc: Global, handle: &mut Handle, state: &mu
         (λ old new. (new ≡ old) × (status ≡ Status.Done) × (state.new ≡ host_state_told old.held.end))
         (HoldsNone status (state.new ≡ no_state))) }
 {
-    look_at_state(alloc, handle, state).number()
+    *state = StateTold::nothing();
+    on_host!(
+        alloc,
+        handle,
+        |host| tell_state(&host.held.end, state),
+        number
+    )
 }
 
 fn look_at_cells(
@@ -107,20 +104,6 @@ pub extern "C" fn ws_c_host_cells(
     look_at_cells(alloc, handle, first_row, last_row, cells).number()
 }
 
-fn look_at_field(alloc: Global, handle: &mut Handle, index: usize, field: &mut FieldTold) -> Status
-    ensures { OnHost handle.old.owned.value handle.new.owned.value
-        (λ old new. (new ≡ old)
-        × IsFieldTold (slice_get old.held.end.reacts.screen.fields index) result field.new)
-        (HoldsNone result (field.new ≡ no_field)) }
-{
-    *field = FieldTold::nothing();
-    on_host!(
-        alloc,
-        handle,
-        |host| tell_field(host.held.end.screen(), index, field)
-    )
-}
-
 /// Tells a field of the kept screen, by its index in the order of the fields' starts, from 0.
 ///
 /// `BadArgument` where there is no such field, `NothingHeld` where the handle holds no host; `field` is then zero.
@@ -136,5 +119,11 @@ pub extern "C" fn ws_c_host_field(
         × IsFieldTold (slice_get old.held.end.reacts.screen.fields index) status field.new)
         (HoldsNone status (field.new ≡ no_field))) }
 {
-    look_at_field(alloc, handle, index, field).number()
+    *field = FieldTold::nothing();
+    on_host!(
+        alloc,
+        handle,
+        |host| tell_field(host.held.end.screen(), index, field),
+        number
+    )
 }

@@ -184,21 +184,6 @@ pub extern "C" fn ws_c_host_send(
     send_given(alloc, handle, given, body, told).number()
 }
 
-// Puts the bytes that were sent last into a buffer, from what a handle holds.
-fn fetch(alloc: Global, handle: &mut Handle, buffer: &mut [u8], told: &mut Told) -> Status
-    ensures { let call = crossed buffer.old buffer.new result told.new in
-        OnHost handle.old.owned.value handle.new.owned.value
-        (λ old new. (new ≡ old) × IsFetched old.sent call)
-        (TellsOnly call Status.NothingHeld (told_length 0)) }
-{
-    *told = Told::length(0);
-    on_host!(
-        alloc,
-        handle,
-        |host| fetch_bytes(host.sent.as_slice(), buffer, told)
-    )
-}
-
 /// Puts the bytes of the record that was sent last into a buffer: none before the first. `told` says how many.
 ///
 /// `NoRoom` where the buffer has fewer bytes, `NothingHeld` where the handle holds no host; the buffer is then as it was,
@@ -216,7 +201,13 @@ pub extern "C" fn ws_c_host_sent(
         (λ old new. (new ≡ old) × IsFetched old.sent call)
         (TellsOnly call Status.NothingHeld (told_length 0))) }
 {
-    fetch(alloc, handle, buffer, told).number()
+    *told = Told::length(0);
+    on_host!(
+        alloc,
+        handle,
+        |host| fetch_bytes(host.sent.as_slice(), buffer, told),
+        number
+    )
 }
 
 // Cancels the asked read.
