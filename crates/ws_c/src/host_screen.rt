@@ -47,28 +47,6 @@ pub extern "C" fn ws_c_host_state(alloc: Global, handle: &mut Handle, state: &mu
     )
 }
 
-fn look_at_cells(
-    alloc: Global,
-    handle: &mut Handle,
-    first_row: u8,
-    last_row: u8,
-    cells: &mut [CellTold],
-) -> Status
-    requires rows { AreRowNumbers first_row last_row }
-    requires room { cells_in first_row last_row ≤ length cells.old }
-    ensures { OnHost handle.old.owned.value handle.new.owned.value
-        (λ old new. (new ≡ old) × (result ≡ Status.Done)
-        × (cells.new ≡ rows_told old.held.end.reacts.screen first_row last_row
-        ++ drop (cells_in first_row last_row) cells.old))
-        (HoldsNone result (cells.new ≡ cells.old)) }
-{
-    on_host!(
-        alloc,
-        handle,
-        |host| tell_rows(host.held.end.screen(), first_row, last_row, cells)
-    )
-}
-
 /// Tells the cells of rows of the kept screen, as `ws_c_station_cells` does of a station's.
 ///
 /// `BadArgument` where the rows aren't 1 to 24 in order, `NoRoom` where there are fewer than 80 cells for each row,
@@ -101,7 +79,12 @@ pub extern "C" fn ws_c_host_cells(
     if cells.len() < (last_row as usize + 1 - first_row as usize) * COLUMNS as usize {
         return Status::NoRoom.number();
     }
-    look_at_cells(alloc, handle, first_row, last_row, cells).number()
+    on_host!(
+        alloc,
+        handle,
+        |host| tell_rows(host.held.end.screen(), first_row, last_row, cells),
+        number
+    )
 }
 
 /// Tells a field of the kept screen, by its index in the order of the fields' starts, from 0.

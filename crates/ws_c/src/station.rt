@@ -110,28 +110,6 @@ fn push_extended(
     push_all(held, bytes, buffer, told, false).0
 }
 
-// Pushes bytes into the station that a handle holds.
-fn push(
-    alloc: Global,
-    handle: &mut Handle,
-    bytes: &[u8],
-    buffer: &mut [u8],
-    told: &mut PushedTold,
-) -> Status
-    requires { told.old ≡ nothing_pushed }
-    ensures { let call = crossed buffer.old buffer.new result told.new in
-        OnStations handle.old.owned.value handle.new.owned.value (IsBriefPush bytes.now call)
-        (IsStationPush on_extended bytes.now call)
-        (TellsOnly call Status.NothingHeld nothing_pushed) }
-{
-    on_stations!(
-        alloc,
-        handle,
-        |station| push_station(station, bytes, buffer, told),
-        |held| push_extended(held, bytes, buffer, told)
-    )
-}
-
 /// Pushes bytes into a station, one after another: `buffer` gets what the station writes, and `told` how many bytes were
 /// taken and written, and why one is refused.
 ///
@@ -159,5 +137,11 @@ pub extern "C" fn ws_c_station_push(
     if buffer.len() < REPLY_ROOM {
         return Status::BadArgument.number();
     }
-    push(alloc, handle, bytes, buffer, told).number()
+    on_stations!(
+        alloc,
+        handle,
+        |station| push_station(station, bytes, buffer, told),
+        |held| push_extended(held, bytes, buffer, told),
+        number
+    )
 }
