@@ -22,19 +22,7 @@ impl PutsBytes for Commands {
     fn byte_put(unit: &Element) -> Option<u8> {
         match unit {
             Element::Put(byte) => Some(byte.value()),
-            Element::ClearUnit
-            | Element::ClearFormat
-            | Element::Write { .. }
-            | Element::ReadInput { .. }
-            | Element::ReadMdt { .. }
-            | Element::ReadMdtAlternate { .. }
-            | Element::Soh(_)
-            | Element::Ra { .. }
-            | Element::Ea { .. }
-            | Element::Sba(_)
-            | Element::Ic(_)
-            | Element::Mc(_)
-            | Element::Sf(_) => None,
+            _ => None,
         }
     }
 }

@@ -87,17 +87,10 @@ impl StepTold {
 fn make_decoder(alloc: Global, handle: &mut Handle) -> Status
     ensures { IsDecoderNew handle.old.owned.value handle.new.owned.value result }
 {
-    if let Some(held) = handle.take(alloc) {
-        handle.put(held);
+    if handle.is_open {
         return Status::InUse;
     }
-    match Box::new(alloc, Machine::Decoder(Live::new())) {
-        Ok(held) => {
-            handle.put(held);
-            Status::Done
-        }
-        Err(_) => Status::NoMemory,
-    }
+    handle.hold(alloc, Machine::Decoder(Live::new()))
 }
 
 /// Makes a decoder that has taken no byte.
@@ -115,17 +108,10 @@ pub extern "C" fn ws_c_decoder_new(alloc: Global, handle: &mut Handle) -> u32
 fn make_extended_decoder(alloc: Global, handle: &mut Handle) -> Status
     ensures { IsExtendedDecoderNew handle.old.owned.value handle.new.owned.value result }
 {
-    if let Some(held) = handle.take(alloc) {
-        handle.put(held);
+    if handle.is_open {
         return Status::InUse;
     }
-    match Box::new(alloc, Machine::ExtendedDecoder(Live::new())) {
-        Ok(held) => {
-            handle.put(held);
-            Status::Done
-        }
-        Err(_) => Status::NoMemory,
-    }
+    handle.hold(alloc, Machine::ExtendedDecoder(Live::new()))
 }
 
 /// Makes a decoder of live hosts' streams that has taken no byte.
@@ -296,27 +282,6 @@ fn push_all<C: PutsBytes>(
     tell_plain(StepTold::plain(bytes.len(), 0), cells, told)
 }
 
-// Pushes bytes into the decoder that a handle holds.
-fn push(
-    alloc: Global,
-    handle: &mut Handle,
-    bytes: &[u8],
-    buffer: &mut [u8],
-    told: &mut StepTold,
-) -> Status
-    requires room { UNIT_ROOM ≤ length buffer.old }
-    requires untold { told.old ≡ plain_step 0 0 }
-    ensures { let call = crossed buffer.old buffer.new result told.new in
-        OnDecoders handle.old.owned.value handle.new.owned.value (IsDecode bytes.now call)
-        (IsExtendedDecode bytes.now call) (TellsOnly call Status.NothingHeld (plain_step 0 0)) }
-{
-    on_decoders!(
-        alloc,
-        handle,
-        |decoder| push_all(decoder, bytes, buffer, told)
-    )
-}
-
 /// Pushes bytes into a decoder, up to the first with which something is complete, or to the end of a run of cells: `told`
 /// says what, and how many bytes were taken; `buffer` gets the bytes of the cells, and behind them the spelling of an
 /// element or of a Telnet command.
@@ -347,7 +312,12 @@ pub extern "C" fn ws_c_decoder_push(
     if buffer.len() < UNIT_ROOM {
         return Status::NoRoom.number();
     }
-    push(alloc, handle, bytes, buffer, told).number()
+    on_decoders!(
+        alloc,
+        handle,
+        |decoder| push_all(decoder, bytes, buffer, told),
+        number
+    )
 }
 
 // What an end crosses as.
@@ -375,16 +345,6 @@ fn finish_decoder<C: Body>(decoder: &mut Live<C>, place: &mut u64) -> Status
     tell_end(ended, place)
 }
 
-// Ends the stream of the decoder that a handle holds.
-fn finish(alloc: Global, handle: &mut Handle, place: &mut u64) -> Status
-    ensures { OnDecoders handle.old.owned.value handle.new.owned.value
-        (IsStreamEnd result place.new) (IsExtendedStreamEnd result place.new)
-        (HoldsNone result (place.new ≡ 0)) }
-{
-    *place = 0;
-    on_decoders!(alloc, handle, |decoder| finish_decoder(decoder, place))
-}
-
 /// Asks a decoder whether its stream may end here: `Truncated` where it ends inside a token or a record, with the number
 /// of its bytes as the place, and then it answers `Failed`, as after a refusal.
 ///
@@ -395,5 +355,11 @@ pub extern "C" fn ws_c_decoder_finish(alloc: Global, handle: &mut Handle, place:
         (IsStreamEnd status place.new) (IsExtendedStreamEnd status place.new)
         (HoldsNone status (place.new ≡ 0))) }
 {
-    finish(alloc, handle, place).number()
+    *place = 0;
+    on_decoders!(
+        alloc,
+        handle,
+        |decoder| finish_decoder(decoder, place),
+        number
+    )
 }

@@ -107,26 +107,6 @@ fn tell_text(screen: &Screen, index: usize, buffer: &mut [u8], told: &mut Told) 
     }
 }
 
-fn look_at_station(
-    alloc: Global,
-    handle: &mut Handle,
-    index: usize,
-    buffer: &mut [u8],
-    told: &mut Told,
-) -> Status
-    ensures { let call = crossed buffer.old buffer.new result told.new in
-        OnScreen handle.old.owned.value handle.new.owned.value
-        (λ screen. IsFieldTextTold (slice_get screen.fields index) screen call)
-        (TellsOnly call Status.NothingHeld (told_length 0)) }
-{
-    *told = Told::length(0);
-    on_screen!(
-        alloc,
-        handle,
-        |screen| tell_text(screen, index, buffer, told)
-    )
-}
-
 /// Puts the text of a station's field into a buffer as UTF-8, by its index in the order of the fields' starts, from 0:
 /// what its cells show up to the last that isn't 00, whether or not an attribute hides it. `told` says how many bytes.
 ///
@@ -146,5 +126,11 @@ pub extern "C" fn ws_c_station_field_text(
         (λ screen. IsFieldTextTold (slice_get screen.fields index) screen call)
         (TellsOnly call Status.NothingHeld (told_length 0))) }
 {
-    look_at_station(alloc, handle, index, buffer, told).number()
+    *told = Told::length(0);
+    on_screen!(
+        alloc,
+        handle,
+        |screen| tell_text(screen, index, buffer, told),
+        number
+    )
 }

@@ -1,3 +1,4 @@
+//! A field of a screen, as C sees it.
 ghost use Rattle.std.specs.Prelude.{◌≡◌};
 ghost use Rattle.ws_c.specs.Calls.{field_told as told_of, no_field};
 

@@ -1,56 +1,75 @@
 //! What a handle holds is taken out, used and put back: once for all calls.
+ghost use Rattle.std.specs.Prelude.{◌≡◌};
 
-// Does this with what a handle holds, where it is of the kind. Else this is the status.
+use crate::Status;
+
+/// The status where a handle holds nothing that a call is for.
+pub(crate) fn nothing_held() -> Status
+    ensures { result ≡ Status.NothingHeld }
+{
+    Status::NothingHeld
+}
+
+// Does this with what a handle holds, where it is of the kind. Else this is the status. With `number` the status is
+// given as C has it.
 macro_rules! on_held {
-    ($alloc:expr, $handle:expr, $kind:ident($held:ident), $second:ident, $third:ident, $fourth:ident, $fifth:ident, $none:ident, $does:expr) => {
+    ($alloc:expr, $handle:expr, $kind:ident($held:ident), $second:ident, $third:ident, $fourth:ident, $fifth:ident, $does:expr $(, $number:ident)?) => {
         match $handle.take($alloc) {
             Some(mut owned) => match &mut *owned {
                 Machine::$kind($held) => {
                     let status = $does;
                     $handle.put(owned);
-                    status
+                    status$(.$number())?
                 }
                 Machine::$second(_)
                 | Machine::$third(_)
                 | Machine::$fourth(_)
                 | Machine::$fifth(_) => {
+                    let status = $crate::held::nothing_held();
                     $handle.put(owned);
-                    Status::$none
+                    status$(.$number())?
                 }
             },
-            None => Status::$none,
+            None => {
+                let status = $crate::held::nothing_held();
+                status$(.$number())?
+            }
         }
     };
 }
 
 // Does this with what a handle holds, where it is of either kind. Else this is the status.
 macro_rules! on_two {
-    ($alloc:expr, $handle:expr, $kind:ident($held:ident), $does:expr, $other:ident($too:ident), $also:expr, $third:ident, $fourth:ident, $fifth:ident, $none:expr) => {
+    ($alloc:expr, $handle:expr, $kind:ident($held:ident), $does:expr, $other:ident($too:ident), $also:expr, $third:ident, $fourth:ident, $fifth:ident, $none:expr $(, $number:ident)?) => {
         match $handle.take($alloc) {
             Some(mut owned) => match &mut *owned {
                 Machine::$kind($held) => {
                     let status = $does;
                     $handle.put(owned);
-                    status
+                    status$(.$number())?
                 }
                 Machine::$other($too) => {
                     let status = $also;
                     $handle.put(owned);
-                    status
+                    status$(.$number())?
                 }
                 Machine::$third(_) | Machine::$fourth(_) | Machine::$fifth(_) => {
+                    let status = $none;
                     $handle.put(owned);
-                    $none
+                    status$(.$number())?
                 }
             },
-            None => $none,
+            None => {
+                let status = $none;
+                status$(.$number())?
+            }
         }
     };
 }
 
 // A station of either kind: the one thing with one of the profile, the other with one that live hosts use.
 macro_rules! on_stations {
-    ($alloc:expr, $handle:expr, |$station:ident| $does:expr, |$held:ident| $also:expr) => {
+    ($alloc:expr, $handle:expr, |$station:ident| $does:expr, |$held:ident| $also:expr $(, $number:ident)?) => {
         on_two!(
             $alloc,
             $handle,
@@ -61,14 +80,15 @@ macro_rules! on_stations {
             Decoder,
             ExtendedDecoder,
             Host,
-            Status::NothingHeld
+            $crate::held::nothing_held()
+            $(, $number)?
         )
     };
 }
 
 // The screen of a station of either kind.
 macro_rules! on_screen {
-    ($alloc:expr, $handle:expr, |$screen:ident| $does:expr) => {
+    ($alloc:expr, $handle:expr, |$screen:ident| $does:expr $(, $number:ident)?) => {
         on_stations!(
             $alloc,
             $handle,
@@ -80,12 +100,13 @@ macro_rules! on_screen {
                 let $screen = held.end.screen();
                 $does
             }
+            $(, $number)?
         )
     };
 }
 
 macro_rules! on_host {
-    ($alloc:expr, $handle:expr, |$host:ident| $does:expr) => {
+    ($alloc:expr, $handle:expr, |$host:ident| $does:expr $(, $number:ident)?) => {
         on_held!(
             $alloc,
             $handle,
@@ -94,15 +115,15 @@ macro_rules! on_host {
             ExtendedStation,
             Decoder,
             ExtendedDecoder,
-            NothingHeld,
             $does
+            $(, $number)?
         )
     };
 }
 
 // A decoder of either kind.
 macro_rules! on_decoders {
-    ($alloc:expr, $handle:expr, |$decoder:ident| $does:expr) => {
+    ($alloc:expr, $handle:expr, |$decoder:ident| $does:expr $(, $number:ident)?) => {
         on_two!(
             $alloc,
             $handle,
@@ -113,7 +134,8 @@ macro_rules! on_decoders {
             Station,
             ExtendedStation,
             Host,
-            Status::NothingHeld
+            $crate::held::nothing_held()
+            $(, $number)?
         )
     };
 }

@@ -176,28 +176,6 @@ fn push_host(
     status
 }
 
-// Pushes bytes into the host's end that a handle holds.
-fn push(
-    alloc: Global,
-    handle: &mut Handle,
-    bytes: &[u8],
-    buffer: &mut [u8],
-    told: &mut PushedTold,
-    event: &mut EventTold,
-) -> Status
-    requires told { told.old ≡ nothing_pushed }
-    requires event { event.old ≡ event_told None }
-    ensures { let call = crossed buffer.old buffer.new result (host_told told.new event.new) in
-        OnHost handle.old.owned.value handle.new.owned.value (IsHostPush bytes.now call)
-        (TellsOnly call Status.NothingHeld (host_told nothing_pushed (event_told None))) }
-{
-    on_host!(
-        alloc,
-        handle,
-        |host| push_host(host, bytes, buffer, told, event)
-    )
-}
-
 /// Pushes bytes into a host's end, one after another up to the first that tells something: `buffer` gets what the host
 /// writes, `told` says how many bytes were taken and written, and why one is refused, and `event` what the last taken
 /// byte tells. An answer is kept until the next comes.
@@ -227,5 +205,10 @@ pub extern "C" fn ws_c_host_push(
     if buffer.len() < REPLY_ROOM {
         return Status::BadArgument.number();
     }
-    push(alloc, handle, bytes, buffer, told, event).number()
+    on_host!(
+        alloc,
+        handle,
+        |host| push_host(host, bytes, buffer, told, event),
+        number
+    )
 }

@@ -82,16 +82,6 @@ fn tell_answer(answer: &Option<HostAnswer>, told: &mut AnswerTold) -> Status
     }
 }
 
-// Tells the answer of what a handle holds.
-fn answer_of(alloc: Global, handle: &mut Handle, told: &mut AnswerTold) -> Status
-    ensures { OnHost handle.old.owned.value handle.new.owned.value
-        (λ old new. (new ≡ old) × IsAnswerTold old.answer result told.new)
-        (HoldsNone result (told.new ≡ no_answer)) }
-{
-    *told = AnswerTold::nothing();
-    on_host!(alloc, handle, |host| tell_answer(&host.answer, told))
-}
-
 /// Tells the answer that came last: the cursor, the key and the number of fields (SC30-3533, responses to read
 /// commands).
 ///
@@ -102,7 +92,13 @@ pub extern "C" fn ws_c_host_answer(alloc: Global, handle: &mut Handle, told: &mu
         (λ old new. (new ≡ old) × IsAnswerTold old.answer status told.new)
         (HoldsNone status (told.new ≡ no_answer))) }
 {
-    answer_of(alloc, handle, told).number()
+    *told = AnswerTold::nothing();
+    on_host!(
+        alloc,
+        handle,
+        |host| tell_answer(&host.answer, told),
+        number
+    )
 }
 
 // Tells a field, and puts its content into a buffer that has room for it.
@@ -142,27 +138,6 @@ fn field_at(
     tell_field(&fields[index], buffer, told)
 }
 
-// Tells a field of the answer of what a handle holds.
-fn field_of(
-    alloc: Global,
-    handle: &mut Handle,
-    index: usize,
-    buffer: &mut [u8],
-    told: &mut ReadFieldTold,
-) -> Status
-    ensures { let call = crossed buffer.old buffer.new result told.new in
-        OnHost handle.old.owned.value handle.new.owned.value
-        (λ old new. (new ≡ old) × IsFieldRead old.answer index call)
-        (TellsOnly call Status.NothingHeld no_read_field) }
-{
-    *told = ReadFieldTold::nothing();
-    on_host!(
-        alloc,
-        handle,
-        |host| field_at(&host.answer, index, buffer, told)
-    )
-}
-
 /// Tells a field of the answer that came last, by its index in the order of the fields' starts, from 0, and puts its
 /// content into `buffer`.
 ///
@@ -183,5 +158,11 @@ pub extern "C" fn ws_c_host_answer_field(
         (λ old new. (new ≡ old) × IsFieldRead old.answer index call)
         (TellsOnly call Status.NothingHeld no_read_field)) }
 {
-    field_of(alloc, handle, index, buffer, told).number()
+    *told = ReadFieldTold::nothing();
+    on_host!(
+        alloc,
+        handle,
+        |host| field_at(&host.answer, index, buffer, told),
+        number
+    )
 }

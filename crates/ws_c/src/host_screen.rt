@@ -28,15 +28,6 @@ fn tell_state(host: &HostEnd, state: &mut StateTold) -> Status
     Status::Done
 }
 
-fn look_at_state(alloc: Global, handle: &mut Handle, state: &mut StateTold) -> Status
-    ensures { OnHost handle.old.owned.value handle.new.owned.value
-        (λ old new. (new ≡ old) × (result ≡ Status.Done) × (state.new ≡ host_state_told old.held.end))
-        (HoldsNone result (state.new ≡ no_state)) }
-{
-    *state = StateTold::nothing();
-    on_host!(alloc, handle, |host| tell_state(&host.held.end, state))
-}
-
 /// Tells whether records are allowed, a refused byte, and of the kept screen the cursor and its field, the keyboard's
 /// lock, the lights, the read that is asked and the number of fields. No record is counted.
 ///
@@ -47,28 +38,12 @@ pub extern "C" fn ws_c_host_state(alloc: Global, handle: &mut Handle, state: &mu
         (λ old new. (new ≡ old) × (status ≡ Status.Done) × (state.new ≡ host_state_told old.held.end))
         (HoldsNone status (state.new ≡ no_state))) }
 {
-    look_at_state(alloc, handle, state).number()
-}
-
-fn look_at_cells(
-    alloc: Global,
-    handle: &mut Handle,
-    first_row: u8,
-    last_row: u8,
-    cells: &mut [CellTold],
-) -> Status
-    requires rows { AreRowNumbers first_row last_row }
-    requires room { cells_in first_row last_row ≤ length cells.old }
-    ensures { OnHost handle.old.owned.value handle.new.owned.value
-        (λ old new. (new ≡ old) × (result ≡ Status.Done)
-        × (cells.new ≡ rows_told old.held.end.reacts.screen first_row last_row
-        ++ drop (cells_in first_row last_row) cells.old))
-        (HoldsNone result (cells.new ≡ cells.old)) }
-{
+    *state = StateTold::nothing();
     on_host!(
         alloc,
         handle,
-        |host| tell_rows(host.held.end.screen(), first_row, last_row, cells)
+        |host| tell_state(&host.held.end, state),
+        number
     )
 }
 
@@ -104,20 +79,11 @@ pub extern "C" fn ws_c_host_cells(
     if cells.len() < (last_row as usize + 1 - first_row as usize) * COLUMNS as usize {
         return Status::NoRoom.number();
     }
-    look_at_cells(alloc, handle, first_row, last_row, cells).number()
-}
-
-fn look_at_field(alloc: Global, handle: &mut Handle, index: usize, field: &mut FieldTold) -> Status
-    ensures { OnHost handle.old.owned.value handle.new.owned.value
-        (λ old new. (new ≡ old)
-        × IsFieldTold (slice_get old.held.end.reacts.screen.fields index) result field.new)
-        (HoldsNone result (field.new ≡ no_field)) }
-{
-    *field = FieldTold::nothing();
     on_host!(
         alloc,
         handle,
-        |host| tell_field(host.held.end.screen(), index, field)
+        |host| tell_rows(host.held.end.screen(), first_row, last_row, cells),
+        number
     )
 }
 
@@ -136,5 +102,11 @@ pub extern "C" fn ws_c_host_field(
         × IsFieldTold (slice_get old.held.end.reacts.screen.fields index) status field.new)
         (HoldsNone status (field.new ≡ no_field))) }
 {
-    look_at_field(alloc, handle, index, field).number()
+    *field = FieldTold::nothing();
+    on_host!(
+        alloc,
+        handle,
+        |host| tell_field(host.held.end.screen(), index, field),
+        number
+    )
 }

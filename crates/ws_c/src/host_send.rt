@@ -184,21 +184,6 @@ pub extern "C" fn ws_c_host_send(
     send_given(alloc, handle, given, body, told).number()
 }
 
-// Puts the bytes that were sent last into a buffer, from what a handle holds.
-fn fetch(alloc: Global, handle: &mut Handle, buffer: &mut [u8], told: &mut Told) -> Status
-    ensures { let call = crossed buffer.old buffer.new result told.new in
-        OnHost handle.old.owned.value handle.new.owned.value
-        (λ old new. (new ≡ old) × IsFetched old.sent call)
-        (TellsOnly call Status.NothingHeld (told_length 0)) }
-{
-    *told = Told::length(0);
-    on_host!(
-        alloc,
-        handle,
-        |host| fetch_bytes(host.sent.as_slice(), buffer, told)
-    )
-}
-
 /// Puts the bytes of the record that was sent last into a buffer: none before the first. `told` says how many.
 ///
 /// `NoRoom` where the buffer has fewer bytes, `NothingHeld` where the handle holds no host; the buffer is then as it was,
@@ -216,7 +201,13 @@ pub extern "C" fn ws_c_host_sent(
         (λ old new. (new ≡ old) × IsFetched old.sent call)
         (TellsOnly call Status.NothingHeld (told_length 0))) }
 {
-    fetch(alloc, handle, buffer, told).number()
+    *told = Told::length(0);
+    on_host!(
+        alloc,
+        handle,
+        |host| fetch_bytes(host.sent.as_slice(), buffer, told),
+        number
+    )
 }
 
 // Cancels the asked read.
@@ -257,17 +248,6 @@ fn cancel_host(host: &mut HeldHost, buffer: &mut [u8], told: &mut Told) -> Statu
     tell_cancel(sent, buffer, told)
 }
 
-// Cancels the asked read of the host's end that a handle holds.
-fn cancel(alloc: Global, handle: &mut Handle, buffer: &mut [u8], told: &mut Told) -> Status
-    requires room { 12 ≤ length buffer.old }
-    requires untold { told.old ≡ told_length 0 }
-    ensures { let call = crossed buffer.old buffer.new result told.new in
-        OnHost handle.old.owned.value handle.new.owned.value (IsCancel call)
-        (TellsOnly call Status.NothingHeld (told_length 0)) }
-{
-    on_host!(alloc, handle, |host| cancel_host(host, buffer, told))
-}
-
 /// Cancels the asked read: `buffer` gets the record, and `told` its number of bytes. The read stays asked until an
 /// answer or the cancel's end comes.
 ///
@@ -292,5 +272,10 @@ pub extern "C" fn ws_c_host_cancel(
     if buffer.len() < 12 {
         return Status::NoRoom.number();
     }
-    cancel(alloc, handle, buffer, told).number()
+    on_host!(
+        alloc,
+        handle,
+        |host| cancel_host(host, buffer, told),
+        number
+    )
 }

@@ -1,3 +1,4 @@
+//! What a handle can hold.
 use crate::{HeldEnd, HeldHost};
 use ws_extended::ExtendedCommands;
 use ws_extended_station::{ExtendedReply, ExtendedStation};

@@ -1,3 +1,4 @@
+//! What of a screen is no cell and no field, as C sees it.
 ghost use Rattle.std.specs.Prelude.{◌≡◌};
 ghost use Rattle.ws_c.specs.Calls.{no_state as nothing_told};
 

@@ -19,19 +19,12 @@ use ws_session::{Reply, Station};
 fn make_station(alloc: Global, handle: &mut Handle, name: &[u8]) -> Status
     ensures { IsStationNew name.now handle.old.owned.value handle.new.owned.value result }
 {
-    if let Some(held) = handle.take(alloc) {
-        handle.put(held);
+    if handle.is_open {
         return Status::InUse;
     }
-    let Some(terminal) = TerminalType::from_name(name) else {
-        return Status::BadArgument;
-    };
-    match Box::new(alloc, Machine::Station(holding(Station::new(terminal)))) {
-        Ok(held) => {
-            handle.put(held);
-            Status::Done
-        }
-        Err(_) => Status::NoMemory,
+    match TerminalType::from_name(name) {
+        Some(terminal) => handle.hold(alloc, Machine::Station(holding(Station::new(terminal)))),
+        None => Status::BadArgument,
     }
 }
 
@@ -51,22 +44,15 @@ pub extern "C" fn ws_c_station_new(alloc: Global, handle: &mut Handle, name: &[u
 fn make_extended(alloc: Global, handle: &mut Handle, name: &[u8]) -> Status
     ensures { IsExtendedNew name.now handle.old.owned.value handle.new.owned.value result }
 {
-    if let Some(held) = handle.take(alloc) {
-        handle.put(held);
+    if handle.is_open {
         return Status::InUse;
     }
-    let Some(terminal) = TerminalType::from_name(name) else {
-        return Status::BadArgument;
-    };
-    match Box::new(
-        alloc,
-        Machine::ExtendedStation(holding(ExtendedStation::new(terminal))),
-    ) {
-        Ok(held) => {
-            handle.put(held);
-            Status::Done
+    match TerminalType::from_name(name) {
+        Some(terminal) => {
+            let station = holding(ExtendedStation::new(terminal));
+            handle.hold(alloc, Machine::ExtendedStation(station))
         }
-        Err(_) => Status::NoMemory,
+        None => Status::BadArgument,
     }
 }
 
@@ -124,28 +110,6 @@ fn push_extended(
     push_all(held, bytes, buffer, told, false).0
 }
 
-// Pushes bytes into the station that a handle holds.
-fn push(
-    alloc: Global,
-    handle: &mut Handle,
-    bytes: &[u8],
-    buffer: &mut [u8],
-    told: &mut PushedTold,
-) -> Status
-    requires { told.old ≡ nothing_pushed }
-    ensures { let call = crossed buffer.old buffer.new result told.new in
-        OnStations handle.old.owned.value handle.new.owned.value (IsBriefPush bytes.now call)
-        (IsStationPush on_extended bytes.now call)
-        (TellsOnly call Status.NothingHeld nothing_pushed) }
-{
-    on_stations!(
-        alloc,
-        handle,
-        |station| push_station(station, bytes, buffer, told),
-        |held| push_extended(held, bytes, buffer, told)
-    )
-}
-
 /// Pushes bytes into a station, one after another: `buffer` gets what the station writes, and `told` how many bytes were
 /// taken and written, and why one is refused.
 ///
@@ -173,5 +137,11 @@ pub extern "C" fn ws_c_station_push(
     if buffer.len() < REPLY_ROOM {
         return Status::BadArgument.number();
     }
-    push(alloc, handle, bytes, buffer, told).number()
+    on_stations!(
+        alloc,
+        handle,
+        |station| push_station(station, bytes, buffer, told),
+        |held| push_extended(held, bytes, buffer, told),
+        number
+    )
 }

@@ -97,28 +97,6 @@ pub(crate) fn tell_rows(
     Status::Done
 }
 
-fn look_at_cells(
-    alloc: Global,
-    handle: &mut Handle,
-    first_row: u8,
-    last_row: u8,
-    cells: &mut [CellTold],
-) -> Status
-    requires rows { AreRowNumbers first_row last_row }
-    requires room { cells_in first_row last_row ≤ length cells.old }
-    ensures { OnScreen handle.old.owned.value handle.new.owned.value
-        (λ screen. (result ≡ Status.Done)
-        × (cells.new ≡ rows_told screen first_row last_row
-        ++ drop (cells_in first_row last_row) cells.old))
-        (HoldsNone result (cells.new ≡ cells.old)) }
-{
-    on_screen!(
-        alloc,
-        handle,
-        |screen| tell_rows(screen, first_row, last_row, cells)
-    )
-}
-
 /// Tells the cells of rows, 80 of each, in screen order: what each shows and holds, the attribute in force, and its
 /// field.
 ///
@@ -152,5 +130,10 @@ pub extern "C" fn ws_c_station_cells(
     if cells.len() < (last_row as usize + 1 - first_row as usize) * COLUMNS as usize {
         return Status::NoRoom.number();
     }
-    look_at_cells(alloc, handle, first_row, last_row, cells).number()
+    on_screen!(
+        alloc,
+        handle,
+        |screen| tell_rows(screen, first_row, last_row, cells),
+        number
+    )
 }

@@ -135,21 +135,6 @@ fn tell_extended_state(station: &ExtendedStation, state: &mut StateTold) -> Stat
     Status::Done
 }
 
-fn look_at_state(alloc: Global, handle: &mut Handle, state: &mut StateTold) -> Status
-    ensures { OnStations handle.old.owned.value handle.new.owned.value
-        (λ old new. (new ≡ old) × (result ≡ Status.Done) × (state.new ≡ state_told old.end))
-        (λ old new. (new ≡ old) × (result ≡ Status.Done)
-        × (state.new ≡ extended_state_told old.end)) (HoldsNone result (state.new ≡ no_state)) }
-{
-    *state = StateTold::nothing();
-    on_stations!(
-        alloc,
-        handle,
-        |station| tell_state(&station.end, state),
-        |held| tell_extended_state(&held.end, state)
-    )
-}
-
 /// Tells whether records are allowed, a refused byte, the records that were carried out, the cursor and its field, the
 /// keyboard's lock, the lights, the pending read, the number of fields and the row of an error.
 ///
@@ -166,7 +151,14 @@ pub extern "C" fn ws_c_station_state(
         × (state.new ≡ extended_state_told old.end))
         (HoldsNone status (state.new ≡ no_state))) }
 {
-    look_at_state(alloc, handle, state).number()
+    *state = StateTold::nothing();
+    on_stations!(
+        alloc,
+        handle,
+        |station| tell_state(&station.end, state),
+        |held| tell_extended_state(&held.end, state),
+        number
+    )
 }
 
 fn tell_cell(screen: &Screen, at: Address, byte: &mut u8) -> Status
@@ -175,15 +167,6 @@ fn tell_cell(screen: &Screen, at: Address, byte: &mut u8) -> Status
 {
     *byte = screen.cell(at);
     Status::Done
-}
-
-fn look_at_cell(alloc: Global, handle: &mut Handle, at: Address, byte: &mut u8) -> Status
-    requires { byte.old ≡ 0 }
-    ensures { OnScreen handle.old.owned.value handle.new.owned.value
-        (λ screen. (result ≡ Status.Done) × (byte.new ≡ slice_index screen.cells at))
-        (HoldsNone result (byte.new ≡ 0)) }
-{
-    on_screen!(alloc, handle, |screen| tell_cell(screen, at, byte))
 }
 
 /// Tells a cell's byte, in code page 037 or an attribute; rows and columns count from 1.
@@ -209,7 +192,7 @@ pub extern "C" fn ws_c_station_cell(
     let Some(at) = Address::new(row, column) else {
         return Status::BadArgument.number();
     };
-    look_at_cell(alloc, handle, at, byte).number()
+    on_screen!(alloc, handle, |screen| tell_cell(screen, at, byte), number)
 }
 
 fn put_row(screen: &Screen, row: u8, text: &mut [u8]) -> usize
@@ -233,24 +216,6 @@ fn tell_row(screen: &Screen, row: u8, text: &mut [u8], told: &mut Told) -> Statu
 {
     *told = Told::length(put_row(screen, row, text));
     Status::Done
-}
-
-fn look_at_row(
-    alloc: Global,
-    handle: &mut Handle,
-    row: u8,
-    text: &mut [u8],
-    told: &mut Told,
-) -> Status
-    requires row { IsRow row }
-    requires room { 160 ≤ length text.old }
-    requires untold { told.old ≡ told_length 0 }
-    ensures { OnScreen handle.old.owned.value handle.new.owned.value
-        (λ screen. (result ≡ Status.Done) × (text.new ≡ holds_front (row_text screen row) text.old)
-        × (told.new ≡ told_length (length (row_text screen row))))
-        (HoldsNone result ((text.new ≡ text.old) × (told.new ≡ told_length 0))) }
-{
-    on_screen!(alloc, handle, |screen| tell_row(screen, row, text, told))
 }
 
 /// Puts a row, 1 to 24, into a buffer as UTF-8: 80 characters, at most 160 bytes. `told` says how many bytes.
@@ -282,7 +247,12 @@ pub extern "C" fn ws_c_station_row(
     if text.len() < 160 {
         return Status::NoRoom.number();
     }
-    look_at_row(alloc, handle, row, text, told).number()
+    on_screen!(
+        alloc,
+        handle,
+        |screen| tell_row(screen, row, text, told),
+        number
+    )
 }
 
 /// Tells a field by its index.
@@ -296,15 +266,6 @@ pub(crate) fn tell_field(screen: &Screen, index: usize, field: &mut FieldTold) -
     }
     *field = FieldTold::of(&fields.as_slice()[index]);
     Status::Done
-}
-
-fn look_at_field(alloc: Global, handle: &mut Handle, index: usize, field: &mut FieldTold) -> Status
-    ensures { OnScreen handle.old.owned.value handle.new.owned.value
-        (λ screen. IsFieldTold (slice_get screen.fields index) result field.new)
-        (HoldsNone result (field.new ≡ no_field)) }
-{
-    *field = FieldTold::nothing();
-    on_screen!(alloc, handle, |screen| tell_field(screen, index, field))
 }
 
 /// Tells a field, by its index in the order of the fields' starts, from 0.
@@ -321,5 +282,11 @@ pub extern "C" fn ws_c_station_field(
         (λ screen. IsFieldTold (slice_get screen.fields index) status field.new)
         (HoldsNone status (field.new ≡ no_field))) }
 {
-    look_at_field(alloc, handle, index, field).number()
+    *field = FieldTold::nothing();
+    on_screen!(
+        alloc,
+        handle,
+        |screen| tell_field(screen, index, field),
+        number
+    )
 }

@@ -1,3 +1,4 @@
+//! What a call comes to.
 ghost use Rattle.std.specs.Prelude.{◌≡◌};
 ghost use Rattle.ws_c.specs.Calls.{status_number};
 

@@ -1,3 +1,4 @@
+//! What calls tell beside their status.
 ghost use Rattle.std.specs.Prelude.{◌≡◌};
 ghost use Rattle.ws_c.specs.Calls.{told_length};
 ghost use Rattle.ws_c.specs.Pushes.{nothing_pushed};

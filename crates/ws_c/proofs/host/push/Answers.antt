@@ -1,7 +1,0 @@
-use Rattle.std.proofs.Common.{◌∙◌, sym, ap, Some}
-use Rattle.ws_c.proofs.HeldLaws.{on_host}
-use Rattle.ws_c.proofs.host.push.Goals as goal
-
-pub returns-in-Host : goal.returns-in-Host
-returns-in-Host c = on_host _ _ c.in-Host.host _ _ _ (c.in-Some.ensures.some ∙ ap Some
-    (sym c.deref_mut.ensures.value ∙ c.in-Host.is)) c.put.ensures c.push_host-status.ensures
