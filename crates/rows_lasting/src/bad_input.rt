@@ -36,11 +36,16 @@ fn each_byte_of_a_record_may_be_bad(rt: HostRuntime) {
     let mut whole = formed(&rt, alloc);
     let mut single = formed(&rt, alloc);
     let mut was_refused = 0u64;
-    for place in 0..WRITE.len() - 2 {
+    for place in 0..WRITE.len().saturating_sub(2) {
         for bad in b"\x00\x02\x13\x20\x7f\xfe" {
             let mut record = Vec::new(alloc);
-            record.extend_from_slice(WRITE).expect(&rt, "memory");
-            record[place] = *bad;
+            record
+                .extend_from_slice(&WRITE[..place])
+                .expect(&rt, "memory");
+            record.push(*bad).expect(&rt, "memory");
+            record
+                .extend_from_slice(&WRITE[place + 1..])
+                .expect(&rt, "memory");
             let answer = fed(&rt, alloc, &mut whole, record.as_slice());
             same(
                 &rt,
@@ -49,7 +54,7 @@ fn each_byte_of_a_record_may_be_bad(rt: HostRuntime) {
             );
             if !answer.is_empty() {
                 assert!(&rt; answer.as_slice() == COMMAND || answer.as_slice() == OTHER);
-                was_refused += 1;
+                was_refused = was_refused.saturating_add(1);
             }
             same(&rt, whole.refused_records(), was_refused);
             same(&rt, whole.last_refusal(), single.last_refusal());
@@ -88,7 +93,7 @@ fn a_stream_that_ends_inside_a_refused_record_is_truncated(rt: HostRuntime) {
         b"",
     );
     match station.finish() {
-        Err(Fault::Truncated { at }) => same(&rt, at, taken + 5),
+        Err(Fault::Truncated { at }) => same(&rt, at, taken.saturating_add(5)),
         _ => assert!(&rt; false),
     }
     same(
@@ -103,7 +108,7 @@ fn a_stream_that_ends_inside_a_refused_record_is_truncated(rt: HostRuntime) {
 #[test]
 fn keys_and_telnet_commands_may_stand_before_each_byte(rt: HostRuntime) {
     let alloc = rt.alloc();
-    for place in 0..ROLL.len() - 1 {
+    for place in 0..ROLL.len().saturating_sub(1) {
         let mut station = formed(&rt, alloc);
         same(
             &rt,

@@ -55,7 +55,7 @@ pub(crate) fn fed(rt: &impl Abort, alloc: Global, station: &mut Tested, bytes: &
         if used < bytes.len() {
             let fed = station.feed(&bytes[used..]);
             let step = fed.step.expect(rt, "a piece");
-            used += fed.used;
+            used = used.saturating_add(fed.used);
             written
                 .extend_from_slice(station.display().bytes(&step.reply))
                 .expect(rt, "memory");

@@ -18,7 +18,7 @@ fn a_refused_command_is_answered_at_its_eor_and_nothing_else_happens(rt: HostRun
     let mut count = 0usize;
     for byte in ROLL {
         let step = station.take_byte(*byte).expect(&rt, "a byte");
-        count += 1;
+        count = count.saturating_add(1);
         let is_last = count == ROLL.len();
         same(
             &rt,
@@ -185,7 +185,7 @@ fn bytes_that_are_no_tokens_end_the_session(rt: HostRuntime) {
     same(&rt, fed.used, 3);
     match fed.step {
         Err(Refusal::At { place, reason }) => {
-            same(&rt, (place, reason.number()), (taken + 2, 1));
+            same(&rt, (place, reason.number()), (taken.saturating_add(2), 1));
         }
         _ => assert!(&rt; false),
     }

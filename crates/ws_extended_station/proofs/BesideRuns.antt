@@ -241,9 +241,9 @@ runs_there bytes items arrived s next acts written told none gone =
       wrote = gone.wrote ∙ sym (spelled_alike done.written)
           ∙ ap (λ (d : Doing ExtendedEndState ℕ Applied). plain_spelling raw_rules d.written) (sym same);
       tells = gone.tells ∙ ap (λ (d : Doing ExtendedEndState ℕ Applied). d.events) (sym same);
-      leads = (
+      reached = (
         ap (λ (is : List (Item ExtendedElement)). map item_there items ++ is) (items_of_there hs)
-            ∙ sym (map-append item_there items (items_of hs)) ∙ ap (map item_there) gone.leads.0,
-        ap (λ (d : Doing ExtendedEndState ℕ Applied). d.state) same ∙ ap (with_profile s) gone.leads.1,
+            ∙ sym (map-append item_there items (items_of hs)) ∙ ap (map item_there) gone.reached.0,
+        ap (λ (d : Doing ExtendedEndState ℕ Applied). d.state) same ∙ ap (with_profile s) gone.reached.1,
       );
     }

@@ -1,4 +1,4 @@
-use Rattle.std.proofs.Common.{◌≡◌, ℕ, List, [], ◌∷◌, ◌++◌, refl, sym, ap, ◌∙◌, inl, inr, subst, append-nil, map, true}
+use Rattle.std.proofs.Common.{◌≡◌, ℕ, List, [], ◌∷◌, ◌++◌, refl, sym, ap, ◌∙◌, inl, inr, true}
 use Rattle.std.proofs.lemmas.Grind.{flat_map-append}
 use Rattle.std.proofs.lemmas.List.{map-append}
 use Rattle.ws_code.specs.Code.{Rules, IsPrefixFree, IsSpelled}
@@ -13,16 +13,14 @@ use Rattle.ws_record.specs.Grammar.{Holds}
 use Rattle.ws_record.specs.declared.record.Item.{Item}
 use Rattle.ws_record.specs.declared.record.Item.TheVariants.{Record as RecordItem, Telnet as TelnetItem}
 use Rattle.ws_record.proofs.Encodings.{holds_data, holds_more, holds_command, holds_record}
-use Rattle.ws_end.specs.Acts.{Act, Came, Did, AllTaken, Doing, Arrives, Does, Happen, Happening, doing}
+use Rattle.ws_end.specs.Acts.{Act, Came, Did, AllTaken, Happen, Happening, doing}
 use Rattle.ws_end.specs.Reaction.{Reaction, Refuses, GoesOn, goes_on}
-use Rattle.ws_end.specs.declared.end_step.Applied.{Applied}
 use Rattle.ws_end.specs.station.Displays.{DisplayOf, KeyReactionOn, EndStateOn, on_display}
 use Rattle.ws_end.specs.station.Displays.{RefusesKey, Silent, Answers, Signals}
 use Rattle.ws_end.specs.station.StationTransitions.{at_key_on, key_on, takes_on}
 use Rattle.ws_end.specs.station.StationReacting.{applied_by, at_item_on, transitions_on}
 use Rattle.ws_lasting.specs.AsStation.{all_carried_out}
 use Rattle.ws_lasting.specs.Lasting.{Footing, IsAtByte, Lasts}
-use Rattle.ws_lasting.specs.declared.record_event.RecordEvent.{RecordEvent}
 use Rattle.ws_lasting.specs.declared.record_event.RecordEvent.TheVariants.{CarriedOut}
 use Rattle.ws_lasting.proofs.Holdings.{one_holds, ended, no_more}
 use Rattle.ws_lasting.proofs.ReadingOn.{gone_parts, plain_tokens}
@@ -137,10 +135,11 @@ module _ {D P U H PlaceV V K R : Type 0} (rules : Rules P U) (d : DisplayOf D U 
   as_station (Came b ∷ acts) bytes items state so_far begun h hs (inr p) taken =
       rw p.3 (arrives (takes_on d state p.0) refl (rw p.3 at taken).0 (rw p.3 at taken).1
       (λ next t. as_station acts (bytes ++ b ∷ []) (items ++ p.0 ∷ []) next p.2.0 p.2.1 p.2.2 p.1 p.4 t)) where
-        arrives : (r : Reaction (EndStateOn H) (List (Item V))) → takes_on d state p.0 ≡ r → goes_on
-            (takes_on d state p.0) ≡ true → AllTaken (transitions_on d) (at_item_on d state p.0
-            (takes_on d state p.0)).state p.1 → ((next : EndStateOn H) → AllTaken (transitions_on d) next p.1 →
-            (last : Footing H) × Lasts (on_display rules d) (Stood next p.2.0 p.2.1) acts last
+        arrives : (r : Reaction (EndStateOn H) (List (Item V))) → takes_on d state p.0 ≡ r
+            → goes_on (takes_on d state p.0) ≡ true
+            → AllTaken (transitions_on d) (at_item_on d state p.0 (takes_on d state p.0)).state p.1
+            → ((next : EndStateOn H) → AllTaken (transitions_on d) next p.1 → (last : Footing H)
+            × Lasts (on_display rules d) (Stood next p.2.0 p.2.1) acts last
             (plain_spelling d.out (doing (transitions_on d) next p.1).written)
             (all_carried_out (doing (transitions_on d) next p.1).events))
             → (next : Footing H) × Lasts (on_display rules d) (Stood state so_far begun) (Came b ∷ acts) next

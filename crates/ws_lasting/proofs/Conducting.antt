@@ -1,4 +1,4 @@
-use Rattle.std.proofs.Common.{◌≡◌, ℕ, List, [], ◌∷◌, ◌++◌, refl, sym, ap, ◌∙◌, subst, inl, inr, arith, length, take, suc, ◌≤◌, ◌<◌, ◌+◌, ◌-◌, ◌^◌, Ok, Err, Result, IsSome}
+use Rattle.std.proofs.Common.{◌≡◌, ℕ, List, [], ◌∷◌, ◌++◌, refl, sym, ap, ◌∙◌, inl, inr, arith, length, take, suc, ◌≤◌, ◌<◌, ◌+◌, ◌-◌, ◌^◌, Ok, Err, Result, IsSome}
 use Rattle.std.proofs.lemmas.Bool.{cases_lt}
 use Rattle.std.specs.Result.{OnErr}
 use Rattle.ws_code.proofs.CodeLaws.{no_end}
@@ -11,7 +11,7 @@ use Rattle.ws_end.specs.declared.refusal.Refusal.{Refusal}
 use Rattle.ws_end.specs.declared.refusal.Refusal.TheVariants.{Failed}
 use Rattle.ws_end.specs.station.Displays.{OnDisplay}
 use Rattle.ws_end.proofs.Feedings.{value_at}
-use Rattle.ws_lasting.specs.Behaviour.{AreQuiet, AreTakenSo, IsLast, LastingRefuses, lasting_behaviour}
+use Rattle.ws_lasting.specs.Behaviour.{AreQuiet, AreTakenSo, LastingRefuses, lasting_behaviour}
 use Rattle.ws_lasting.specs.Footings.{AtLasting, LastingOf}
 use Rattle.ws_lasting.specs.declared.record_event.RecordEvent.{RecordEvent}
 

@@ -1,22 +1,16 @@
-use Rattle.std.proofs.Common.{◌≡◌, ℕ, List, [], ◌∷◌, ◌++◌, refl, sym, ap, ◌∙◌, subst, append-nil, append_assoc, arith, length, length-append, take, zero, suc, ◌≤◌, ◌<◌, ◌+◌, ◌^◌, Option, None, Err, Ok, subst₂}
+use Rattle.std.proofs.Common.{◌≡◌, ℕ, List, [], ◌∷◌, ◌++◌, refl, sym, ap, ◌∙◌, subst, append-nil, arith, length, length-append, take, zero, suc, ◌≤◌, ◌<◌, ◌+◌, ◌^◌, Option, None, Err, Ok, subst₂}
 use Rattle.std.proofs.lemmas.List.{take-take, length-take-le}
-use Rattle.ws_code.specs.Code.{Rules}
-use Rattle.ws_record.specs.Encode.{plain_spelling}
 use Rattle.ws_end.specs.ActLaws.{bytes_came, came_append}
-use Rattle.ws_end.specs.Acts.{Act, Came, Did, all_came, as_list, bytes_of}
+use Rattle.ws_end.specs.Acts.{Came, all_came, as_list}
 use Rattle.ws_end.specs.declared.end_step.EndStep.{EndStep}
 use Rattle.ws_end.specs.declared.refusal.Refusal.{Refusal}
 use Rattle.ws_end.specs.declared.refusal.Refusal.TheVariants.{At, Failed, Memory}
 use Rattle.ws_end.specs.station.Displays.{OnDisplay}
-use Rattle.ws_end.specs.station.StationTransitions.{at_key_on, key_on}
 use Rattle.ws_lasting.specs.Behaviour.{AreQuiet, IsLast, LeadsOnFrom}
 use Rattle.ws_lasting.specs.Counting.{IsCounted}
 use Rattle.ws_lasting.specs.Footings.{LastingOf, IsByteTaken, StandsAt}
 use Rattle.ws_lasting.specs.Lasting.{FootingOn, IsAtByte, Lasts}
-use Rattle.ws_lasting.specs.declared.record_counts.RecordCounts.{RecordCounts}
 use Rattle.ws_lasting.specs.declared.record_event.RecordEvent.{RecordEvent}
-use Rattle.ws_lasting.specs.declared.record_event.RecordEvent.TheVariants.{CarriedOut, Refused}
-use Rattle.ws_lasting.specs.declared.record_event.RefusedRecord.{RefusedRecord}
 use Rattle.ws_lasting.specs.LastingLaws.{counted_both, lasts_both}
 
 -- What comes of acts one after another.

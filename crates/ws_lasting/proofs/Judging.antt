@@ -5,19 +5,17 @@ use Rattle.ws_code.specs.declared.reason.Reason.{Reason}
 use Rattle.ws_code.proofs.Bytes.{AreBytes-apart, SpellsBytes}
 use Rattle.ws_code.proofs.CodeLaws.{Begins}
 use Rattle.ws_code.proofs.Lists.{drop-front}
-use Rattle.ws_telnet.specs.declared.token.Token.TheVariants.{Data, Eor}
+use Rattle.ws_telnet.specs.declared.token.Token.TheVariants.{Eor}
 use Rattle.ws_record.specs.Grammar.{IsRecord, record_bytes, IsFramed, IsBodyBytes}
-use Rattle.ws_record.specs.OpenPrefix.{BeginsList}
-use Rattle.ws_record.specs.OpenRecord.{CanBeFramed}
 use Rattle.ws_record.specs.declared.record.Item.TheVariants.{Record as RecordItem}
 use Rattle.ws_record.specs.declared.record.Record.{Record}
 use Rattle.ws_record.proofs.Encodings.{record_bytes_are}
 use Rattle.ws_record.proofs.Reading.{one_record}
 use Rattle.ws_end.specs.station.Displays.{DisplayOf, EndStateOn, on_display}
 use Rattle.ws_end.specs.station.StationTransitions.{takes_on}
-use Rattle.std.proofs.Common.{Bool, if◌then◌else◌, ◌⊎◌}
+use Rattle.std.proofs.Common.{Bool, if◌then◌else◌}
 use Rattle.ws_code.specs.declared.reason.Reason.TheVariants.{RecordBeforeNegotiation}
-use Rattle.ws_end.specs.Reaction.{Refuses, GoesOn}
+use Rattle.ws_end.specs.Reaction.{Refuses}
 use Rattle.ws_lasting.specs.Lasting.{IsPerformed, IsRefusedFor, IsDeclined}
 use Rattle.ws_lasting.specs.Records.{IsUnfit, IsSpoilt}
 use Rattle.ws_lasting.specs.declared.record_event.RefusedRecord.{RefusedRecord}

@@ -1,4 +1,4 @@
-use Rattle.std.proofs.Common.{◌≡◌, ℕ, List, [], ◌∷◌, ◌++◌, append-nil, subst, refl, sym, ap, ◌∙◌, length, arith, ◌≤◌, ◌+◌, ◌<◌, ◌^◌}
+use Rattle.std.proofs.Common.{◌≡◌, ℕ, List, [], ◌∷◌, ◌++◌, append-nil, subst, refl, sym, ap, ◌∙◌, length, arith, ◌+◌, ◌<◌, ◌^◌}
 use Rattle.std.proofs.Common.{Option, Some, None, Ok, Err, Result}
 use Rattle.ws_code.specs.Code.{Rules, IsPrefixFree}
 use Rattle.ws_code.proofs.CodeLaws.{Begins}
@@ -75,55 +75,56 @@ module _ {D P U H PlaceV V K R : Type 0} (rules : Rules P U) (d : DisplayOf D U 
 -- A key is an act.
 
 module _ {D P U H PlaceV V K R : Type 0} (rules : Rules P U) (d : DisplayOf D U H PlaceV V K R)
-    (spells : SpellsOn d) (old new : LastingParts D P) (key : K) (same : new ≡ record old { station = new.station }) where
-  kept : IsCounted old.counts [] new.counts
-  kept = subst (λ (z : LastingParts D P). IsCounted old.counts [] z.counts) (sym same) (counted_none old.counts)
+    (spells : SpellsOn d) (old new : LastingParts D P) (key : K) (same : new ≡ record old { station = new.station })
+  where
+    kept : IsCounted old.counts [] new.counts
+    kept = subst (λ (z : LastingParts D P). IsCounted old.counts [] z.counts) (sym same) (counted_none old.counts)
 
-  unread : new.taken ≡ old.taken + 0
-  unread = let t = ap (λ (z : LastingParts _ _). z.taken) same in omega (arith, t)
+    unread : new.taken ≡ old.taken + 0
+    unread = let t = ap (λ (z : LastingParts _ _). z.taken) same in omega (arith, t)
 
-  key_leads : (at : Footing H) (answer : Option Answer) → IsKeyHeard (on_display rules d) old new at key (Ok answer)
-      → LeadsOnFrom (on_display rules d) old new at (Did key ∷ []) (sent_by answer) []
-  key_leads at None k = (
-    record at { state = k.0 },
-    rw k.1 ([], (refl, refl, refl), refl),
-    k.2,
-    kept,
-    unread,
-  )
-  key_leads at (Some (Read body)) k = (
-    record at { state = k.0 },
-    rw k.3 (
-      [],
-      (refl, refl, refl),
-      ap (λ z. record_spelling (header (10 + length z) 0 PutGet ++ z)) k.4
-          ∙ sym (append-nil _) ∙ sym (spells (d.shows at.state.happened) k.1 k.2) ∙ sym (append-nil _),
-    ),
-    k.5,
-    kept,
-    unread,
-  )
-  key_leads at (Some Attention) k = (
-    at,
-    rw k.0 ([], (refl, refl, refl), refl),
-    k.1,
-    kept,
-    unread,
-  )
-  key_leads at (Some SystemRequest) k = (
-    at,
-    rw k.0 ([], (refl, refl, refl), refl),
-    k.1,
-    kept,
-    unread,
-  )
+    key_leads : (at : Footing H) (answer : Option Answer) → IsKeyHeard (on_display rules d) old new at key (Ok answer)
+        → LeadsOnFrom (on_display rules d) old new at (Did key ∷ []) (sent_by answer) []
+    key_leads at None k = (
+      record at { state = k.0 },
+      rw k.1 ([], (refl, refl, refl), refl),
+      k.2,
+      kept,
+      unread,
+    )
+    key_leads at (Some (Read body)) k = (
+      record at { state = k.0 },
+      rw k.3 (
+        [],
+        (refl, refl, refl),
+        ap (λ z. record_spelling (header (10 + length z) 0 PutGet ++ z)) k.4
+            ∙ sym (append-nil _) ∙ sym (spells (d.shows at.state.happened) k.1 k.2) ∙ sym (append-nil _),
+      ),
+      k.5,
+      kept,
+      unread,
+    )
+    key_leads at (Some Attention) k = (
+      at,
+      rw k.0 ([], (refl, refl, refl), refl),
+      k.1,
+      kept,
+      unread,
+    )
+    key_leads at (Some SystemRequest) k = (
+      at,
+      rw k.0 ([], (refl, refl, refl), refl),
+      k.1,
+      kept,
+      unread,
+    )
 
-  pub key_acts : (result : Result (Option Answer) KeyFault) → (IsShut old.ended old.taken → ⊥)
-      → AtLasting (on_display rules d) old (λ at. old.taken + 1 < 2 ^ 64
-      → IsKeyHeard (on_display rules d) old new at key result)
-      → IfOk result (λ answer. LastingTraces (on_display rules d) old (Did key ∷ []) (sent_by answer) [] new)
-  key_acts (Ok answer) works keyed = record {
-    led = λ at st few. key_leads at answer (keyed at st (omega (arith, few)));
-    shut = λ shut. absurd (works shut);
-  }
-  key_acts (Err fault) works keyed = tt
+    pub key_acts : (result : Result (Option Answer) KeyFault) → (IsShut old.ended old.taken → ⊥)
+        → AtLasting (on_display rules d) old (λ at. old.taken + 1 < 2 ^ 64
+        → IsKeyHeard (on_display rules d) old new at key result)
+        → IfOk result (λ answer. LastingTraces (on_display rules d) old (Did key ∷ []) (sent_by answer) [] new)
+    key_acts (Ok answer) works keyed = record {
+      led = λ at st few. key_leads at answer (keyed at st (omega (arith, few)));
+      shut = λ shut. absurd (works shut);
+    }
+    key_acts (Err fault) works keyed = tt

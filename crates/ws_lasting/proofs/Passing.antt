@@ -1,10 +1,8 @@
-use Rattle.std.proofs.Common.{◌≡◌, ℕ, List, [], ◌∷◌, ◌++◌, refl, sym, ap, ◌∙◌, inl, inr, subst, append_assoc, length, arith, ◌≤◌, ◌+◌, ◌^◌, ◌<◌}
+use Rattle.std.proofs.Common.{◌≡◌, ℕ, List, [], ◌∷◌, ◌++◌, refl, sym, ap, ◌∙◌, inl, inr, subst, append_assoc, length, arith}
 use Rattle.std.proofs.Common.{Option, Some, None, Ok, Err, true, false, Bool}
 use Rattle.std.specs.Prelude.{◌&&◌}
 use Rattle.ws_code.specs.Code.{Rules, IsPrefixFree}
-use Rattle.ws_code.specs.declared.code.Push.{Push}
-use Rattle.ws_code.specs.declared.code.Push.TheVariants.{More, Unit as Whole, Bad}
-use Rattle.ws_code.specs.declared.reason.Reason.{Reason}
+use Rattle.ws_code.specs.declared.code.Push.TheVariants.{More, Unit as Whole}
 use Rattle.ws_code.specs.declared.reason.Reason.TheVariants.{RecordBeforeNegotiation}
 use Rattle.ws_code.proofs.CodeLaws.{Begins}
 use Rattle.ws_telnet.specs.declared.token.Telnet.{Telnet}
@@ -18,10 +16,9 @@ use Rattle.ws_end.specs.station.Displays.{DisplayOf, EndStateOn, on_display}
 use Rattle.ws_end.specs.station.Stations.{ReachedOn, PartsOn}
 use Rattle.ws_lasting.specs.Counting.{IsCounted}
 use Rattle.ws_lasting.specs.Footings.{LastingParts, IsReading, IsPassingOver, ReadsOrPasses, StandsAt, IsWordHeard}
-use Rattle.ws_lasting.specs.Lasting.{Footing, IsTokenStep}
-use Rattle.ws_lasting.specs.Negative.{is_of_record, negative}
+use Rattle.ws_lasting.specs.Lasting.{Footing}
+use Rattle.ws_lasting.specs.Negative.{negative}
 use Rattle.ws_lasting.specs.Records.{IsSpoilt}
-use Rattle.ws_lasting.specs.declared.record_counts.RecordCounts.{RecordCounts}
 use Rattle.ws_lasting.specs.declared.record_event.RecordEvent.{RecordEvent}
 use Rattle.ws_lasting.specs.declared.record_event.RecordEvent.TheVariants.{Refused}
 use Rattle.ws_lasting.specs.declared.record_event.RefusedRecord.{RefusedRecord}
@@ -83,8 +80,9 @@ module _ {D P U H PlaceV V K R : Type 0} (rules : Rules P U) (d : DisplayOf D U 
     }
 
   -- what was answered leaves it so
-  pub answered : (station : PartsOn D P) (state : EndStateOn H) (t : Telnet) → ReachedOn
-      (on_display rules d) station [] [] state → ReachedOn (on_display rules d) (record station {
+  pub answered : (station : PartsOn D P) (state : EndStateOn H) (t : Telnet)
+      → ReachedOn (on_display rules d) station [] [] state
+      → ReachedOn (on_display rules d) (record station {
         reacts = record station.reacts { options = (station_answer station.reacts.options t).after };
       }) [] [] (record { options = (station_answer state.options t).after; happened = state.happened })
   answered station state t l = record {

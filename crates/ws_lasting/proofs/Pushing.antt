@@ -1,17 +1,13 @@
-use Rattle.std.proofs.Common.{◌≡◌, ℕ, List, [], ◌∷◌, ◌++◌, refl, sym, ap, ◌∙◌, inl, inr, append-nil, length, arith, ◌<◌, ◌+◌, ◌^◌, ◌-◌, take, drop}
-use Rattle.std.proofs.Common.{Option, Some, None, Ok, Err, Result, true, false, Bool, length-take-le}
-use Rattle.ws_code.specs.Code.{Rules}
+use Rattle.std.proofs.Common.{◌≡◌, ℕ, List, [], ◌∷◌, ◌++◌, refl, ap, ◌∙◌, inl, inr, append-nil, length, arith, ◌<◌, ◌+◌, ◌^◌}
+use Rattle.std.proofs.Common.{Option, Some, None, Ok, Err, true, length-take-le}
 use Rattle.ws_record.specs.Encode.{plain_spelling}
 use Rattle.ws_record.specs.declared.record.Item.{Item}
-use Rattle.ws_end.specs.Acts.{Arrives, IsTrace, as_list, protocol_of}
+use Rattle.ws_end.specs.Acts.{Arrives, as_list}
 use Rattle.ws_end.specs.Reaction.{goes_on}
 use Rattle.ws_end.specs.Reaction.{Reaction, Refuses, GoesOn}
-use Rattle.ws_end.specs.declared.end_step.EndFed.{EndFed}
 use Rattle.ws_end.specs.declared.end_step.EndStep.{EndStep}
 use Rattle.ws_end.specs.declared.refusal.Refusal.{Refusal}
-use Rattle.ws_end.specs.declared.refusal.Refusal.TheVariants.{At, Failed, Memory}
-use Rattle.ws_end.specs.driver.Driven.{Driven, Driving, IsReached, Come, DriverFeeds, DriverPushes, GoesOnAt, IsWhy}
-use Rattle.ws_end.specs.driver.Driven.{transitions_of}
+use Rattle.ws_end.specs.driver.Driven.{Driven, Driving, IsReached, Come, DriverPushes, GoesOnAt, IsWhy}
 use Rattle.ws_end.specs.driver.Driven.{TakesNoMore}
 use Rattle.ws_end.specs.driver.Reacting.{at_reaction}
 use Rattle.ws_end.proofs.EndSteps.{trace_none}

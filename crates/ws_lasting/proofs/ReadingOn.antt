@@ -1,4 +1,4 @@
-use Rattle.std.proofs.Common.{◌≡◌, ℕ, List, [], ◌∷◌, ◌++◌, refl, sym, ap, ◌∙◌, inl, inr, subst, subst₂, append-nil, length, arith, ◌≤◌, ◌+◌, ◌⊎◌, ◌-◌}
+use Rattle.std.proofs.Common.{◌≡◌, ℕ, List, [], ◌∷◌, ◌++◌, refl, sym, ap, ◌∙◌, inl, inr, subst, subst₂, length, arith, ◌≤◌, ◌+◌}
 use Rattle.std.proofs.Common.{Option, Some, None, Ok, Err, true, false, Bool, map, length-append, drop}
 use Rattle.std.specs.Prelude.{◌&&◌}
 use Rattle.ws_code.specs.Code.{Rules, IsPrefixFree, IsSpelled, IsUnfinished}
@@ -13,29 +13,25 @@ use Rattle.ws_telnet.specs.declared.token.Telnet.{Telnet}
 use Rattle.ws_telnet.specs.declared.token.Token.{Token}
 use Rattle.ws_telnet.specs.declared.token.Token.TheVariants.{Data, Eor, Telnet as TelnetToken}
 use Rattle.ws_nego.specs.Options.{telnet_bytes}
-use Rattle.ws_nego.specs.Station.{station_answer}
 use Rattle.ws_record.specs.Encode.{plain_spelling}
 use Rattle.ws_record.specs.Grammar.{Holds}
 use Rattle.ws_record.specs.OpenPrefix.{BeginsList}
 use Rattle.ws_record.specs.OpenRecord.{CanBeFramed}
-use Rattle.ws_record.specs.Refusal.{IsRefused}
 use Rattle.ws_record.specs.declared.record.Item.{Item}
 use Rattle.ws_record.specs.declared.record.Item.TheVariants.{Record as RecordItem, Telnet as TelnetItem}
 use Rattle.ws_record.proofs.Encodings.{holds_data, holds_more, holds_command, holds_record}
-use Rattle.ws_end.specs.Acts.{as_list}
-use Rattle.ws_end.specs.Reaction.{Reaction, Refuses, GoesOn}
+use Rattle.ws_end.specs.Reaction.{GoesOn}
 use Rattle.ws_end.specs.declared.end_step.Applied.{Applied}
 use Rattle.ws_end.specs.declared.end_step.EndStep.{EndStep}
-use Rattle.ws_end.specs.declared.refusal.Refusal.{Refusal}
-use Rattle.ws_end.specs.declared.refusal.Refusal.TheVariants.{At, Failed, Memory}
-use Rattle.ws_end.specs.driver.Driven.{Completes, GoesOnAt, IsWhy}
+use Rattle.ws_end.specs.declared.refusal.Refusal.TheVariants.{At}
+use Rattle.ws_end.specs.driver.Driven.{GoesOnAt, IsWhy}
 use Rattle.ws_end.specs.station.Displays.{DisplayOf, EndStateOn, on_display}
 use Rattle.ws_end.specs.station.StationTransitions.{takes_on}
 use Rattle.ws_end.specs.station.Stations.{ReachedOn, PartsOn, station_driving}
 use Rattle.ws_lasting.specs.Counting.{IsCounted}
 use Rattle.ws_lasting.specs.Footings.{LastingParts, IsFollowed, IsReading, StandsAt, IsWordHeard}
 use Rattle.ws_lasting.specs.Lasting.{may_pass_over, Footing, IsTokenStep, IsTokenRefused}
-use Rattle.ws_lasting.specs.Negative.{is_of_record, negative}
+use Rattle.ws_lasting.specs.Negative.{negative}
 use Rattle.ws_lasting.specs.declared.record_counts.RecordCounts.{RecordCounts}
 use Rattle.ws_lasting.specs.declared.record_event.RecordEvent.{RecordEvent}
 use Rattle.ws_lasting.specs.declared.record_event.RecordEvent.TheVariants.{Refused}
@@ -46,7 +42,8 @@ use Rattle.ws_lasting.proofs.Passing.{reads_anew, stands_passing, stands_reading
 
 -- What comes of a byte where a record is read.
 
-pub plain_tokens : {Place U : Type 0} (rules : Rules Place U) (ts : List Telnet) → plain_spelling rules (map TelnetItem ts)
+pub plain_tokens : {Place U : Type 0} (rules : Rules Place U) (ts : List Telnet)
+    → plain_spelling rules (map TelnetItem ts)
     ≡ telnet_bytes ts
 plain_tokens rules [] = refl
 plain_tokens rules (t ∷ ts) = ap (λ z. telnet_spelling t ++ z) (plain_tokens rules ts)
@@ -158,7 +155,8 @@ module _ {D P U H PlaceV V K R : Type 0} (rules : Rules P U) (d : DisplayOf D U 
       heard new event (Bad reason) step g f other = absurd (other reason refl)
 
     -- the byte is refused, or its item
-    module _ (reason : Reason) (place : ℕ) (why : IsWhy (station_driving (on_display rules d)) (At place reason) (r.bytes ++ b ∷ []) r.items at.state)
+    module _ (reason : Reason) (place : ℕ) (why : IsWhy (station_driving (on_display rules d)) (At place reason)
+        (r.bytes ++ b ∷ []) r.items at.state)
       where
         here_is : place ≡ length r.bytes
         here_is = let n = why.0 in omega (arith, n, length-append r.bytes (b ∷ []))
@@ -241,7 +239,8 @@ module _ {D P U H PlaceV V K R : Type 0} (rules : Rules P U) (d : DisplayOf D U 
           refused_inside (Whole Eor) passing t no_end no_bad silent untold = absurd (no_end refl)
           refused_inside (Bad other) passing t no_end no_bad silent untold = absurd (no_bad other refl)
 
-        pub refused_last : (counts : RecordCounts) (new : LastingParts D P) (left : List ℕ) (word : Push Token) (here : ℕ)
+        pub refused_last : (counts : RecordCounts) (new : LastingParts D P) (left : List ℕ) (word : Push Token) (here :
+            ℕ)
             → IsTokenStep at.begun b left word
             → ((other : Reason) → word ≡ Bad other → ⊥) → may_pass_over (on_display rules d) at.state reason ≡ false
             → IsWordHeard (on_display rules d) counts new at here word (Err (At here reason))

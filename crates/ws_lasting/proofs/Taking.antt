@@ -1,4 +1,4 @@
-use Rattle.std.proofs.Common.{◌≡◌, ℕ, List, [], refl, sym, subst, Ok, Err, Result, Option}
+use Rattle.std.proofs.Common.{◌≡◌, ℕ, refl, subst, Ok, Err, Result, Option}
 use Rattle.ws_code.specs.declared.code.Push.{Push}
 use Rattle.ws_code.specs.declared.code.Push.TheVariants.{More, Unit as Whole, Bad}
 use Rattle.ws_telnet.specs.declared.token.Token.{Token}

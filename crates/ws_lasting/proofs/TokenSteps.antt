@@ -1,6 +1,6 @@
 use Rattle.std.proofs.Common.{◌≡◌, ℕ, List, [], ◌∷◌, ◌++◌, refl, sym, ap, ◌∙◌, inl, inr, ◌⊎◌, subst, append-nil, append_assoc}
 use Rattle.std.proofs.lemmas.Grind.{flat_map-append}
-use Rattle.ws_code.specs.Code.{Rules, IsChain, IsCut, IsSpelled, IsUnfinished, Stands, place_after, spelling_of}
+use Rattle.ws_code.specs.Code.{IsChain, IsCut, IsSpelled, IsUnfinished, Stands, spelling_of}
 use Rattle.ws_code.proofs.CodeLaws.{no_end, one_cut}
 use Rattle.ws_code.proofs.Lists.{same_last}
 use Rattle.ws_telnet.specs.Token.{token_rules}

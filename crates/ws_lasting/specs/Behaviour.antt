@@ -1,6 +1,6 @@
 -- A station that no record ends, as whoever attaches it to a line sees it
 
-use Rattle.std.specs.Prelude.{◌≡◌, ℕ, ◌+◌, ◌-◌, ◌^◌, ◌<◌, List, [], ◌∷◌, ◌++◌, Option, Some, None, Result, Ok, Err, IsSome, length, take}
+use Rattle.std.specs.Prelude.{◌≡◌, ℕ, ◌+◌, ◌^◌, ◌<◌, List, [], ◌∷◌, ◌++◌, Option, Some, None, Result, Ok, Err, IsSome, length}
 use Rattle.ws_keys.specs.declared.answer.Answer.{Answer}
 use Rattle.ws_end.specs.Acts.{Act, ComesToNothing, all_came, as_list, bytes_of}
 use Rattle.ws_end.specs.Behaviour.{Behaviour}

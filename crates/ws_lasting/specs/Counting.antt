@@ -1,6 +1,6 @@
 -- What a session has come to: its records, by what was told of each
 
-use Rattle.std.specs.Prelude.{◌≡◌, ℕ, ◌+◌, ◌^◌, ◌<◌, List, [], ◌∷◌, Option, Some, None}
+use Rattle.std.specs.Prelude.{◌≡◌, ℕ, ◌+◌, ◌^◌, ◌<◌, List, [], ◌∷◌, Option, Some}
 use Rattle.ws_lasting.specs.declared.record_counts.RecordCounts.{RecordCounts}
 use Rattle.ws_lasting.specs.declared.record_event.RecordEvent.{RecordEvent}
 use Rattle.ws_lasting.specs.declared.record_event.RecordEvent.TheVariants.{CarriedOut, Refused}

@@ -2,9 +2,9 @@
 
 use Rattle.std.specs.Prelude.{◌≡◌, ℕ, ◌+◌, ◌^◌, ◌<◌, ◌≤◌, List, [], ◌∷◌, Option, Some, None, Result, Ok, Err, OnOk, OnErr, IsSome, true, length}
 use Rattle.ws_code.specs.declared.code.Push.{Push}
-use Rattle.ws_code.specs.declared.code.Push.TheVariants.{More, Unit as Whole, Bad}
+use Rattle.ws_code.specs.declared.code.Push.TheVariants.{Unit as Whole}
 use Rattle.ws_telnet.specs.declared.token.Token.{Token}
-use Rattle.ws_telnet.specs.declared.token.Token.TheVariants.{Data, Eor, Telnet as TelnetToken}
+use Rattle.ws_telnet.specs.declared.token.Token.TheVariants.{Data, Eor}
 use Rattle.ws_record.specs.declared.opcode.Opcode.TheVariants.{NoOperation}
 use Rattle.ws_screen.specs.declared.read_kind.ReadKind.{ReadKind}
 use Rattle.ws_keys.specs.Contents.{answer_bytes}
@@ -74,7 +74,8 @@ module _ (on : OnDisplay) where
   AtLasting lasting Holds = (at : FootingOn on) → StandsAt lasting at → Holds at
 
   -- what comes of a byte: what it makes of a station, or why it ends the session
-  abbrev pub IsByteTaken : LastingOf → LastingOf → FootingOn on → ℕ → Result (EndStep RecordEvent on.Replied) Refusal → Type 0
+  abbrev pub IsByteTaken : LastingOf → LastingOf → FootingOn on → ℕ
+      → Result (EndStep RecordEvent on.Replied) Refusal → Type 0
   IsByteTaken old new at byte (Ok step) = (next : FootingOn on)
       × IsAtByte on at byte next (on.does.written new.station.reacts.screen step.reply) (as_list step.event)
       × StandsAt new next × IsCounted old.counts (as_list step.event) new.counts
@@ -82,8 +83,8 @@ module _ (on : OnDisplay) where
   IsByteTaken old new at byte (Err why) = ⊥
 
   -- what a byte gives
-  pub record TakesByte (old : LastingOf) (byte : ℕ) (new : LastingOf) (result : Result (EndStep RecordEvent on.Replied) Refusal)
-      : Type 0 where
+  pub record TakesByte (old : LastingOf) (byte : ℕ) (new : LastingOf)
+      (result : Result (EndStep RecordEvent on.Replied) Refusal) : Type 0 where
     pub taken : AtLasting old (λ at. old.taken + 1 < 2 ^ 64 → IsByteTaken old new at byte result)
     pub counted : OnOk result (new.taken ≡ old.taken + 1)
     pub after : OnErr result (IsSome new.ended)
@@ -95,7 +96,7 @@ module _ (on : OnDisplay) where
   replied_by (Ok step) = Ok step.reply
   replied_by (Err why) = Err why
 
-  -- a byte that is pushed gives its reply alone
+  -- a byte gives this reply, or is refused so
   abbrev pub IsPushedSo : LastingOf → ℕ → LastingOf → Result on.Replied Refusal → Type 0
   IsPushedSo old byte new result = (gave : Result (EndStep RecordEvent on.Replied) Refusal)
       × TakesByte old byte new gave × (result ≡ replied_by gave)

@@ -100,7 +100,8 @@ module _ (on : OnDisplay) where
   -- Acts one after another lead a station from where it stands to there. In them it wrote these bytes, and told these.
   abbrev pub Lasts : FootingOn → List (Act on.Pressed) → FootingOn → List ℕ → List RecordEvent → Type 0
   Lasts at [] next written told = (next ≡ at) × (written ≡ []) × (told ≡ [])
-  Lasts at (Came byte ∷ acts) next written told = (mid : FootingOn) × (first rest : List ℕ) × (now later : List RecordEvent)
+  Lasts at (Came byte ∷ acts) next written told = (mid : FootingOn) × (first rest : List ℕ)
+      × (now later : List RecordEvent)
       × IsAtByte at byte mid first now × Lasts mid acts next rest later
       × (written ≡ first ++ rest) × (told ≡ now ++ later)
   Lasts at (Did key ∷ acts) next written told =

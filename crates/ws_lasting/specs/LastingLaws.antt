@@ -1,6 +1,6 @@
 -- Laws of what a station that no record ends does at acts, one after another.
 
-use Rattle.std.proofs.Common.{◌≡◌, ℕ, List, [], ◌∷◌, ◌++◌, refl, sym, ap, ◌∙◌, subst, append_assoc, arith, length, length-append, ◌<◌, ◌+◌, ◌^◌, Option}
+use Rattle.std.proofs.Common.{◌≡◌, ℕ, List, [], ◌∷◌, ◌++◌, refl, sym, ap, ◌∙◌, subst, append_assoc, arith, length, length-append, ◌+◌, Option}
 use Rattle.ws_end.specs.ActLaws.{bytes_append}
 use Rattle.ws_end.specs.Acts.{Act, Came, Did, bytes_of}
 use Rattle.ws_end.specs.Ends.{IsShut}

@@ -127,7 +127,8 @@ impl<D: StationDisplay> LastingStation<D> {
         }
     }
 
-    /// Takes a key, and gives what it sends. It acts on the display at once, also while a record is open or passed over.
+    /// Takes a key, and gives what it sends. It acts on the display at once, also while a record is open or passed
+    /// over.
     ///
     /// # Errors
     ///

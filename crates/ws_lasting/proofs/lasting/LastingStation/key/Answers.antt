@@ -1,4 +1,3 @@
-use Rattle.std.proofs.Common.{true, false}
 use Rattle.ws_lasting.proofs.Keying.{key_acts, key_pressed}
 use Rattle.ws_lasting.proofs.lasting.LastingStation.key.Goals as goal
 

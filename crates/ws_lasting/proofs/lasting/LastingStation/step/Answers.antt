@@ -1,4 +1,3 @@
-use Rattle.std.proofs.Common.{rules}
 use Rattle.ws_telnet.proofs.OneToken.{fresh_begins}
 use Rattle.ws_lasting.proofs.lasting.LastingStation.step.Goals as goal
 

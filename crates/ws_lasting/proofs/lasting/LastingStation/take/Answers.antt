@@ -1,4 +1,4 @@
-use Rattle.std.proofs.Common.{rules, arith, ◌≡◌, ◌<◌, ◌≤◌, ◌+◌, ◌^◌, ℕ, List, [], ◌∷◌, ◌++◌, Option, None, Ok, Err, sym, subst₂, take, length}
+use Rattle.std.proofs.Common.{rules, arith, ◌<◌, ◌≤◌, ℕ, List, Option, sym, subst₂, take, length}
 use Rattle.std.proofs.lemmas.List.{take_more}
 use Rattle.ws_end.specs.Acts.{all_came, as_list}
 use Rattle.ws_end.specs.station.Displays.{on_display}
@@ -26,7 +26,8 @@ loop-used-preserved g c =
       λ at st. (
           let l = now.invariant.1 at st in
           one_quiet on c.args.self.now now.self c.take_byte.new.self at piece now.used within l _ c.in-Ok.step
-          (c.in-Ok.ensures.taken l.0 l.2 (room on c.args.self.now now.self c.take_byte.new.self at piece now.used within l c.args.count test c.requires.fits))
+          (c.in-Ok.ensures.taken l.0 l.2 (room on c.args.self.now now.self c.take_byte.new.self at piece now.used
+          within l c.args.count test c.requires.fits))
           c.in-Ok.ensures.counted (take_more piece now.used 0 inside) (c.is_silent.ensures c.if-not-is_silent.false)),
     )
 
@@ -40,13 +41,15 @@ returns-then-not-is_silent-clause-taken g c = λ at st. (
     let within : now.used ≤ length piece = omega (arith, inside) in
     let l = now.invariant.1 at st in
     one_more on c.args.self.now now.self c.take_byte.new.self at piece now.used within l _ c.in-Ok.step
-    (c.in-Ok.ensures.taken l.0 l.2 (room on c.args.self.now now.self c.take_byte.new.self at piece now.used within l c.args.count test c.requires.fits))
+    (c.in-Ok.ensures.taken l.0 l.2 (room on c.args.self.now now.self c.take_byte.new.self at piece now.used within l
+    c.args.count test c.requires.fits))
     c.in-Ok.ensures.counted (take_more piece now.used 0 inside))
 
 pub returns-then-not-is_silent-clause-first : goal.returns-then-not-is_silent-clause-first
 returns-then-not-is_silent-clause-first g c = λ at st n lt.
     quiet_at (on_display g.D.Commands.Code.rules g.D.StationDisplay.does) c.args.self.now c.loop-used.self
-    c.take_byte.new.self at c.args.piece.now c.loop-used.used (omega (arith, c.loop-used.invariant.0, c.requires.few)) (c.loop-used.invariant.1 at st) n
+    c.take_byte.new.self at c.args.piece.now c.loop-used.used (omega (arith, c.loop-used.invariant.0, c.requires.few))
+    (c.loop-used.invariant.1 at st) n
     (omega (arith, lt))
 
 pub returns-in-Err-clause-taken : goal.returns-in-Err-clause-taken
@@ -62,13 +65,15 @@ returns-in-Err-clause-taken g c = λ at st. (
       _,
       take_more piece now.used 0 inside,
       ends_so on c.args.self.now now.self c.take_byte.new.self at (take now.used piece) _ l c.in-Err.why
-          (c.in-Err.ensures.taken l.0 l.2 (room on c.args.self.now now.self c.take_byte.new.self at piece now.used within l c.args.count test c.requires.fits)),
+          (c.in-Err.ensures.taken l.0 l.2 (room on c.args.self.now now.self c.take_byte.new.self at piece now.used
+          within l c.args.count test c.requires.fits)),
     ))
 
 pub returns-in-Err-clause-first : goal.returns-in-Err-clause-first
 returns-in-Err-clause-first g c = λ at st n lt.
     quiet_at (on_display g.D.Commands.Code.rules g.D.StationDisplay.does) c.args.self.now c.loop-used.self
-    c.take_byte.new.self at c.args.piece.now c.loop-used.used (omega (arith, c.loop-used.invariant.0, c.requires.few)) (c.loop-used.invariant.1 at st) n
+    c.take_byte.new.self at c.args.piece.now c.loop-used.used (omega (arith, c.loop-used.invariant.0, c.requires.few))
+    (c.loop-used.invariant.1 at st) n
     (omega (arith, lt))
 
 pub returns-clause-taken : goal.returns-clause-taken
@@ -82,5 +87,6 @@ returns-clause-taken g c = λ at st.
 pub returns-clause-first : goal.returns-clause-first
 returns-clause-first g c = λ at st n lt.
     quiet_at (on_display g.D.Commands.Code.rules g.D.StationDisplay.does) c.args.self.now c.loop-used.self
-    c.loop-used.self at c.args.piece.now c.loop-used.used (omega (arith, c.loop-used.invariant.0, c.requires.few)) (c.loop-used.invariant.1 at st) n
+    c.loop-used.self at c.args.piece.now c.loop-used.used (omega (arith, c.loop-used.invariant.0, c.requires.few))
+    (c.loop-used.invariant.1 at st) n
     (omega (arith, lt))

@@ -1,4 +1,4 @@
-use Rattle.std.proofs.Common.{◌≡◌, ◌-◌, ◌≤◌, List, [], ℕ, take}
+use Rattle.std.proofs.Common.{◌-◌, ◌≤◌, [], take}
 use Rattle.ws_end.specs.Acts.{all_came}
 use Rattle.ws_end.specs.station.Displays.{on_display}
 use Rattle.ws_lasting.specs.Behaviour.{LeadsOnFrom}

@@ -1,4 +1,4 @@
-use Rattle.std.proofs.Common.{rules, ◌≡◌, ◌+◌, ◌-◌, ◌^◌, ◌<◌, ℕ, List, [], None, Some, Option, Ok, Err, Result, sym, ap, ◌∙◌, subst, subst₂, arith}
+use Rattle.std.proofs.Common.{rules, ◌≡◌, ◌+◌, ◌-◌, None, Some, Option, sym, ap, ◌∙◌, subst, subst₂, arith}
 use Rattle.ws_end.specs.station.Displays.{on_display}
 use Rattle.ws_lasting.specs.Footings.{LastingParts, ReadsOrPasses, IsReading, IsPassingOver, IsWordHeard}
 use Rattle.ws_lasting.specs.Lasting.{IsTokenStep}
@@ -10,34 +10,41 @@ use Rattle.ws_lasting.proofs.lasting.LastingStation.take_byte.Goals as goal
 pub returns-in-None-clause-taken : goal.returns-in-None-clause-taken
 returns-in-None-clause-taken g c = λ at st few.
     let on = on_display g.D.Commands.Code.rules g.D.StationDisplay.does in
-    let same = c.count.ensures ∙ ap (λ (z : LastingParts _ _). (record z { taken = z.taken + 1 })) c.step-word.ensures.same in
+    let same = c.count.ensures ∙ ap (λ (z : LastingParts _ _). (record z { taken = z.taken + 1 }))
+    c.step-word.ensures.same in
     let passing : c.count.new.self.passing ≡ None = search (rules, c.in-None.is, c.self-2.view_is) in
     let passing_ : c.args.self.now.passing ≡ None = sym (ap (λ (z : LastingParts _ _). z.passing) same) ∙ passing in
     let taken : c.count.new.self.taken ≡ c.args.self.now.taken + 1 = ap (λ (z : LastingParts _ _). z.taken) same in
     let place : c.count.new.self.taken - 1 ≡ c.args.self.now.taken = omega (arith, taken) in
     let within = subst (λ (o : Option RefusedRecord). ReadsOrPasses on c.args.self.now at o) passing_ st.within in
-    let step = subst₂ (λ x y. IsTokenStep x c.args.byte y c.step-word.result) st.is_begun (sym (ap (λ (z : LastingParts _ _). z.begun) c.count.ensures)) c.step-word.ensures.step in
+    let step = subst₂ (λ x y. IsTokenStep x c.args.byte y c.step-word.result) st.is_begun (sym (ap (λ (z : LastingParts
+    _ _). z.begun) c.count.ensures)) c.step-word.ensures.step in
     let heard = c.read.ensures.heard at
     (subst₂ (λ x n. IsReading on x n at) (sym (ap (λ (z : LastingParts _ _). z.station) same)) (sym place) within.0)
     step (ap (λ (z : LastingParts _ _). z.size) same ∙ within.1) passing
     (ap (λ (z : LastingParts _ _). z.ended) same ∙ st.works) in
     taken_so on c.args.self.now c.read.new.self at c.args.byte c.step-word.result c.read.result
     (subst (λ x. IsTokenStep at.begun c.args.byte x c.step-word.result) (sym c.read.ensures.same.0) step)
-    (subst₂ (λ (k : RecordCounts) n. IsWordHeard on k c.read.new.self at n c.step-word.result c.read.result) (ap (λ (z : LastingParts _ _). z.counts) same) place heard)
+    (subst₂ (λ (k : RecordCounts) n. IsWordHeard on k c.read.new.self at n c.step-word.result c.read.result) (ap (λ (z
+    : LastingParts _ _). z.counts) same) place heard)
 
 pub returns-in-Some-clause-taken : goal.returns-in-Some-clause-taken
 returns-in-Some-clause-taken g c = λ at st few.
     let on = on_display g.D.Commands.Code.rules g.D.StationDisplay.does in
-    let same = c.count.ensures ∙ ap (λ (z : LastingParts _ _). (record z { taken = z.taken + 1 })) c.step-word.ensures.same in
+    let same = c.count.ensures ∙ ap (λ (z : LastingParts _ _). (record z { taken = z.taken + 1 }))
+    c.step-word.ensures.same in
     let passing : c.count.new.self.passing ≡ Some c.in-Some.why = search (rules, c.in-Some.is, c.self-2.view_is) in
-    let passing_ : c.args.self.now.passing ≡ Some c.in-Some.why = sym (ap (λ (z : LastingParts _ _). z.passing) same) ∙ passing in
+    let passing_ : c.args.self.now.passing ≡ Some c.in-Some.why = sym (ap (λ (z : LastingParts _ _). z.passing) same) ∙
+    passing in
     let taken : c.count.new.self.taken ≡ c.args.self.now.taken + 1 = ap (λ (z : LastingParts _ _). z.taken) same in
     let place : c.count.new.self.taken - 1 ≡ c.args.self.now.taken = omega (arith, taken) in
     let within = subst (λ (o : Option RefusedRecord). ReadsOrPasses on c.args.self.now at o) passing_ st.within in
-    let step = subst₂ (λ x y. IsTokenStep x c.args.byte y c.step-word.result) st.is_begun (sym (ap (λ (z : LastingParts _ _). z.begun) c.count.ensures)) c.step-word.ensures.step in
+    let step = subst₂ (λ x y. IsTokenStep x c.args.byte y c.step-word.result) st.is_begun (sym (ap (λ (z : LastingParts
+    _ _). z.begun) c.count.ensures)) c.step-word.ensures.step in
     let heard = c.pass.ensures.heard at c.args.byte
     (subst (λ x. IsPassingOver on x at c.in-Some.why) (sym (ap (λ (z : LastingParts _ _). z.station) same)) within)
     step passing (ap (λ (z : LastingParts _ _). z.ended) same ∙ st.works) in
     taken_so on c.args.self.now c.pass.new.self at c.args.byte c.step-word.result c.pass.result
     (subst (λ x. IsTokenStep at.begun c.args.byte x c.step-word.result) (sym c.pass.ensures.same.0) step)
-    (subst₂ (λ (k : RecordCounts) n. IsWordHeard on k c.pass.new.self at n c.step-word.result c.pass.result) (ap (λ (z : LastingParts _ _). z.counts) same) place heard)
+    (subst₂ (λ (k : RecordCounts) n. IsWordHeard on k c.pass.new.self at n c.step-word.result c.pass.result) (ap (λ (z
+    : LastingParts _ _). z.counts) same) place heard)
