@@ -7,6 +7,8 @@
 mod code_rows;
 #[cfg(test)]
 mod device_rows;
+#[cfg(test)]
+mod page_rows;
 
 // Rows of ws_telnet.
 #[cfg(test)]

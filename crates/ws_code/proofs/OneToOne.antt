@@ -1,12 +1,12 @@
 -- Code page 037 is one to one.
 use Rattle.std.specs.List.{list_all, range_with_len}
-use Rattle.std.specs.Option.{option_map_or}
+use Rattle.std.specs.Option.{option_map, option_map_or}
 use Rattle.std.specs.Prelude.{position}
 use Rattle.std.proofs.Common.{◌≡◌, ℕ, zero, suc, ◌+◌, ◌-◌, ◌<◌, ◌≤◌, List, Bool, true, false, Option, Some, None}
 use Rattle.std.proofs.Common.{length, ◌==◌, slice_index, refl, sym, ap, ◌∙◌, arith, nat_le, nat_lt, ◌&&◌, if◌then◌else◌}
 use Rattle.std.proofs.lemmas.List.Quantifiers.{position-Some}
 use borrow.Author.Tests.{eqb-true, eqb-false, lt-ltb, le-leb, ltb-true, leb-true}
-use Rattle.ws_code.specs.Ebcdic.{code_page, char_of}
+use Rattle.ws_code.specs.Ebcdic.{code_page, char_of, byte_of}
 
 all_in : (p : ℕ → Bool) (lo n : ℕ) → list_all p (range_with_len lo n) ≡ true → (k : ℕ) → lo ≤ k → k < lo + n → p k
     ≡ true
@@ -96,7 +96,38 @@ pub byte_of-none : (c : ℕ) → place code_page c ≡ None → (b : ℕ) → (N
     × (char_of b ≡ Some c → None ≡ Some b)
 byte_of-none = in_page-none code_page refl once
 
+-- the byte of a byte's character is that byte, and no other byte has it
+pub byte_of_char : (b c : ℕ) → (byte_of c ≡ Some b → char_of b ≡ Some c) × (char_of b ≡ Some c → byte_of c ≡ Some b)
+unfolding byte_of
+byte_of_char b c = go (place code_page c) refl
+  where
+    go : (at : Option ℕ) → place code_page c ≡ at
+        → (option_map (λ place. place + 0x40) at ≡ Some b → char_of b ≡ Some c)
+        × (char_of b ≡ Some c → option_map (λ place. place + 0x40) at ≡ Some b)
+    go (Some i) at = byte_of-some c i at b
+    go None at = byte_of-none c at b
+
 -- it is of Latin-1
 pub latin : (k : ℕ) → k < 191 → slice_index code_page k < 256
 latin k small = ltb-true _ 256
     (all_in (λ i. nat_lt (slice_index code_page i) 256) 0 191 refl k (omega arith) (omega arith))
+
+-- a byte that has a character, and that character
+pub char_bounds : (b c : ℕ) → char_of b ≡ Some c → (0x40 ≤ b) × (b < 0xFF) × (c < 256)
+char_bounds b c e = go (nat_le 0x40 b) refl (nat_lt b 0xFF) refl e
+  where
+    go : (t : Bool) → nat_le 0x40 b ≡ t → (u : Bool) → nat_lt b 0xFF ≡ u
+        → (if t && u then Some (slice_index code_page (b - 0x40)) else None) ≡ Some c
+        → (0x40 ≤ b) × (b < 0xFF) × (c < 256)
+    go false p u q e = absurd (cc)
+    go true p false q e = absurd (cc)
+    go true p true q e =
+        let low : 0x40 ≤ b = leb-true 0x40 b p in
+        let high : b < 0xFF = ltb-true b 0xFF q in
+        let is : slice_index code_page (b - 0x40) ≡ c = cc in
+        let small : slice_index code_page (b - 0x40) < 256 = latin (b - 0x40) (omega arith) in
+        (low, high, omega arith)
+
+-- each of bytes 40 to FE has a character
+pub has_char : (b : ℕ) → 0x40 ≤ b → b < 0xFF → char_of b ≡ Some (slice_index code_page (b - 0x40))
+has_char b low high = rw (le-leb 0x40 b low, lt-ltb b 0xFF high) refl
