@@ -1,3 +1,4 @@
+//! The cells of a screen of 24 rows by 80 columns, by row and column or by place.
 ghost use Rattle.std.specs.Prelude.{◌≡◌, ◌+◌, ◌/◌, ◌%◌, ◌<◌, ◌≤◌, ℕ, SomeIff};
 ghost use Rattle.ws_code.specs.Address.{IsRowAndColumn, place_of};
 

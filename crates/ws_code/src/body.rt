@@ -1,3 +1,4 @@
+//! Codes whose lists of units are the bodies of records.
 ghost use Rattle.std.specs.Prelude.{◌≡◌, true, List};
 ghost use Rattle.ws_code.specs.Code.{Rules, IsChain, place_after};
 

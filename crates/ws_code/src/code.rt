@@ -1,3 +1,4 @@
+//! Codes that are read byte by byte, one unit after another.
 ghost use Rattle.std.specs.Prelude.{◌≡◌, ◌≢◌, ◌<◌, ◌≤◌, [], List, ℕ, true, false, length, take};
 ghost use Rattle.ws_code.specs.Code.{Rules, IsUnfinished, IsPrefixFree, AreBytes};
 ghost use Rattle.ws_code.specs.Run.{IsAt, IsRunOfValues, intake, reading, with_keep};

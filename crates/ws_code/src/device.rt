@@ -1,3 +1,4 @@
+//! Sources of bytes and sinks for them, which may fail, and how a text goes out whole.
 ghost use Rattle.std.specs.Prelude.{◌≡◌, ◌≤◌, length, take, IfOk, IfErr, OnOk, OnErr, None, Some};
 ghost use Rattle.ws_code.specs.Device.{Reader, Writer, one_more, WentOut, FailedWithin};
 
@@ -15,6 +16,10 @@ pub trait Source {
 
     /// Puts some bytes at the slice's front, and answers how many, at most its length.
     /// 0 for a slice that isn't empty is the end.
+    ///
+    /// # Errors
+    ///
+    /// `DeviceFailed` where the read failed, which is counted. What the slice holds is then not known.
     fn read(&mut self, into: &mut [u8]) -> Result<usize, DeviceFailed>
         ensures ok { IfOk result (λ n. (n ≤ length into.new)
             × reader.gives self.old (length into.old) (Some (take n into.new)) self.new
@@ -30,6 +35,10 @@ pub trait Sink {
     ghost writer: { Writer Self };
 
     /// Takes bytes from the slice's front, and answers how many, at most its length.
+    ///
+    /// # Errors
+    ///
+    /// `DeviceFailed` where the write failed, which is counted.
     fn write(&mut self, bytes: &[u8]) -> Result<usize, DeviceFailed>
         ensures ok { IfOk result (λ n. (n ≤ length bytes.now)
             × writer.takes self.old bytes.now (Some n) self.new
@@ -40,7 +49,9 @@ pub trait Sink {
 
 /// Writes all the bytes, in as many writes as the sink asks for.
 ///
-/// `Write` is the only fault: a write failed, or took no byte. That write is the last, and what went out
+/// # Errors
+///
+/// `Write`, and no other fault, where a write failed or took no byte. That write is the last, and what went out
 /// before it is a proper prefix of the bytes.
 pub fn write_whole<S: Sink>(sink: &mut S, bytes: &[u8]) -> Result<(), Fault>
     ensures ok { OnOk result (WentOut S.writer sink.old sink.new bytes.now) }

@@ -1,3 +1,4 @@
+//! Devices for tests, which fail after so many calls or take nothing.
 ghost use Rattle.std.specs.Prelude.{◌≡◌, [], List, ℕ};
 ghost use Rattle.ws_code.specs.Device.{Limited, limited_reader, limited_writer, idle_writer};
 

@@ -1,3 +1,4 @@
+//! What ends a reading or a writing.
 use crate::Reason;
 use std::error::Error;
 use std::fmt;

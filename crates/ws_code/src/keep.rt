@@ -1,3 +1,4 @@
+//! Where the units go that a machine reads: into a list, a slot, or nowhere.
 ghost use Rattle.std.specs.Prelude.{◌++◌, List, ℕ};
 ghost use Rattle.ws_code.specs.Keep.{Keeper, KeepsOne, list_keeper, nothing_keeper, slot_keeper};
 

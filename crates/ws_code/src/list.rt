@@ -1,3 +1,4 @@
+//! Lists that stay as they are, of items or of bytes.
 ghost use Rattle.std.specs.Prelude.{◌≡◌, ◌≤◌, length, List as Seq, ℕ, nat_eq};
 ghost use Rattle.std.specs.Cmp.{partial_equiv_from_equiv};
 ghost use Rattle.std.specs.Cmp.Lexicographic.{pointwise, lists_per, lists_equiv, nat_list_eq_equiv};

@@ -1,3 +1,4 @@
+//! Devices in memory: a slice that is read, and a vector that is written.
 ghost use Rattle.std.specs.Prelude.{◌≡◌, ◌≤◌, ◌<◌, ◌++◌, [], List, ℕ, length};
 ghost use Rattle.ws_code.specs.Device.{Held, list_reader, held_writer, most_reads, Gave, GaveAll, ReadFault};
 

@@ -1,3 +1,4 @@
+//! How a run of bytes ended, and where it left the machine that read it.
 use crate::Reason;
 
 /// How a run of values ended.

@@ -1,3 +1,4 @@
+//! Devices over readers and writers of the standard library.
 ghost use Rattle.std.specs.Prelude.{◌≡◌, ℕ};
 ghost use Rattle.ws_code.specs.Device.{Counted, device_reader, device_writer};
 

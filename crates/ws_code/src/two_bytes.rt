@@ -1,3 +1,4 @@
+//! Numbers of 16 bits from two bytes.
 ghost use Rattle.std.specs.Prelude.{◌≡◌, ◌+◌, ◌*◌};
 
 // By hand: what u16::from_be_bytes promises is a sum that each proof would have to unfold.
