@@ -1,5 +1,5 @@
-//! The tests of what crosses the wire, below records: `ws_code`, `ws_telnet`, `ws_nego` and `ws_stream`. They call what
-//! these crates hand out, and nothing else.
+//! The tests of what crosses the wire, below records: `ws_code`, `ws_telnet`, `ws_nego`, `ws_identity` and
+//! `ws_stream`. They call what these crates hand out, and nothing else.
 #![tactic(auto)]
 
 // Rows of ws_code.
@@ -17,6 +17,10 @@ mod token_rows;
 // Rows of ws_nego.
 #[cfg(test)]
 mod negotiation_rows;
+
+// Rows of ws_identity.
+#[cfg(test)]
+mod identity_rows;
 
 // Rows of ws_stream.
 #[cfg(test)]

@@ -1,0 +1,4 @@
+pub mod Environ
+pub mod Names
+pub mod Options
+pub mod Session
