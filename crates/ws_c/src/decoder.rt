@@ -69,17 +69,11 @@ impl StepTold {
           opcode = opcode_byte head.opcode;
         } }
     {
-        StepTold {
-            taken,
-            length: 0,
-            cells: 0,
-            place: 0,
-            kind: 1,
-            flags: head.flags,
-            record_length: head.length,
-            opcode: head.opcode.byte(),
-            reason: 0,
-        }
+        let mut told = StepTold::plain(taken, 1);
+        told.flags = head.flags;
+        told.record_length = head.length;
+        told.opcode = head.opcode.byte();
+        told
     }
 }
 
@@ -163,6 +157,7 @@ fn tell_spelling(
 }
 
 // What a step crosses as behind the cells that stand at the buffer's front.
+#[inline(never)]
 fn tell_step<C: Body>(
     step: Step<C::Unit>,
     before: usize,

@@ -43,13 +43,11 @@ pub struct GivenElement {
     pub format: u16,
     /// How many cells a field has.
     pub length: u16,
-    /// The row of a cell, from 1.
+    /// The row and the column of a cell, each from 1.
     pub row: u8,
-    /// The column of a cell, from 1.
     pub column: u8,
-    /// The first control character of a Write to Display or of a read.
+    /// The control characters of a Write to Display or of a read.
     pub cc1: u8,
-    /// The second.
     pub cc2: u8,
     /// An attribute, or the byte that is repeated.
     pub byte: u8,
