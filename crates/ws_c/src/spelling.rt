@@ -29,11 +29,10 @@ pub enum ElementKind {
     MoveCursor,
     Field,
     OutputField,
-    /// A byte for the next cell that is an attribute.
     Attribute,
 }
 
-/// An element's kind and its operands. Of a kind that has fewer the others aren't read.
+/// An element's kind and its operands, of which only those of the kind are read.
 #[repr(C)]
 #[derive(Clone, Copy)]
 pub struct GivenElement {
