@@ -81,10 +81,17 @@ impl StepTold {
 fn make_decoder(alloc: Global, handle: &mut Handle) -> Status
     ensures { IsDecoderNew handle.old.owned.value handle.new.owned.value result }
 {
-    if handle.is_open {
+    if let Some(held) = handle.take(alloc) {
+        handle.put(held);
         return Status::InUse;
     }
-    handle.hold(alloc, Machine::Decoder(Live::new()))
+    match Box::new(alloc, Machine::Decoder(Live::new())) {
+        Ok(held) => {
+            handle.put(held);
+            Status::Done
+        }
+        Err(_) => Status::NoMemory,
+    }
 }
 
 /// Makes a decoder that has taken no byte.
@@ -102,10 +109,17 @@ pub extern "C" fn ws_c_decoder_new(alloc: Global, handle: &mut Handle) -> u32
 fn make_extended_decoder(alloc: Global, handle: &mut Handle) -> Status
     ensures { IsExtendedDecoderNew handle.old.owned.value handle.new.owned.value result }
 {
-    if handle.is_open {
+    if let Some(held) = handle.take(alloc) {
+        handle.put(held);
         return Status::InUse;
     }
-    handle.hold(alloc, Machine::ExtendedDecoder(Live::new()))
+    match Box::new(alloc, Machine::ExtendedDecoder(Live::new())) {
+        Ok(held) => {
+            handle.put(held);
+            Status::Done
+        }
+        Err(_) => Status::NoMemory,
+    }
 }
 
 /// Makes a decoder of live hosts' streams that has taken no byte.
