@@ -40,7 +40,7 @@ use Rattle.ws_extended_station.specs.ExtendedDisplays.{with_profile}
 use Rattle.ws_extended_station.specs.declared.extended_key.ExtendedKey.{ExtendedKey}
 use Rattle.ws_extended_station.specs.declared.extended_key.ExtendedKey.TheVariants.{Profile as ProfileKey}
 use Rattle.ws_extended_station.proofs.Beside.{items_there, keys_there}
-use Rattle.ws_end.specs.Acts.{ways}
+use Rattle.ws_end.specs.Acts.{protocol_of}
 
 -- THE SAME BYTES HOLD THE SAME ITEMS
 
@@ -162,7 +162,7 @@ items_of_there (Does key ∷ hs) = items_of_there hs
 -- THE SAME IS DONE
 
 abbrev done_there : ExtendedEndState → Doing StationEndState AnswerPart Applied → Doing ExtendedEndState ℕ Applied
-done_there s d = record { state = with_profile s d.state; written = map by_bytes d.written; told = d.events }
+done_there s d = record { state = with_profile s d.state; written = map by_bytes d.written; events = d.events }
 
 at_item_there : (s : ExtendedEndState) (item : Item Element) (r : Reaction StationEndState (List (Item AnswerPart)))
     → at_item_on extended s (item_there item) (as_reacted s r)
@@ -221,15 +221,15 @@ doing_there s (h ∷ hs) none =
     ∙ ap (λ (items : List (Item ℕ)). let d : Doing ExtendedEndState ℕ Applied = record {
       state = with_profile s behind.state;
       written = items;
-      told = first.told ++ behind.told;
+      events = first.events ++ behind.events;
     } in d) (sym (map-append by_bytes first.written behind.written))
 
 pub runs_there : (bytes : List ℕ) (items arrived : List (Item Element)) (s : ExtendedEndState) (next : StationEndState)
     (acts : List (Act Key)) (written : List ℕ) (told : List Applied) → NoErrorStands s
-    → IsTrace (ways element_rules answer_rules (transitions_on profile)) (HaveJustArrived arrived next) bytes items
-    (profile_state s) acts
+    → IsTrace (protocol_of element_rules answer_rules (transitions_on profile))
+    (HaveJustArrived arrived next) bytes items (profile_state s) acts
     written told
-    → IsTrace (ways extended_rules raw_rules (transitions_on extended))
+    → IsTrace (protocol_of extended_rules raw_rules (transitions_on extended))
     (HaveJustArrived (map item_there arrived) (with_profile s next))
     bytes (map item_there items) s (map act_there acts) written told
 runs_there bytes items arrived s next acts written told none gone =
@@ -243,9 +243,9 @@ runs_there bytes items arrived s next acts written told none gone =
       wrote = gone.wrote ∙ sym (spelled_alike done.written)
           ∙ ap (λ (d : Doing ExtendedEndState ℕ Applied). plain_spelling raw_rules d.written) (sym same);
       tells = gone.tells ∙ ap (λ (d : Doing ExtendedEndState ℕ Applied). d.events) (sym same);
-      leads = (
+      reached = (
         ap (λ (is : List (Item ExtendedElement)). map item_there items ++ is) (items_of_there hs)
-            ∙ sym (map-append item_there items (items_of hs)) ∙ ap (map item_there) gone.leads.0,
-        ap (λ (d : Doing ExtendedEndState ℕ Applied). d.state) same ∙ ap (with_profile s) gone.leads.1,
+            ∙ sym (map-append item_there items (items_of hs)) ∙ ap (map item_there) gone.reached.0,
+        ap (λ (d : Doing ExtendedEndState ℕ Applied). d.state) same ∙ ap (with_profile s) gone.reached.1,
       );
     }

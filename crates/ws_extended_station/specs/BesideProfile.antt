@@ -22,7 +22,7 @@ use Rattle.ws_extended_station.specs.Bytewise.{by_bytes}
 use Rattle.ws_extended_station.specs.ExtendedDisplays.{ExtendedEndState, extended, with_profile}
 use Rattle.ws_extended_station.specs.declared.extended_key.ExtendedKey.{ExtendedKey}
 use Rattle.ws_extended_station.specs.declared.extended_key.ExtendedKey.TheVariants.{Profile as ProfileKey}
-use Rattle.ws_end.specs.Acts.{ways}
+use Rattle.ws_end.specs.Acts.{protocol_of}
 
 -- a record of the profile as a record of live hosts
 abbrev pub record_there : Record Element → Record ExtendedElement
@@ -58,7 +58,7 @@ HaveJustArrived arrived next bytes items end_state = (items ≡ arrived) × (end
 abbrev pub ProfileTraces : StationEndState → StationEndState → List (Item Element) → List ℕ → List (Item Element)
     → List (Act Key) → List ℕ → List Applied → Type 0
 ProfileTraces end_state next arrived bytes items acts written told =
-    IsTrace (ways element_rules answer_rules (transitions_on profile)) (HaveJustArrived arrived next) bytes items
+    IsTrace (protocol_of element_rules answer_rules (transitions_on profile)) (HaveJustArrived arrived next) bytes items
         end_state acts
     written told
 
@@ -66,6 +66,6 @@ ProfileTraces end_state next arrived bytes items acts written told =
 abbrev pub ExtendedTraces : ExtendedEndState → ExtendedEndState → List (Item ExtendedElement) → List ℕ
     → List (Item ExtendedElement) → List (Act ExtendedKey) → List ℕ → List Applied → Type 0
 ExtendedTraces end_state next arrived bytes items acts written told =
-    IsTrace (ways extended_rules raw_rules (transitions_on extended)) (HaveJustArrived arrived next) bytes items
+    IsTrace (protocol_of extended_rules raw_rules (transitions_on extended)) (HaveJustArrived arrived next) bytes items
         end_state acts
     written told
