@@ -8,8 +8,8 @@ use Rattle.std.proofs.Math.Seq.{take-add}
 use Rattle.std.proofs.lemmas.Bool.{cases_lt}
 use Rattle.std.proofs.lemmas.List.{append-nil, length-drop, length-take-le, take-take}
 use Rattle.ws_record.specs.declared.record.Item.{Item}
-use Rattle.ws_end.specs.ActLaws.{came_append, gone_on}
-use Rattle.ws_end.specs.Acts.{Act, IsTrace, all_came, as_list, ways}
+use Rattle.ws_end.specs.ActLaws.{came_append, trace_on}
+use Rattle.ws_end.specs.Acts.{Act, IsTrace, all_came, as_list, protocol_of}
 use Rattle.ws_end.specs.declared.end_step.EndFed.{EndFed}
 use Rattle.ws_end.specs.declared.end_step.EndStep.{EndStep}
 use Rattle.ws_end.specs.driver.Driven.{AreSilent, AtDriver, Come, Driven, DriverFeeds, Driving, IsReached, TakesNoMore}
@@ -34,16 +34,16 @@ module _ {R K Place U Deed Event Reply : Type 0} (d : Driving R K Place U Deed E
   }
 
   -- what comes after a front
-  come_after : (Then : List ℕ → List (Item U) → d.does.Side → Type 0) (now : Driven R K Place) (bytes : List ℕ)
-      (n k : ℕ) (before : List ℕ) (items : List (Item U)) (side : d.does.Side) (written reply : List ℕ)
+  come_after : (Then : List ℕ → List (Item U) → d.does.State → Type 0) (now : Driven R K Place) (bytes : List ℕ)
+      (n k : ℕ) (before : List ℕ) (items : List (Item U)) (side : d.does.State) (written reply : List ℕ)
       (told more : List Event) → Come d (IsReached d now) before items side (take n bytes) written told
       → AtDriver d now (λ b its s. Come d Then b its s (take k (drop n bytes)) reply more)
       → Come d Then before items side (take (n + k) bytes) (written ++ reply) (told ++ more)
   come_after Then now bytes n k before items side written reply told more gone next =
-      subst (λ (z : List (Act Deed)). IsTrace (ways d.rules d.does.out (transitions_of d)) Then before items side z
-      (written ++ reply) (told ++ more)) (sym (came_append (take n bytes) (take k (drop n bytes)))
+      subst (λ (z : List (Act Deed)). IsTrace (protocol_of d.rules d.does.out (transitions_of d)) Then before items side
+      z (written ++ reply) (told ++ more)) (sym (came_append (take n bytes) (take k (drop n bytes)))
       ∙ ap (λ (x : List ℕ). all_came {Deed = Deed} x) (sym (take-add n k bytes)))
-      (gone_on (ways d.rules d.does.out (transitions_of d)) (IsReached d now) Then before items side
+      (trace_on (protocol_of d.rules d.does.out (transitions_of d)) (IsReached d now) Then before items side
       (all_came (take n bytes)) (all_came (take k (drop n bytes))) written reply told more gone
       (λ b its s m size. next b its s m))
 

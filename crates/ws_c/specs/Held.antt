@@ -13,17 +13,11 @@ use Rattle.ws_c.specs.declared.machine.Machine.{Machine}
 use Rattle.ws_c.specs.declared.machine.Machine.TheVariants.{Decoder, ExtendedDecoder, ExtendedStation, Host}
 use Rattle.ws_c.specs.declared.machine.Machine.TheVariants.{Station}
 use Rattle.ws_c.specs.declared.status.Status.{Status}
-use Rattle.ws_c.specs.declared.status.Status.TheVariants.{Done, NoMemory, NothingHeld}
+use Rattle.ws_c.specs.declared.status.Status.TheVariants.{NothingHeld}
 
 -- the call says that the handle holds nothing that it is for, and this is said of the outputs
 abbrev pub HoldsNone : Status → Type 0 → Type 0
 HoldsNone status untold = (status ≡ NothingHeld) × untold
-
--- a handle that held nothing holds this, or there is no memory for it
-abbrev pub HoldsNow : Machine → Option Machine → Status → Type 0
-HoldsNow machine now Done = now ≡ Some machine
-HoldsNow machine now NoMemory = now ≡ None
-HoldsNow machine now status = ⊥
 
 -- What a call does with the station that a handle holds: this with one of the profile, that with one as live hosts use
 -- it. Where it holds none the handle stays as it was, and this is said of what crosses.

@@ -8,7 +8,7 @@ use crate::NO_FIELD;
 use ws_screen::Field;
 
 /// The fields that end behind a place, and the index of the first of them.
-pub fn fields_behind(fields: &[Field], place: u16) -> (u16, &[Field])
+pub(crate) fn fields_behind(fields: &[Field], place: u16) -> (u16, &[Field])
     requires apart { AreApart 0 fields.now }
     requires few { length fields.now ≤ 256 }
     ensures past { IsPast fields.now place result.0 result.1.now }
@@ -24,7 +24,7 @@ pub fn fields_behind(fields: &[Field], place: u16) -> (u16, &[Field])
 }
 
 /// The fields behind the first one, where that one ends at the place or before it.
-pub fn passed(fields: &[Field], place: u16) -> Option<&[Field]>
+pub(crate) fn passed(fields: &[Field], place: u16) -> Option<&[Field]>
     requires { AreInOrder fields.now }
     ensures { MatchOption result (EndsBehind place fields.now)
         (λ behind. IsPassed place fields.now behind.now) }
@@ -37,7 +37,7 @@ pub fn passed(fields: &[Field], place: u16) -> Option<&[Field]>
 }
 
 /// The index of the field that holds a cell, of fields that end behind it, the first of which has an index.
-pub fn index_at(index: u16, ahead: &[Field], place: u16) -> u16
+pub(crate) fn index_at(index: u16, ahead: &[Field], place: u16) -> u16
     requires in_order { AreInOrder ahead.now }
     requires behind { EndsBehind place ahead.now }
     ensures { result ≡ index_from index ahead.now place }

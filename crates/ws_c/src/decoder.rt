@@ -69,17 +69,11 @@ impl StepTold {
           opcode = opcode_byte head.opcode;
         } }
     {
-        StepTold {
-            taken,
-            length: 0,
-            cells: 0,
-            place: 0,
-            kind: 1,
-            flags: head.flags,
-            record_length: head.length,
-            opcode: head.opcode.byte(),
-            reason: 0,
-        }
+        let mut told = StepTold::plain(taken, 1);
+        told.flags = head.flags;
+        told.record_length = head.length;
+        told.opcode = head.opcode.byte();
+        told
     }
 }
 
@@ -87,10 +81,17 @@ impl StepTold {
 fn make_decoder(alloc: Global, handle: &mut Handle) -> Status
     ensures { IsDecoderNew handle.old.owned.value handle.new.owned.value result }
 {
-    if handle.is_open {
+    if let Some(held) = handle.take(alloc) {
+        handle.put(held);
         return Status::InUse;
     }
-    handle.hold(alloc, Machine::Decoder(Live::new()))
+    match Box::new(alloc, Machine::Decoder(Live::new())) {
+        Ok(held) => {
+            handle.put(held);
+            Status::Done
+        }
+        Err(_) => Status::NoMemory,
+    }
 }
 
 /// Makes a decoder that has taken no byte.
@@ -108,10 +109,17 @@ pub extern "C" fn ws_c_decoder_new(alloc: Global, handle: &mut Handle) -> u32
 fn make_extended_decoder(alloc: Global, handle: &mut Handle) -> Status
     ensures { IsExtendedDecoderNew handle.old.owned.value handle.new.owned.value result }
 {
-    if handle.is_open {
+    if let Some(held) = handle.take(alloc) {
+        handle.put(held);
         return Status::InUse;
     }
-    handle.hold(alloc, Machine::ExtendedDecoder(Live::new()))
+    match Box::new(alloc, Machine::ExtendedDecoder(Live::new())) {
+        Ok(held) => {
+            handle.put(held);
+            Status::Done
+        }
+        Err(_) => Status::NoMemory,
+    }
 }
 
 /// Makes a decoder of live hosts' streams that has taken no byte.
@@ -163,6 +171,7 @@ fn tell_spelling(
 }
 
 // What a step crosses as behind the cells that stand at the buffer's front.
+#[inline(never)]
 fn tell_step<C: Body>(
     step: Step<C::Unit>,
     before: usize,

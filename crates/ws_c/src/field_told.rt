@@ -20,7 +20,7 @@ pub struct FieldTold {
 
 impl FieldTold {
     /// Nothing of a field.
-    pub fn nothing() -> Self
+    pub(crate) fn nothing() -> Self
         ensures { result ≡ no_field }
     {
         FieldTold {
@@ -32,7 +32,7 @@ impl FieldTold {
     }
 
     /// What is told of a field.
-    pub fn of(field: &Field) -> Self
+    pub(crate) fn of(field: &Field) -> Self
         ensures { result ≡ told_of field.now }
     {
         FieldTold {

@@ -1,10 +1,9 @@
 //! What C holds of a machine.
 ghost use Rattle.std.specs.Prelude.{◌≡◌, Some, None, is_some, IfSome, IfNone};
-ghost use Rattle.ws_c.specs.Held.{HoldsNow};
 
+use crate::Machine;
 use crate::loose::Loose;
 use crate::owned::Owned;
-use crate::{Machine, Status};
 use std::alloc::Global;
 use std::mem::replace;
 
@@ -55,19 +54,5 @@ impl Handle {
             owned,
             is_open: true,
         };
-    }
-
-    /// Holds this from now on, where there is memory for it.
-    pub(crate) fn hold(&mut self, alloc: Global, machine: Machine) -> Status
-        requires { self.old.owned.value ≡ None }
-        ensures { HoldsNow machine self.new.owned.value result }
-    {
-        match Box::new(alloc, machine) {
-            Ok(held) => {
-                self.put(held);
-                Status::Done
-            }
-            Err(_) => Status::NoMemory,
-        }
     }
 }

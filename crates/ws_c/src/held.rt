@@ -10,35 +10,8 @@ pub(crate) fn nothing_held() -> Status
     Status::NothingHeld
 }
 
-// Does this with what a handle holds, where it is of the kind. Else this is the status. With `number` the status is
-// given as C has it.
-macro_rules! on_held {
-    ($alloc:expr, $handle:expr, $kind:ident($held:ident), $second:ident, $third:ident, $fourth:ident, $fifth:ident, $does:expr $(, $number:ident)?) => {
-        match $handle.take($alloc) {
-            Some(mut owned) => match &mut *owned {
-                Machine::$kind($held) => {
-                    let status = $does;
-                    $handle.put(owned);
-                    status$(.$number())?
-                }
-                Machine::$second(_)
-                | Machine::$third(_)
-                | Machine::$fourth(_)
-                | Machine::$fifth(_) => {
-                    let status = $crate::held::nothing_held();
-                    $handle.put(owned);
-                    status$(.$number())?
-                }
-            },
-            None => {
-                let status = $crate::held::nothing_held();
-                status$(.$number())?
-            }
-        }
-    };
-}
-
-// Does this with what a handle holds, where it is of either kind. Else this is the status.
+// Does this with what a handle holds, where it is of either kind. Else this is the status. With
+// `number` the status is given as C has it.
 macro_rules! on_two {
     ($alloc:expr, $handle:expr, $kind:ident($held:ident), $does:expr, $other:ident($too:ident), $also:expr, $third:ident, $fourth:ident, $fifth:ident, $none:expr $(, $number:ident)?) => {
         match $handle.take($alloc) {
@@ -105,19 +78,30 @@ macro_rules! on_screen {
     };
 }
 
+// A host's end.
 macro_rules! on_host {
     ($alloc:expr, $handle:expr, |$host:ident| $does:expr $(, $number:ident)?) => {
-        on_held!(
-            $alloc,
-            $handle,
-            Host($host),
-            Station,
-            ExtendedStation,
-            Decoder,
-            ExtendedDecoder,
-            $does
-            $(, $number)?
-        )
+        match $handle.take($alloc) {
+            Some(mut owned) => match &mut *owned {
+                Machine::Host($host) => {
+                    let status = $does;
+                    $handle.put(owned);
+                    status$(.$number())?
+                }
+                Machine::Station(_)
+                | Machine::ExtendedStation(_)
+                | Machine::Decoder(_)
+                | Machine::ExtendedDecoder(_) => {
+                    let status = $crate::held::nothing_held();
+                    $handle.put(owned);
+                    status$(.$number())?
+                }
+            },
+            None => {
+                let status = $crate::held::nothing_held();
+                status$(.$number())?
+            }
+        }
     };
 }
 
@@ -141,7 +125,6 @@ macro_rules! on_decoders {
 }
 
 pub(crate) use on_decoders;
-pub(crate) use on_held;
 pub(crate) use on_host;
 pub(crate) use on_screen;
 pub(crate) use on_stations;

@@ -20,7 +20,7 @@ pub struct HeldEnd<E, P> {
 /// An end of which nothing waits.
 pub(crate) fn holding<R: Reacts>(end: Driver<R>) -> HeldEnd<Driver<R>, R::Reply>
     ensures end { result.end ≡ end }
-    ensures none { waiting (driving R.Body.rules R.Keep.keeper R.does) result ≡ [] }
+    ensures none { waiting (driving R.Body.rules R.Collector.keeper R.does) result ≡ [] }
 {
     HeldEnd {
         end,
@@ -32,7 +32,7 @@ pub(crate) fn holding<R: Reacts>(end: Driver<R>) -> HeldEnd<Driver<R>, R::Reply>
 /// What still waits.
 pub(crate) fn rest<R: Reacts>(held: &HeldEnd<Driver<R>, R::Reply>) -> &[u8]
     ensures rest { result.now
-        ≡ waiting (driving R.Body.rules R.Keep.keeper R.does) held.now }
+        ≡ waiting (driving R.Body.rules R.Collector.keeper R.does) held.now }
     ensures count { held.now.sent + length result.now < 2 ^ 64 }
 {
     let written = held.end.reacts().bytes(&held.reply);
@@ -46,7 +46,7 @@ pub(crate) fn rest<R: Reacts>(held: &HeldEnd<Driver<R>, R::Reply>) -> &[u8]
 /// Forgets what it wrote last: nothing waits.
 pub(crate) fn keep_nothing<R: Reacts>(held: &mut HeldEnd<Driver<R>, R::Reply>)
     ensures end { held.new.end ≡ held.old.end }
-    ensures none { waiting (driving R.Body.rules R.Keep.keeper R.does) held.new ≡ [] }
+    ensures none { waiting (driving R.Body.rules R.Collector.keeper R.does) held.new ≡ [] }
 {
     held.reply = R::silence();
     held.sent = 0;
@@ -59,7 +59,7 @@ pub(crate) fn hand_out<R: Reacts>(
     told: &mut PushedTold,
 )
     requires { told.old.replied ≤ length buffer.old }
-    ensures { HandsOut (driving R.Body.rules R.Keep.keeper R.does) held.old held.new
+    ensures { HandsOut (driving R.Body.rules R.Collector.keeper R.does) held.old held.new
         (filling told.old buffer.old) (filling told.new buffer.new) }
 {
     let rest = rest(held);

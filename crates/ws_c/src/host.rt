@@ -6,7 +6,7 @@ ghost use Rattle.ws_c.specs.Hosts.{IsHostNew, IsHostPush, IsNewHost, answer_afte
 ghost use Rattle.ws_c.specs.Pushes.{nothing_pushed};
 
 use crate::buffer::put_front;
-use crate::held::{on_held, on_host};
+use crate::held::on_host;
 use crate::held_end::holding;
 use crate::push::push_all;
 use crate::{Handle, HeldEnd, Machine, PushedTold, REPLY_ROOM, Status, Told};

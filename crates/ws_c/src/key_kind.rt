@@ -33,7 +33,7 @@ pub enum KeyKind {
 
 impl KeyKind {
     /// The kind of this number, where there is one.
-    pub fn from_number(number: u32) -> Option<Self>
+    pub(crate) fn from_number(number: u32) -> Option<Self>
         ensures some { IfSome result (λ kind. kind_number kind ≡ number) }
         ensures none { IfNone result ((kind : AKind) → kind_number kind ≡ number → ⊥) }
     {
@@ -61,7 +61,7 @@ impl KeyKind {
 
     /// The key of this kind and a value: a character by its Unicode scalar value, an attention key by its byte. Of the
     /// other kinds no value is read.
-    pub fn key(self, value: u32) -> Option<Key>
+    pub(crate) fn key(self, value: u32) -> Option<Key>
         ensures { IsKeyOf self value result }
     {
         match self {
@@ -97,7 +97,7 @@ fn attention_key(value: u32) -> Option<Key>
 }
 
 /// The number of a key's refusal.
-pub fn refusal_number(refusal: KeyRefusal) -> u8
+pub(crate) fn refusal_number(refusal: KeyRefusal) -> u8
     ensures { result ≡ status_number refusal }
 {
     match refusal {

@@ -36,9 +36,9 @@ fn is_ending<T>(stops: bool, event: &Option<T>) -> bool
 
 // The status where all goes well: something may wait.
 fn status_of<R: Reacts>(held: &HeldEnd<Driver<R>, R::Reply>) -> Status
-    ensures done { waiting (driving R.Body.rules R.Keep.keeper R.does) held.now ≡ []
+    ensures done { waiting (driving R.Body.rules R.Collector.keeper R.does) held.now ≡ []
         → result ≡ Status.Done }
-    ensures waits { waiting (driving R.Body.rules R.Keep.keeper R.does) held.now ≢ []
+    ensures waits { waiting (driving R.Body.rules R.Collector.keeper R.does) held.now ≢ []
         → result ≡ Status.NoRoom }
 {
     if rest(held).is_empty() {
@@ -58,7 +58,7 @@ pub(crate) fn push_all<R: Reacts>(
     stops: bool,
 ) -> (Status, Option<R::Event>)
     requires { told.old ≡ nothing_pushed }
-    ensures { IsPush (driving R.Body.rules R.Keep.keeper R.does) stops result.1 bytes.now
+    ensures { IsPush (driving R.Body.rules R.Collector.keeper R.does) stops result.1 bytes.now
         (crossed buffer.old buffer.new result.0 told.new) held.old held.new }
 {
     hand_out(held, buffer, told);

@@ -29,11 +29,10 @@ pub enum ElementKind {
     MoveCursor,
     Field,
     OutputField,
-    /// A byte for the next cell that is an attribute.
     Attribute,
 }
 
-/// An element's kind and its operands. Of a kind that has fewer the others aren't read.
+/// An element's kind and its operands, of which only those of the kind are read.
 #[repr(C)]
 #[derive(Clone, Copy)]
 pub struct GivenElement {
@@ -43,13 +42,11 @@ pub struct GivenElement {
     pub format: u16,
     /// How many cells a field has.
     pub length: u16,
-    /// The row of a cell, from 1.
+    /// The row and the column of a cell, each from 1.
     pub row: u8,
-    /// The column of a cell, from 1.
     pub column: u8,
-    /// The first control character of a Write to Display or of a read.
+    /// The control characters of a Write to Display or of a read.
     pub cc1: u8,
-    /// The second.
     pub cc2: u8,
     /// An attribute, or the byte that is repeated.
     pub byte: u8,

@@ -38,7 +38,7 @@ pub struct StateTold {
 
 impl StateTold {
     /// Nothing of a station.
-    pub fn nothing() -> Self
+    pub(crate) fn nothing() -> Self
         ensures { result ≡ nothing_told }
     {
         StateTold {

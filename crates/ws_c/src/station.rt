@@ -19,12 +19,19 @@ use ws_session::{Reply, Station};
 fn make_station(alloc: Global, handle: &mut Handle, name: &[u8]) -> Status
     ensures { IsStationNew name.now handle.old.owned.value handle.new.owned.value result }
 {
-    if handle.is_open {
+    if let Some(held) = handle.take(alloc) {
+        handle.put(held);
         return Status::InUse;
     }
-    match TerminalType::from_name(name) {
-        Some(terminal) => handle.hold(alloc, Machine::Station(holding(Station::new(terminal)))),
-        None => Status::BadArgument,
+    let Some(terminal) = TerminalType::from_name(name) else {
+        return Status::BadArgument;
+    };
+    match Box::new(alloc, Machine::Station(holding(Station::new(terminal)))) {
+        Ok(held) => {
+            handle.put(held);
+            Status::Done
+        }
+        Err(_) => Status::NoMemory,
     }
 }
 
@@ -44,15 +51,22 @@ pub extern "C" fn ws_c_station_new(alloc: Global, handle: &mut Handle, name: &[u
 fn make_extended(alloc: Global, handle: &mut Handle, name: &[u8]) -> Status
     ensures { IsExtendedNew name.now handle.old.owned.value handle.new.owned.value result }
 {
-    if handle.is_open {
+    if let Some(held) = handle.take(alloc) {
+        handle.put(held);
         return Status::InUse;
     }
-    match TerminalType::from_name(name) {
-        Some(terminal) => {
-            let station = holding(ExtendedStation::new(terminal));
-            handle.hold(alloc, Machine::ExtendedStation(station))
+    let Some(terminal) = TerminalType::from_name(name) else {
+        return Status::BadArgument;
+    };
+    match Box::new(
+        alloc,
+        Machine::ExtendedStation(holding(ExtendedStation::new(terminal))),
+    ) {
+        Ok(held) => {
+            handle.put(held);
+            Status::Done
         }
-        None => Status::BadArgument,
+        Err(_) => Status::NoMemory,
     }
 }
 

@@ -39,7 +39,7 @@ pub enum Status {
 
 impl Status {
     /// Its number in C.
-    pub fn number(self) -> u32
+    pub(crate) fn number(self) -> u32
         ensures { result ≡ status_number self }
     {
         match self {

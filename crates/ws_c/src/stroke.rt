@@ -19,7 +19,7 @@ pub enum Stroke {
 
 impl Stroke {
     /// Its keys at a screen.
-    pub fn keys(self, screen: &Screen) -> KeyRuns
+    pub(crate) fn keys(self, screen: &Screen) -> KeyRuns
         ensures { result.items ≡ stroke_key_runs self screen.now }
     {
         match self {

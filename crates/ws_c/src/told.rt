@@ -17,7 +17,7 @@ pub struct Told {
 
 impl Told {
     /// That so many bytes were set, and nothing else.
-    pub fn length(length: usize) -> Self
+    pub(crate) fn length(length: usize) -> Self
         ensures { result ≡ told_length length }
     {
         Told {
@@ -47,7 +47,7 @@ pub struct PushedTold {
 
 impl PushedTold {
     /// That nothing was done.
-    pub fn nothing() -> Self
+    pub(crate) fn nothing() -> Self
         ensures { result ≡ nothing_pushed }
     {
         PushedTold {

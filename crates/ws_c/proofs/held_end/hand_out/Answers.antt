@@ -8,7 +8,7 @@ use Rattle.ws_c.proofs.held_end.hand_out.Goals as goal
 
 pub returns : goal.returns
 returns g c =
-    let d = driving g.R.Body.Code.rules g.R.Keep.Keep.keeper g.R.Reacts.does in
+    let d = driving g.R.Body.Code.rules g.R.Collector.Keep.keeper g.R.Reacts.does in
     let old : Held d = c.args.held.now in
     let told : PushedTold = c.args.told.now in
     let count : ℕ = c.min-count.result in

@@ -17,13 +17,13 @@ use Rattle.ws_c.proofs.PushLaws.{rest_is}
 use Rattle.ws_c.proofs.push.push_all.Goals as goal
 
 pub loop-told-init : goal.loop-told-init
-loop-told-init g c = feeding_start (driving g.R.Body.Code.rules g.R.Keep.Keep.keeper g.R.Reacts.does) c.args.stops
+loop-told-init g c = feeding_start (driving g.R.Body.Code.rules g.R.Collector.Keep.keeper g.R.Reacts.does) c.args.stops
     c.args.held.now c.hand_out.new.held c.args.bytes.now c.args.buffer.now c.hand_out.new.buffer c.args.told.now
     c.hand_out.new.told c.requires c.hand_out.ensures
 
 pub loop-told-preserved : goal.loop-told-preserved
 loop-told-preserved g c =
-    let d = driving g.R.Body.Code.rules g.R.Keep.Keep.keeper g.R.Reacts.does in
+    let d = driving g.R.Body.Code.rules g.R.Collector.Keep.keeper g.R.Reacts.does in
     let now = c.loop-told in
     let f = now.invariant in
     let stops = c.args.stops in
@@ -47,7 +47,7 @@ loop-told-preserved g c =
 
 pub loop-told-preserved-else-is_ending : goal.loop-told-preserved-else-is_ending
 loop-told-preserved-else-is_ending g c =
-    let d = driving g.R.Body.Code.rules g.R.Keep.Keep.keeper g.R.Reacts.does in
+    let d = driving g.R.Body.Code.rules g.R.Collector.Keep.keeper g.R.Reacts.does in
     let now = c.loop-told in
     let f = now.invariant in
     let stops = c.args.stops in
@@ -71,7 +71,7 @@ loop-told-preserved-else-is_ending g c =
 
 pub returns-then-not-is_empty : goal.returns-then-not-is_empty
 returns-then-not-is_empty g c =
-    let d = driving g.R.Body.Code.rules g.R.Keep.Keep.keeper g.R.Reacts.does in
+    let d = driving g.R.Body.Code.rules g.R.Collector.Keep.keeper g.R.Reacts.does in
     let now = c.loop-told in
     let some = something_waits c.rest.result.now (waiting d now.held) c.rest.ensures.rest
     (sym c.is_empty.ensures ∙ c.if-not-is_empty.true) in
@@ -80,7 +80,7 @@ returns-then-not-is_empty g c =
 
 pub returns-then-buffer-told-lt-REPLY_ROOM : goal.returns-then-buffer-told-lt-REPLY_ROOM
 returns-then-buffer-told-lt-REPLY_ROOM g c =
-    let d = driving g.R.Body.Code.rules g.R.Keep.Keep.keeper g.R.Reacts.does in
+    let d = driving g.R.Body.Code.rules g.R.Collector.Keep.keeper g.R.Reacts.does in
     let now = c.loop-told in
     let f = now.invariant in
     let none = nothing_waits c.rest.result.now (waiting d now.held) c.rest.ensures.rest
@@ -96,7 +96,7 @@ returns-then-buffer-told-lt-REPLY_ROOM g c =
 
 pub returns-then-is_ending : goal.returns-then-is_ending
 returns-then-is_ending g c =
-    let d = driving g.R.Body.Code.rules g.R.Keep.Keep.keeper g.R.Reacts.does in
+    let d = driving g.R.Body.Code.rules g.R.Collector.Keep.keeper g.R.Reacts.does in
     let now = c.loop-told in
     let f = now.invariant in
     let stops = c.args.stops in
@@ -126,7 +126,7 @@ returns-then-is_ending g c =
 
 pub returns-in-Err : goal.returns-in-Err
 returns-in-Err g c =
-    let d = driving g.R.Body.Code.rules g.R.Keep.Keep.keeper g.R.Reacts.does in
+    let d = driving g.R.Body.Code.rules g.R.Collector.Keep.keeper g.R.Reacts.does in
     let now = c.loop-told in
     let f = now.invariant in
     let bytes = c.args.bytes.now in
@@ -165,7 +165,7 @@ returns-in-Err g c =
 
 pub returns : goal.returns
 returns g c =
-    let d = driving g.R.Body.Code.rules g.R.Keep.Keep.keeper g.R.Reacts.does in
+    let d = driving g.R.Body.Code.rules g.R.Collector.Keep.keeper g.R.Reacts.does in
     let now = c.loop-told in
     ends_well d c.args.stops None c.args.held.now now.held c.args.bytes.now c.args.buffer.now now.buffer now.told
     now.invariant (λ _. refl) (λ told. absurd (cc told)) c.status_of-2.result c.status_of-2.ensures.done
