@@ -33,7 +33,7 @@ returns-clause-ran g c =
             (c.carry_at_station-outcome.new.attached, c.carry_at_station-outcome.new.ahead),
             c.carry_at_station-outcome.new.watch,
           )
-          ran.3.0 c.new.result c.new-2.result c.new-3.result c.new-attached.result c.new-4.result c.new.ensures.leads
+          ran.3.0 c.new.result c.new-2.result c.new-3.result c.new-attached.result c.new-4.result c.new.ensures.reached
           c.new-attached.ensures
           c.new-2.ensures c.new-3.ensures c.new-4.ensures ran.3.1,
       ran.4,
