@@ -1,10 +1,9 @@
-//! The lines of a script for a host that takes any record.
+//! A line of a script for a host that takes any record.
 ghost use Rattle.std.specs.Prelude.{◌≡◌, ◌++◌, [], ◌<◌, ℕ, List as Seq, true, length, codes, IfOk, IfErr, MatchOption};
 ghost use Rattle.ws_code.specs.Code.{spelling_of};
 ghost use Rattle.ws_extended.specs.ExtendedElements.{extended_rules};
 ghost use Rattle.ws_live.specs.live.LiveScript.{IsBlockFault};
-ghost use Rattle.std.specs.Str.{IsUtf8};
-ghost use Rattle.ws_live.specs.script.ScriptFaults.{IsLineFault, IsNoComment, has_no_blank};
+ghost use Rattle.ws_live.specs.script.ScriptFaults.{IsNoComment, has_no_blank};
 ghost use Rattle.ws_text.specs.Words.{IsHex};
 ghost use Rattle.std.specs.Str.Lines.{lines};
 ghost use Rattle.ws_any_host.specs.AnyLines.{IsAnyLine, OpensAnyBlock, any_language};
@@ -16,9 +15,9 @@ use std::alloc::{AllocError, Global};
 use std::str;
 use ws_code::{Aid, Body, List};
 use ws_extended::{ExtendedCommands, ExtendedElement};
-use ws_live::{LineFault, LiveLine, Vocabulary, WireLine, aid_named, line_cause, read_wire};
+use ws_live::{LineFault, LiveLine, ScriptFault, WireLine, aid_named, read_wire};
 use ws_record::{Opcode, Record};
-use ws_text::{Cause, TextFault, read_elements, read_number};
+use ws_text::{TextFault, read_elements, read_number};
 
 /// A line of a script for a host that takes any record.
 #[derive(Drop)]
@@ -44,19 +43,17 @@ impl LiveLine for AnyLine {
         sent_alone(line).is_some()
     }
 
-    fn read<'a>(alloc: Global, line: &'a [u8], inside: &'a [u8]) -> Result<Self, TextFault<'a>> {
+    fn read(alloc: Global, line: &[u8], inside: &[u8]) -> Result<Self, ScriptFault> {
         if inside.is_empty() {
             return read_alone(alloc, line);
         }
         match sent_alone(line) {
             Some(opcode) => match read_words(alloc, opcode, inside) {
                 Ok(body) => Ok(AnyLine::Send(sent(opcode, body))),
-                Err(TextFault::Line(at, cause)) => {
-                    Err(TextFault::Line(at.saturating_add(1), cause))
-                }
-                Err(TextFault::Memory) => Err(TextFault::Memory),
+                Err(TextFault::Line(at)) => Err(ScriptFault::Line(at.saturating_add(1))),
+                Err(TextFault::Memory) => Err(ScriptFault::Memory),
             },
-            None => Err(TextFault::Line(1, Cause::Other)),
+            None => Err(ScriptFault::Line(1)),
         }
     }
 
@@ -77,7 +74,7 @@ fn sent(opcode: Opcode, body: Vec<u8>) -> Record<u8>
 }
 
 // The bytes of the elements that the lines of a text say of a record of the opcode.
-fn read_words<'a>(alloc: Global, opcode: Opcode, text: &'a [u8]) -> Result<Vec<u8>, TextFault<'a>>
+fn read_words(alloc: Global, opcode: Opcode, text: &[u8]) -> Result<Vec<u8>, TextFault>
     ensures body { IfOk result (λ body. Spec.SayBytes (lines text.now) opcode body.items) }
     ensures fault { IfErr result (Spec.IsWordFault (lines text.now) opcode) }
     ensures only { IfErr result (λ fault. (body : Seq ℕ)
@@ -106,33 +103,20 @@ fn spelled(alloc: Global, elements: &[ExtendedElement]) -> Result<Vec<u8>, Alloc
 }
 
 // A line that no other belongs to.
-fn read_alone<'a>(alloc: Global, line: &'a [u8]) -> Result<AnyLine, TextFault<'a>>
+fn read_alone(alloc: Global, line: &[u8]) -> Result<AnyLine, ScriptFault>
     ensures line { IfOk result (IsAnyLine line.now []) }
     ensures fault { IfErr result (IsBlockFault any_language line.now []) }
 {
-    match read_line(alloc, line) {
-        Ok(read) => Ok(read),
-        Err(LineFault::Bad) => Err(TextFault::Line(1, line_cause(line, Vocabulary::AnyHost))),
-        Err(LineFault::Memory) => Err(TextFault::Memory),
-    }
-}
-
-// A line by itself.
-fn read_line(alloc: Global, line: &[u8]) -> Result<AnyLine, LineFault>
-    ensures line { IfOk result (Spec.IsOneAnyLine line.now) }
-    ensures fault { IfErr result (IsLineFault (Spec.IsOneAnyLine line.now)
-        (IsUtf8 line.now × Spec.IsLineBegun line.now)) }
-{
     let Ok(text) = str::from_utf8(line) else {
-        return Err(LineFault::Bad);
+        return Err(ScriptFault::Line(1));
     };
     read_text(alloc, text)
 }
 
 // A line as a text.
-fn read_text(alloc: Global, text: &str) -> Result<AnyLine, LineFault>
+fn read_text(alloc: Global, text: &str) -> Result<AnyLine, ScriptFault>
     ensures line { IfOk result (Spec.MeansAnyLine text.now) }
-    ensures fault { IfErr result (IsLineFault (Spec.MeansAnyLine text.now)
+    ensures fault { IfErr result (Spec.IsAnyLineFault (Spec.MeansAnyLine text.now)
         (Spec.IsLineBegun text.now)) }
 {
     if text.is_empty() {
@@ -159,14 +143,14 @@ fn sent_words(text: &str) -> Option<&str>
 }
 
 // A line that sends nothing.
-fn read_word(alloc: Global, line: &str) -> Result<AnyLine, LineFault>
+fn read_word(alloc: Global, line: &str) -> Result<AnyLine, ScriptFault>
     // A line that isn't empty, a comment or a send.
     requires some { 0 < length line.now }
     requires no_comment { IsNoComment line.now }
     requires no_send { (words : Seq ℕ) → line.now ≡ codes "send " ++ words → ⊥ }
     // What it means, or that it means nothing.
     ensures line { IfOk result (Spec.MeansAnyLine line.now) }
-    ensures fault { IfErr result (IsLineFault (Spec.MeansAnyLine line.now)
+    ensures fault { IfErr result (Spec.IsAnyLineFault (Spec.MeansAnyLine line.now)
         (Spec.IsLineBegun line.now)) }
 {
     if line == "await" {
@@ -178,11 +162,12 @@ fn read_word(alloc: Global, line: &str) -> Result<AnyLine, LineFault>
     match key_words(line) {
         Some(name) => match aid_named(name) {
             Some(aid) => Ok(AnyLine::AwaitKey(aid)),
-            None => Err(LineFault::Bad),
+            None => Err(ScriptFault::Line(1)),
         },
         None => match read_wire(alloc, line) {
             Ok(wire) => Ok(AnyLine::Wire(wire)),
-            Err(fault) => Err(fault),
+            Err(LineFault::Bad) => Err(ScriptFault::Line(1)),
+            Err(LineFault::Memory) => Err(ScriptFault::Memory),
         },
     }
 }
@@ -196,22 +181,22 @@ fn key_words(text: &str) -> Option<&str>
 }
 
 // A record to be sent: its opcode, and its body in hex where it has one.
-fn read_sent(alloc: Global, words: &str) -> Result<Record<u8>, LineFault>
+fn read_sent(alloc: Global, words: &str) -> Result<Record<u8>, ScriptFault>
     ensures record_ { IfOk result (Spec.IsSendText words.now) }
     ensures fault { IfErr result
-        (IsLineFault (Spec.IsSendText words.now) (Spec.IsAnySendBegun words.now)) }
+        (Spec.IsAnyLineFault (Spec.IsSendText words.now) (Spec.IsAnySendBegun words.now)) }
 {
     match split_word(words) {
         None => match read_opcode(words) {
             Some(opcode) => Ok(sent(opcode, Vec::new(alloc))),
-            None => Err(LineFault::Bad),
+            None => Err(ScriptFault::Line(1)),
         },
         Some((number, hex)) => match read_opcode(number) {
             Some(opcode) => match read_hex(alloc, hex) {
                 Ok(body) => Ok(sent(opcode, body)),
                 Err(fault) => Err(fault),
             },
-            None => Err(LineFault::Bad),
+            None => Err(ScriptFault::Line(1)),
         },
     }
 }
@@ -226,17 +211,17 @@ fn split_word(text: &str) -> Option<(&str, &str)>
 }
 
 // Bytes in hex, at least one.
-fn read_hex(alloc: Global, hex: &str) -> Result<Vec<u8>, LineFault>
+fn read_hex(alloc: Global, hex: &str) -> Result<Vec<u8>, ScriptFault>
     ensures body { IfOk result (λ body. IsHex hex.now body.items) }
-    ensures fault { IfErr result (IsLineFault (IsHex hex.now) (Unit {0})) }
+    ensures fault { IfErr result (Spec.IsAnyLineFault (IsHex hex.now) (Unit {0})) }
 {
     if hex.is_empty() {
-        return Err(LineFault::Bad);
+        return Err(ScriptFault::Line(1));
     }
     match hex::decode(alloc, hex) {
         Ok(body) => Ok(body),
-        Err(FromHexError::OutOfMemory) => Err(LineFault::Memory),
-        Err(_) => Err(LineFault::Bad),
+        Err(FromHexError::OutOfMemory) => Err(ScriptFault::Memory),
+        Err(_) => Err(ScriptFault::Line(1)),
     }
 }
 

@@ -1,3 +1,4 @@
 pub mod CauseTexts
 pub mod Causes
 pub mod ToldCauses
+pub mod Vocabularies

@@ -1,6 +1,5 @@
 pub mod AnswerLines
 pub mod AnswerWords
-pub mod Causes
 pub mod ElementWords
 pub mod ExtendedAnswerLines
 pub mod ExtendedAnswerWords
@@ -14,7 +13,6 @@ pub mod ItemLines
 pub mod Items
 pub mod BodyLines
 pub mod Reading
-pub mod Reads
 pub mod Lined
 pub mod Names
 pub mod WordLaws

@@ -135,12 +135,12 @@ impl From<ScriptFault> for RunFault {
     }
 }
 
-impl From<ItemsFault<'_>> for RunFault {
+impl From<ItemsFault> for RunFault {
     ghost from_gives = { λ fault told. told ≡ items_run_fault fault };
 
-    fn from(fault: ItemsFault<'_>) -> Self {
+    fn from(fault: ItemsFault) -> Self {
         match fault {
-            ItemsFault::Line(number, _) => RunFault::Line(number),
+            ItemsFault::Line(number) => RunFault::Line(number),
             ItemsFault::Memory => RunFault::Memory,
         }
     }

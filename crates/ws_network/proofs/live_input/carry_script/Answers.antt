@@ -1,0 +1,98 @@
+use Rattle.std.proofs.Common.{◌≡◌, [], ◌+◌, Bool, List, take, drop, refl, sym, ap, ◌∙◌, subst}
+use Rattle.std.specs.Prelude.{Ok}
+use Rattle.ws_code.proofs.DeviceLaws.{went_out_none}
+use Rattle.ws_text.specs.Printed.{IsPrinted}
+use Rattle.ws_live.specs.declared.live.Ran.{Ran}
+use Rattle.ws_live.specs.live.LiveText.{HaveRun, WithClosing, account, line_printing, lines_printing, ran_and, ran_by}
+use Rattle.ws_live.specs.live.Waits.{InTime}
+use Rattle.ws_live.proofs.LiveRuns.{goes_on, ends_here, breaks, split_here, taken_here}
+use Rattle.ws_network.proofs.live_input.carry_script.Goals as goal
+
+pub loop-line-init : goal.loop-line-init
+loop-line-init g c = (
+  [],
+  (refl, ap (λ (r : Ran). r.all_well) c.none-ran.ensures, refl),
+  went_out_none g.O.Sink.writer c.args.out.now.sink,
+  ap (λ (r : Ran). r.is_over) c.none-ran.ensures,
+  c.requires.works,
+  c.requires.empty,
+)
+
+pub returns-in-Err-clause-printed : goal.returns-in-Err-clause-printed
+returns-in-Err-clause-printed g c =
+    let so_far = c.loop-line.invariant in
+    let lines = c.args.lines.now in
+    let i = c.loop-line.line-index in
+    let line = c.line-item.result in
+    let runs = WithClosing (InTime (g.L.LiveMove.runs g.W.Watch.tells c.args.paint) g.L.LiveMove.waits
+    g.W.Watch.times) c.args.ready in
+    breaks runs g.O.Sink.writer ((c.args.attached.now, c.args.ahead.now), c.args.watch.now)
+    ((c.loop-line.attached, c.loop-line.ahead), c.loop-line.watch)
+    ((c.carry_next.new.attached, c.carry_next.new.ahead), c.carry_next.new.watch)
+    c.args.out.now.sink c.loop-line.out.sink c.carry_next.new.out.sink
+    (take i lines) line c.loop-line.ran so_far.0 so_far.1 so_far.2 (drop (i + 1) lines) lines
+    (split_here lines i line c.loop-line-test.true c.line-item.is) c.in-Err.fault
+    (subst (IsPrinted g.O.Sink.writer c.loop-line.out.sink c.carry_next.new.out.sink (line_printing runs
+    ((c.loop-line.attached, c.loop-line.ahead), c.loop-line.watch) line
+    ((c.carry_next.new.attached, c.carry_next.new.ahead), c.carry_next.new.watch)))
+    c.in-Err.is c.carry_next.ensures.printed)
+
+pub returns-then-ran-clause-printed : goal.returns-then-ran-clause-printed
+returns-then-ran-clause-printed g c =
+    let so_far = c.loop-line.invariant in
+    let lines = c.args.lines.now in
+    let i = c.loop-line.line-index in
+    let line = c.line-item.result in
+    let runs = WithClosing (InTime (g.L.LiveMove.runs g.W.Watch.tells c.args.paint) g.L.LiveMove.waits
+    g.W.Watch.times) c.args.ready in
+    let same : c.and-ran.result ≡ ran_and c.loop-line.ran (ran_by c.in-Ok.closing) = c.and-ran.ensures
+    ∙ ap (λ (r : Ran). ran_and c.loop-line.ran r) c.ran.ensures in
+    subst (λ (r : Ran). IsPrinted g.O.Sink.writer c.args.out.now.sink c.carry_next.new.out.sink
+    (lines_printing runs ((c.args.attached.now, c.args.ahead.now), c.args.watch.now) lines
+    ((c.carry_next.new.attached, c.carry_next.new.ahead), c.carry_next.new.watch)) (Ok r)) (sym same)
+    (ends_here runs g.O.Sink.writer ((c.args.attached.now, c.args.ahead.now), c.args.watch.now)
+    ((c.loop-line.attached, c.loop-line.ahead), c.loop-line.watch)
+    ((c.carry_next.new.attached, c.carry_next.new.ahead), c.carry_next.new.watch) c.args.out.now.sink
+    c.loop-line.out.sink c.carry_next.new.out.sink
+    (take i lines) line c.loop-line.ran so_far.0 so_far.1 so_far.2 (drop (i + 1) lines) lines
+    (split_here lines i line c.loop-line-test.true c.line-item.is) c.in-Ok.closing
+    (subst (IsPrinted g.O.Sink.writer c.loop-line.out.sink c.carry_next.new.out.sink (line_printing runs
+    ((c.loop-line.attached, c.loop-line.ahead), c.loop-line.watch) line
+    ((c.carry_next.new.attached, c.carry_next.new.ahead), c.carry_next.new.watch)))
+    c.in-Ok.is c.carry_next.ensures.printed)
+    (ap (λ (r : Ran). r.is_over) (sym same) ∙ c.if-ran.true))
+
+pub loop-line-preserved : goal.loop-line-preserved
+loop-line-preserved g c =
+    let so_far = c.loop-line.invariant in
+    let lines = c.args.lines.now in
+    let i = c.loop-line.line-index in
+    let line = c.line-item.result in
+    let runs = WithClosing (InTime (g.L.LiveMove.runs g.W.Watch.tells c.args.paint) g.L.LiveMove.waits
+    g.W.Watch.times) c.args.ready in
+    let same : c.and-ran.result ≡ ran_and c.loop-line.ran (ran_by c.in-Ok.closing) = c.and-ran.ensures
+    ∙ ap (λ (r : Ran). ran_and c.loop-line.ran r) c.ran.ensures in
+    let going = ap (λ (r : Ran). r.is_over) (sym same) ∙ c.if-ran.false in
+    let more = goes_on runs g.O.Sink.writer ((c.args.attached.now, c.args.ahead.now), c.args.watch.now)
+    ((c.loop-line.attached, c.loop-line.ahead), c.loop-line.watch)
+    ((c.carry_next.new.attached, c.carry_next.new.ahead), c.carry_next.new.watch) c.args.out.now.sink
+    c.loop-line.out.sink
+    c.carry_next.new.out.sink (take i lines) line c.loop-line.ran so_far.0 so_far.1 so_far.2 c.in-Ok.closing
+    (subst (IsPrinted g.O.Sink.writer c.loop-line.out.sink c.carry_next.new.out.sink (line_printing runs
+    ((c.loop-line.attached, c.loop-line.ahead), c.loop-line.watch) line
+    ((c.carry_next.new.attached, c.carry_next.new.ahead), c.carry_next.new.watch)))
+    c.in-Ok.is c.carry_next.ensures.printed) going in
+    let well = ap (λ (r : Ran). r.all_well) (sym same) in
+    let next = taken_here lines i line c.loop-line-test.true c.line-item.is in (
+      more.0,
+      subst (λ (b : Bool). HaveRun runs ((c.args.attached.now, c.args.ahead.now), c.args.watch.now)
+          (take (i + 1) lines) (account b more.0)
+          ((c.carry_next.new.attached, c.carry_next.new.ahead), c.carry_next.new.watch)) well
+          (subst (λ (z : List g.row.L.Denot). HaveRun runs ((c.args.attached.now, c.args.ahead.now), c.args.watch.now) z
+          (account (ran_and c.loop-line.ran (ran_by c.in-Ok.closing)).all_well more.0)
+          ((c.carry_next.new.attached, c.carry_next.new.ahead), c.carry_next.new.watch)) next more.1),
+      more.2,
+      c.if-ran.false,
+      c.in-Ok.ensures.works going,
+      c.carry_next.ensures.held,
+    )
