@@ -1,3 +1,5 @@
+-- Where the texts of addresses are cut.
+
 use Rattle.std.specs.Option.{option_map}
 use Rattle.std.specs.Prelude.{true, false, ◌==◌, MatchOption, Option, None, Some}
 use Rattle.std.specs.Str.Pattern.{FindsCharPrefix}

@@ -1,3 +1,5 @@
+-- The words of a line that waits.
+
 use Rattle.std.specs.Prelude.{codes, string_bytes, ◌==◌, Option, None, Some, MatchOption}
 use Rattle.std.proofs.Common.{◌≡◌, ℕ, List, [], ◌∷◌, ◌++◌, Bool, false, refl, sym, ap, ◌∙◌, subst}
 use Rattle.std.proofs.lemmas.Bool.{false≢true}

@@ -1,3 +1,5 @@
+-- A line that is carried out again and again.
+
 use Rattle.std.specs.Prelude.{Bool, Result, Ok, Err, replicate}
 use Rattle.std.proofs.Common.{◌≡◌, ℕ, ◌+◌, List, [], ◌∷◌, ◌++◌, true, false, inl, inr, refl, ap, subst}
 use Rattle.std.proofs.lemmas.Bool.{false≢true}

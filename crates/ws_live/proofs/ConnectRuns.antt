@@ -1,3 +1,5 @@
+-- Keys and records at a station, one more at a time.
+
 use Rattle.std.specs.Prelude.{Result, Ok, Err, Some}
 use Rattle.std.proofs.Common.{◌≡◌, ℕ, suc, ◌+◌, ◌<◌, ◌≤◌, List, [], ◌∷◌, ◌++◌, Bool, true, false, ◌&&◌, length, get_or}
 use Rattle.std.proofs.Common.{take, drop, take-append-drop, inl, inr, refl, sym, ap, ◌∙◌, subst, arith, append_assoc}

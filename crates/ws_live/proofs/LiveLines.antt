@@ -1,3 +1,5 @@
+-- What a line of a live script can't mean.
+
 use Rattle.std.specs.Prelude.{codes}
 use Rattle.std.specs.Str.{IsUtf8, bytes_eq}
 use Rattle.std.proofs.Common.{◌≡◌, ℕ, ◌<◌, List, ◌++◌, true, false, length, inl, inr, refl, sym, ap, ◌∙◌, subst, arith}

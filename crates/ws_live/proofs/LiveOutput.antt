@@ -1,3 +1,5 @@
+-- What a live session prints goes out behind a buffer, line by line.
+
 use Rattle.std.proofs.Common.{◌≡◌, ℕ, List, [], length, ap, sym, subst, arith}
 use Rattle.ws_code.specs.Device.{Writer, WentOut, FailedWithin}
 use Rattle.ws_text.specs.Printing.{IsOut}

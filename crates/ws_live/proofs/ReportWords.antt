@@ -1,3 +1,5 @@
+-- The words of a line that prints what it asks for.
+
 use Rattle.std.specs.Prelude.{codes}
 use Rattle.std.proofs.Common.{◌≡◌, ℕ, List, ◌++◌, true, refl, sym, ap, ◌∙◌, subst}
 use Rattle.ws_code.specs.Address.{IsRowAndColumn}

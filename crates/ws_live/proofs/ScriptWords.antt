@@ -1,3 +1,5 @@
+-- Words: blanks and digits.
+
 use Rattle.std.specs.Char.{digit_value}
 use Rattle.std.specs.Option.{is_some}
 use Rattle.std.specs.Prelude.{codes, Option, Some, None, MatchOption}

@@ -1,3 +1,5 @@
+-- The lines of a script, and their moves.
+
 use Rattle.std.specs.Prelude.{codes, map, Some, None}
 use Rattle.std.specs.Str.{IsUtf8, chars}
 use Rattle.std.specs.Str.Lines.{lines}

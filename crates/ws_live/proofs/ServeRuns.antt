@@ -1,3 +1,5 @@
+-- A host's lines, and what is told behind them.
+
 use Rattle.std.specs.Prelude.{Some}
 use Rattle.std.proofs.Common.{◌≡◌, ℕ, List, [], ◌∷◌, ◌++◌, false, refl}
 use Rattle.std.proofs.Common.{subst}

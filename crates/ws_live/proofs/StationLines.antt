@@ -1,3 +1,5 @@
+-- What a line of a script for a station can't mean.
+
 use Rattle.std.specs.List.{list_any}
 use Rattle.std.specs.Prelude.{codes, ◌⊎◌, Bool, false, map, [], ◌∷◌}
 use Rattle.std.specs.Str.{IsUtf8, bytes_eq, chars}

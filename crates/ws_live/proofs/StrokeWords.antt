@@ -1,3 +1,5 @@
+-- The words of a line that presses keys by the screen.
+
 use Rattle.std.specs.Prelude.{codes}
 use Rattle.std.proofs.Common.{◌≡◌, ℕ, List, ◌++◌, true, sym, ap, ◌∙◌, subst}
 use Rattle.ws_code.specs.Address.{IsRowAndColumn}

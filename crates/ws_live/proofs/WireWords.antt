@@ -1,3 +1,5 @@
+-- The lines that work on a connection itself.
+
 use Rattle.std.specs.Prelude.{codes, ◌==◌}
 use Rattle.std.proofs.Common.{◌≡◌, ℕ, List, [], ◌∷◌, ◌++◌, Bool, false, inl, inr, sym, ap, ◌∙◌, subst}
 use Rattle.std.proofs.lemmas.Bool.{false≢true}

@@ -1,3 +1,4 @@
+//! A live session: its lines, carried out one after another at an end, and what they came to.
 ghost use Rattle.std.specs.Prelude.{◌≡◌, [], false, List, ℕ, Option, IfOk};
 ghost use Rattle.ws_end.specs.attached.Attachments.{AttachedParts};
 ghost use Rattle.ws_printing.specs.Buffering.{Buffering, buffered_writer};

@@ -1,3 +1,4 @@
+//! A script of both ends, and the moves that it gives.
 ghost use Rattle.std.specs.Prelude.{IfOk, IfErr};
 ghost use Rattle.ws_live.specs.script.Script.{IsScript};
 ghost use Rattle.ws_live.specs.script.ScriptFaults.{IsScriptFault};

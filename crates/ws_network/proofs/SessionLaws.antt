@@ -1,3 +1,5 @@
+-- What follows from what a session came to.
+
 use Rattle.std.specs.Option.{is_none}
 use Rattle.std.specs.Prelude.{Option, None, Some, MatchOption, Result, IfOk, Ok}
 use Rattle.std.proofs.Common.{◌≡◌, ℕ, List, [], ◌∷◌, Bool, true, false, sym, subst, ◌∙◌, Bor}

@@ -1,3 +1,5 @@
+-- Two lists whose items take turns.
+
 use Rattle.std.proofs.Common.{◌≡◌, ℕ, suc, ◌+◌, ◌<◌, min, List, [], ◌∷◌, ◌++◌, ◌⊎◌, length, take, drop, get_or, refl}
 use Rattle.std.proofs.Common.{sym, ap, ◌∙◌, ◌-◌, append_assoc, arith, inl, inr}
 use Rattle.std.proofs.Math.Seq.{drop-cons}

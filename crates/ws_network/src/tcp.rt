@@ -1,3 +1,4 @@
+//! `play` over a TCP connection of this machine.
 ghost use Rattle.std.specs.Prelude.{◌≡◌};
 ghost use Rattle.ws_network.specs.TcpFaults.{tcp_fault, tcp_run_fault};
 

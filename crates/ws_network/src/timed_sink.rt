@@ -1,3 +1,4 @@
+//! What is written to a connection, within the time for it.
 ghost use Rattle.std.specs.Io.{WritesAtMost};
 ghost use Rattle.std.specs.Prelude.{◌≡◌};
 ghost use Rattle.ws_network.specs.Times as Spec;

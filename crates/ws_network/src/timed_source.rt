@@ -1,3 +1,4 @@
+//! What is read from a connection, within the time of a wait.
 ghost use Rattle.std.specs.Io.{ReadsAtMost};
 ghost use Rattle.std.specs.Prelude.{◌≡◌, Some, Ok, IsErr, IfOk, IfErr};
 ghost use Rattle.std_io.specs.IoError.{error_kind};

@@ -1,3 +1,4 @@
+//! The times of waits and of writes.
 ghost use Rattle.std.specs.Prelude.{◌≡◌, ℕ};
 ghost use Rattle.ws_network.specs.Times as Spec;
 

@@ -5,8 +5,8 @@ use Rattle.std.specs.Char.{is_ascii_digit}
 use Rattle.std.specs.List.{list_all}
 use Rattle.std.specs.Str.Lines.{lines}
 use Rattle.ws_program.specs.HexText.{IsHexOf}
-use Rattle.ws_program.specs.declared.recorded.RecordingFault.{RecordingFault}
-use Rattle.ws_program.specs.declared.recorded.RecordingFault.TheVariants.{Line, Memory}
+use Rattle.ws_live.specs.declared.script.ScriptFault.{ScriptFault}
+use Rattle.ws_live.specs.declared.script.ScriptFault.TheVariants.{Line, Memory}
 use Rattle.ws_program.specs.declared.words.command_line.RecordedEnd.{RecordedEnd}
 use Rattle.ws_program.specs.declared.words.command_line.RecordedEnd.TheVariants.{Host, Station}
 
@@ -59,6 +59,6 @@ pub record IsFirstOther (text : List ℕ) (number : ℕ) : Type 0 where
   pub counted : number ≡ length before + 1
 
 -- why a text gives no bytes of an end: a line that is none of a recording; or all are, and a growth was refused
-abbrev pub IsRecordingFault : RecordedEnd → List ℕ → RecordingFault → Type 0
+abbrev pub IsRecordingFault : RecordedEnd → List ℕ → ScriptFault → Type 0
 IsRecordingFault end text (Line number) = IsFirstOther text number
 IsRecordingFault end text Memory = (bytes : List ℕ) × IsSentIn end bytes text

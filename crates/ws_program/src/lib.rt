@@ -28,7 +28,7 @@ pub use hex_text::{TextFault, hex_bytes};
 pub use input::{check_file, given_words, read_input};
 pub use make::{make_stream_to, make_to};
 pub use program::{answer, answer_buffered, answer_openly, status};
-pub use recorded::{RecordingFault, recorded_bytes};
+pub use recorded::recorded_bytes;
 pub use running::{run, run_task};
 pub use show::show_to;
 pub use source_check::check_source_openly;

@@ -4,48 +4,20 @@ ghost use Rattle.std.specs.Char.{is_ascii_digit};
 ghost use Rattle.std.specs.List.{position_or_len};
 ghost use Rattle.ws_program.specs.HexText.{IsHexOf};
 ghost use Rattle.ws_program.specs.Recorded.{IsSentIn, IsRecordingFault, IsOtherLine, IsTime, piece_of, end_word};
-ghost use Rattle.ws_program.specs.InputFaults.{recording_run_fault};
 ghost use Rattle.ws_program.specs.declared.words.command_line.RecordedEnd.{RecordedEnd as AnEnd};
 
 use crate::hex_text::{hex_bytes, is_hex};
 use crate::words::RecordedEnd;
 use std::alloc::Global;
-use thiserror::Error;
-use ws_live::RunFault;
+use ws_live::ScriptFault;
 use ws_text::first_line;
-
-/// Why a recording gives no bytes.
-#[derive(Clone, Copy, Debug, PartialEq, Eq, Error)]
-pub enum RecordingFault {
-    /// This line, counted from 1, is the first that is none of a recording.
-    #[error("script line {0}")]
-    Line(u64),
-    /// A growth was refused, and all lines are of a recording.
-    #[error("memory")]
-    Memory,
-}
-
-impl From<RecordingFault> for RunFault {
-    ghost from_gives = { λ fault told. told ≡ recording_run_fault fault };
-
-    fn from(fault: RecordingFault) -> Self {
-        match fault {
-            RecordingFault::Line(number) => RunFault::Line(number),
-            RecordingFault::Memory => RunFault::Memory,
-        }
-    }
-}
 
 /// What an end sent by the lines of a recording, `MILLISECONDS host|station HEX` for each piece: its pieces, one behind
 /// another. Those of the other end are left out.
 ///
 /// `Line` where a line has another form, with the number of the first one. `Memory` where a growth was refused, and no
 /// line has: all lines are read all the same.
-pub fn recorded_bytes(
-    alloc: Global,
-    text: &[u8],
-    end: RecordedEnd,
-) -> Result<Vec<u8>, RecordingFault>
+pub fn recorded_bytes(alloc: Global, text: &[u8], end: RecordedEnd) -> Result<Vec<u8>, ScriptFault>
     ensures ok { IfOk result (λ bytes. IsSentIn end bytes.items text.now) }
     ensures fault { IfErr result (IsRecordingFault end text.now) }
 {
@@ -58,14 +30,14 @@ pub fn recorded_bytes(
         number += 1;
         match read_piece(line) {
             Some(piece) => is_whole &= add_piece(alloc, &mut sent, piece, end),
-            None => return Err(RecordingFault::Line(number)),
+            None => return Err(ScriptFault::Line(number)),
         }
         rest = behind;
     }
     if is_whole {
         Ok(sent)
     } else {
-        Err(RecordingFault::Memory)
+        Err(ScriptFault::Memory)
     }
 }
 

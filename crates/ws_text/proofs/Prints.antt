@@ -1,3 +1,5 @@
+-- A text that goes out in parts.
+
 use Rattle.ws_text.proofs.Common.{◌∙◌, ap, ◌≡◌, arith, refl, sym, [], length, ◌∷◌, List, ℕ, ◌++◌, subst, take, ◌+◌, ◌<◌}
 use Rattle.ws_text.proofs.Common.{codes, false, true, get_or, ◌≤◌, append_assoc, decimal, append-nil, ◌==◌, ◌^◌, ◌/◌}
 use Rattle.ws_text.proofs.Common.{slice_index, ◌%◌, length-append, false≢true, take_more, encode_upper}

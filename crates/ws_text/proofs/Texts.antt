@@ -1,3 +1,5 @@
+-- Texts in parts.
+
 use Rattle.ws_text.proofs.Common.{◌∙◌, ap, ◌≡◌, arith, refl, sym, [], length, ◌∷◌, List, ℕ, ◌++◌, take, ◌+◌, ◌<◌, codes}
 use Rattle.ws_text.proofs.Common.{false, true, get_or, append_assoc, Bool, append-nil, flat_map, ◌^◌, ◌/◌, ◌%◌}
 use Rattle.ws_text.proofs.Common.{flat_map-append, take_more, encode_upper, upper_digits, Element, element_line, is_put}

@@ -1,3 +1,4 @@
+//! The lines of a host's elements.
 ghost use Rattle.std.specs.Prelude.{◌≡◌, ◌++◌, codes};
 ghost use Rattle.ws_text.specs.ItemLines as Shown;
 ghost use Rattle.ws_text.specs.Printing.{Prints};

@@ -1,3 +1,4 @@
+//! The faults that end the program, and why there is no connection.
 ghost use Rattle.std.specs.Prelude.{◌≡◌};
 ghost use Rattle.ws_live.specs.asked.RunFaults.{run_fault, script_run_fault, items_run_fault};
 ghost use Rattle.std_io.specs.IoError.{error_kind};

@@ -1,3 +1,4 @@
+//! The host and port that a word names.
 ghost use Rattle.std.specs.Prelude.{◌≡◌, ◌≢◌, ◌∷◌, ℕ, List, Option, None, Some, true, false, MatchOption};
 ghost use Rattle.std.specs.Option.{option_map};
 ghost use Rattle.ws_live.specs.asked.Addresses.{IsPlainV6, IsV6, IsZone, IsPort, IsBehindHost, IsBracketed, IsNamed, IsHostText, IsHostPort, IsListening};

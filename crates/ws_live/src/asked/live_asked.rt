@@ -1,3 +1,4 @@
+//! What a command line asks of a live session.
 use crate::asked::live_address::HostPort;
 use ws_nego::TerminalType;
 use ws_printing::Paint;

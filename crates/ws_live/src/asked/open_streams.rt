@@ -1,3 +1,4 @@
+//! Which standard streams are open, and whether those that a run needs are.
 ghost use Rattle.std.specs.Prelude.{◌≡◌, None, Some, OnOk, IfErr};
 ghost use Rattle.ws_live.specs.asked.OpenStreams.{missing};
 

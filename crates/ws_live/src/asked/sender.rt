@@ -1,3 +1,4 @@
+//! Who sends the records of a stream.
 /// Who sends the stream that is read, and what it may hold.
 #[derive(Clone, Copy, Debug, PartialEq, Eq)]
 pub enum Sender {

@@ -1,3 +1,4 @@
+//! What the lines of a station's session do and print.
 ghost use Rattle.std.specs.Prelude.{◌≡◌, List, ℕ, Bool, true, false, IfOk};
 ghost use Rattle.ws_end.specs.declared.end_step.Applied.{Applied};
 ghost use Rattle.ws_live.specs.live.ConnectText as Spec;

@@ -1,3 +1,4 @@
+//! A line of a script for a station.
 ghost use Rattle.std.specs.Prelude.{◌≡◌, ◌≢◌, ◌++◌, [], ◌<◌, ℕ, List as Seq, true, length, codes, string_bytes};
 ghost use Rattle.std.specs.Prelude.{IfOk, IfErr, MatchOption};
 ghost use Rattle.ws_live.specs.live.ConnectLines as Spec;

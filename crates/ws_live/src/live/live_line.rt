@@ -1,3 +1,4 @@
+//! A line of a live script with those that belong to it, and a script of such lines.
 ghost use Rattle.std.specs.Prelude.{◌≡◌, true, false, IfOk, IfErr};
 ghost use Rattle.std.specs.Str.Lines.{lines};
 ghost use Rattle.ws_live.specs.live.LiveScript as Spec;

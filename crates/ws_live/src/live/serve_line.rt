@@ -1,3 +1,4 @@
+//! A line of a script for a host.
 ghost use Rattle.std.specs.Prelude.{◌≡◌, ◌++◌, [], ◌<◌, ℕ, List as Seq, true, length, codes, IfOk, IfErr, MatchOption};
 ghost use Rattle.ws_end.specs.declared.end_step.HostRequest.TheVariants.{Send};
 ghost use Rattle.ws_live.specs.live.LiveScript.{IsBlockFault};

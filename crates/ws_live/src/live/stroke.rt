@@ -1,3 +1,4 @@
+//! Keys that are pressed by the screen.
 ghost use Rattle.std.specs.Prelude.{◌≡◌};
 ghost use Rattle.std.specs.Option.{option_map};
 ghost use Rattle.ws_live.specs.live.Stroking as Spec;

@@ -1,3 +1,4 @@
+//! What tells the time of the waits of a session.
 ghost use Rattle.std.specs.Prelude.{◌≡◌};
 ghost use Rattle.ws_live.specs.live.Waits.{HasBegun, WatchTells, WatchTimes};
 

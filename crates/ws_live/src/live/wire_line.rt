@@ -1,3 +1,4 @@
+//! A line that works on the connection itself, carried out.
 ghost use Rattle.std.specs.Prelude.{◌≡◌, false, IfOk};
 ghost use Rattle.ws_live.specs.live.LiveText.{stops};
 ghost use Rattle.ws_live.specs.live.WireLines as Spec;

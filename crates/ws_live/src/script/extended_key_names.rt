@@ -1,3 +1,4 @@
+//! The names of keys at a display that live hosts use.
 ghost use Rattle.std.specs.Prelude.{◌≡◌};
 ghost use Rattle.ws_live.specs.script.ExtendedKeyNames.{extended_words};
 

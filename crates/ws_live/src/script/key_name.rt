@@ -1,3 +1,4 @@
+//! The names of the keys of the profile.
 ghost use Rattle.std.specs.Prelude.{◌≡◌, ◌≤◌, true, Some};
 ghost use Rattle.ws_code.specs.Aid.{is_aid};
 ghost use Rattle.ws_live.specs.script.KeyNames as Spec;

@@ -1,3 +1,4 @@
+//! The keys of a display, by the names that a script has for them.
 ghost use Rattle.std.specs.Prelude.{◌≡◌};
 ghost use Rattle.ws_live.specs.script.KeyWords.{KeyWords, profile_words};
 

@@ -1,3 +1,4 @@
+//! A line of a script of both ends.
 ghost use Rattle.std.specs.Prelude.{◌≡◌, ◌++◌, ◌∷◌, ◌<◌, [], List as Seq, true, length, codes, IfErr, OnOk};
 ghost use Rattle.std.specs.Str.{IsUtf8};
 ghost use Rattle.ws_session.specs.declared.world.Move.{Move as AMove};

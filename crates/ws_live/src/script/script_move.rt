@@ -1,3 +1,4 @@
+//! A line that is one move: a send, a key, or bytes that arrive.
 ghost use Rattle.std.specs.Prelude.{◌≡◌, ◌++◌, true, codes, IfOk, IfErr, MatchOption};
 ghost use Rattle.ws_record.specs.Body.{IsBody};
 ghost use Rattle.ws_stream.specs.Elements.{element_rules};
