@@ -42,7 +42,7 @@ module _ {R K Place U Deed Event Reply : Type 0} (d : Driving R K Place U Deed E
   come_after Then now bytes n k before items side written reply told more gone next =
       subst (λ (z : List (Act Deed)). IsTrace (protocol_of d.rules d.does.out (transitions_of d)) Then before items side z
       (written ++ reply) (told ++ more)) (sym (came_append (take n bytes) (take k (drop n bytes)))
-      ∙ ap (λ (x : List ℕ). all_came {Deed = Deed} x) (sym (take-add n k bytes)))
+      ∙ ap (λ (x : List ℕ). all_came {Request = Deed} x) (sym (take-add n k bytes)))
       (trace_on (protocol_of d.rules d.does.out (transitions_of d)) (IsReached d now) Then before items side
       (all_came (take n bytes)) (all_came (take k (drop n bytes))) written reply told more gone
       (λ b its s m size. next b its s m))
