@@ -60,7 +60,7 @@ send_fault n r =
 -- what such a host has done after a send: the record is written; at a refused one nothing
 abbrev pub any_at_send : Negotiated → Record ℕ → Option SendFault → Doing Negotiated ℕ AnyEvent
 any_at_send n r (Some fault) = idle n
-any_at_send n r None = record { state = n; written = RecordItem r ∷ []; told = [] }
+any_at_send n r None = record { state = n; written = RecordItem r ∷ []; events = [] }
 
 -- how such a host reacts: its caller sends records; no memory is wanted for what it makes of an item
 abbrev pub any_reacting : ReactingOf Negotiated ℕ (Record ℕ) AnyEvent (List ℕ)
