@@ -13,8 +13,7 @@ EARLY = "too early, before what it belongs to, `%s`"
 
 # What is bad in the lines of both ends.
 EITHER = [
-    ("wait", "unknown word `wait`"),
-    ("Show", "unknown word `Show`"),
+    ("wait", "unknown word `wait`, the nearest is `await`"),
     (" await", "a blank in front"),
     ("await ", "a blank at the end"),
     ("await  Enter", "two blanks between words"),
@@ -28,6 +27,7 @@ EITHER = [
 ]
 
 STATION = [
+    ("Show", "unknown word `Show`, the nearest is `show`"),
     ("await records", "unexpected word `records`"),
     ("await text", "a word is missing behind `text`"),
     ("await text ", "a blank at the end"),
@@ -94,18 +94,22 @@ BLOCKS = [
     ("  WRITE 00", "a word is missing behind `00`"),
     ("  WRITE 0 08", "not 2 hex digits `0`"),
     ("  WRITE 00 0808", "not 2 hex digits `0808`"),
-    ("  WRITES 00 08", "unknown word `WRITES`"),
+    ("  WRITES 00 08", "unknown word `WRITES`, the nearest is `WRITE`"),
     ("  WRITE 00 08\n  SBA 25 1", "not from 1 to 24 `25`"),
     ("  WRITE 00 08\n  TEXT \u20ac", "no byte in code page 037 for `\u20ac`"),
     ("  WRITE 00 08\n  SF 20", "a word is missing behind `20`"),
     ("  WRITE 00 08\n  SF 4000 20 x", "no number `x`"),
     ("  WRITE 00 08\n  SF 400 20 6", "not 4 hex digits `400`"),
     ("  WRITE 00 08\n  PUT", "a word is missing behind `PUT`"),
+    ("  WRITE 00 08\n  PUT 04", "an order's code, which no cell holds, `04`"),
+    ("  WRITE 00 08\n  RA 1 1 04", "an order's code, which no cell holds, `04`"),
+    ("  WRITE 00 08\n  SF 4000 FF 3", "no attribute, 20 to 3F, `FF`"),
     ("  WRITE 00 08\n   PUT C1", "a blank in front"),
     (b"  WRITE 00 08\n  TEXT \xff", "not UTF-8"),
 ]
 
 HOST = [
+    ("Show", "unknown word `Show`, the nearest is `show`"),
     ("send 10", "unexpected word `10`"),
     ("send 3 0440F3", NO_LINE),
     ("cancel ", "a blank at the end"),
@@ -113,6 +117,7 @@ HOST = [
 ]
 
 ANY = [
+    ("Show", "unknown word `Show`"),
     ("await answer", "unknown key `answer`"),
     ("cancel", "unknown word `cancel`"),
     ("show", "unknown word `show`"),
@@ -157,6 +162,23 @@ ITEMS = [
     ("  WRITE 00 08", EARLY % "WRITE"),
     ("record opcode 1\n  TEXT A", EARLY % "TEXT"),
     ("record opcode 1\n\n# none\n  WRITE 00 08\n  SBA 0 1", "not from 1 to 24 `0`"),
+    ("record opcode 1\n# none\n  READ-MDT-ALTERNATE 00 00\n  SBA 1 81", "not from 1 to 80 `81`"),
+    ("recrd opcode 1", "unknown word `recrd`, the nearest is `record`"),
+    ("record opcode 1 2", "one word too many `2`"),
+    ("record flags", "a word is missing behind `flags`"),
+    ("telnet NOP 3", "one word too many `3`"),
+    ("telnet", "a word is missing behind `telnet`"),
+    ("at x record opcode 1", "unexpected word `x`"),
+    ("record opcode 1\n  WRITE  00 08", "two blanks between words"),
+    ("record opcode 1\n  WRITE 00 08 ", "a blank at the end"),
+    ("record opcode 1\n  WRITE\t00 08", "a tab"),
+    ("record opcode 1\n  CLEAR-UNIT 3", "one word too many `3`"),
+    ("record opcode 1\n  WRITE 00 08\n  PUT C104", "an order's code, which no cell holds, `04`"),
+    ("record opcode 1\n  WRITE 00 08\n  PUT C", "no hex `C`"),
+    ("record opcode 1\n  WRITE 00 08\n  SF 3000 20 3", "no format word `3000`"),
+    ("record opcode 1\n  WRITE 00 08\n  SF 4000 1000 20 3", "no control word, 8000 to FFFF, `1000`"),
+    ("record opcode 1\n  WRITE 00 08\n  SF 4000 20 65536", "not from 0 to 65535 `65536`"),
+    ("record opcode 1\n  WRITE 00 08\n  EA 1 1 01", "unexpected word `01`"),
     ("record opcode 1\n  QUERY", "unknown word `QUERY`"),
     ("record opcode 1\ntelnet NOP\n  CLEAR-UNIT", EARLY % "CLEAR-UNIT"),
 ]
@@ -164,6 +186,7 @@ ITEMS = [
 ANSWERS = [
     ("record opcode 0\n  AT 1 1", EARLY % "AT"),
     ("record opcode 0\n  HEAD 1 1", "a word is missing behind `1`"),
+    ("record opcode 0\n  HEAD 1 1 00", "no byte of a key `00`"),
     ("record opcode 0\n  SBA 1 1", "unknown word `SBA`"),
 ]
 

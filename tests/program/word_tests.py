@@ -80,7 +80,7 @@ RUNS = [
     (["make", "--extended", "--answers", "@" + TOLD_LINES], "nonsense", 0, TOLD_MADE, ""),
     (["make", "--answers", "--extended"], ANSWER_LINES, 0, ANSWER_MADE, ""),
     (["make", "--answers"], TOLD_LINES, 2, "", "script line 2: unknown word `IMMEDIATE`\n"),
-    (["make", "--extended"], TOLD_LINES, 2, "", "script line 2: unknown word `IMMEDIATE`\n"),
+    (["make", "--extended"], TOLD_LINES, 2, "", "script line 2: unknown word `IMMEDIATE`, the nearest is `READ-IMMEDIATE`\n"),
     (["show"], COLORS, 0, COLORS_PLAIN, ""),
     (["show", "--color"], COLORS, 0, COLORS_COLORED, ""),
     (["show", "--color", "@" + COLORS], "", 0, COLORS_COLORED, ""),

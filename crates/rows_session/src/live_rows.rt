@@ -27,6 +27,8 @@ impl<S> Watch<S> for Counter {
 
     ghost tells = { watch_tells (λ source late. Unit {0}) (λ source quiet. Unit {0}) };
 
+    fn end_waits(&mut self) {}
+
     fn begin(&mut self, _source: &S, _span: WaitSpan) {
         self.begun = self.begun.saturating_add(1);
     }

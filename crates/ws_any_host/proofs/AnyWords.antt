@@ -11,15 +11,16 @@ use Rattle.ws_text.specs.Words.{IsHex}
 use Rattle.ws_text.specs.declared.items.TextFault.TheVariants as items
 use Rattle.ws_live.specs.declared.live.wire_line.WireLine.{WireLine}
 use Rattle.ws_live.specs.declared.live.wire_line.WireLine.TheVariants.{Raw, Pause, Close}
-use Rattle.ws_live.specs.declared.script.ScriptFault.{ScriptFault}
-use Rattle.ws_live.specs.declared.script.ScriptFault.TheVariants.{Line, Memory}
+use Rattle.ws_live.specs.declared.script.script_line.LineFault.{LineFault}
+use Rattle.ws_live.specs.declared.script.script_line.LineFault.TheVariants.{Bad as IsBad, Memory}
+use Rattle.ws_text.specs.declared.cause.Cause.{Cause}
 use Rattle.ws_live.specs.live.LiveScript.{IsBlockFault}
 use Rattle.ws_live.specs.live.WireLines.{MeansWire}
-use Rattle.ws_live.specs.script.ScriptFaults.{has_no_blank}
+use Rattle.ws_live.specs.script.ScriptFaults.{IsLineFault, has_no_blank}
 use Rattle.ws_live.proofs.ScriptWords.{blank_inside, split_unique, digits_have_no_blank}
-use Rattle.ws_any_host.specs.AnyLines.{AreExtendedBadAt, IsAnyLineFault, any_language, IsLineBegun, IsOpcode}
-use Rattle.ws_any_host.specs.AnyLines.{IsAnySendBegun, IsSendText, IsWordFault, MeansAnyLine, OpensAnyBlock, SayBytes}
-use Rattle.ws_any_host.specs.AnyLines.{SendsAnyOpcodeAlone}
+use Rattle.ws_any_host.specs.AnyLines.{AreExtendedBadAt, any_language}
+use Rattle.ws_any_host.specs.AnyLines.{IsLineBegun, IsOpcode, IsAnySendBegun, IsSendText, IsWordFault, MeansAnyLine}
+use Rattle.ws_any_host.specs.AnyLines.{OpensAnyBlock, SayBytes, SendsAnyOpcodeAlone}
 use Rattle.ws_any_host.specs.declared.any_line.AnyLine.{AnyLine}
 use Rattle.ws_any_host.specs.declared.any_line.AnyLine.TheVariants.{Nothing, Send, Await, AwaitKey, Wire, Bad}
 
@@ -69,10 +70,10 @@ sends_only line words e none (Wire wire) m =
 sends_only line words e none (Bad cause) m = m
 
 -- the fault of its words is the line's
-pub line_fault : (line words : List ℕ) → line ≡ codes "send " ++ words → (fault : ScriptFault)
-    → IsAnyLineFault (IsSendText words) (IsAnySendBegun words) fault → IsAnyLineFault (MeansAnyLine line)
+pub line_fault : (line words : List ℕ) → line ≡ codes "send " ++ words → (fault : LineFault)
+    → IsLineFault (IsSendText words) (IsAnySendBegun words) fault → IsLineFault (MeansAnyLine line)
     (IsLineBegun line) fault
-line_fault line words e (Line at) f = (f.0, sends_only line words e f.1)
+line_fault line words e IsBad f = sends_only line words e f
 line_fault line words e Memory f = inl (words, e, f)
 
 -- a line says one opcode
@@ -81,16 +82,16 @@ one_opcode line m n o p a b =
     opcode_same p o (b.2.2 ∙ ap (digits_value 10) (same_words line m n a.1 b.1) ∙ sym a.2.2)
 
 -- the elements behind a line are bad
-pub bad_words : (line number : List ℕ) (elements : List (List ℕ)) (opcode : Opcode) (at told : ℕ)
-    → SendsAnyOpcodeAlone line number opcode → elements ≢ [] → IsWordFault elements opcode (items.Line at)
-    → ((body : List ℕ) → SayBytes elements opcode body → items.Line at ≡ items.Memory)
-    → AreExtendedBadAt opcode elements told
-    → IsBlockFault any_language line elements (Line told)
-bad_words line number elements opcode at told alone some bad only place = (
+pub bad_words : (line number : List ℕ) (elements : List (List ℕ)) (opcode : Opcode) (at told : ℕ) (cause : Cause)
+    → SendsAnyOpcodeAlone line number opcode → elements ≢ [] → IsWordFault elements opcode (items.Line at cause)
+    → ((body : List ℕ) → SayBytes elements opcode body → items.Line at cause ≡ items.Memory)
+    → AreExtendedBadAt opcode elements told cause
+    → IsBlockFault any_language line elements (items.Line told cause)
+bad_words line number elements opcode at told cause alone some bad only place = (
   (λ read m. elim m [
     | inl p ↦ some p.0
     | inr p ↦
-        let f : items.Line at ≡ items.Memory = only p.1.2
+        let f : items.Line at cause ≡ items.Memory = only p.1.2
         (subst (λ (o : Opcode). SayBytes elements o p.1.2) (one_opcode line number p.1.0 opcode p.1.1 alone p.1.3)
         p.1.4) in
         cc
@@ -100,16 +101,16 @@ bad_words line number elements opcode at told alone some bad only place = (
 
 -- no elements may stand behind a line
 pub no_words : (line : List ℕ) (elements : List (List ℕ)) → elements ≢ [] → (OpensAnyBlock line → ⊥)
-    → IsBlockFault any_language line elements (Line 1)
-no_words line elements some other = (
+    → (cause : Cause) → IsBlockFault any_language line elements (items.Line 1 cause)
+no_words line elements some other cause = (
   (λ read m. elim m [ inl p ↦ some p.0 | inr p ↦ other (p.1.0, p.1.1, p.1.3) ]),
   inl (refl, inr other),
 )
 
 -- the fault of a body in hex is that of the words
 pub hex_fault : (words number hex : List ℕ) → words ≡ (number ++ codes " ") ++ hex → has_no_blank number ≡ true
-    → (opcode : Opcode) → IsOpcode number opcode → (fault : ScriptFault) → IsAnyLineFault (IsHex hex) (Unit {0}) fault
-    → IsAnyLineFault (IsSendText words) (IsAnySendBegun words) fault
-hex_fault words number hex e free opcode is (Line at) f =
-    (f.0, λ r s. (let p = two_words words number hex e free r s in f.1 p.1 p.3))
+    → (opcode : Opcode) → IsOpcode number opcode → (fault : LineFault) → IsLineFault (IsHex hex) (Unit {0}) fault
+    → IsLineFault (IsSendText words) (IsAnySendBegun words) fault
+hex_fault words number hex e free opcode is IsBad f =
+    λ r s. (let p = two_words words number hex e free r s in f p.1 p.3)
 hex_fault words number hex e free opcode is Memory f = (number, hex, opcode, e, is)

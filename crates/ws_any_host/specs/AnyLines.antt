@@ -17,8 +17,9 @@ use Rattle.ws_live.specs.script.KeyNames.{aid_named}
 use Rattle.ws_live.specs.live.LiveScript.{LineLanguage}
 use Rattle.ws_live.specs.live.ServeLines.{IsIdle}
 use Rattle.ws_live.specs.live.WireLines.{IsWireBegun, MeansWire}
-use Rattle.ws_live.specs.declared.script.ScriptFault.{ScriptFault}
-use Rattle.ws_live.specs.declared.script.ScriptFault.TheVariants.{Line, Memory}
+use Rattle.ws_live.specs.cause.Causes.{IsCause}
+use Rattle.ws_live.specs.declared.cause.vocabulary.Vocabulary.TheVariants.{AnyHost}
+use Rattle.ws_text.specs.declared.cause.Cause.{Cause}
 use Rattle.ws_any_host.specs.declared.any_line.AnyLine.{AnyLine}
 use Rattle.ws_any_host.specs.declared.any_line.AnyLine.TheVariants.{Nothing, Send, Await, AwaitKey, Wire, Bad}
 
@@ -94,23 +95,18 @@ IsAnyLine line elements read = ((elements ≡ []) × IsOneAnyLine line read)
 abbrev pub BeginsAnyLine : List ℕ → Type 0
 BeginsAnyLine line = (IsUtf8 line × IsLineBegun line) ⊎ OpensAnyBlock line
 
--- where elements are bad after their line, which is the first: at the first line that adds none to the record, counted
--- as far as 64 bits count
-abbrev pub AreExtendedBadAt : Opcode → List (List ℕ) → ℕ → Type 0
-AreExtendedBadAt opcode elements at = (number : ℕ) × IsWordFault elements opcode (items.Line number)
+-- where elements are bad after their line, which is the first, and for which cause: at the first line that adds none to
+-- the record, counted as far as 64 bits count
+abbrev pub AreExtendedBadAt : Opcode → List (List ℕ) → ℕ → Cause → Type 0
+AreExtendedBadAt opcode elements at cause = (number : ℕ) × IsWordFault elements opcode (items.Line number cause)
     × (at ≡ min (number + 1) (2 ^ 64 - 1))
 
 -- where a line is bad with the elements after it: at itself, or in these
-abbrev pub IsBadAnyLineAt : List ℕ → List (List ℕ) → ℕ → Type 0
-IsBadAnyLineAt line elements at = ((at ≡ 1) × ((elements ≡ []) ⊎ (OpensAnyBlock line → ⊥)))
+abbrev pub IsBadAnyLineAt : List ℕ → List (List ℕ) → ℕ → Cause → Type 0
+IsBadAnyLineAt line elements at cause =
+    ((at ≡ 1) × (((elements ≡ []) × IsCause AnyHost line cause) ⊎ (OpensAnyBlock line → ⊥)))
     ⊎ ((number : List ℕ) × (opcode : Opcode) × SendsAnyOpcodeAlone line number opcode
-    × AreExtendedBadAt opcode elements at)
-
--- why a line, or its words, isn't read: it is the bad one, and means nothing; or a growth was refused, and it is good
--- up to there
-abbrev pub IsAnyLineFault : {X : Type 0} → (X → Type 0) → Type 0 → ScriptFault → Type 0
-IsAnyLineFault {X} IsRead IsGood (Line at) = (at ≡ 1) × ((x : X) → IsRead x → ⊥)
-IsAnyLineFault IsRead IsGood Memory = IsGood
+    × AreExtendedBadAt opcode elements at cause)
 
 -- the lines of such scripts
 abbrev pub any_language : LineLanguage AnyLine

@@ -1,9 +1,10 @@
-//! A line of a script for a host that takes any record.
+//! The lines of a script for a host that takes any record.
 ghost use Rattle.std.specs.Prelude.{◌≡◌, ◌++◌, [], ◌<◌, ℕ, List as Seq, true, length, codes, IfOk, IfErr, MatchOption};
 ghost use Rattle.ws_code.specs.Code.{spelling_of};
 ghost use Rattle.ws_extended.specs.ExtendedElements.{extended_rules};
 ghost use Rattle.ws_live.specs.live.LiveScript.{IsBlockFault};
-ghost use Rattle.ws_live.specs.script.ScriptFaults.{IsNoComment, has_no_blank};
+ghost use Rattle.std.specs.Str.{IsUtf8};
+ghost use Rattle.ws_live.specs.script.ScriptFaults.{IsLineFault, IsNoComment, has_no_blank};
 ghost use Rattle.ws_text.specs.Words.{IsHex};
 ghost use Rattle.std.specs.Str.Lines.{lines};
 ghost use Rattle.ws_any_host.specs.AnyLines.{IsAnyLine, OpensAnyBlock, any_language};
@@ -15,9 +16,9 @@ use std::alloc::{AllocError, Global};
 use std::str;
 use ws_code::{Aid, Body, List};
 use ws_extended::{ExtendedCommands, ExtendedElement};
-use ws_live::{LineFault, LiveLine, ScriptFault, WireLine, aid_named, read_wire};
+use ws_live::{LineFault, LiveLine, Vocabulary, WireLine, aid_named, line_cause, read_wire};
 use ws_record::{Opcode, Record};
-use ws_text::{TextFault, read_elements, read_number};
+use ws_text::{Cause, TextFault, read_elements, read_number};
 
 /// A line of a script for a host that takes any record.
 #[derive(Drop)]
@@ -43,17 +44,19 @@ impl LiveLine for AnyLine {
         sent_alone(line).is_some()
     }
 
-    fn read(alloc: Global, line: &[u8], inside: &[u8]) -> Result<Self, ScriptFault> {
+    fn read<'a>(alloc: Global, line: &'a [u8], inside: &'a [u8]) -> Result<Self, TextFault<'a>> {
         if inside.is_empty() {
             return read_alone(alloc, line);
         }
         match sent_alone(line) {
             Some(opcode) => match read_words(alloc, opcode, inside) {
                 Ok(body) => Ok(AnyLine::Send(sent(opcode, body))),
-                Err(TextFault::Line(at)) => Err(ScriptFault::Line(at.saturating_add(1))),
-                Err(TextFault::Memory) => Err(ScriptFault::Memory),
+                Err(TextFault::Line(at, cause)) => {
+                    Err(TextFault::Line(at.saturating_add(1), cause))
+                }
+                Err(TextFault::Memory) => Err(TextFault::Memory),
             },
-            None => Err(ScriptFault::Line(1)),
+            None => Err(TextFault::Line(1, Cause::Other)),
         }
     }
 
@@ -74,7 +77,7 @@ fn sent(opcode: Opcode, body: Vec<u8>) -> Record<u8>
 }
 
 // The bytes of the elements that the lines of a text say of a record of the opcode.
-fn read_words(alloc: Global, opcode: Opcode, text: &[u8]) -> Result<Vec<u8>, TextFault>
+fn read_words<'a>(alloc: Global, opcode: Opcode, text: &'a [u8]) -> Result<Vec<u8>, TextFault<'a>>
     ensures body { IfOk result (λ body. Spec.SayBytes (lines text.now) opcode body.items) }
     ensures fault { IfErr result (Spec.IsWordFault (lines text.now) opcode) }
     ensures only { IfErr result (λ fault. (body : Seq ℕ)
@@ -103,20 +106,33 @@ fn spelled(alloc: Global, elements: &[ExtendedElement]) -> Result<Vec<u8>, Alloc
 }
 
 // A line that no other belongs to.
-fn read_alone(alloc: Global, line: &[u8]) -> Result<AnyLine, ScriptFault>
+fn read_alone<'a>(alloc: Global, line: &'a [u8]) -> Result<AnyLine, TextFault<'a>>
     ensures line { IfOk result (IsAnyLine line.now []) }
     ensures fault { IfErr result (IsBlockFault any_language line.now []) }
 {
+    match read_line(alloc, line) {
+        Ok(read) => Ok(read),
+        Err(LineFault::Bad) => Err(TextFault::Line(1, line_cause(line, Vocabulary::AnyHost))),
+        Err(LineFault::Memory) => Err(TextFault::Memory),
+    }
+}
+
+// A line by itself.
+fn read_line(alloc: Global, line: &[u8]) -> Result<AnyLine, LineFault>
+    ensures line { IfOk result (Spec.IsOneAnyLine line.now) }
+    ensures fault { IfErr result (IsLineFault (Spec.IsOneAnyLine line.now)
+        (IsUtf8 line.now × Spec.IsLineBegun line.now)) }
+{
     let Ok(text) = str::from_utf8(line) else {
-        return Err(ScriptFault::Line(1));
+        return Err(LineFault::Bad);
     };
     read_text(alloc, text)
 }
 
 // A line as a text.
-fn read_text(alloc: Global, text: &str) -> Result<AnyLine, ScriptFault>
+fn read_text(alloc: Global, text: &str) -> Result<AnyLine, LineFault>
     ensures line { IfOk result (Spec.MeansAnyLine text.now) }
-    ensures fault { IfErr result (Spec.IsAnyLineFault (Spec.MeansAnyLine text.now)
+    ensures fault { IfErr result (IsLineFault (Spec.MeansAnyLine text.now)
         (Spec.IsLineBegun text.now)) }
 {
     if text.is_empty() {
@@ -143,14 +159,14 @@ fn sent_words(text: &str) -> Option<&str>
 }
 
 // A line that sends nothing.
-fn read_word(alloc: Global, line: &str) -> Result<AnyLine, ScriptFault>
+fn read_word(alloc: Global, line: &str) -> Result<AnyLine, LineFault>
     // A line that isn't empty, a comment or a send.
     requires some { 0 < length line.now }
     requires no_comment { IsNoComment line.now }
     requires no_send { (words : Seq ℕ) → line.now ≡ codes "send " ++ words → ⊥ }
     // What it means, or that it means nothing.
     ensures line { IfOk result (Spec.MeansAnyLine line.now) }
-    ensures fault { IfErr result (Spec.IsAnyLineFault (Spec.MeansAnyLine line.now)
+    ensures fault { IfErr result (IsLineFault (Spec.MeansAnyLine line.now)
         (Spec.IsLineBegun line.now)) }
 {
     if line == "await" {
@@ -162,12 +178,11 @@ fn read_word(alloc: Global, line: &str) -> Result<AnyLine, ScriptFault>
     match key_words(line) {
         Some(name) => match aid_named(name) {
             Some(aid) => Ok(AnyLine::AwaitKey(aid)),
-            None => Err(ScriptFault::Line(1)),
+            None => Err(LineFault::Bad),
         },
         None => match read_wire(alloc, line) {
             Ok(wire) => Ok(AnyLine::Wire(wire)),
-            Err(LineFault::Bad) => Err(ScriptFault::Line(1)),
-            Err(LineFault::Memory) => Err(ScriptFault::Memory),
+            Err(fault) => Err(fault),
         },
     }
 }
@@ -181,22 +196,22 @@ fn key_words(text: &str) -> Option<&str>
 }
 
 // A record to be sent: its opcode, and its body in hex where it has one.
-fn read_sent(alloc: Global, words: &str) -> Result<Record<u8>, ScriptFault>
+fn read_sent(alloc: Global, words: &str) -> Result<Record<u8>, LineFault>
     ensures record_ { IfOk result (Spec.IsSendText words.now) }
     ensures fault { IfErr result
-        (Spec.IsAnyLineFault (Spec.IsSendText words.now) (Spec.IsAnySendBegun words.now)) }
+        (IsLineFault (Spec.IsSendText words.now) (Spec.IsAnySendBegun words.now)) }
 {
     match split_word(words) {
         None => match read_opcode(words) {
             Some(opcode) => Ok(sent(opcode, Vec::new(alloc))),
-            None => Err(ScriptFault::Line(1)),
+            None => Err(LineFault::Bad),
         },
         Some((number, hex)) => match read_opcode(number) {
             Some(opcode) => match read_hex(alloc, hex) {
                 Ok(body) => Ok(sent(opcode, body)),
                 Err(fault) => Err(fault),
             },
-            None => Err(ScriptFault::Line(1)),
+            None => Err(LineFault::Bad),
         },
     }
 }
@@ -211,17 +226,17 @@ fn split_word(text: &str) -> Option<(&str, &str)>
 }
 
 // Bytes in hex, at least one.
-fn read_hex(alloc: Global, hex: &str) -> Result<Vec<u8>, ScriptFault>
+fn read_hex(alloc: Global, hex: &str) -> Result<Vec<u8>, LineFault>
     ensures body { IfOk result (λ body. IsHex hex.now body.items) }
-    ensures fault { IfErr result (Spec.IsAnyLineFault (IsHex hex.now) (Unit {0})) }
+    ensures fault { IfErr result (IsLineFault (IsHex hex.now) (Unit {0})) }
 {
     if hex.is_empty() {
-        return Err(ScriptFault::Line(1));
+        return Err(LineFault::Bad);
     }
     match hex::decode(alloc, hex) {
         Ok(body) => Ok(body),
-        Err(FromHexError::OutOfMemory) => Err(ScriptFault::Memory),
-        Err(_) => Err(ScriptFault::Line(1)),
+        Err(FromHexError::OutOfMemory) => Err(LineFault::Memory),
+        Err(_) => Err(LineFault::Bad),
     }
 }
 

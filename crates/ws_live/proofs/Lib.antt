@@ -1,7 +1,6 @@
 pub mod AddressTexts
 pub mod AwaitedWords
 pub mod CarryOns
-pub mod CauseTexts
 pub mod ConnectRuns
 pub mod LineFronts
 pub mod LiveLines

@@ -7,6 +7,7 @@ use Rattle.ws_text.specs.FirstLine.{IsBehindLines}
 use Rattle.ws_live.specs.live.LiveScript.{is_indented, AreIndented, BeginsFlush, HasInside, IsBadBlock, IsBlock}
 use Rattle.ws_live.specs.live.LiveScript.{HasBlock, LineLanguage, text_cut, MeanThese, AreLiveLines}
 use Rattle.ws_live.specs.live.LiveScript.{IsFirstBadLiveLine, IsGoodBlockSoFar, IsLiveScriptSoFar}
+use Rattle.ws_text.specs.declared.cause.Cause.{Cause}
 use Rattle.ws_live.proofs.LineFronts.{behind_more, lines_behind}
 
 -- The lines of a live script, one more at a time.
@@ -120,10 +121,10 @@ module _ {L : Type 0} (language : LineLanguage L) where
       r.good
 
   pub reads_bad : (text rest next behind line inside : List ℕ)
-      (read : List L) (number count at told : ℕ) → Reads text rest read number → lines rest ≡ line ∷ lines next
-      → HasBlock language line next (text_cut inside count behind) → IsBadBlock language line (lines inside) at
-      → told ≡ min (number + at) (2 ^ 64 - 1) → IsFirstBadLiveLine language text told
-  reads_bad text rest next behind line inside read number count at told r e b bad is =
+      (read : List L) (number count at told : ℕ) (cause : Cause) → Reads text rest read number → lines rest ≡ line ∷ lines next
+      → HasBlock language line next (text_cut inside count behind) → IsBadBlock language line (lines inside) at cause
+      → told ≡ min (number + at) (2 ^ 64 - 1) → IsFirstBadLiveLine language text told cause
+  reads_bad text rest next behind line inside read number count at told cause r e b bad is =
       let front = ahead rest behind line next inside count e b in
       record {
         before = r.before;

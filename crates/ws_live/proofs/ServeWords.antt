@@ -13,7 +13,7 @@ use Rattle.ws_text.specs.BodyLines.{AddUnits, IsAddFault, new_record}
 use Rattle.ws_text.specs.ElementWords.{element_wording}
 use Rattle.ws_text.specs.declared.items.TextFault.TheVariants as items
 use Rattle.ws_text.proofs.LineEnds.{some_lines}
-use Rattle.ws_live.specs.declared.script.ScriptFault.TheVariants.{Line}
+use Rattle.ws_text.specs.declared.cause.Cause.{Cause}
 use Rattle.ws_live.specs.live.LiveScript.{IsBlockFault}
 use Rattle.ws_live.specs.live.ServeLines.{AreBadAt, OpensHostBlock, SendsAlone, host_language}
 
@@ -33,17 +33,17 @@ one_opcode line m n o p a b =
     opcode_same p o (b.2.0.2 ∙ ap (digits_value 10) (same_number line m n a.1 b.1) ∙ sym a.2.0.2)
 
 -- the elements behind a line are bad
-pub bad_words : (line number : List ℕ) (elements : List (List ℕ)) (opcode : Opcode) (at told : ℕ)
+pub bad_words : (line number : List ℕ) (elements : List (List ℕ)) (opcode : Opcode) (at told : ℕ) (cause : Cause)
     → SendsAlone line number opcode → elements ≢ []
-    → IsAddFault element_rules element_wording elements (new_record opcode) (items.Line at)
+    → IsAddFault element_rules element_wording elements (new_record opcode) (items.Line at cause)
     → ((r : Record Element) → AddUnits element_rules element_wording elements (new_record opcode) r
-    → items.Line at ≡ items.Memory) → AreBadAt opcode elements told
-    → IsBlockFault host_language line elements (Line told)
-bad_words line number elements opcode at told alone some bad only place = (
+    → items.Line at cause ≡ items.Memory) → AreBadAt opcode elements told cause
+    → IsBlockFault host_language line elements (items.Line told cause)
+bad_words line number elements opcode at told cause alone some bad only place = (
   (λ read m. elim m [
     | inl p ↦ some p.0
     | inr p ↦
-        let f : items.Line at ≡ items.Memory = only p.1.2
+        let f : items.Line at cause ≡ items.Memory = only p.1.2
         (subst (λ (o : Opcode). AddUnits element_rules element_wording elements (new_record o) p.1.2)
         (one_opcode line number p.1.0 opcode p.1.1 alone p.1.3) p.1.4) in
         cc
@@ -53,8 +53,8 @@ bad_words line number elements opcode at told alone some bad only place = (
 
 -- no elements may stand behind a line
 pub no_words : (line : List ℕ) (elements : List (List ℕ)) → elements ≢ [] → (OpensHostBlock line → ⊥)
-    → IsBlockFault host_language line elements (Line 1)
-no_words line elements some other = (
+    → (cause : Cause) → IsBlockFault host_language line elements (items.Line 1 cause)
+no_words line elements some other cause = (
   (λ read m. elim m [ inl p ↦ some p.0 | inr p ↦ other (p.1.0, p.1.1, p.1.3) ]),
   inl (refl, inr other),
 )

@@ -1,4 +1,3 @@
 pub mod CauseTexts
 pub mod Causes
 pub mod ToldCauses
-pub mod Vocabularies

@@ -1,56 +1,20 @@
+//! A cause in words.
 ghost use Rattle.std.specs.Prelude.{◌≡◌, ◌++◌, List, ℕ, IfOk, string_bytes};
 ghost use Rattle.ws_live.specs.cause.CauseTexts as Spec;
 
 pub(crate) mod cause_kinds;
-pub(crate) mod cause_lines;
 pub(crate) mod cause_words;
 pub(crate) mod causes;
+pub(crate) mod nearest;
 pub(crate) mod told_line;
 pub(crate) mod vocabulary;
 
+use crate::cause::nearest::nearest;
 use std::alloc::{AllocError, Global};
+use ws_text::{Asked, Cause};
 
 // How many characters of a word are told.
 const SHOWN: usize = 60;
-
-/// Why a line is no line of a script, with the word at fault.
-#[derive(Clone, Copy)]
-pub enum Cause<'a> {
-    NotUtf8,
-    Tab,
-    TwoBlanks,
-    BlankInFront,
-    BlankAtEnd,
-    /// No such line begins with it.
-    UnknownWord(&'a str),
-    /// It is another word than may stand there.
-    Unexpected(&'a str),
-    UnknownKey(&'a str),
-    NoNumber(&'a str),
-    OutOfRange {
-        word: &'a str,
-        least: u32,
-        most: u32,
-    },
-    /// It isn't bytes of two hex digits each.
-    NoHex(&'a str),
-    /// It has more hex digits or less.
-    OtherLength {
-        word: &'a str,
-        digits: u32,
-    },
-    /// Code page 037 has no byte for it.
-    NoByte(char),
-    /// Behind this one.
-    Missing(&'a str),
-    TooMany(&'a str),
-    /// It stands before what it belongs to.
-    Early(&'a str),
-    /// It has two blanks in front, and belongs to no line.
-    Apart,
-    /// Nothing more is known.
-    Other,
-}
 
 /// A cause in words. Of the word at fault the first 60 characters stand in it; a control character and `\` as `\HH`.
 pub fn cause_text(alloc: Global, cause: Cause<'_>) -> Result<String, AllocError>
@@ -59,8 +23,8 @@ pub fn cause_text(alloc: Global, cause: Cause<'_>) -> Result<String, AllocError>
 {
     let said = saying(cause);
     match cause {
-        Cause::UnknownWord(word)
-        | Cause::Unexpected(word)
+        Cause::UnknownWord { word, known } => with_nearest(alloc, said, word, known),
+        Cause::Unexpected(word)
         | Cause::UnknownKey(word)
         | Cause::NoNumber(word)
         | Cause::NoHex(word)
@@ -69,6 +33,7 @@ pub fn cause_text(alloc: Global, cause: Cause<'_>) -> Result<String, AllocError>
         | Cause::Early(word) => with_word(alloc, said, word),
         Cause::OutOfRange { word, least, most } => with_range(alloc, said, word, least, most),
         Cause::OtherLength { word, digits } => with_length(alloc, said, word, digits),
+        Cause::Illegal { number, .. } => with_number(alloc, said, number),
         Cause::NoByte(character) => with_character(alloc, said, character),
         _ => alone(alloc, said),
     }
@@ -79,6 +44,27 @@ fn alone(alloc: Global, said: &str) -> Result<String, AllocError>
     ensures { IfOk result (λ text. (shown : List ℕ) × (string_bytes text ≡ said.now ++ shown)) }
 {
     joined(alloc, said, "")
+}
+
+// What is said of an unknown word, and of the known one that is nearest to it.
+fn with_nearest(alloc: Global, said: &str, word: &str, known: &str) -> Result<String, AllocError>
+    ensures { IfOk result (λ text. (shown : List ℕ) × (string_bytes text ≡ said.now ++ shown)) }
+{
+    let mut shown = quoted(alloc, word)?;
+    if let Some(name) = nearest(word, known) {
+        shown.push_str(", the nearest is `")?;
+        shown.push_str(name)?;
+        shown.push('`')?;
+    }
+    joined(alloc, said, shown.as_str())
+}
+
+// What is said of a number in hex.
+fn with_number(alloc: Global, said: &str, number: u16) -> Result<String, AllocError>
+    ensures { IfOk result (λ text. (shown : List ℕ) × (string_bytes text ≡ said.now ++ shown)) }
+{
+    let shown = format!(in alloc; " `{number:02X}`")?;
+    joined(alloc, said, shown.as_str())
 }
 
 // What is said of a word that is in no range.
@@ -170,18 +156,33 @@ fn saying(cause: Cause<'_>) -> &'static str
         Cause::TwoBlanks => "two blanks between words",
         Cause::BlankInFront => "a blank in front",
         Cause::BlankAtEnd => "a blank at the end",
-        Cause::UnknownWord(_) => "unknown word",
+        Cause::UnknownWord { .. } => "unknown word",
         Cause::Unexpected(_) => "unexpected word",
         Cause::UnknownKey(_) => "unknown key",
         Cause::NoNumber(_) => "no number",
         Cause::NoHex(_) => "no hex",
+        Cause::Illegal { asked, .. } => saying_asked(asked),
         Cause::NoByte(_) => "no byte in code page 037 for",
         Cause::Missing(_) => "a word is missing behind",
         Cause::TooMany(_) => "one word too many",
         Cause::Early(_) => "too early, before what it belongs to,",
         Cause::Apart => "two blanks in front, but it belongs to no line",
+        Cause::NoRoom => "a record has no room for it",
         Cause::OutOfRange { .. } => "not from ",
         Cause::OtherLength { .. } => "not ",
         Cause::Other => "it isn't a line of this script",
+    }
+}
+
+// The same of a number that isn't what is asked.
+fn saying_asked(asked: Asked) -> &'static str
+    ensures { result.now ≡ Spec.saying_asked asked }
+{
+    match asked {
+        Asked::CellByte => "an order's code, which no cell holds,",
+        Asked::Attribute => "no attribute, 20 to 3F,",
+        Asked::FormatWord => "no format word",
+        Asked::ControlWord => "no control word, 8000 to FFFF,",
+        Asked::Key => "no byte of a key",
     }
 }

@@ -173,8 +173,35 @@ pub fn carry_lines<E, S, K, L: LiveMove<E, S, K>, W: Watch<S>, O: Sink>(
     Ok(ran)
 }
 
-/// Carries a line out, as `carry_lines` does.
+/// Carries a line out, as `carry_lines` does. The waits of those before are over.
 pub fn carry_line<E, S, K, L: LiveMove<E, S, K>, W: Watch<S>, O: Sink>(
+    attached: &mut Attached<E, S, K>,
+    ahead: &mut u64,
+    watch: &mut W,
+    line: &L,
+    ready: bool,
+    paint: Paint,
+    out: &mut BufferedSink<O>,
+) -> Result<Closing, Fault>
+    // At an end that works, with nothing held back.
+    requires works { attached.old.broken ≡ false }
+    requires empty { out.old.held ≡ [] }
+    // What was printed, and how it ended.
+    ensures printed { IsPrinted O.writer out.old.sink out.new.sink (Spec.line_printing
+        (Spec.WithClosing (InTime (L.runs W.tells paint) L.waits W.times) ready)
+        ((attached.old, ahead.old), watch.old) line.now
+        ((attached.new, ahead.new), watch.new)) result }
+    // The end works on unless the session is over, and nothing is held back.
+    ensures works { IfOk result (λ closing.
+        Spec.stops closing ≡ false → attached.new.broken ≡ false) }
+    ensures held { out.new.held ≡ [] }
+{
+    watch.end_waits();
+    carry_alone(attached, ahead, watch, line, ready, paint, out)
+}
+
+// The same of a line before which no wait stands.
+fn carry_alone<E, S, K, L: LiveMove<E, S, K>, W: Watch<S>, O: Sink>(
     attached: &mut Attached<E, S, K>,
     ahead: &mut u64,
     watch: &mut W,

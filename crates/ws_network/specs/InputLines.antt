@@ -4,12 +4,12 @@ use Rattle.std.specs.Prelude.{◌≡◌, ℕ, ◌+◌, ◌-◌, ◌^◌, List, �
 use Rattle.std.specs.Global.{Global}
 use Rattle.std_io.specs.declared.io.kind.ErrorKind.{ErrorKind}
 use Rattle.std_io.specs.declared.io.kind.ErrorKind.TheVariants.{OutOfMemory}
-use Rattle.ws_live.specs.cause.ToldCauses.{TellsCause}
+use Rattle.ws_live.specs.cause.ToldCauses.{SaysCause}
 use Rattle.ws_live.specs.live.LiveScript.{IsBadBlock, LineLanguage}
 use Rattle.ws_live.specs.declared.asked.fault.RunFault.TheVariants.{Read, Memory}
 use Rattle.ws_live.specs.declared.asked.fault.ToldFault.{ToldFault}
 use Rattle.ws_live.specs.declared.asked.fault.ToldFault.TheVariants.{Run, Line}
-use Rattle.ws_live.specs.declared.cause.vocabulary.Vocabulary.{Vocabulary}
+use Rattle.ws_text.specs.declared.cause.Cause.{Cause}
 
 -- why no line was to be had, by the kind of the error
 abbrev pub unread_fault : ErrorKind → ToldFault
@@ -31,21 +31,20 @@ module _ {L : Type 0} (language : LineLanguage L) where
   abbrev pub IsMeant : L → Type 0
   IsMeant read = (line : List ℕ) × (inside : List (List ℕ)) × language.means line inside read
 
-  module _ (vocabulary : Vocabulary) where
-    -- A line with those that belong to it means nothing, and this tells why, of the bad one among them, counted from 1.
-    abbrev pub TellsWhyBad : ℕ → List ℕ → Type 0
-    TellsWhyBad at text = (line : List ℕ) × (inside : List (List ℕ)) × IsBadBlock language line inside at
-        × TellsCause vocabulary (line ∷ inside) at text
+  -- A line with those that belong to it means nothing, and this tells why, of the bad one among them, counted from 1.
+  abbrev pub TellsWhyBad : ℕ → List ℕ → Type 0
+  TellsWhyBad at text = (line : List ℕ) × (inside : List (List ℕ)) × (cause : Cause)
+      × IsBadBlock language line inside at cause × SaysCause cause text
 
-    -- What comes of a line that was read: what it means, or where a session tells when it is ready what stands for a bad
-    -- line, with its cause.
-    abbrev pub IsNextLine : Bool → L → Type 0
-    IsNextLine ready next = IsMeant next ⊎ ((ready ≡ true) × ((cause : String Global)
-        × (next ≡ language.bad_line cause) × ((at : ℕ) × TellsWhyBad at (string_bytes cause))))
+  -- What comes of a line that was read: what it means, or where a session tells when it is ready what stands for a bad
+  -- line, with its cause.
+  abbrev pub IsNextLine : Bool → L → Type 0
+  IsNextLine ready next = IsMeant next ⊎ ((ready ≡ true) × ((cause : String Global)
+      × (next ≡ language.bad_line cause) × ((at : ℕ) × TellsWhyBad at (string_bytes cause))))
 
-    -- Where a line is told as bad after so many, it means nothing with those that belong to it, and the number is that
-    -- of the bad one, as far as 64 bits count.
-    abbrev pub TellsBadLine : ℕ → ToldFault → Type 0
-    TellsBadLine before (Line number cause) = (at : ℕ) × TellsWhyBad at (string_bytes cause)
-        × (number ≡ min (before + at) (2 ^ 64 - 1))
-    TellsBadLine before told = Unit {0}
+  -- Where a line is told as bad after so many, it means nothing with those that belong to it, and the number is that
+  -- of the bad one, as far as 64 bits count.
+  abbrev pub TellsBadLine : ℕ → ToldFault → Type 0
+  TellsBadLine before (Line number cause) = (at : ℕ) × TellsWhyBad at (string_bytes cause)
+      × (number ≡ min (before + at) (2 ^ 64 - 1))
+  TellsBadLine before told = Unit {0}

@@ -9,11 +9,10 @@ ghost use Rattle.ws_live.specs.live.Waits.{watched_devices};
 ghost use Rattle.ws_network.specs.SessionPrinting.{AreScripted, IsPrintedBehind, serve_printing, session_lines};
 
 use crate::live_input::carry_session;
-use crate::timer::LineWatch;
 use std::rt::Runtime;
 use ws_any_host::{AnyHost, AnyLine, carry_on};
 use ws_code::{Sink, Source};
-use ws_live::{BufferedSink, Paint, ToldFault, Vocabulary};
+use ws_live::{BufferedSink, Paint, ToldFault, Watch};
 use ws_session::Attached;
 
 /// Carries out the lines of a script at a host that takes any record, or without one those of standard input, and then
@@ -33,7 +32,7 @@ where
     R: Runtime + AllocGlobal,
     S: Source,
     K: Sink,
-    W: LineWatch<S>,
+    W: Watch<S>,
     O: Sink,
     // At an end that works, with nothing held back.
     requires works { attached.old.broken ≡ false }
@@ -47,17 +46,7 @@ where
         (is_some script.entry) Await) result }
     ensures held { out.new.held ≡ [] }
 {
-    let ran = match carry_session(
-        rt,
-        attached,
-        ahead,
-        watch,
-        script,
-        Vocabulary::AnyHost,
-        ready,
-        Paint::Plain,
-        out,
-    ) {
+    let ran = match carry_session(rt, attached, ahead, watch, script, ready, Paint::Plain, out) {
         Ok(ran) => ran,
         Err(fault) => return Err(fault),
     };

@@ -9,7 +9,8 @@ use crate::recording::make_file;
 use std::fs;
 use std::fs::File;
 use std::rt::Files;
-use ws_live::{LiveLine, RunFault, ScriptFault, ToldFault, Vocabulary, bad_line, read_lines};
+use ws_live::{LiveLine, RunFault, ToldFault, read_lines, told_line};
+use ws_text::TextFault;
 
 /// The lines of a script, where one is named.
 ///
@@ -17,12 +18,11 @@ use ws_live::{LiveLine, RunFault, ScriptFault, ToldFault, Vocabulary, bad_line, 
 pub fn read_script_file<R: Files + AllocGlobal, L: LiveLine>(
     rt: &R,
     script: Option<&str>,
-    vocabulary: Vocabulary,
 ) -> Result<Option<Vec<L>>, ToldFault>
     ensures lines { IfOk result (λ read. MatchOption read (is_none script.entry ≡ true) (λ lines.
         (file : List ℕ) × AreLiveLines L.language file lines.items)) }
     ensures named { IfOk result (λ read. is_none read ≡ is_none script.entry) }
-    ensures fault { IfErr result (IsFileFault L.language vocabulary) }
+    ensures fault { IfErr result (IsFileFault L.language) }
 {
     let Some(path) = script else {
         return Ok(None);
@@ -33,10 +33,8 @@ pub fn read_script_file<R: Files + AllocGlobal, L: LiveLine>(
     };
     match read_lines(rt.alloc(), text.as_slice()) {
         Ok(lines) => Ok(Some(lines)),
-        Err(ScriptFault::Line(number)) => {
-            Err(bad_line(rt.alloc(), text.as_slice(), number, vocabulary))
-        }
-        Err(ScriptFault::Memory) => Err(ToldFault::Run(RunFault::Memory)),
+        Err(TextFault::Line(number, cause)) => Err(told_line(rt.alloc(), number, cause)),
+        Err(TextFault::Memory) => Err(ToldFault::Run(RunFault::Memory)),
     }
 }
 

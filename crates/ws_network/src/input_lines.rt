@@ -7,10 +7,8 @@ ghost use Rattle.ws_network.specs.InputLines.{IsInputFault, TellsBadLine, IsNext
 use std::alloc::Global;
 use std::io::{BufRead, ErrorKind};
 use std::marker::Model;
-use ws_live::{
-    LiveLine, RunFault, ScriptFault, ToldFault, Vocabulary, cause_in_block, cause_text, is_indented,
-};
-use ws_text::first_line;
+use ws_live::{LiveLine, RunFault, ToldFault, cause_text, is_indented};
+use ws_text::{TextFault, first_line};
 
 /// Reads the next line of standard input with those that belong to it; `None` behind the last. Where the session tells
 /// when it is ready, what stands for a bad line comes in its place.
@@ -19,13 +17,12 @@ use ws_text::first_line;
 /// can't be read, `Memory` where a growth was refused.
 pub fn next_line<B: BufRead + Drop, L: LiveLine>(
     input: &mut InputLines<B>,
-    vocabulary: Vocabulary,
     ready: bool,
 ) -> Result<Option<L>, ToldFault>
     ensures line { IfOk result (λ next. IfSome next
-        (IsNextLine L.language vocabulary ready)) }
+        (IsNextLine L.language ready)) }
     ensures fault { IfErr result (IsInputFault ready) }
-    ensures bad { IfErr result (TellsBadLine L.language vocabulary input.old) }
+    ensures bad { IfErr result (TellsBadLine L.language input.old) }
 {
     let before = input.number;
     let Some(raw) = input.take()? else {
@@ -38,9 +35,8 @@ pub fn next_line<B: BufRead + Drop, L: LiveLine>(
     }
     match L::read(input.alloc, line, inside.as_slice()) {
         Ok(line) => Ok(Some(line)),
-        Err(ScriptFault::Memory) => Err(ToldFault::Run(RunFault::Memory)),
-        Err(ScriptFault::Line(at)) => {
-            let why = cause_in_block(line, inside.as_slice(), at, vocabulary);
+        Err(TextFault::Memory) => Err(ToldFault::Run(RunFault::Memory)),
+        Err(TextFault::Line(at, why)) => {
             let Ok(cause) = cause_text(input.alloc, why) else {
                 return Err(ToldFault::Run(RunFault::Memory));
             };

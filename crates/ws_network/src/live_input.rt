@@ -5,7 +5,6 @@ ghost use Rattle.ws_code.specs.Device.{on_devices};
 ghost use Rattle.ws_live.specs.live.ConnectText.{StationRunsInTime};
 ghost use Rattle.ws_live.specs.live.Operating.{live_display};
 ghost use Rattle.ws_live.specs.live.Waits.{InTime, watched_devices};
-ghost use Rattle.ws_live.specs.live.LiveText as Spec;
 ghost use Rattle.ws_network.specs.SessionPrinting.{AreScripted, TellsWell, IsPrintedBehind, serve_printing};
 ghost use Rattle.ws_network.specs.SessionPrinting.{session_lines, session_printing};
 ghost use Rattle.ws_live.specs.live.ServeText.{HostRunsInTime};
@@ -15,13 +14,12 @@ ghost use Rattle.ws_live.specs.declared.live.serve_line.HostLine.TheVariants.{Aw
 ghost use Rattle.ws_text.specs.Printed.{IsPrinted};
 
 use crate::input_lines::{InputLines, next_line};
-use crate::timer::LineWatch;
 use std::io::BufReader;
 use std::rt::Runtime;
-use ws_code::{Fault, Sink, Source};
+use ws_code::{Sink, Source};
 use ws_live::{
-    BufferedSink, Closing, HostLine, LiveMove, NamedKey, OperatedDisplay, Paint, Ran, RunFault,
-    StationLine, ToldFault, Vocabulary, answer_on, carry_line,
+    BufferedSink, HostLine, LiveMove, NamedKey, OperatedDisplay, Paint, Ran, RunFault, StationLine,
+    ToldFault, Watch, answer_on, carry_line, carry_lines,
 };
 use ws_session::{Attached, HostEnd, StationOn};
 
@@ -36,7 +34,6 @@ pub fn carry_at_station<D, R, S, K, W, O>(
     ahead: &mut u64,
     watch: &mut W,
     script: Option<&[StationLine<D::Key>]>,
-    vocabulary: Vocabulary,
     ready: bool,
     paint: Paint,
     out: &mut BufferedSink<O>,
@@ -47,7 +44,7 @@ where
     R: Runtime + AllocGlobal,
     S: Source,
     K: Sink,
-    W: LineWatch<S>,
+    W: Watch<S>,
     O: Sink,
     requires works { attached.old.broken ≡ false }
     requires empty { out.old.held ≡ [] }
@@ -60,9 +57,7 @@ where
         (is_some script.entry) TellsWell) result }
     ensures held { out.new.held ≡ [] }
 {
-    match carry_session(
-        rt, attached, ahead, watch, script, vocabulary, ready, paint, out,
-    ) {
+    match carry_session(rt, attached, ahead, watch, script, ready, paint, out) {
         Ok(ran) => Ok(ran.all_well),
         Err(fault) => Err(fault),
     }
@@ -85,7 +80,7 @@ where
     R: Runtime + AllocGlobal,
     S: Source,
     K: Sink,
-    W: LineWatch<S>,
+    W: Watch<S>,
     O: Sink,
     // At an end that works, with nothing held back.
     requires works { attached.old.broken ≡ false }
@@ -99,17 +94,7 @@ where
         (is_some script.entry) Await) result }
     ensures held { out.new.held ≡ [] }
 {
-    let ran = match carry_session(
-        rt,
-        attached,
-        ahead,
-        watch,
-        script,
-        Vocabulary::Host,
-        ready,
-        Paint::Plain,
-        out,
-    ) {
+    let ran = match carry_session(rt, attached, ahead, watch, script, ready, Paint::Plain, out) {
         Ok(ran) => ran,
         Err(fault) => return Err(fault),
     };
@@ -129,7 +114,6 @@ pub fn carry_session<R, E, S, K, L, W, O>(
     ahead: &mut u64,
     watch: &mut W,
     script: Option<&[L]>,
-    vocabulary: Vocabulary,
     ready: bool,
     paint: Paint,
     out: &mut BufferedSink<O>,
@@ -137,7 +121,7 @@ pub fn carry_session<R, E, S, K, L, W, O>(
 where
     R: Runtime + AllocGlobal,
     L: LiveMove<E, S, K>,
-    W: LineWatch<S>,
+    W: Watch<S>,
     O: Sink,
     // At an end that works, with nothing held back.
     requires works { attached.old.broken ≡ false }
@@ -154,49 +138,11 @@ where
     ensures held { out.new.held ≡ [] }
 {
     match script {
-        Some(lines) => Ok(carry_script(attached, ahead, watch, lines, ready, paint, out)?),
+        Some(lines) => Ok(carry_lines(attached, ahead, watch, lines, ready, paint, out)?),
         None => {
-            carry_input::<R, E, S, K, L, W, O>(
-                rt, attached, ahead, watch, vocabulary, ready, paint, out,
-            )
+            carry_input::<R, E, S, K, L, W, O>(rt, attached, ahead, watch, ready, paint, out)
         },
     }
-}
-
-// Carries out the lines of a script.
-fn carry_script<E, S, K, L: LiveMove<E, S, K>, W: LineWatch<S>, O: Sink>(
-    attached: &mut Attached<E, S, K>,
-    ahead: &mut u64,
-    watch: &mut W,
-    lines: &[L],
-    ready: bool,
-    paint: Paint,
-    out: &mut BufferedSink<O>,
-) -> Result<Ran, Fault>
-    // At an end that works, with nothing held back.
-    requires works { attached.old.broken ≡ false }
-    requires empty { out.old.held ≡ [] }
-    // What was printed, and how it ended.
-    ensures printed { IsPrinted O.writer out.old.sink out.new.sink (Spec.lines_printing
-        (Spec.WithClosing (InTime (L.runs W.tells paint) L.waits W.times) ready)
-        ((attached.old, ahead.old), watch.old) lines.now
-        ((attached.new, ahead.new), watch.new)) result }
-    // The end works on unless the session is over, and nothing is held back.
-    ensures works { IfOk result (λ ran. ran.is_over ≡ false → attached.new.broken ≡ false) }
-    ensures held { out.new.held ≡ [] }
-{
-    let mut ran = Ran::none();
-    for line in lines {
-        let closing = match carry_next(attached, ahead, watch, line, ready, paint, out) {
-            Ok(closing) => closing,
-            Err(fault) => return Err(fault),
-        };
-        ran = ran.and(closing.ran());
-        if ran.is_over {
-            return Ok(ran);
-        }
-    }
-    Ok(ran)
 }
 
 // Carries out each line of standard input, with those that belong to it, before it reads the next, but for the line
@@ -206,7 +152,6 @@ fn carry_input<R, E, S, K, L, W, O>(
     attached: &mut Attached<E, S, K>,
     ahead: &mut u64,
     watch: &mut W,
-    vocabulary: Vocabulary,
     ready: bool,
     paint: Paint,
     out: &mut BufferedSink<O>,
@@ -214,7 +159,7 @@ fn carry_input<R, E, S, K, L, W, O>(
 where
     R: Runtime + AllocGlobal,
     L: LiveMove<E, S, K>,
-    W: LineWatch<S>,
+    W: Watch<S>,
     O: Sink,
     // At an end that works, with nothing held back.
     requires works { attached.old.broken ≡ false }
@@ -236,14 +181,14 @@ where
     };
     let mut input = InputLines::new(rt.alloc(), reader);
     for _ in 0..u64::MAX {
-        let next = match next_line::<BufReader<R::Reader>, L>(&mut input, vocabulary, ready) {
+        let next = match next_line::<BufReader<R::Reader>, L>(&mut input, ready) {
             Ok(next) => next,
             Err(fault) => return Err(fault),
         };
         let Some(line) = next else {
             return Ok(ran);
         };
-        let closing = match carry_next(attached, ahead, watch, &line, ready, paint, out) {
+        let closing = match carry_line(attached, ahead, watch, &line, ready, paint, out) {
             Ok(closing) => closing,
             Err(fault) => return Err(ToldFault::from(fault)),
         };
@@ -253,31 +198,4 @@ where
         }
     }
     Ok(ran)
-}
-
-// Carries out the line behind those that were carried out, whose waits are over.
-fn carry_next<E, S, K, L: LiveMove<E, S, K>, W: LineWatch<S>, O: Sink>(
-    attached: &mut Attached<E, S, K>,
-    ahead: &mut u64,
-    watch: &mut W,
-    line: &L,
-    ready: bool,
-    paint: Paint,
-    out: &mut BufferedSink<O>,
-) -> Result<Closing, Fault>
-    // At an end that works, with nothing held back.
-    requires works { attached.old.broken ≡ false }
-    requires empty { out.old.held ≡ [] }
-    // What was printed, and how it ended.
-    ensures printed { IsPrinted O.writer out.old.sink out.new.sink (Spec.line_printing
-        (Spec.WithClosing (InTime (L.runs W.tells paint) L.waits W.times) ready)
-        ((attached.old, ahead.old), watch.old) line.now
-        ((attached.new, ahead.new), watch.new)) result }
-    // The end works on unless the session is over, and nothing is held back.
-    ensures works { IfOk result (λ closing.
-        Spec.stops closing ≡ false → attached.new.broken ≡ false) }
-    ensures held { out.new.held ≡ [] }
-{
-    watch.end_waits();
-    carry_line(attached, ahead, watch, line, ready, paint, out)
 }

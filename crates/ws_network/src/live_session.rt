@@ -26,7 +26,7 @@ use ws_code::Sink;
 use ws_extended_station::ExtendedDisplay;
 use ws_live::{
     BufferedSink, ConnectAsked, HostLine, Live, NamedKey, OpenStreams, OperatedDisplay, ServeAsked,
-    StationLine, ToldFault, Vocabulary,
+    StationLine, ToldFault,
 };
 use ws_session::{Attached, ProfileDisplay, StationOn};
 
@@ -100,8 +100,7 @@ where
     ensures closed { (why : AFault) → missing streams (is_none asked.now.script) ≡ Some why
         → IsErr result × (out.new.sink ≡ out.old.sink) }
 {
-    let vocabulary = vocabulary_of(asked);
-    let script = read_script_file::<R, StationLine<D::Key>>(rt, asked.script, vocabulary)?;
+    let script = read_script_file::<R, StationLine<D::Key>>(rt, asked.script)?;
     streams.suffice(script.is_none())?;
     let file = make_record(rt, asked.record)?;
     let limit = Duration::from_secs(u64::from(asked.wait));
@@ -120,22 +119,12 @@ where
         &mut ahead,
         &mut Waits::new(&timer),
         lines_of(&script),
-        vocabulary,
         asked.ready,
         asked.paint,
         out,
     );
     close(rt, &stream, &recording, Sender::Host);
     recording.judge(outcome)
-}
-
-// The kind of the lines for this station.
-fn vocabulary_of(asked: &ConnectAsked<'_>) -> Vocabulary {
-    if asked.extended {
-        Vocabulary::ExtendedStation
-    } else {
-        Vocabulary::Station
-    }
 }
 
 // A host for a station, or for some one after another.
@@ -155,8 +144,8 @@ where
         → IsErr result × (out.new.sink ≡ out.old.sink) }
 {
     if asked.any {
-        serve_lines::<R, AnyLine, O>(rt, asked, Vocabulary::AnyHost, streams, out)
+        serve_lines::<R, AnyLine, O>(rt, asked, streams, out)
     } else {
-        serve_lines::<R, HostLine, O>(rt, asked, Vocabulary::Host, streams, out)
+        serve_lines::<R, HostLine, O>(rt, asked, streams, out)
     }
 }

@@ -28,8 +28,7 @@ use std::time::Duration;
 use ws_any_host::{AnyHost, AnyLine};
 use ws_code::{Sink, write_whole};
 use ws_live::{
-    BufferedSink, HostLine, LiveLine, OpenStreams, RunFault, ServeAsked, ToldFault, Vocabulary,
-    hand_on,
+    BufferedSink, HostLine, LiveLine, OpenStreams, RunFault, ServeAsked, ToldFault, hand_on,
 };
 use ws_session::{Attached, HostEnd};
 use ws_text::{Output, put_number, put_text};
@@ -63,7 +62,6 @@ pub trait ServedLine: LiveLine {
 pub fn serve_lines<R, L, O>(
     rt: &R,
     asked: &ServeAsked<'_>,
-    vocabulary: Vocabulary,
     streams: OpenStreams,
     out: &mut BufferedSink<O>,
 ) -> Result<bool, ToldFault>
@@ -77,7 +75,7 @@ where
     ensures closed { (why : AFault) → missing streams (is_none asked.now.script) ≡ Some why
         → IsErr result × (out.new.sink ≡ out.old.sink) }
 {
-    let script = read_script_file::<R, L>(rt, asked.script, vocabulary)?;
+    let script = read_script_file::<R, L>(rt, asked.script)?;
     streams.suffice(script.is_none())?;
     let file = make_record(rt, asked.record)?;
     let lines = lines_of(&script);

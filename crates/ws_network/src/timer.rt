@@ -113,13 +113,6 @@ impl<'a, C: Clock> Timer<'a, C> {
     }
 }
 
-/// A watch that is told where the next line begins: what is written stands in no wait then, before one begins.
-pub trait LineWatch<S>: Watch<S> {
-    /// The waits before are over.
-    fn end_waits(&mut self)
-        ensures kept { self.new ≡ self.old };
-}
-
 /// The waits of a session, which have the time of a timer. It counts them, up to the greatest value of 64 bits.
 #[derive(Drop)]
 pub struct Waits<'a, C> {
@@ -147,6 +140,10 @@ impl<'a, C: Clock> Watch<TimedSource<'a, C>> for Waits<'a, C> {
 
     ghost tells = { Spec.timed_tells };
 
+    fn end_waits(&mut self) {
+        self.timer.rest();
+    }
+
     fn begin(&mut self, _source: &TimedSource<'a, C>, span: WaitSpan) {
         self.begun = self.begun.saturating_add(1);
         self.timer.restart(span);
@@ -165,12 +162,6 @@ impl<'a, C: Clock> Watch<TimedSource<'a, C>> for Waits<'a, C> {
             self.timer.clock,
             Duration::from_millis(u64::from(milliseconds)),
         );
-    }
-}
-
-impl<'a, C: Clock> LineWatch<TimedSource<'a, C>> for Waits<'a, C> {
-    fn end_waits(&mut self) {
-        self.timer.rest();
     }
 }
 

@@ -1,4 +1,4 @@
-use Rattle.ws_text.proofs.Common.{◌≡◌, List, ℕ, codes, Some, inl, inr, Option, None, MatchOption, ◌⊎◌, AnswerPart}
+use Rattle.ws_text.proofs.Common.{◌≡◌, List, ℕ, codes, inl, inr, Result, Err, Ok, MatchResult, ◌⊎◌, AnswerPart}
 use Rattle.ws_text.proofs.Common.{ArePlace}
 use Rattle.ws_extended.specs.declared.extended_answer_part.ExtendedAnswerPart.{ExtendedAnswerPart}
 use Rattle.ws_extended.specs.declared.extended_answer_part.ExtendedAnswerPart.TheVariants as parts
@@ -7,6 +7,8 @@ use Rattle.ws_text.specs.AnswerWords.{IsOnePart}
 use Rattle.ws_text.specs.ExtendedAnswerWordLaws.{NamesAtOnce, part_not_at_once, element_not_at_once, at_once_not_saved}
 use Rattle.ws_text.specs.ExtendedAnswerWords.{IsOneTold}
 use Rattle.ws_text.specs.ExtendedWords.{IsOneExtended}
+use Rattle.ws_text.specs.Reads.{Reads}
+use Rattle.ws_text.specs.declared.cause.Wrong.{Wrong}
 
 -- The words of what a live host's station sends, by what was found of them.
 
@@ -22,12 +24,12 @@ module _ (name : List ℕ) (words : List (List ℕ)) where
   no_at_once is bad (parts.AtOnce cursor) h = bad cursor h.1
 
   -- a name of neither
-  pub told_either : (name ≡ codes "SAVED" → ⊥) → (NamesAtOnce name → ⊥) → (r : Option ExtendedAnswerPart)
-      → MatchOption r (((p : AnswerPart) → IsOnePart name words p → ⊥)
-      × ((e : ExtendedElement) → IsOneExtended name words e → ⊥)) (IsOneTold name words)
-      → MatchOption r ((part : ExtendedAnswerPart) → IsOneTold name words part → ⊥) (IsOneTold name words)
-  told_either saved at_once (Some part) h = h
-  told_either saved at_once None h = none
+  pub told_either : (name ≡ codes "SAVED" → ⊥) → (NamesAtOnce name → ⊥) → (r : Result ExtendedAnswerPart Wrong)
+      → MatchResult r (IsOneTold name words) (λ _. ((p : AnswerPart) → IsOnePart name words p → ⊥)
+      × ((e : ExtendedElement) → IsOneExtended name words e → ⊥))
+      → Reads (IsOneTold name words) r
+  told_either saved at_once (Ok part) h = h
+  told_either saved at_once (Err wrong) h = none
     where
       none : (part : ExtendedAnswerPart) → IsOneTold name words part → ⊥
       none (parts.Profile p) is = h.0 p is

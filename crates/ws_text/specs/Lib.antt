@@ -1,5 +1,6 @@
 pub mod AnswerLines
 pub mod AnswerWords
+pub mod Causes
 pub mod ElementWords
 pub mod ExtendedAnswerLines
 pub mod ExtendedAnswerWords
@@ -13,6 +14,7 @@ pub mod ItemLines
 pub mod Items
 pub mod BodyLines
 pub mod Reading
+pub mod Reads
 pub mod Lined
 pub mod Names
 pub mod WordLaws

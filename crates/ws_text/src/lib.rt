@@ -3,6 +3,7 @@
 
 mod answer_text;
 mod answer_words;
+mod cause;
 mod element_text;
 mod element_words;
 mod elements;
@@ -28,9 +29,11 @@ mod runs;
 mod telnet_words;
 mod text;
 mod text_values;
+mod unit_names;
 mod worded;
 mod words;
 
+pub use cause::{Asked, Cause, Wrong, among, cause_of, not_hex};
 pub use elements::read_elements;
 pub use item_text::put_item;
 pub use items::{TextFault, read_items, shown_is_read};
@@ -42,3 +45,4 @@ pub use run_name::RunName;
 pub use text::{As, EachAs, Text, TextAs, print};
 pub use text_values::{Bytes, Cell, Character, Hex, HexBehindBlank, Number};
 pub use worded::Worded;
+pub use words::read_between;

@@ -57,5 +57,5 @@ script_run_fault scripts.Memory = Memory
 
 -- a fault of items as text as the program's own
 abbrev pub items_run_fault : ItemsFault → RunFault
-items_run_fault (items.Line number) = Line number
+items_run_fault (items.Line number cause) = Line number
 items_run_fault items.Memory = Memory

@@ -7,6 +7,7 @@ use Rattle.ws_code.specs.Address.{IsRowAndColumn, place_of}
 use Rattle.ws_code.specs.declared.address.TheConstants.{CELLS}
 use Rattle.ws_screen.specs.declared.format_table.TheConstants.{MAX_FIELDS}
 use Rattle.ws_text.specs.Words.{IsCell, IsNumber, IsSmall}
+use Rattle.ws_live.specs.cause.Causes.{IsCause}
 use Rattle.ws_live.specs.live.LiveScript.{LineLanguage}
 use Rattle.ws_live.specs.script.KeyWords.{KeyWords}
 use Rattle.ws_live.specs.script.Script.{typed_key}
@@ -188,6 +189,6 @@ module _ {Q : Type 0} (w : KeyWords Q) where
     means = λ line inside read. (inside ≡ []) × IsStationLine line read;
     begins = BeginsStationLine;
     opener = λ line. ⊥;
-    bad_at = λ line inside at. at ≡ 1;
+    bad_at = λ line inside at cause. (at ≡ 1) × ((inside ≡ []) → IsCause w.vocabulary line cause);
     bad_line = λ cause. Bad cause;
   }

@@ -5,8 +5,9 @@ use Rattle.std.specs.Prelude.{◌≡◌, ℕ, ◌+◌, ◌-◌, ◌^◌, ◌≤�
 use Rattle.std.specs.Prelude.{◌==◌, ◌&&◌, String}
 use Rattle.std.specs.Global.{Global}
 use Rattle.std.specs.Str.Lines.{lines}
-use Rattle.ws_live.specs.declared.script.ScriptFault.{ScriptFault}
-use Rattle.ws_live.specs.declared.script.ScriptFault.TheVariants.{Line, Memory}
+use Rattle.ws_text.specs.declared.cause.Cause.{Cause}
+use Rattle.ws_text.specs.declared.items.TextFault.{TextFault}
+use Rattle.ws_text.specs.declared.items.TextFault.TheVariants.{Line, Memory}
 
 -- the line begins with two blanks
 abbrev pub is_indented : List ℕ → Bool
@@ -52,8 +53,8 @@ pub record LineLanguage (L : Type 0) : Type 1 where
   pub begins : List ℕ → Type 0
   -- lines may belong to a line like this
   pub opener : List ℕ → Type 0
-  -- a line that means nothing with those that belong to it is bad here, counted from 1 for itself
-  pub bad_at : List ℕ → List (List ℕ) → ℕ → Type 0
+  -- a line that means nothing with those that belong to it is bad here, counted from 1 for itself, for this cause
+  pub bad_at : List ℕ → List (List ℕ) → ℕ → Cause → Type 0
   -- what stands for a line that is bad for this cause
   pub bad_line : String Global → L
 
@@ -88,13 +89,13 @@ module _ {L : Type 0} (language : LineLanguage L) where
   abbrev pub IsMeaningless : List ℕ → List (List ℕ) → Type 0
   IsMeaningless line inside = (read : L) → language.means line inside read → ⊥
 
-  -- a line with those that belong to it means nothing, and this one is bad, counted from 1
-  abbrev pub IsBadBlock : List ℕ → List (List ℕ) → ℕ → Type 0
-  IsBadBlock line inside at = IsMeaningless line inside × language.bad_at line inside at
+  -- a line with those that belong to it means nothing, and this one is bad, counted from 1, for this cause
+  abbrev pub IsBadBlock : List ℕ → List (List ℕ) → ℕ → Cause → Type 0
+  IsBadBlock line inside at cause = IsMeaningless line inside × language.bad_at line inside at cause
 
-  -- the first bad line of a script, counted from 1 as far as 64 bits count: it is one, or belongs to one, that means
-  -- nothing
-  pub record IsFirstBadLiveLine (text : List ℕ) (number : ℕ) : Type 0 where
+  -- the first bad line of a script, counted from 1 as far as 64 bits count, and its cause: it is one, or belongs to
+  -- one, that means nothing
+  pub record IsFirstBadLiveLine (text : List ℕ) (number : ℕ) (cause : Cause) : Type 0 where
     pub before : List (List ℕ)
     pub line : List ℕ
     pub inside : List (List ℕ)
@@ -104,7 +105,7 @@ module _ {L : Type 0} (language : LineLanguage L) where
     pub good : MeanThese (lines text) read (line ∷ (inside ++ after))
     pub block : IsBlock line inside after
     pub at : ℕ
-    pub bad : IsBadBlock line inside at
+    pub bad : IsBadBlock line inside at cause
     pub counted : number ≡ min (length before + at) (2 ^ 64 - 1)
 
   -- as far as it was read, a line is good: it is a whole one with those that belong to it; or none belongs to it, and
@@ -113,10 +114,10 @@ module _ {L : Type 0} (language : LineLanguage L) where
   IsGoodBlockSoFar line inside = ((read : L) × language.means line inside read)
       ⊎ ((inside ≡ []) × language.begins line)
 
-  -- why a line isn't read: with those that belong to it it means nothing, and this one is bad, counted from 1; or it is
-  -- good as far as it was read, and a growth was refused
-  abbrev pub IsBlockFault : List ℕ → List (List ℕ) → ScriptFault → Type 0
-  IsBlockFault line inside (Line at) = IsBadBlock line inside at
+  -- why a line isn't read: with those that belong to it it means nothing, and this one is bad, counted from 1, for this
+  -- cause; or it is good as far as it was read, and a growth was refused
+  abbrev pub IsBlockFault : List ℕ → List (List ℕ) → TextFault → Type 0
+  IsBlockFault line inside (Line at cause) = IsBadBlock line inside at cause
   IsBlockFault line inside Memory = IsGoodBlockSoFar line inside
 
   -- as far as it was read, a script is good: after good lines stands one that is good so far, with all that belong to
@@ -131,6 +132,6 @@ module _ {L : Type 0} (language : LineLanguage L) where
     pub so_far : IsGoodBlockSoFar line inside
 
   -- why a script isn't read: its first bad line, or it is good as far as it was read, and a growth was refused
-  abbrev pub IsReadingFault : List ℕ → ScriptFault → Type 0
-  IsReadingFault text (Line number) = IsFirstBadLiveLine text number
+  abbrev pub IsReadingFault : List ℕ → TextFault → Type 0
+  IsReadingFault text (Line number cause) = IsFirstBadLiveLine text number cause
   IsReadingFault text Memory = IsLiveScriptSoFar text

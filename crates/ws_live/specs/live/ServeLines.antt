@@ -10,6 +10,9 @@ use Rattle.ws_stream.specs.Elements.{element_rules}
 use Rattle.ws_text.specs.ElementWords.{element_wording}
 use Rattle.ws_text.specs.BodyLines.{AddUnits, IsAddFault, new_record}
 use Rattle.ws_text.specs.declared.items.TextFault.TheVariants as items
+use Rattle.ws_live.specs.cause.Causes.{IsCause}
+use Rattle.ws_live.specs.declared.cause.vocabulary.Vocabulary.TheVariants.{Host}
+use Rattle.ws_text.specs.declared.cause.Cause.{Cause}
 use Rattle.ws_live.specs.live.ConnectLines.{IsNothing}
 use Rattle.ws_live.specs.live.LiveScript.{LineLanguage}
 use Rattle.ws_live.specs.script.KeyNames.{aid_named}
@@ -78,17 +81,18 @@ IsHostLine line elements read = ((elements ≡ []) × IsOneLine line read)
 abbrev pub BeginsHostLine : List ℕ → Type 0
 BeginsHostLine line = (IsUtf8 line × IsHostBegun line) ⊎ OpensHostBlock line
 
--- where elements are bad after their line, which is the first: at the first line that adds none to the record, counted
--- as far as 64 bits count
-abbrev pub AreBadAt : Opcode → List (List ℕ) → ℕ → Type 0
-AreBadAt opcode elements at = (number : ℕ)
-    × IsAddFault element_rules element_wording elements (new_record opcode) (items.Line number)
+-- where elements are bad after their line, which is the first, and for which cause: at the first line that adds none to
+-- the record, counted as far as 64 bits count
+abbrev pub AreBadAt : Opcode → List (List ℕ) → ℕ → Cause → Type 0
+AreBadAt opcode elements at cause = (number : ℕ)
+    × IsAddFault element_rules element_wording elements (new_record opcode) (items.Line number cause)
     × (at ≡ min (number + 1) (2 ^ 64 - 1))
 
 -- where a line is bad with the elements after it: at itself, or in these
-abbrev pub IsBadHostLineAt : List ℕ → List (List ℕ) → ℕ → Type 0
-IsBadHostLineAt line elements at = ((at ≡ 1) × ((elements ≡ []) ⊎ (OpensHostBlock line → ⊥)))
-    ⊎ ((number : List ℕ) × (opcode : Opcode) × SendsAlone line number opcode × AreBadAt opcode elements at)
+abbrev pub IsBadHostLineAt : List ℕ → List (List ℕ) → ℕ → Cause → Type 0
+IsBadHostLineAt line elements at cause =
+    ((at ≡ 1) × (((elements ≡ []) × IsCause Host line cause) ⊎ (OpensHostBlock line → ⊥)))
+    ⊎ ((number : List ℕ) × (opcode : Opcode) × SendsAlone line number opcode × AreBadAt opcode elements at cause)
 
 -- the lines of such scripts
 abbrev pub host_language : LineLanguage HostLine

@@ -5,6 +5,7 @@ use Rattle.std.specs.Option.{option_map}
 use Rattle.std.specs.Str.{bytes_eq}
 use Rattle.ws_extended_station.specs.declared.extended_key.ExtendedKey.{ExtendedKey}
 use Rattle.ws_extended_station.specs.declared.extended_key.ExtendedKey.TheVariants.{Profile, Reset}
+use Rattle.ws_live.specs.declared.cause.vocabulary.Vocabulary.TheVariants.{ExtendedStation}
 use Rattle.ws_live.specs.script.KeyNames.{key_named}
 use Rattle.ws_live.specs.script.KeyWords.{KeyWords, entered_by}
 
@@ -20,4 +21,4 @@ extended_entered Reset = None
 
 -- the keys of a display that live hosts use
 abbrev pub extended_words : KeyWords ExtendedKey
-extended_words = record { named = extended_key_named; profile = λ key. Profile key; entered = extended_entered }
+extended_words = record { vocabulary = ExtendedStation; named = extended_key_named; profile = λ key. Profile key; entered = extended_entered }

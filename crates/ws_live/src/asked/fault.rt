@@ -136,12 +136,12 @@ impl From<ScriptFault> for RunFault {
     }
 }
 
-impl From<ItemsFault> for RunFault {
+impl From<ItemsFault<'_>> for RunFault {
     ghost from_gives = { λ fault told. told ≡ items_run_fault fault };
 
-    fn from(fault: ItemsFault) -> Self {
+    fn from(fault: ItemsFault<'_>) -> Self {
         match fault {
-            ItemsFault::Line(number) => RunFault::Line(number),
+            ItemsFault::Line(number, _) => RunFault::Line(number),
             ItemsFault::Memory => RunFault::Memory,
         }
     }

@@ -11,8 +11,6 @@ pub enum Kind {
     Unknown,
     /// A number, from the one to the other.
     Number(u32, u32),
-    /// So many hex digits.
-    Digits(u32),
     /// Bytes in hex.
     Hex,
     /// The name of a key.
@@ -21,44 +19,21 @@ pub enum Kind {
     Opcode,
     /// Any opcode.
     AnyOpcode,
-    /// The word `opcode`.
-    OpcodeWord,
     /// The line may end here.
     End,
     /// All that stands there.
     AnyText,
     /// The same, but not nothing.
     SomeText,
-    /// The same, of characters that code page 037 has.
-    Coded,
 }
 
 const ROW: Kind = Kind::Number(1, 24);
 
 const COLUMN: Kind = Kind::Number(1, 80);
 
-const BYTE: Kind = Kind::Digits(2);
-
-const PAIR: Kind = Kind::Digits(4);
-
 const SMALL: Kind = Kind::Number(0, 255);
 
 const HOUR: Kind = Kind::Number(1, 3_600_000);
-
-// The words of a Start of Field that has most.
-static FIELD: [Kind; 11] = [
-    PAIR,
-    PAIR,
-    PAIR,
-    PAIR,
-    PAIR,
-    PAIR,
-    PAIR,
-    PAIR,
-    PAIR,
-    BYTE,
-    Kind::Number(0, 65_535),
-];
 
 /// The words that may stand behind the first, of which some may settle what stands behind them.
 pub fn kinds_of(shape: Shape, rest: Option<&str>) -> &'static [Kind] {
@@ -67,8 +42,6 @@ pub fn kinds_of(shape: Shape, rest: Option<&str>) -> &'static [Kind] {
         Shape::AnswerAwaited => answer_awaited(next_of(rest)),
         Shape::KeyAwaited => &[Kind::End, Kind::Key],
         Shape::Command => command(next_of(rest)),
-        Shape::Head => head(next_of(rest)),
-        Shape::Field => field(rest),
         _ => plain(shape),
     }
 }
@@ -86,12 +59,6 @@ fn plain(shape: Shape) -> &'static [Kind] {
         Shape::SentAny => &[Kind::AnyOpcode, Kind::End, Kind::Hex],
         Shape::Bytes => &[Kind::Hex],
         Shape::Pause => &[HOUR],
-        Shape::Controls => &[BYTE, BYTE],
-        Shape::Header => &[Kind::End, Kind::Hex],
-        Shape::Repeat => &[ROW, COLUMN, BYTE],
-        Shape::Erased => &[ROW, COLUMN, Kind::Hex],
-        Shape::Coded => &[Kind::Coded],
-        Shape::Placed => &[Kind::Any, Kind::AnyText],
         _ => &[],
     }
 }
@@ -139,21 +106,4 @@ fn command(next: Option<&str>) -> &'static [Kind] {
         | None => &[Kind::Any],
         Some(_) => &[Kind::Unknown],
     }
-}
-
-fn head(next: Option<&str>) -> &'static [Kind] {
-    match next {
-        Some("opcode") | None => &[Kind::Any, Kind::AnyOpcode],
-        Some("flags") => &[Kind::Any, PAIR, Kind::OpcodeWord, Kind::AnyOpcode],
-        Some(_) => &[Kind::Unknown],
-    }
-}
-
-// A field has as many format words as its line has words beside two.
-fn field(rest: Option<&str>) -> &'static [Kind] {
-    let words = match rest {
-        Some(words) => words.split(' ').count(),
-        None => 0,
-    };
-    &FIELD[FIELD.len() - words.max(2).min(FIELD.len())..]
 }

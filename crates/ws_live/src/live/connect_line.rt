@@ -5,12 +5,12 @@ ghost use Rattle.ws_live.specs.live.ConnectLines as Spec;
 ghost use Rattle.ws_live.specs.live.ConnectLines.{IsStationLine, IsStationSoFar, station_language};
 ghost use Rattle.ws_live.specs.script.ScriptFaults.{IsLineFault, IsNoComment, has_no_blank};
 
+use crate::cause::causes::line_cause;
 use crate::live::live_line::LiveLine;
 use crate::live::report_words::{read_note, read_placed, read_row, read_span};
 use crate::live::stroke::Stroke;
 use crate::live::stroke_words::{read_cell, read_filling};
 use crate::live::wire_words::read_milliseconds;
-use crate::script::ScriptFault;
 use crate::script::key_line::{named_key, typed_keys};
 use crate::script::named_key::NamedKey;
 use crate::script::script_line::LineFault;
@@ -19,6 +19,7 @@ use std::alloc::Global;
 use std::str;
 use ws_code::{Address, List};
 use ws_printing::Report;
+use ws_text::{Cause, TextFault};
 
 /// A line of a script for a station at a host, whose display has keys of this type.
 #[derive(Drop)]
@@ -63,14 +64,14 @@ impl<Q: NamedKey> LiveLine for StationLine<Q> {
         false
     }
 
-    fn read(alloc: Global, line: &[u8], inside: &[u8]) -> Result<Self, ScriptFault> {
+    fn read<'a>(alloc: Global, line: &'a [u8], inside: &'a [u8]) -> Result<Self, TextFault<'a>> {
         if !inside.is_empty() {
-            return Err(ScriptFault::Line(1));
+            return Err(TextFault::Line(1, Cause::Other));
         }
         match read_line(alloc, line) {
             Ok(read) => Ok(read),
-            Err(LineFault::Bad) => Err(ScriptFault::Line(1)),
-            Err(LineFault::Memory) => Err(ScriptFault::Memory),
+            Err(LineFault::Bad) => Err(TextFault::Line(1, line_cause(line, Q::vocabulary()))),
+            Err(LineFault::Memory) => Err(TextFault::Memory),
         }
     }
 

@@ -5,9 +5,8 @@ ghost use Rattle.ws_live.specs.live.LiveScript as Spec;
 ghost use Rattle.ws_live.specs.live.LiveScript.{AreLiveLines, HasBlock, HasInside, IsBlockFault, IsReadingFault};
 ghost use Rattle.ws_live.specs.live.LiveScript.{LineLanguage, text_cut};
 
-use crate::script::ScriptFault;
 use std::alloc::Global;
-use ws_text::first_line;
+use ws_text::{TextFault, first_line};
 
 /// A line of a script for a live session, with the lines that belong to it.
 ///
@@ -24,10 +23,13 @@ pub trait LiveLine: Drop {
 
     /// Reads a line, without its line end, with the text of the lines that belong to it.
     ///
-    /// `Line` where they are no such lines of a script, with the number of the bad one, which is 1 for the line itself.
+    /// # Errors
+    ///
+    /// `Line` where they are no such lines of a script, with the number of the bad one, which is 1 for the line itself,
+    /// and its cause.
     /// `Memory` where a growth was refused: the line and those that belong to it are good; or none belongs to it, and
     /// what was read of it is good.
-    fn read(alloc: Global, line: &[u8], inside: &[u8]) -> Result<Self, ScriptFault>
+    fn read<'a>(alloc: Global, line: &'a [u8], inside: &'a [u8]) -> Result<Self, TextFault<'a>>
         ensures line { IfOk result (language.means line.now (lines inside.now)) }
         ensures fault { IfErr result (IsBlockFault language line.now (lines inside.now)) };
 
@@ -38,9 +40,11 @@ pub trait LiveLine: Drop {
 
 /// The lines of a script, in order.
 ///
-/// `Line` where a line is bad, with the number of the first one. `Memory` where a growth was refused; what was read of
-/// the text is good.
-pub fn read_lines<L: LiveLine>(alloc: Global, text: &[u8]) -> Result<Vec<L>, ScriptFault>
+/// # Errors
+///
+/// `Line` where a line is bad, with the number of the first one, and its cause. `Memory` where a growth was refused;
+/// what was read of the text is good.
+pub fn read_lines<L: LiveLine>(alloc: Global, text: &[u8]) -> Result<Vec<L>, TextFault<'_>>
     ensures lines { IfOk result (λ read. AreLiveLines L.language text.now read.items) }
     ensures fault { IfErr result (IsReadingFault L.language text.now) }
 {
@@ -53,13 +57,13 @@ pub fn read_lines<L: LiveLine>(alloc: Global, text: &[u8]) -> Result<Vec<L>, Scr
         match L::read(alloc, line, inside.text) {
             Ok(line) => {
                 if read.push(line).is_err() {
-                    return Err(ScriptFault::Memory);
+                    return Err(TextFault::Memory);
                 }
             }
-            Err(ScriptFault::Line(at)) => {
-                return Err(ScriptFault::Line(number.saturating_add(at)));
+            Err(TextFault::Line(at, cause)) => {
+                return Err(TextFault::Line(number.saturating_add(at), cause));
             }
-            Err(ScriptFault::Memory) => return Err(ScriptFault::Memory),
+            Err(TextFault::Memory) => return Err(TextFault::Memory),
         }
         number += 1 + inside.count;
         rest = inside.behind;

@@ -7,10 +7,11 @@ ghost use Rattle.ws_live.specs.live.ServeLines as Spec;
 ghost use Rattle.ws_live.specs.live.ServeLines.{IsAnswerAwaited};
 ghost use Rattle.ws_live.specs.script.ScriptFaults.{IsLineFault, IsNoComment, has_no_blank};
 
+use crate::cause::causes::line_cause;
+use crate::cause::vocabulary::Vocabulary;
 use crate::live::live_line::LiveLine;
 use crate::live::wire_line::WireLine;
 use crate::live::wire_words::read_wire;
-use crate::script::ScriptFault;
 use crate::script::key_name::aid_named;
 use crate::script::script_line::LineFault;
 use crate::script::script_move::{read_move, read_opcode, split_word};
@@ -20,7 +21,7 @@ use ws_code::Aid;
 use ws_record::Opcode;
 use ws_session::{HostRequest, Move};
 use ws_stream::Commands;
-use ws_text::{TextFault, read_elements};
+use ws_text::{Cause, TextFault, read_elements};
 
 /// The answer that a host waits for.
 #[derive(Clone, Copy, Debug, PartialEq, Eq)]
@@ -57,17 +58,19 @@ impl LiveLine for HostLine {
         sent_alone(line).is_some()
     }
 
-    fn read(alloc: Global, line: &[u8], inside: &[u8]) -> Result<Self, ScriptFault> {
+    fn read<'a>(alloc: Global, line: &'a [u8], inside: &'a [u8]) -> Result<Self, TextFault<'a>> {
         if inside.is_empty() {
             return read_alone(alloc, line);
         }
         match sent_alone(line) {
             Some(opcode) => match read_elements::<Commands>(alloc, opcode, inside) {
                 Ok(body) => Ok(HostLine::Give(HostRequest::Send(opcode, body))),
-                Err(TextFault::Line(at)) => Err(ScriptFault::Line(at.saturating_add(1))),
-                Err(TextFault::Memory) => Err(ScriptFault::Memory),
+                Err(TextFault::Line(at, cause)) => {
+                    Err(TextFault::Line(at.saturating_add(1), cause))
+                }
+                Err(TextFault::Memory) => Err(TextFault::Memory),
             },
-            None => Err(ScriptFault::Line(1)),
+            None => Err(TextFault::Line(1, Cause::Other)),
         }
     }
 
@@ -77,14 +80,14 @@ impl LiveLine for HostLine {
 }
 
 // A line that no other belongs to.
-fn read_alone(alloc: Global, line: &[u8]) -> Result<HostLine, ScriptFault>
+fn read_alone<'a>(alloc: Global, line: &'a [u8]) -> Result<HostLine, TextFault<'a>>
     ensures line { IfOk result (IsHostLine line.now []) }
     ensures fault { IfErr result (IsBlockFault host_language line.now []) }
 {
     match read_line(alloc, line) {
         Ok(read) => Ok(read),
-        Err(LineFault::Bad) => Err(ScriptFault::Line(1)),
-        Err(LineFault::Memory) => Err(ScriptFault::Memory),
+        Err(LineFault::Bad) => Err(TextFault::Line(1, line_cause(line, Vocabulary::Host))),
+        Err(LineFault::Memory) => Err(TextFault::Memory),
     }
 }
 

@@ -22,6 +22,10 @@ pub trait Watch<S> {
     // What it may tell of a source at which a read has failed.
     ghost tells: { WatchTells S };
 
+    /// The waits before are over: a line begins, and what is written stands in no wait before one begins.
+    fn end_waits(&mut self)
+        ensures kept { self.new ≡ self.old };
+
     /// A wait begins. What is read from the source from now on has its time.
     fn begin(&mut self, source: &S, span: WaitSpan)
         ensures { HasBegun times source.now span self.old self.new };

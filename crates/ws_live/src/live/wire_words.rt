@@ -111,7 +111,7 @@ fn read_telnet(alloc: Global, line: &str) -> Result<List<u8>, LineFault>
 {
     match read_items::<Commands>(alloc, line.as_bytes()) {
         Ok(items) => spelled_alone(alloc, items.as_slice()),
-        Err(TextFault::Line(_)) => Err(LineFault::Bad),
+        Err(TextFault::Line(..)) => Err(LineFault::Bad),
         Err(TextFault::Memory) => Err(LineFault::Memory),
     }
 }

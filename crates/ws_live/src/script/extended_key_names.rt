@@ -2,6 +2,7 @@
 ghost use Rattle.std.specs.Prelude.{◌≡◌};
 ghost use Rattle.ws_live.specs.script.ExtendedKeyNames.{extended_words};
 
+use crate::cause::vocabulary::Vocabulary;
 use crate::script::key_name::key_named;
 use crate::script::named_key::NamedKey;
 use ws_extended_station::ExtendedKey;
@@ -10,6 +11,10 @@ use ws_keys::Key;
 // Reset has a name beside the keys of the profile.
 impl NamedKey for ExtendedKey {
     ghost words = { extended_words };
+
+    fn vocabulary() -> Vocabulary {
+        Vocabulary::ExtendedStation
+    }
 
     fn named(name: &str) -> Option<ExtendedKey> {
         if name == "Reset" {

@@ -2,6 +2,7 @@
 ghost use Rattle.std.specs.Prelude.{◌≡◌};
 ghost use Rattle.ws_live.specs.script.KeyWords.{KeyWords, profile_words};
 
+use crate::cause::vocabulary::Vocabulary;
 use crate::script::key_name::key_named;
 use ws_keys::Key;
 
@@ -9,6 +10,10 @@ use ws_keys::Key;
 pub trait NamedKey: Copy {
     // The key of a name, a key of the profile as one of them, and the character that a key enters.
     ghost words: { KeyWords Self };
+
+    /// The lines that name such keys.
+    fn vocabulary() -> Vocabulary
+        ensures { result ≡ words.vocabulary };
 
     /// The key that has this name in a script, where one has.
     fn named(name: &str) -> Option<Self>
@@ -25,6 +30,10 @@ pub trait NamedKey: Copy {
 
 impl NamedKey for Key {
     ghost words = { profile_words };
+
+    fn vocabulary() -> Vocabulary {
+        Vocabulary::Station
+    }
 
     fn named(name: &str) -> Option<Key> {
         key_named(name)

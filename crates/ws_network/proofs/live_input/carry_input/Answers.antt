@@ -42,33 +42,33 @@ returns-in-Err-clause-printed g c =
       ),
     )
 
-pub returns-in-Err-carry_next-clause-printed : goal.returns-in-Err-carry_next-clause-printed
-returns-in-Err-carry_next-clause-printed g c =
+pub returns-in-Err-carry_line-clause-printed : goal.returns-in-Err-carry_line-clause-printed
+returns-in-Err-carry_line-clause-printed g c =
     let so_far = c.loop.invariant in
     let lines : List g.row.L.Denot = so_far.0 ++ c.in-Some.line ∷ [] in
     let does = InTime (g.L.LiveMove.runs g.W.Watch.tells c.args.paint) g.L.LiveMove.waits g.W.Watch.times in
     let runs = WithClosing does c.args.ready in (
       lines,
-      subst (λ told. IsPrinted g.O.Sink.writer c.args.out.now.sink c.carry_next.new.out.sink
+      subst (λ told. IsPrinted g.O.Sink.writer c.args.out.now.sink c.carry_line.new.out.sink
           (session_printing (session_lines does c.args.ready ((c.args.attached.now, c.args.ahead.now), c.args.watch.now)
-          lines ((c.carry_next.new.attached, c.carry_next.new.ahead), c.carry_next.new.watch)) false
+          lines ((c.carry_line.new.attached, c.carry_line.new.ahead), c.carry_line.new.watch)) false
           (λ ran told. told ≡ ran)) (Err told)) (sym c.from.ensures)
           (script_fails (session_lines does c.args.ready ((c.args.attached.now, c.args.ahead.now), c.args.watch.now)
           lines
-          ((c.carry_next.new.attached, c.carry_next.new.ahead), c.carry_next.new.watch)) g.O.Sink.writer false
+          ((c.carry_line.new.attached, c.carry_line.new.ahead), c.carry_line.new.watch)) g.O.Sink.writer false
           c.args.out.now.sink
-          c.carry_next.new.out.sink c.in-Err-carry_next.fault
+          c.carry_line.new.out.sink c.in-Err-carry_line.fault
           (breaks runs g.O.Sink.writer ((c.args.attached.now, c.args.ahead.now), c.args.watch.now)
           ((c.loop.attached, c.loop.ahead), c.loop.watch) (
-            (c.carry_next.new.attached, c.carry_next.new.ahead),
-            c.carry_next.new.watch,
+            (c.carry_line.new.attached, c.carry_line.new.ahead),
+            c.carry_line.new.watch,
           )
-          c.args.out.now.sink c.loop.out.sink c.carry_next.new.out.sink
-          so_far.0 c.in-Some.line c.loop.ran so_far.1 so_far.2 so_far.3 [] lines refl c.in-Err-carry_next.fault
-          (subst (IsPrinted g.O.Sink.writer c.loop.out.sink c.carry_next.new.out.sink (line_printing runs
+          c.args.out.now.sink c.loop.out.sink c.carry_line.new.out.sink
+          so_far.0 c.in-Some.line c.loop.ran so_far.1 so_far.2 so_far.3 [] lines refl c.in-Err-carry_line.fault
+          (subst (IsPrinted g.O.Sink.writer c.loop.out.sink c.carry_line.new.out.sink (line_printing runs
           ((c.loop.attached, c.loop.ahead), c.loop.watch) c.in-Some.line
-          ((c.carry_next.new.attached, c.carry_next.new.ahead), c.carry_next.new.watch)))
-          c.in-Err-carry_next.is c.carry_next.ensures.printed))),
+          ((c.carry_line.new.attached, c.carry_line.new.ahead), c.carry_line.new.watch)))
+          c.in-Err-carry_line.is c.carry_line.ensures.printed))),
     )
 
 pub returns-then-ran-clause-printed : goal.returns-then-ran-clause-printed
@@ -77,29 +77,29 @@ returns-then-ran-clause-printed g c =
     let lines : List g.row.L.Denot = so_far.0 ++ c.in-Some.line ∷ [] in
     let does = InTime (g.L.LiveMove.runs g.W.Watch.tells c.args.paint) g.L.LiveMove.waits g.W.Watch.times in
     let runs = WithClosing does c.args.ready in
-    let same : c.and-ran.result ≡ ran_and c.loop.ran (ran_by c.in-Ok-carry_next.closing) = c.and-ran.ensures
+    let same : c.and-ran.result ≡ ran_and c.loop.ran (ran_by c.in-Ok-carry_line.closing) = c.and-ran.ensures
     ∙ ap (λ (r : Ran). ran_and c.loop.ran r) c.ran.ensures in (
       lines,
-      subst (λ (r : Ran). IsPrinted g.O.Sink.writer c.args.out.now.sink c.carry_next.new.out.sink
+      subst (λ (r : Ran). IsPrinted g.O.Sink.writer c.args.out.now.sink c.carry_line.new.out.sink
           (session_printing (session_lines does c.args.ready ((c.args.attached.now, c.args.ahead.now), c.args.watch.now)
-          lines ((c.carry_next.new.attached, c.carry_next.new.ahead), c.carry_next.new.watch)) false
+          lines ((c.carry_line.new.attached, c.carry_line.new.ahead), c.carry_line.new.watch)) false
           (λ ran told. told ≡ ran)) (Ok r)) (sym same)
           (script_ends (session_lines does c.args.ready ((c.args.attached.now, c.args.ahead.now), c.args.watch.now)
           lines
-          ((c.carry_next.new.attached, c.carry_next.new.ahead), c.carry_next.new.watch)) g.O.Sink.writer false
+          ((c.carry_line.new.attached, c.carry_line.new.ahead), c.carry_line.new.watch)) g.O.Sink.writer false
           c.args.out.now.sink
-          c.carry_next.new.out.sink (ran_and c.loop.ran (ran_by c.in-Ok-carry_next.closing))
+          c.carry_line.new.out.sink (ran_and c.loop.ran (ran_by c.in-Ok-carry_line.closing))
           (ends_here runs g.O.Sink.writer ((c.args.attached.now, c.args.ahead.now), c.args.watch.now)
           ((c.loop.attached, c.loop.ahead), c.loop.watch) (
-            (c.carry_next.new.attached, c.carry_next.new.ahead),
-            c.carry_next.new.watch,
+            (c.carry_line.new.attached, c.carry_line.new.ahead),
+            c.carry_line.new.watch,
           )
-          c.args.out.now.sink c.loop.out.sink c.carry_next.new.out.sink
-          so_far.0 c.in-Some.line c.loop.ran so_far.1 so_far.2 so_far.3 [] lines refl c.in-Ok-carry_next.closing
-          (subst (IsPrinted g.O.Sink.writer c.loop.out.sink c.carry_next.new.out.sink (line_printing runs
+          c.args.out.now.sink c.loop.out.sink c.carry_line.new.out.sink
+          so_far.0 c.in-Some.line c.loop.ran so_far.1 so_far.2 so_far.3 [] lines refl c.in-Ok-carry_line.closing
+          (subst (IsPrinted g.O.Sink.writer c.loop.out.sink c.carry_line.new.out.sink (line_printing runs
           ((c.loop.attached, c.loop.ahead), c.loop.watch) c.in-Some.line
-          ((c.carry_next.new.attached, c.carry_next.new.ahead), c.carry_next.new.watch)))
-          c.in-Ok-carry_next.is c.carry_next.ensures.printed)
+          ((c.carry_line.new.attached, c.carry_line.new.ahead), c.carry_line.new.watch)))
+          c.in-Ok-carry_line.is c.carry_line.ensures.printed)
           (ap (λ (r : Ran). r.is_over) (sym same) ∙ c.if-ran.true))),
     )
 
@@ -109,28 +109,28 @@ loop-preserved g c =
     let lines : List g.row.L.Denot = so_far.0 ++ c.in-Some.line ∷ [] in
     let does = InTime (g.L.LiveMove.runs g.W.Watch.tells c.args.paint) g.L.LiveMove.waits g.W.Watch.times in
     let runs = WithClosing does c.args.ready in
-    let same : c.and-ran.result ≡ ran_and c.loop.ran (ran_by c.in-Ok-carry_next.closing) = c.and-ran.ensures
+    let same : c.and-ran.result ≡ ran_and c.loop.ran (ran_by c.in-Ok-carry_line.closing) = c.and-ran.ensures
     ∙ ap (λ (r : Ran). ran_and c.loop.ran r) c.ran.ensures in
     let going = ap (λ (r : Ran). r.is_over) (sym same) ∙ c.if-ran.false in
     let more = goes_on runs g.O.Sink.writer ((c.args.attached.now, c.args.ahead.now), c.args.watch.now)
     ((c.loop.attached, c.loop.ahead), c.loop.watch) (
-      (c.carry_next.new.attached, c.carry_next.new.ahead),
-      c.carry_next.new.watch,
+      (c.carry_line.new.attached, c.carry_line.new.ahead),
+      c.carry_line.new.watch,
     )
-    c.args.out.now.sink c.loop.out.sink c.carry_next.new.out.sink
-    so_far.0 c.in-Some.line c.loop.ran so_far.1 so_far.2 so_far.3 c.in-Ok-carry_next.closing
-    (subst (IsPrinted g.O.Sink.writer c.loop.out.sink c.carry_next.new.out.sink (line_printing runs
+    c.args.out.now.sink c.loop.out.sink c.carry_line.new.out.sink
+    so_far.0 c.in-Some.line c.loop.ran so_far.1 so_far.2 so_far.3 c.in-Ok-carry_line.closing
+    (subst (IsPrinted g.O.Sink.writer c.loop.out.sink c.carry_line.new.out.sink (line_printing runs
     ((c.loop.attached, c.loop.ahead), c.loop.watch) c.in-Some.line
-    ((c.carry_next.new.attached, c.carry_next.new.ahead), c.carry_next.new.watch)))
-    c.in-Ok-carry_next.is c.carry_next.ensures.printed) going in (
+    ((c.carry_line.new.attached, c.carry_line.new.ahead), c.carry_line.new.watch)))
+    c.in-Ok-carry_line.is c.carry_line.ensures.printed) going in (
       lines,
       more.0,
       subst (λ (b : Bool). HaveRun runs ((c.args.attached.now, c.args.ahead.now), c.args.watch.now) lines
           (account b more.0)
-          ((c.carry_next.new.attached, c.carry_next.new.ahead), c.carry_next.new.watch))
+          ((c.carry_line.new.attached, c.carry_line.new.ahead), c.carry_line.new.watch))
           (ap (λ (r : Ran). r.all_well) (sym same)) more.1,
       more.2,
       c.if-ran.false,
-      c.in-Ok-carry_next.ensures.works going,
-      c.carry_next.ensures.held,
+      c.in-Ok-carry_line.ensures.works going,
+      c.carry_line.ensures.held,
     )

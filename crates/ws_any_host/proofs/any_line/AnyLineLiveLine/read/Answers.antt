@@ -25,7 +25,7 @@ pub returns-in-Err-Line-clause-fault : goal.returns-in-Err-Line-clause-fault
 returns-in-Err-Line-clause-fault c =
     let some = some_text c.args.inside.now (sym c.is_empty.ensures ∙ c.if-is_empty.false) in
     let bad = rw c.in-Err-Line.field-0-is at c.in-Err-Line.ensures.fault in
-    bad_words c.args.line.now c.in-Some.ensures.0 _ c.in-Some.opcode c.in-Err-Line.at c.saturating_add.result
+    bad_words c.args.line.now c.in-Some.ensures.0 _ c.in-Some.opcode c.in-Err-Line.at c.saturating_add.result c.in-Err-Line.cause
     c.in-Some.ensures.1 some bad (rw c.in-Err-Line.field-0-is at c.in-Err-Line.ensures.only) (
       c.in-Err-Line.at,
       bad,
@@ -55,4 +55,4 @@ returns-in-Err-Memory-clause-fault c =
 pub returns-in-None-clause-fault : goal.returns-in-None-clause-fault
 returns-in-None-clause-fault c =
     no_words c.args.line.now _ (some_text c.args.inside.now (sym c.is_empty.ensures ∙ c.if-is_empty.false))
-    c.in-None.ensures
+    c.in-None.ensures _

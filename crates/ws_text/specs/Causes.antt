@@ -1,0 +1,75 @@
+-- What a cause tells of a word, or of a number that it writes.
+
+use Rattle.std.specs.Prelude.{◌≡◌, ◌≢◌, ◌≤◌, ℕ, List, Bool, true, false, ◌&&◌, not, None, Some, Option, MatchOption, codes, length, ◌==◌, ◌%◌}
+use Rattle.std.specs.Borrow.{Bor}
+use Rattle.std.specs.List.{list_all, starts_with, ends_with}
+use Rattle.std.specs.Char.{is_ascii_hexdigit}
+use Rattle.std.specs.Str.{bytes_eq, IsUtf8}
+use Rattle.std.specs.Str.Iter.{HasSubslice}
+use Rattle.ws_code.specs.Aid.{IsAid}
+use Rattle.ws_code.specs.DataByte.{IsData}
+use Rattle.ws_code.specs.Ebcdic.{byte_of}
+use Rattle.ws_code.specs.FormatWord.{IsFfw}
+use Rattle.ws_stream.specs.FieldOrder.{is_attribute, is_control}
+use Rattle.ws_text.specs.Words.{IsNumber, words_of}
+use Rattle.ws_text.specs.declared.cause.Asked.{Asked}
+use Rattle.ws_text.specs.declared.cause.Asked.TheVariants.{CellByte, Attribute, FormatWord, ControlWord, Key}
+use Rattle.ws_text.specs.declared.cause.Cause.{Cause}
+use Rattle.ws_text.specs.declared.cause.Cause.TheVariants.{UnknownWord, NoNumber, OutOfRange, NoHex, OtherLength, Illegal, NoByte}
+use Rattle.ws_text.specs.declared.cause.Cause.TheVariants.{NotUtf8, Tab, TwoBlanks, BlankInFront, BlankAtEnd, Unexpected}
+use Rattle.ws_text.specs.declared.cause.Cause.TheVariants.{Missing, TooMany, Early, Apart, UnknownKey}
+
+-- a word is bytes in hex digits, two a byte
+abbrev pub is_hex_text : List ℕ → Bool
+is_hex_text word = list_all is_ascii_hexdigit word && (length word % 2 == 0)
+
+-- a number is what is asked
+abbrev pub IsLegal : Asked → ℕ → Type 0
+IsLegal CellByte n = IsData n
+IsLegal Attribute n = is_attribute n ≡ true
+IsLegal FormatWord n = IsFfw n
+IsLegal ControlWord n = is_control n ≡ true
+IsLegal Key n = IsAid n
+
+-- what a cause tells of its word is true, wherever that stands
+abbrev pub IsTrue : Cause → Type 0
+IsTrue (UnknownWord word known) = list_all (λ name. not (bytes_eq name word.now)) (words_of known.now) ≡ true
+IsTrue (NoNumber word) = (n : ℕ) → IsNumber word.now n → ⊥
+IsTrue (OutOfRange word least most) = (n : ℕ) → IsNumber word.now n → least ≤ n → n ≤ most → ⊥
+IsTrue (NoHex word) = is_hex_text word.now ≡ false
+IsTrue (OtherLength word digits) = length word.now ≢ digits
+IsTrue (Illegal asked number) = IsLegal asked number → ⊥
+IsTrue (NoByte character) = byte_of character ≡ None
+IsTrue cause = Unit {0}
+
+-- of which only that it is so is kept
+abbrev pub IsTold : Cause → Type 0
+IsTold cause = ∥ IsTrue cause ∥₁
+
+-- the word that a cause tells of, which stands anywhere in the line
+abbrev pub word_of : Cause → Option (Bor (List ℕ))
+word_of (UnknownWord word known) = Some word
+word_of (Unexpected word) = Some word
+word_of (UnknownKey word) = Some word
+word_of (NoNumber word) = Some word
+word_of (OutOfRange word least most) = Some word
+word_of (NoHex word) = Some word
+word_of (OtherLength word digits) = Some word
+word_of (TooMany word) = Some word
+word_of (Early word) = Some word
+word_of cause = None
+
+-- what a cause tells of no word, or of the line's last, is true of a line
+abbrev pub IsTrueOf : List ℕ → Cause → Type 0
+IsTrueOf line NotUtf8 = IsUtf8 line → ⊥
+IsTrueOf line Tab = HasSubslice line (codes "\t")
+IsTrueOf line TwoBlanks = HasSubslice line (codes "  ")
+IsTrueOf line BlankInFront = starts_with ◌==◌ line (codes " ") ≡ true
+IsTrueOf line BlankAtEnd = ends_with ◌==◌ line (codes " ") ≡ true
+IsTrueOf line Apart = starts_with ◌==◌ line (codes "  ") ≡ true
+IsTrueOf line (Missing word) = ends_with ◌==◌ line word.now ≡ true
+IsTrueOf line cause = Unit {0}
+
+-- what a cause tells of a line is true: of a word of it where it tells of one
+abbrev pub IsCauseOf : List ℕ → Cause → Type 0
+IsCauseOf line cause = MatchOption (word_of cause) (IsTrueOf line cause) (λ word. HasSubslice line word.now) × IsTold cause
