@@ -7,7 +7,7 @@ use Rattle.ws_text.specs.AnswerWords.{IsOnePart}
 use Rattle.ws_text.specs.ExtendedAnswerWordLaws.{NamesAtOnce, part_not_at_once, element_not_at_once, at_once_not_saved}
 use Rattle.ws_text.specs.ExtendedAnswerWords.{IsOneTold}
 use Rattle.ws_text.specs.ExtendedWords.{IsOneExtended}
-use Rattle.ws_text.specs.Reads.{Reads}
+use Rattle.ws_text.specs.Reads.{ReadsSo}
 use Rattle.ws_text.specs.declared.cause.Wrong.{Wrong}
 
 -- The words of what a live host's station sends, by what was found of them.
@@ -27,7 +27,7 @@ module _ (name : List ℕ) (words : List (List ℕ)) where
   pub told_either : (name ≡ codes "SAVED" → ⊥) → (NamesAtOnce name → ⊥) → (r : Result ExtendedAnswerPart Wrong)
       → MatchResult r (IsOneTold name words) (λ _. ((p : AnswerPart) → IsOnePart name words p → ⊥)
       × ((e : ExtendedElement) → IsOneExtended name words e → ⊥))
-      → Reads (IsOneTold name words) r
+      → ReadsSo (IsOneTold name words) r
   told_either saved at_once (Ok part) h = h
   told_either saved at_once (Err wrong) h = none
     where

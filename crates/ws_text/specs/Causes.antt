@@ -24,12 +24,12 @@ abbrev pub is_hex_text : List ℕ → Bool
 is_hex_text word = list_all is_ascii_hexdigit word && (length word % 2 == 0)
 
 -- a number is what is asked
-abbrev pub IsLegal : Asked → ℕ → Type 0
-IsLegal CellByte n = IsData n
-IsLegal Attribute n = is_attribute n ≡ true
-IsLegal FormatWord n = IsFfw n
-IsLegal ControlWord n = is_control n ≡ true
-IsLegal Key n = IsAid n
+abbrev pub IsAskedNumber : Asked → ℕ → Type 0
+IsAskedNumber CellByte n = IsData n
+IsAskedNumber Attribute n = is_attribute n ≡ true
+IsAskedNumber FormatWord n = IsFfw n
+IsAskedNumber ControlWord n = is_control n ≡ true
+IsAskedNumber Key n = IsAid n
 
 -- what a cause tells of its word is true, wherever that stands
 abbrev pub IsTrue : Cause → Type 0
@@ -38,7 +38,7 @@ IsTrue (NoNumber word) = (n : ℕ) → IsNumber word.now n → ⊥
 IsTrue (OutOfRange word least most) = (n : ℕ) → IsNumber word.now n → least ≤ n → n ≤ most → ⊥
 IsTrue (NoHex word) = is_hex_text word.now ≡ false
 IsTrue (OtherLength word digits) = length word.now ≢ digits
-IsTrue (Illegal asked number) = IsLegal asked number → ⊥
+IsTrue (Illegal asked number) = IsAskedNumber asked number → ⊥
 IsTrue (NoByte character) = byte_of character ≡ None
 IsTrue cause = Unit {0}
 

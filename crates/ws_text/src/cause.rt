@@ -5,7 +5,7 @@ ghost use Rattle.std.specs.List.{list_all};
 ghost use Rattle.std.specs.Str.{bytes_eq};
 ghost use Rattle.std.specs.Borrow.{Bor};
 ghost use Rattle.ws_text.specs.Causes as Spec;
-ghost use Rattle.ws_text.specs.Causes.{IsCauseOf, IsTold, IsTrue, IsLegal};
+ghost use Rattle.ws_text.specs.Causes.{IsCauseOf, IsTold, IsTrue, IsAskedNumber};
 ghost use Rattle.ws_text.specs.Words.{IsNumber, words_of};
 
 use crate::number::read_number;
@@ -134,7 +134,7 @@ pub fn miscounted<'a>(name: &'a str, words: &[&'a str], count: usize) -> Wrong<'
 
 /// A number that isn't what is asked there.
 pub fn illegal<'a>(asked: Asked, number: u16) -> Wrong<'a>
-    requires { IsLegal asked number → ⊥ }
+    requires { IsAskedNumber asked number → ⊥ }
 {
     Wrong {
         cause: Cause::Illegal { asked, number },
