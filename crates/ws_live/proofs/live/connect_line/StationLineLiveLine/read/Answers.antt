@@ -4,4 +4,5 @@ use Rattle.ws_live.proofs.live.connect_line.StationLineLiveLine.read.Goals as go
 
 pub returns-then-not-is_empty-clause-fault : goal.returns-then-not-is_empty-clause-fault
 returns-then-not-is_empty-clause-fault g c =
-    (λ read m. some_text c.args.inside.now (sym c.is_empty.ensures ∙ c.if-not-is_empty.true) m.0, refl)
+    let some = some_text c.args.inside.now (sym c.is_empty.ensures ∙ c.if-not-is_empty.true) in
+    (λ read m. some m.0, (refl, λ none. absurd (some none)))
