@@ -30,7 +30,7 @@ pub fn cause_text(alloc: Global, cause: Cause<'_>) -> Result<String, AllocError>
         | Cause::NoHex(word)
         | Cause::Missing(word)
         | Cause::TooMany(word)
-        | Cause::Early(word) => with_word(alloc, said, word),
+        | Cause::Early { word, .. } => with_word(alloc, said, word),
         Cause::OutOfRange { word, least, most } => with_range(alloc, said, word, least, most),
         Cause::OtherLength { word, digits } => with_length(alloc, said, word, digits),
         Cause::Illegal { number, .. } => with_number(alloc, said, number),
@@ -165,7 +165,7 @@ fn saying(cause: Cause<'_>) -> &'static str
         Cause::NoByte(_) => "no byte in code page 037 for",
         Cause::Missing(_) => "a word is missing behind",
         Cause::TooMany(_) => "one word too many",
-        Cause::Early(_) => "too early, before what it belongs to,",
+        Cause::Early { .. } => "too early, before what it belongs to,",
         Cause::Apart => "two blanks in front, but it belongs to no line",
         Cause::NoRoom => "a record has no room for it",
         Cause::OutOfRange { .. } => "not from ",

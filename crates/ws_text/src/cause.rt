@@ -1,12 +1,11 @@
 //! What is wrong with a line that says nothing: the word at which its reading stopped, and why.
-ghost use Rattle.std.specs.Prelude.{◌≡◌, ◌≤◌, ℕ, not, List as Seq, Some};
+ghost use Rattle.std.specs.Prelude.{◌≡◌, ◌≤◌, ℕ, IfSome, List as Seq, Some};
 ghost use Rattle.std.specs.Char.{is_ascii_hexdigit};
 ghost use Rattle.std.specs.List.{list_all};
-ghost use Rattle.std.specs.Str.{bytes_eq};
 ghost use Rattle.std.specs.Borrow.{Bor};
 ghost use Rattle.ws_text.specs.Causes as Spec;
 ghost use Rattle.ws_text.specs.Causes.{IsCauseOf, IsTold, IsTrue, IsAskedNumber};
-ghost use Rattle.ws_text.specs.Words.{IsNumber, words_of};
+ghost use Rattle.ws_text.specs.Words.{IsNumber};
 
 use crate::number::read_number;
 use std::str;
@@ -65,8 +64,11 @@ pub enum Cause<'a> {
     /// After this one.
     Missing(&'a str),
     TooMany(&'a str),
-    /// It stands before what it belongs to.
-    Early(&'a str),
+    /// It is one of those that are known there, and stands before what it belongs to.
+    Early {
+        word: &'a str,
+        known: &'static str,
+    },
     /// It has two blanks in front, and belongs to no line.
     Apart,
     /// A record has no room for what the line says (RFC 1205, section 3).
@@ -91,6 +93,11 @@ impl<'a> Wrong<'a> {
         Wrong { cause }
     }
 
+    /// The line's first word, which is one of the known ones, stands before what it belongs to.
+    pub fn early(known: &'static str) -> Self {
+        Wrong::of(Cause::Early { word: "", known })
+    }
+
     /// Nothing more is known than that other.
     pub fn or(self, other: Self) -> Self {
         match self.cause {
@@ -111,7 +118,7 @@ pub fn among<'a>(word: &'a str, known: &'static str, wrong: Wrong<'a>) -> Wrong<
 
 // Whether the word is none of the known ones.
 fn is_unknown(word: &str, known: &str) -> bool
-    ensures { result ≡ list_all (λ name. not (bytes_eq name word.now)) (words_of known.now) }
+    ensures { result ≡ Spec.is_unknown word.now known.now }
 {
     known.split(' ').all(|name| name != word)
 }
@@ -196,10 +203,11 @@ fn cause_in<'a>(text: &'a str, wrong: Wrong<'a>) -> Cause<'a>
 {
     match wrong.cause {
         Cause::Missing(word) => missing(text, word),
-        Cause::Early(_) => {
-            let name = first_word(text);
-            at_word(text, name, Wrong::of(Cause::Early(name)))
+        Cause::UnknownWord { word, known } if word == first_word(text) => at_first(text, known),
+        Cause::UnknownWord { word, .. } => {
+            at_word(text, word, Wrong::of(Cause::Unexpected(word)))
         }
+        Cause::Early { known, .. } => at_first(text, known),
         Cause::Illegal { asked, number } => Cause::Illegal { asked, number },
         Cause::NoByte(character) => Cause::NoByte(character),
         Cause::NoRoom => Cause::NoRoom,
@@ -211,13 +219,37 @@ fn cause_in<'a>(text: &'a str, wrong: Wrong<'a>) -> Cause<'a>
     }
 }
 
-// The first word of a line, behind two blanks where it is a unit's.
-fn first_word(text: &str) -> &str {
-    let words = text.strip_prefix("  ").unwrap_or(text);
-    match words.split_once(' ') {
-        Some((word, _)) => word,
-        None => words,
+// What is wrong at a line's first word: it is none of the known ones; or it is one, and early.
+fn at_first<'a>(line: &'a str, known: &'static str) -> Cause<'a>
+    ensures { IsCauseOf line.now result }
+{
+    let first = first_word(line);
+    if let Some(cause) = unwritten(line, first) {
+        return cause;
     }
+    if is_unknown(first, known) {
+        Cause::UnknownWord { word: first, known }
+    } else {
+        Cause::Early { word: first, known }
+    }
+}
+
+// The first word of a line.
+fn first_word(line: &str) -> &str
+    ensures { result.now ≡ Spec.first_of line.now }
+{
+    let text = text_of(line);
+    match text.split_once(' ') {
+        Some((word, _)) => word,
+        None => text,
+    }
+}
+
+// A line from its first word on.
+fn text_of(line: &str) -> &str
+    ensures { result.now ≡ Spec.text_of line.now }
+{
+    line.strip_prefix("  ").unwrap_or(line)
 }
 
 // The word that a cause tells of, where it stands anywhere in the line.
@@ -225,7 +257,6 @@ fn word_of<'a>(cause: Cause<'a>) -> Option<&'a str>
     ensures { result ≡ Spec.word_of cause.entry }
 {
     match cause {
-        Cause::UnknownWord { word, .. } => Some(word),
         Cause::Unexpected(word) => Some(word),
         Cause::UnknownKey(word) => Some(word),
         Cause::NoNumber(word) => Some(word),
@@ -233,7 +264,6 @@ fn word_of<'a>(cause: Cause<'a>) -> Option<&'a str>
         Cause::NoHex(word) => Some(word),
         Cause::OtherLength { word, .. } => Some(word),
         Cause::TooMany(word) => Some(word),
-        Cause::Early(word) => Some(word),
         _ => None,
     }
 }
@@ -243,17 +273,27 @@ fn at_word<'a>(text: &str, word: &str, wrong: Wrong<'a>) -> Cause<'a>
     requires { (told : Bor (Seq ℕ)) × (Spec.word_of wrong.cause ≡ Some told) × (told.now ≡ word.now) }
     ensures { IsCauseOf text.now result }
 {
-    if word.is_empty() {
-        return blanks(text);
-    }
-    if word.contains("\t") && text.contains("\t") {
-        return Cause::Tab;
+    if let Some(cause) = unwritten(text, word) {
+        return cause;
     }
     if text.contains(word) {
         wrong.cause
     } else {
         Cause::Other
     }
+}
+
+// The blanks that stand where a word is none, or a tab in it.
+fn unwritten<'a>(text: &str, word: &str) -> Option<Cause<'a>>
+    ensures { IfSome result (IsCauseOf text.now) }
+{
+    if word.is_empty() {
+        return Some(blanks(text));
+    }
+    if word.contains("\t") && text.contains("\t") {
+        return Some(Cause::Tab);
+    }
+    None
 }
 
 // A word that is missing after this one.
@@ -274,7 +314,7 @@ fn missing<'a>(text: &str, word: &'a str) -> Cause<'a>
 fn blanks<'a>(text: &str) -> Cause<'a>
     ensures { IsCauseOf text.now result }
 {
-    let words = text.strip_prefix("  ").unwrap_or(text);
+    let words = text_of(text);
     if words.starts_with(' ') && text.starts_with(" ") {
         return Cause::BlankInFront;
     }
