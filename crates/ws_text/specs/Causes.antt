@@ -73,7 +73,7 @@ abbrev pub IsTrueOf : List ℕ → Cause → Type 0
 IsTrueOf line NotUtf8 = IsUtf8 line → ⊥
 IsTrueOf line Tab = HasSubslice line (codes "\t")
 IsTrueOf line TwoBlanks = HasSubslice line (codes "  ")
-IsTrueOf line BlankInFront = starts_with ◌==◌ line (codes " ") ≡ true
+IsTrueOf line BlankInFront = starts_with ◌==◌ (text_of line) (codes " ") ≡ true
 IsTrueOf line BlankAtEnd = ends_with ◌==◌ line (codes " ") ≡ true
 IsTrueOf line Apart = starts_with ◌==◌ line (codes "  ") ≡ true
 IsTrueOf line (UnknownWord word known) = (word.now ≡ first_of line) × (is_unknown word.now known.now ≡ true)

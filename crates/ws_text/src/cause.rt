@@ -315,7 +315,7 @@ fn blanks<'a>(text: &str) -> Cause<'a>
     ensures { IsCauseOf text.now result }
 {
     let words = text_of(text);
-    if words.starts_with(' ') && text.starts_with(" ") {
+    if words.starts_with(" ") {
         return Cause::BlankInFront;
     }
     if words.contains("  ") && text.contains("  ") {
