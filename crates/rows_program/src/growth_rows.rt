@@ -8,7 +8,7 @@ use ws_any_host::{AnyEvent, AnyHost};
 use ws_code::{List, Reason, VecSink};
 use ws_keys::{HostFault, split_answer};
 use ws_live::{RunFault, Sender};
-use ws_program::{Asked, answer};
+use ws_program::{Asked, Met, answer};
 use ws_record::{Opcode, Record};
 use ws_session::{Refusal, SendFault};
 
@@ -49,8 +49,8 @@ fn made_within_memory(rt: HostRuntime) {
             let wanted = b"FFF1\n000A12A0000004000001FFEF\n";
             same_bytes(&rt, sink.as_slice(), wanted.as_slice());
         }
-        Err(RunFault::Memory) => holds(&rt, sink.as_slice().is_empty()),
-        Err(fault) => same(&rt, fault, RunFault::Write),
+        Err(Met::Run(RunFault::Memory)) => holds(&rt, sink.as_slice().is_empty()),
+        Err(met) => same(&rt, met.fault(), RunFault::Write),
     }
 }
 

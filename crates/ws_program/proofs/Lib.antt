@@ -4,6 +4,7 @@ pub mod ExtendedRecords
 pub mod FrontItems
 pub mod HexDigits
 pub mod Makings
+pub mod Mets
 pub mod Parts
 pub mod Plays
 pub mod Printings

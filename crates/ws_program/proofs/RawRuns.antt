@@ -12,7 +12,9 @@ use Rattle.ws_printing.specs.Printouts.{printout}
 use Rattle.ws_program.specs.Actions.{IsCarriedOut}
 use Rattle.ws_program.specs.Runs.{HasRunInput, IsFaultOfInput, IsInputUnread}
 use Rattle.ws_program.specs.Streams.{openly}
-use Rattle.ws_program.specs.ToldFaults.{IsToldOf}
+use Rattle.ws_program.specs.ToldFaults.{plain_outcome, IsMetIn, IsToldOf}
+use Rattle.ws_program.specs.declared.told.Met.{Met}
+use Rattle.ws_program.specs.declared.told.Met.TheVariants.{Run}
 use Rattle.ws_program.specs.declared.words.command_line.Asked.{Asked}
 use Rattle.ws_program.specs.declared.words.command_line.Asked.TheVariants.{Check}
 use Rattle.ws_program.specs.declared.words.command_line.StreamForm.{StreamForm}
@@ -61,20 +63,20 @@ module _ {S : Type 0} (writer : Writer S) (from to : S) (streams : OpenStreams) 
           on : IsInputDone (Check file Raw cut sender) (Err why)
               → IsFaultOfInput (printout writer from to) streams (Check file Raw cut sender) fault
           on (inl h) = inl (why, h.0, h.1, e)
-          on (inr h) = inr (why, (h.0, h.1, e))
+          on (inr h) = inr (Run why, (h.0, h.1, tt, e))
 
   -- of one that was read before
-  pub read_done : (asked : Asked) (input : List ℕ) (outcome : Result Bool RunFault) (result : Result Bool ToldFault)
-      → IsCarriedOut writer from to (openly streams.output asked input) outcome
+  pub read_done : (asked : Asked) (input : List ℕ) (outcome : Result Bool Met) (result : Result Bool ToldFault)
+      → IsCarriedOut writer from to (openly streams.output asked input) (plain_outcome outcome)
       → IfOk result (λ accepted. outcome ≡ Ok accepted) → IfOk result (HasRunInput
       (printout writer from to) streams asked)
   read_done asked input outcome (Ok accepted) h e = (input, rw e at h)
   read_done asked input outcome (Err fault) h e = tt
 
-  pub read_told : (asked : Asked) (input : List ℕ) (outcome : Result Bool RunFault) (result : Result Bool ToldFault)
-      → IsCarriedOut writer from to (openly streams.output asked input) outcome
-      → IfErr result (λ fault. IsErrAnd outcome (IsToldOf asked input fault))
+  pub read_told : (asked : Asked) (input : List ℕ) (outcome : Result Bool Met) (result : Result Bool ToldFault)
+      → IsCarriedOut writer from to (openly streams.output asked input) (plain_outcome outcome)
+      → IfErr outcome (IsMetIn asked input) → IfErr result (λ told. IsErrAnd outcome (λ met. IsToldOf met told))
       → IfErr result (IsFaultOfInput (printout writer from to) streams asked)
-  read_told asked input outcome (Ok accepted) h told = tt
-  read_told asked input (Ok accepted) (Err fault) h told = absurd told
-  read_told asked input (Err why) (Err fault) h told = inr (why, (input, h, told))
+  read_told asked input outcome (Ok accepted) h is told = tt
+  read_told asked input (Ok accepted) (Err fault) h is told = absurd told
+  read_told asked input (Err met) (Err fault) h is told = inr (met, (input, h, is, told))

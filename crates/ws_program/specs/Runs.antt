@@ -13,9 +13,10 @@ use Rattle.ws_live.specs.asked.OpenStreams.{missing}
 use Rattle.ws_network.specs.LiveSessions.{HasRunLive, script_of}
 use Rattle.ws_program.specs.Actions.{IsCarriedOut}
 use Rattle.ws_program.specs.Streams.{openly}
-use Rattle.ws_program.specs.ToldFaults.{IsToldOf}
+use Rattle.ws_program.specs.ToldFaults.{plain, IsMetIn, IsToldOf}
 use Rattle.ws_program.specs.declared.command_fault.CommandFault.{CommandFault}
 use Rattle.ws_program.specs.declared.command_fault.CommandFault.TheVariants.{Words, Run, Told}
+use Rattle.ws_program.specs.declared.told.Met.{Met}
 use Rattle.ws_program.specs.declared.words.command_line.Asked.{Asked}
 use Rattle.ws_program.specs.declared.words.command_line.Task.{Task}
 use Rattle.ws_program.specs.declared.words.command_line.Task.TheVariants.{Input, Live}
@@ -44,9 +45,9 @@ module _ {S : Type 0} (out : Printout S) (streams : OpenStreams) where
   -- bytes that were read of it, and is told with its cause.
   abbrev pub IsFaultOfInput : Asked → ToldFault → Type 0
   IsFaultOfInput asked fault = ((why : RunFault) × (out.to ≡ out.from) × IsInputUnread why × (fault ≡ told.Run why))
-      ⊎ ((why : RunFault) × ((input : List ℕ)
-      × IsCarriedOut out.writer out.from out.to (openly streams.output asked input) (Err why)
-      × IsToldOf asked input fault why))
+      ⊎ ((met : Met) × ((input : List ℕ)
+      × IsCarriedOut out.writer out.from out.to (openly streams.output asked input) (Err (plain met))
+      × IsMetIn asked input met × IsToldOf met fault))
 
   -- the task of a command line was done: something of an input, or a live session
   abbrev pub HasRunTask : Task → Bool → Type 0

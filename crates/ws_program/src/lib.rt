@@ -32,5 +32,5 @@ pub use recorded::recorded_bytes;
 pub use running::{run, run_task};
 pub use show::show_to;
 pub use source_check::check_source_openly;
-pub use told::with_cause;
+pub use told::{Met, with_cause};
 pub use words::{Asked, RecordedEnd, StreamForm, Task, no_text, read_words};

@@ -95,5 +95,5 @@ where
     let input = read_input(rt, asked.file())?;
     let text = input.as_slice();
     let outcome = answer_openly(rt, rt.alloc(), asked, text, streams, sink);
-    with_cause(rt.alloc(), asked, text, outcome)
+    with_cause(rt.alloc(), outcome)
 }

@@ -2,17 +2,23 @@ use Rattle.std.proofs.Common.{ap}
 use Rattle.ws_printing.specs.Buffering.{Buffering}
 use Rattle.ws_live.specs.declared.asked.fault.RunFault.TheVariants.{Write}
 use Rattle.ws_program.specs.Answering.{answer_action}
+use Rattle.ws_program.specs.ToldFaults.{plain_outcome}
 use Rattle.ws_program.proofs.Buffers.{carried_flushed, carried_unflushed}
+use Rattle.ws_program.proofs.Mets.{write_met}
 use Rattle.ws_program.proofs.Printings.{answer_cut}
 use Rattle.ws_program.proofs.program.answer_buffered.Goals as goal
 
-pub returns-in-Ok : goal.returns-in-Ok
-returns-in-Ok g c = carried_flushed g.S.Sink.writer c.args.sink.now c.answer-outcome.new.sink c.requires.empty
+pub returns-in-Ok-clause-carried : goal.returns-in-Ok-clause-carried
+returns-in-Ok-clause-carried g c = carried_flushed g.S.Sink.writer c.args.sink.now c.answer-outcome.new.sink c.requires.empty
     c.flush.new.self.sink c.in-Ok.ensures.ok.0
     (λ none. ap (λ (b : Buffering g.row.S.Denot). b.sink) (c.flush.ensures.none none))
-    (answer_action c.args.asked c.args.text.now) c.answer-outcome.result c.answer-outcome.ensures
+    (answer_action c.args.asked c.args.text.now) (plain_outcome c.answer-outcome.result)
+    c.answer-outcome.ensures.carried
 
-pub returns-in-Err : goal.returns-in-Err
-returns-in-Err g c = carried_unflushed g.S.Sink.writer c.args.sink.now c.answer-outcome.new.sink c.requires.empty
+pub returns-in-Err-clause-carried : goal.returns-in-Err-clause-carried
+returns-in-Err-clause-carried g c = carried_unflushed g.S.Sink.writer c.args.sink.now c.answer-outcome.new.sink c.requires.empty
     c.flush.new.self.sink c.in-Err.ensures.err.0 Write (answer_action c.args.asked c.args.text.now)
-    (answer_cut c.args.asked c.args.text.now) c.answer-outcome.result c.answer-outcome.ensures
+    (answer_cut c.args.asked c.args.text.now) (plain_outcome c.answer-outcome.result) c.answer-outcome.ensures.carried
+
+pub returns-in-Err-clause-met : goal.returns-in-Err-clause-met
+returns-in-Err-clause-met g c = write_met c.args.asked c.args.text.now
