@@ -1,5 +1,4 @@
 //! Streams decoded at once: their items, or where and why they are refused.
-
 use crate::encoder_rows::record;
 use crate::escaped::Escaped;
 use crate::feed_rows::{Wants, expect_each_way, steps_of};
@@ -14,10 +13,9 @@ use ws_record::{
 };
 use ws_telnet::{CommandCode, Sub, Telnet};
 
-/// An item that a row asks for.
+/// An item that a row asks for. The flags of a record are all 0.
 #[derive(Clone, Copy)]
 pub(crate) enum Wanted<'a> {
-    // A record whose flags are all 0.
     Record(Opcode, &'a [u8]),
     Command(CommandCode),
     Sub(u8, &'a [u8]),
@@ -29,13 +27,11 @@ type Accepted<'a> = (&'a str, &'a [u8], &'a [Wanted<'a>], &'a [u64]);
 // Bytes by name, the place of the one that is refused, and why.
 type Refused<'a> = (&'a str, &'a [u8], u64, Reason);
 
-/// A record without a body.
+// A record without a body, and one of a Write to Display and the byte FF.
 pub(crate) const INVITE: Wanted = Wanted::Record(Opcode::Invite, b"");
 
-/// A record of a Write to Display and the byte FF.
 pub(crate) const PUT_FF: Wanted = Wanted::Record(Opcode::PutGet, b"\x04\x11\x00\x08\xff");
 
-/// The item that a row asks for.
 pub(crate) fn made(rt: &impl Abort, alloc: Global, wanted: Wanted) -> Item<u8> {
     match wanted {
         Wanted::Record(opcode, body) => record(opcode, body.to_vec(alloc).expect(rt, "memory")),
@@ -48,7 +44,6 @@ fn sub(rt: &impl Abort, option: u8, data: &[u8]) -> Telnet {
     Telnet::Sub(Sub::new(option, data).expect(rt, "not too much data"))
 }
 
-/// The items that a row asks for.
 pub(crate) fn all_made(rt: &impl Abort, alloc: Global, wanted: &[Wanted]) -> Vec<Item<u8>> {
     let mut items = Vec::new(alloc);
     for item in wanted {

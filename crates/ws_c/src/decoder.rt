@@ -159,7 +159,8 @@ fn tell_spelling(
 ) -> Status
     requires room { cells + length spelling.now ≤ length buffer.old }
     requires count { before < usize.MAX }
-    ensures { (run front : Seq ℕ) → length run ≡ cells → buffer.old ≡ holds_front run front
+    ensures { (run front : Seq ℕ) → length run ≡ cells
+        → buffer.old ≡ holds_front run front
         → IsSpellingTold run spelling.now (before + 1) kind
         (crossed front buffer.new result told.new) }
 {
@@ -181,7 +182,8 @@ fn tell_step<C: Body>(
 ) -> Status
     requires room { cells + UNIT_ROOM ≤ length buffer.old }
     requires count { before < usize.MAX }
-    ensures { (run front : Seq ℕ) → length run ≡ cells → buffer.old ≡ holds_front run front
+    ensures { (run front : Seq ℕ) → length run ≡ cells
+        → buffer.old ≡ holds_front run front
         → IsStepToldOn C.rules run step before (crossed front buffer.new result told.new) }
 {
     match step {
@@ -226,7 +228,8 @@ fn ends_run(cells: usize, byte: u8, room: usize) -> bool
     requires { cells ≤ room }
     ensures ends { result ≡ true
         → (cells ≢ 0) × (MayBeCell byte → cells + UNIT_ROOM ≤ room → ⊥) }
-    ensures on { result ≡ false → (cells ≡ 0) ⊎ (MayBeCell byte × (cells + UNIT_ROOM ≤ room)) }
+    ensures on { result ≡ false
+        → (cells ≡ 0) ⊎ (MayBeCell byte × (cells + UNIT_ROOM ≤ room)) }
 {
     if cells == 0 {
         return false;

@@ -91,7 +91,8 @@ impl CodePage {
 
     /// The byte of a character: the one whose character it is. `None` if there is no such byte.
     pub fn from_char(self, character: char) -> Option<u8>
-        ensures inverse { (b : ℕ) → (result ≡ Some b) ↔ (char_on self b ≡ Some character) }
+        ensures inverse { (b : ℕ)
+            → (result ≡ Some b) ↔ (char_on self b ≡ Some character) }
         ensures value { result ≡ byte_on self character }
     {
         if !self.has_euro {

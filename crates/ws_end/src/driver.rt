@@ -141,7 +141,8 @@ impl<R: Reacts> Driver<R> {
         requires works { self.old.ended ≡ None }
         requires fits { self.old.live.taken + length piece.now < 2 ^ 64 }
         ensures within { result.used ≤ length piece.now }
-        ensures some { 0 < length piece.now → result.step ≢ Err Refusal.Failed → 0 < result.used }
+        ensures some { 0 < length piece.now
+            → result.step ≢ Err Refusal.Failed → 0 < result.used }
         ensures whole { IfOk result.step (λ step. R.does.written self.new.reacts step.reply ≡ []
             → step.event ≡ None → result.used ≡ length piece.now) }
         ensures taken { DriverTakes (driving R.Body.rules R.Collector.keeper R.does)

@@ -52,7 +52,8 @@ pub fn reasons_stay()
 /// Carried out on any screen between two bodies, the image of a screen that events gave makes it equal to that one,
 /// and nothing of it is refused. It is a body of the profile.
 pub fn image_gives()
-    ensures given { (g : History) (s : ScreenParts) → Gives g s → IsLegal s → s.writing ≡ None
+    ensures given { (g : History) (s : ScreenParts) → Gives g s → IsLegal s
+        → s.writing ≡ None
         → (row : ℕ) (h : History) → open_write h ≡ None
         → s ≡ screen_of (after_end (after_elements h (image row s))) }
     ensures unrefused { (g : History) (s : ScreenParts) → Gives g s → IsLegal s → s.writing ≡ None

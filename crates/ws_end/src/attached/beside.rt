@@ -16,7 +16,8 @@ impl<E, S, K: Sink> Attached<E, S, K> {
         // What is written past the end, or how far it came.
         ensures done { OnOk result
             (HasWrittenBeside K.writer self.old self.new bytes.now) }
-        ensures fault { self.old.broken ≡ false → IfErr result (λ fault. (fault ≡ Fault.Write)
+        ensures fault { self.old.broken ≡ false
+            → IfErr result (λ fault. (fault ≡ Fault.Write)
             × HasFailedBeside K.writer self.old self.new bytes.now) }
         // A broken end goes nowhere, and a fault breaks one.
         ensures broken { self.old.broken ≡ true

@@ -87,7 +87,8 @@ impl ExtendedScreen {
 
     /// The screen that the key Reset would leave: what asks at once is told of it (own choice).
     pub fn told(&self) -> Screen
-        ensures told { (state : ExtendedState) → Shows state self.now → result ≡ told_screen state }
+        ensures told { (state : ExtendedState) → Shows state self.now
+            → result ≡ told_screen state }
         ensures given { (state : ExtendedState) → Shows state self.now
             → Gives (state_after_reset state).history result }
         ensures legal { IsLegal result }
