@@ -1,5 +1,5 @@
 //! Bytes that come to a station that no record ends, in pieces.
-ghost use Rattle.std.specs.Prelude.{◌≡◌, ◌≢◌, ◌≤◌, ◌<◌, ◌+◌, ◌^◌, [], ℕ, None, Err, IfErr, IfOk, IsSome, OnErr, OnOk, length, take, true};
+ghost use Rattle.std.specs.Prelude.{◌≡◌, ◌≢◌, ◌≤◌, ◌<◌, ◌+◌, ◌^◌, ◌⊎◌, [], ℕ, None, Err, IfErr, IfOk, IsSome, OnErr, OnOk, length, take, true, false};
 ghost use Rattle.ws_lasting.specs.Behaviour.{AreQuiet, AreTakenSo};
 ghost use Rattle.ws_lasting.specs.Footings.{AtLasting};
 ghost use Rattle.ws_end.specs.Ends.{IsShut};
@@ -20,6 +20,9 @@ impl<D: StationDisplay> LastingStation<D> {
     pub fn feed(&mut self, piece: &[u8]) -> EndFed<RecordEvent, D::Reply>
         ensures within { result.used ≤ length piece.now }
         ensures some { 0 < length piece.now → result.step ≢ Err Refusal.Failed → 0 < result.used }
+        ensures whole { IfOk result.step (λ step. step.event ≡ None
+            → D.does.written self.new.station.reacts.screen step.reply ≡ []
+            → (result.used ≡ length piece.now) ⊎ (self.old.taken + result.used + 1 ≡ 2 ^ 64)) }
         ensures taken { AtLasting (on D.Commands.rules D.does) self.old (λ at.
             self.old.taken + 1 < 2 ^ 64
             → AreTakenSo (on D.Commands.rules D.does)
@@ -55,6 +58,9 @@ impl<D: StationDisplay> LastingStation<D> {
         requires fits { self.old.taken + count < 2 ^ 64 }
         ensures within { result.used ≤ count }
         ensures some { 0 < count → 0 < result.used }
+        ensures whole { IfOk result.step (λ step. step.event ≡ None
+            → D.does.written self.new.station.reacts.screen step.reply ≡ []
+            → result.used ≡ count) }
         ensures taken { AtLasting (on D.Commands.rules D.does) self.old (λ at.
             AreTakenSo (on D.Commands.rules D.does)
             self.old self.new at (take result.used piece.now) result.step) }
@@ -91,8 +97,10 @@ impl<D: StationDisplay> LastingStation<D> {
 
     // Whether it writes and tells nothing.
     fn is_silent(&self, step: &EndStep<RecordEvent, D::Reply>) -> bool
-        ensures { result ≡ true → (step.now.event ≡ None)
+        ensures silent { result ≡ true → (step.now.event ≡ None)
             × (D.does.written self.now.station.reacts.screen step.now.reply ≡ []) }
+        ensures other { result ≡ false → step.now.event ≡ None
+            → D.does.written self.now.station.reacts.screen step.now.reply ≡ [] → ⊥ }
     {
         step.event.is_none() && self.display().bytes(&step.reply).is_empty()
     }

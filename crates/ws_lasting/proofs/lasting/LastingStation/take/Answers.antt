@@ -28,7 +28,7 @@ loop-used-preserved g c =
           one_quiet on c.args.self.now now.self c.take_byte.new.self at piece now.used within l _ c.in-Ok.step
           (c.in-Ok.ensures.taken l.0 l.2 (room on c.args.self.now now.self c.take_byte.new.self at piece now.used
           within l c.args.count test c.requires.fits))
-          c.in-Ok.ensures.counted (take_more piece now.used 0 inside) (c.is_silent.ensures c.if-not-is_silent.false)),
+          c.in-Ok.ensures.counted (take_more piece now.used 0 inside) (c.is_silent.ensures.silent c.if-not-is_silent.false)),
     )
 
 pub returns-then-not-is_silent-clause-taken : goal.returns-then-not-is_silent-clause-taken
