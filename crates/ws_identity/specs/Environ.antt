@@ -1,4 +1,4 @@
--- The option NEW-ENVIRON at a display station that has an identity (RFC 1572; its variables: RFC 4777, section 4)
+-- The option NEW-ENVIRON at a display station that has an identity (RFC 1572; its variables: RFC 4777)
 
 use Rattle.std.specs.Prelude.{ℕ, List, [], ◌∷◌, ◌++◌, Bool, true, false, ◌==◌, ◌&&◌, not, if◌then◌else◌, Option, Some, None}
 use Rattle.std.specs.Prelude.{is_some, unwrap_or, codes}
@@ -65,7 +65,7 @@ asks [] = false
 asks (code ∷ rest) = code == SEND
 
 -- what has been told once a host has asked: the device's name, where there is one; where it was told before, the host
--- has refused it (RFC 4777, section 6)
+-- has refused it (RFC 4777)
 abbrev pub after_asked : EnvironState → EnvironState
 after_asked environ =
     if is_some environ.identity.device

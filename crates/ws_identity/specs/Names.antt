@@ -1,4 +1,4 @@
--- The names by which a display station is known to a host (RFC 4777, section 4).
+-- The names by which a display station is known to a host (RFC 4777).
 
 use Rattle.std.specs.Prelude.{ℕ, List, [], ◌∷◌, Bool, false, ◌==◌, ◌&&◌, ◌||◌, nat_le, length, map}
 use Rattle.std.specs.List.{list_all}

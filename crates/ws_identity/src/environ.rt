@@ -18,8 +18,8 @@ use ws_telnet::{IAC, Sub, Telnet, Verb};
 /// What a station with an identity writes in answer to one token: at most 63 bytes.
 pub type Reply = ByteList<63>;
 
-/// The option NEW-ENVIRON of a display station with an identity (RFC 1572; RFC 4777, sections 4 and 6). The station
-/// performs it when it is asked to, and tells who it is each time it is asked, the device's name the first time alone.
+/// The option NEW-ENVIRON of a display station with an identity (RFC 1572, RFC 4777). The station performs it when it is
+/// asked to, and tells who it is each time it is asked, the device's name the first time alone.
 #[derive(Drop)]
 pub struct Environ {
     identity: Identity,
@@ -88,7 +88,7 @@ impl Environ {
     }
 
     /// How often the host has asked again after it was told the device's name, which it has then refused, as one that
-    /// is in use (RFC 4777, section 6). It counts up to the greatest value of 64 bits.
+    /// is in use (RFC 4777). It counts up to the greatest value of 64 bits.
     pub fn names_refused(&self) -> u64
         ensures { result ≡ self.now.names_refused }
     {

@@ -6,7 +6,7 @@ ghost use Rattle.ws_identity.specs.Names.{is_keyboard_type};
 use crate::{DeviceName, Keyboard};
 use ws_code::CodePage;
 
-/// Who a display station says that it is (RFC 4777, section 4).
+/// Who a display station says that it is (RFC 4777).
 #[derive(Debug, Drop)]
 pub struct Identity {
     /// The name that the device is to have; the host names it where there is none.

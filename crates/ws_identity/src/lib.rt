@@ -1,5 +1,5 @@
 //! Who a display station says that it is: device name, keyboard and code page, which a host asks for by the option
-//! NEW-ENVIRON (RFC 1572; RFC 4777, sections 4 and 6).
+//! NEW-ENVIRON (RFC 1572, RFC 4777).
 //!
 //! [`IdentityOptions`] are the options of `ws_nego` with this one beside them: see [`others_as_profile`], and of the
 //! device's name [`names_are_told_once`]. No call takes memory.

@@ -8,7 +8,7 @@ use std::marker::Model;
 use ws_code::ByteList;
 
 /// The name of a display station's device: 1 to 10 of A to Z, 0 to 9, `$`, `#`, `@`, `_` and `.`, first a letter, `$`,
-/// `#` or `@` (RFC 4777, section 4).
+/// `#` or `@` (RFC 4777).
 ///
 /// A contract sees it as its bytes.
 #[derive(Debug, Drop)]
@@ -52,7 +52,7 @@ impl DeviceName {
     }
 }
 
-/// A keyboard's type: three letters and digits, as `USB` (RFC 4777, section 4).
+/// A keyboard's type: three letters and digits, as `USB` (RFC 4777).
 ///
 /// A contract sees it as its bytes.
 #[derive(Debug, Drop)]

@@ -17,7 +17,7 @@ use ws_screen::{Field, Screen};
 /// # Errors
 ///
 /// `Locked` where the keyboard is locked, else `Protected` where the cursor is in no field that keys enter.
-pub(crate) fn entered_field(screen: &Screen) -> Result<Field, KeyRefusal>
+pub fn entered_field(screen: &Screen) -> Result<Field, KeyRefusal>
     ensures { MatchResult result
         (λ field. (screen.now.locked ≡ false) × (open_field screen.now ≡ Some field)
         × (1 ≤ field.length) × (field.start + field.length ≤ CELLS))
@@ -34,7 +34,7 @@ pub(crate) fn entered_field(screen: &Screen) -> Result<Field, KeyRefusal>
 }
 
 /// Changes the open field's cells at the cursor, turns its MDT on, and moves the cursor.
-pub(crate) fn change_field(screen: &mut Screen, field: &Field, change: Change, to: Address)
+pub fn change_field(screen: &mut Screen, field: &Field, change: Change, to: Address)
     requires open_ { open_field screen.old ≡ Some field.now }
     requires asked { AsksChange change field.now.format
         (screen.old.cursor - field.now.start) field.now.length }

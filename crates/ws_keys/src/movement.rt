@@ -38,7 +38,7 @@ pub(crate) fn move_to(screen: &mut Screen, to: Address) -> Result<Option<Answer>
 
 /// Where the next field starts: the first after the cursor, else the first of all, of those that keys enter. Without
 /// such a field the cursor's place.
-pub(crate) fn next_field(screen: &Screen) -> Address
+pub fn next_field(screen: &Screen) -> Address
     ensures { result ≡ Spec.next_field screen.now }
 {
     let fields = screen.fields();

@@ -59,8 +59,12 @@ fn at_sign(screen: &Screen, field: &Field) -> bool
     is_signed(field.format) && screen.cursor().place() == last_cell(field)
 }
 
-// The byte of a character that the open field takes at the cursor.
-fn byte_for(screen: &Screen, field: &Field, character: char) -> Result<u8, KeyRefusal>
+/// The byte of a character that the open field takes at the cursor.
+///
+/// # Errors
+///
+/// `WrongCharacter` where it has no byte in code page 037, the field's shift forbids it, or a sign stands there.
+pub fn byte_for(screen: &Screen, field: &Field, character: char) -> Result<u8, KeyRefusal>
     requires some { 1 ≤ field.now.length }
     requires within { field.now.start + field.now.length ≤ CELLS }
     ensures { MatchResult result
@@ -80,8 +84,8 @@ fn byte_for(screen: &Screen, field: &Field, character: char) -> Result<u8, KeyRe
     }
 }
 
-// Where the cursor goes after a character.
-fn after_character(screen: &Screen, field: &Field) -> Address
+/// Where the cursor goes after a character: one cell on, from the field's last cell to the next field.
+pub fn after_character(screen: &Screen, field: &Field) -> Address
     requires open_ { open_field screen.now ≡ Some field.now }
     requires some { 1 ≤ field.now.length }
     requires within { field.now.start + field.now.length ≤ CELLS }
@@ -112,8 +116,8 @@ pub(crate) fn type_character(
     Ok(None)
 }
 
-// The last cell that characters are entered in.
-fn last_entry_cell(field: &Field) -> u16
+/// The last cell that characters are entered in: in a signed numeric field the one before the sign.
+pub fn last_entry_cell(field: &Field) -> u16
     requires { field.now.start + field.now.length ≤ CELLS }
     ensures value { result ≡ Spec.last_entry_cell field.now }
     ensures within { 1 ≤ field.now.start + field.now.length → result < CELLS }
