@@ -1,6 +1,6 @@
 -- An image that is kept piece by piece.
 use Rattle.std.specs.List.{flat_map}
-use Rattle.std.specs.Prelude.{OnErr, OnOk, Result, Ok, Err}
+use Rattle.std.specs.Prelude.{OnOk, Result, Ok, Err}
 use Rattle.std.proofs.Common.{ℕ, List, [], ◌∷◌, ◌++◌, map, subst, append_assoc}
 use Rattle.ws_code.specs.Keep.{Keeps, Keeper}
 use Rattle.ws_stream.specs.declared.element.Element.{Element}

@@ -1,6 +1,7 @@
 pub mod AnswerBodies
 pub mod AnswerReasons
 pub mod AnswerSteps
+pub mod Blocks
 pub mod Carrying
 pub mod ErrorLaws
 pub mod ErrorRows
@@ -17,6 +18,7 @@ pub mod OpenWrites
 pub mod Painting
 pub mod ProfileBodies
 pub mod ProfileReasons
+pub mod RollSteps
 pub mod Running
 pub mod SlotRuns
 pub mod Starts

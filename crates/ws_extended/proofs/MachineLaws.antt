@@ -29,7 +29,7 @@ use Rattle.ws_extended.specs.declared.extended_commands.phase.Phase.{Phase}
 use Rattle.ws_extended.specs.declared.extended_commands.phase.Phase.TheVariants.{Begin, Escaped}
 use Rattle.ws_extended.specs.declared.extended_element.ExtendedElement.{ExtendedElement}
 use Rattle.ws_extended.specs.declared.extended_element.ExtendedElement.TheVariants.{Profile, Text, RestoreScreen}
-use Rattle.ws_extended.specs.declared.extended_element.ExtendedElement.TheVariants.{WriteError, Asks}
+use Rattle.ws_extended.specs.declared.extended_element.ExtendedElement.TheVariants.{Roll, WriteError, Asks}
 use Rattle.ws_extended.specs.declared.extended_place.ExtendedPlace.{ExtendedPlace}
 use Rattle.ws_extended.specs.declared.extended_place.ExtendedPlace.TheVariants.{InProfile, ErrorText, Asked}
 use Rattle.ws_extended.proofs.Lifting.{escape_goes_on}
@@ -176,12 +176,14 @@ none_begins place b ne takes front = go place front.unit front.stands front.spel
     go ErrorText (Profile (ReadMdtAlternate x y)) s e t = ne (sym (ap first e))
     go ErrorText (Profile u) s e t = false≢true s.may_follow
     go ErrorText RestoreScreen s e t = ne (sym (ap first e))
+    go ErrorText (Roll r) s e t = ne (sym (ap first e))
     go ErrorText WriteError s e t = ne (sym (ap first e))
     go ErrorText (Asks ask) s e t = ne (sym (ap first e))
     go (Asked before) (Asks ask) s e t = ne (sym (ap first e))
     go (Asked before) (Profile u) s e t = false≢true s.may_follow
     go (Asked before) (Text u) s e t = false≢true s.may_follow
     go (Asked before) RestoreScreen s e t = false≢true s.may_follow
+    go (Asked before) (Roll r) s e t = false≢true s.may_follow
     go (Asked before) WriteError s e t = false≢true s.may_follow
 
 -- the query so far, and its next byte

@@ -8,7 +8,7 @@ use Rattle.ws_extended.specs.ExtendedElements.{extended_follows, place_behind}
 use Rattle.ws_extended.specs.ExtendedViews.{NeedsOpenWrite, leaves_write_open}
 use Rattle.ws_extended.specs.declared.extended_element.ExtendedElement.{ExtendedElement}
 use Rattle.ws_extended.specs.declared.extended_element.ExtendedElement.TheVariants.{Profile, Text, RestoreScreen}
-use Rattle.ws_extended.specs.declared.extended_element.ExtendedElement.TheVariants.{WriteError, Asks}
+use Rattle.ws_extended.specs.declared.extended_element.ExtendedElement.TheVariants.{Roll, WriteError, Asks}
 use Rattle.ws_extended.specs.declared.extended_place.ExtendedPlace.{ExtendedPlace}
 use Rattle.ws_extended.specs.declared.extended_place.ExtendedPlace.TheVariants.{InProfile, ErrorText}
 use Rattle.ws_extended.specs.declared.extended_place.ExtendedPlace.TheVariants.{Asked as BehindAsk}
@@ -23,6 +23,7 @@ pub open_behind : (u : ExtendedElement) → is_open_at (place_behind u) ≡ leav
 open_behind (Profile e) = allows_after e
 open_behind (Text e) = refl
 open_behind RestoreScreen = refl
+open_behind (Roll r) = refl
 open_behind WriteError = refl
 open_behind (Asks ask) = refl
 
@@ -40,5 +41,6 @@ finds_write (Text e) (InProfile place) s may open_ = absurd (false≢true may)
 finds_write (Text e) ErrorText s may open_ = (open_, may)
 finds_write (Text e) (BehindAsk ask) s may open_ = absurd (false≢true may)
 finds_write RestoreScreen place s may open_ = tt
+finds_write (Roll r) place s may open_ = tt
 finds_write WriteError place s may open_ = tt
 finds_write (Asks ask) place s may open_ = tt

@@ -78,10 +78,11 @@ escape_begins place b e = record {
 }
 
 -- what else a live host may send is the code of a command beside the profile
-pub seven_only : (place : Place) (bytes : List ℕ) (b : ℕ) → IsUnfinished element_rules place bytes
+pub others_only : (place : Place) (bytes : List ℕ) (b : ℕ) → IsUnfinished element_rules place bytes
     → (IsPrefix element_rules place (bytes ++ b ∷ []) → ⊥) → IsPrefix extended_rules (InProfile place) (bytes ++ b ∷ [])
     → (bytes ≡ ESCAPE ∷ []) × (is_one_of b other_commands ≡ true)
-seven_only place bytes b more bad front = inner bytes more bad front (is_inner (InProfile place) (bytes ++ b ∷ [])) refl
+others_only place bytes b more bad front =
+    inner bytes more bad front (is_inner (InProfile place) (bytes ++ b ∷ [])) refl
   where
     inner : (bytes : List ℕ) → IsUnfinished element_rules place bytes
         → (IsPrefix element_rules place (bytes ++ b ∷ []) → ⊥)

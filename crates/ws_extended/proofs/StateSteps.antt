@@ -1,10 +1,10 @@
 -- What the parts of a display with an error line are after a step.
-use Rattle.std.proofs.Common.{◌≡◌, ℕ, List, [], ◌∷◌, ◌++◌, Bool, true, false, Option, Some, None, map, replicate, refl}
-use Rattle.std.proofs.Common.{sym, ap, ◌∙◌, subst, unwrap_or, length, if◌then◌else◌}
+use Rattle.std.proofs.Common.{◌≡◌, ℕ, ◌+◌, ◌≤◌, List, [], ◌∷◌, ◌++◌, Bool, true, false, Option, Some, None, map}
+use Rattle.std.proofs.Common.{replicate, refl, sym, ap, ◌∙◌, subst, unwrap_or, length, if◌then◌else◌}
 use Rattle.std.proofs.lemmas.Bool.{false≢true}
 use Rattle.ws_stream.specs.declared.element.Element.{Element}
 use Rattle.ws_stream.specs.declared.element.Element.TheVariants.{Write, Ra, Ea, Sba, Sf, Put}
-use Rattle.ws_screen.specs.Bodies.{after_element, after_elements, after_end}
+use Rattle.ws_screen.specs.Bodies.{after_element, after_elements, after_end, screen_of}
 use Rattle.ws_screen.specs.Events.{Edit, History, did}
 use Rattle.ws_screen.specs.Faults.{fault}
 use Rattle.ws_screen.specs.Given.{FollowsAll, Gives, ends_of, events_of}
@@ -18,10 +18,13 @@ use Rattle.ws_extended.specs.Carried.{Carries}
 use Rattle.ws_extended.specs.ErrorLine.{IsRow, error_begins, error_row, given_back, row_cells, row_start}
 use Rattle.ws_extended.specs.ErrorLine.{sets_error_row}
 use Rattle.ws_extended.specs.ExtendedStates.{ExtendedState, Kept, covered, gives_back, reset_history, state_after_reset}
-use Rattle.ws_extended.specs.ExtendedStates.{uncovered, state_after, uncovers}
+use Rattle.ws_extended.specs.ExtendedStates.{rolled_by, uncovered, state_after, uncovers}
 use Rattle.ws_extended.specs.ExtendedViews.{ExtendedParts, Shows}
+use Rattle.ws_extended.specs.RollParts.{RollParts}
+use Rattle.ws_extended.specs.Rolling.{roll_shown, rolled}
 use Rattle.ws_extended.specs.declared.extended_element.ExtendedElement.TheVariants.{Profile}
-use Rattle.ws_extended.proofs.ErrorLaws.{back_unrefused, begins_unrefused}
+use Rattle.ws_extended.proofs.Blocks.{back_unrefused}
+use Rattle.ws_extended.proofs.ErrorLaws.{begins_unrefused}
 use Rattle.ws_extended.proofs.ImageSizes.{Quiet, both_quiet, puts_quiet, quiet_end, quiet_rows}
 
 -- a Write to Display ends the open write by itself
@@ -79,14 +82,14 @@ begun h old mid new row g end legal closed at carries =
     subst (λ (k : History). Gives k new) (closes_first h 0x20 0 rest)
     (carries.after (after_end h) ended (begins_unrefused mid row legal closed at (after_end h) ended))
 
--- a row is given back on one
+-- cells are given back on one, or written anew
 pub comes_back : (h : History) (old mid new : ScreenParts) (cc2 row : ℕ) (cells : List ℕ) → Gives h old
-    → FollowsAll (ends_of old.writing) old mid → IsLegal mid → mid.writing ≡ None → IsRow row → length cells ≡ 80
+    → FollowsAll (ends_of old.writing) old mid → IsLegal mid → mid.writing ≡ None → row_start row + length cells ≤ 1920
     → Carries (given_back cc2 row cells) mid new → Gives (after_elements h (given_back cc2 row cells)) new
-comes_back h old mid new cc2 row cells g end legal closed at whole carries =
+comes_back h old mid new cc2 row cells g end legal closed fits carries =
     let ended : Gives (after_end h) mid = gives_end h old mid g end in
     subst (λ (k : History). Gives k new) (closes_first h 0 cc2 (Sba (row_start row) ∷ map Put cells))
-    (carries.after (after_end h) ended (back_unrefused mid cc2 row cells legal closed at whole (after_end h) ended))
+    (carries.after (after_end h) ended (back_unrefused mid cc2 row cells legal closed fits (after_end h) ended))
 
 -- A DISPLAY'S PARTS
 
@@ -119,6 +122,21 @@ module _ (state : ExtendedState) (old new : ScreenParts) (row text : ℕ) (kept 
       go false k = record {
         gives = gives_next state.history old new e shows.gives follows;
         row_is = shows.row_is ∙ sym (row_stays state.history (e ∷ []) (quiet, tt));
+        kept_is = shows.kept_is;
+        text_is = shows.text_is;
+      }
+
+  -- a Roll
+  pub roll_shows : (r : RollParts)
+      → ((h : History) → Gives h old → Gives (after_end (after_elements h (roll_shown r (screen_of h).cells))) new)
+      → Shows (rolled_by r state) (parts new row kept text)
+  roll_shows r gives =
+      let h : History = state.history in
+      let es : List Element = roll_shown r (screen_of h).cells in
+      record {
+        gives = gives h shows.gives;
+        row_is = shows.row_is ∙ sym (end_row (after_elements h es)
+            ∙ row_stays h es (refl, (refl, puts_quiet (rolled r (screen_of h).cells))));
         kept_is = shows.kept_is;
         text_is = shows.text_is;
       }

@@ -10,13 +10,14 @@ use Rattle.ws_extended.specs.declared.ask.Ask.{Ask}
 use Rattle.ws_extended.specs.declared.asked.Asked.{Asked}
 use Rattle.ws_extended.specs.declared.extended_element.ExtendedElement.{ExtendedElement}
 use Rattle.ws_extended.specs.declared.extended_element.ExtendedElement.TheVariants.{Profile, Text, RestoreScreen}
-use Rattle.ws_extended.specs.declared.extended_element.ExtendedElement.TheVariants.{WriteError, Asks}
+use Rattle.ws_extended.specs.declared.extended_element.ExtendedElement.TheVariants.{Roll, WriteError, Asks}
 
 -- what an element asks at once, if it asks
 abbrev pub ask_in : ExtendedElement → List Ask
 ask_in (Profile e) = []
 ask_in (Text e) = []
 ask_in RestoreScreen = []
+ask_in (Roll r) = []
 ask_in WriteError = []
 ask_in (Asks ask) = ask ∷ []
 

@@ -8,12 +8,13 @@ use Rattle.ws_stream.specs.declared.element.Element.{Element}
 use Rattle.ws_stream.specs.declared.element.Element.TheVariants.{Ic, Put}
 use Rattle.ws_stream.specs.declared.place.Place.TheVariants.{CommandsOnly}
 use Rattle.ws_extended.specs.ExtendedReasons.{extended_reason}
+use Rattle.ws_extended.specs.RollParts.{IsRoll}
 use Rattle.ws_extended.specs.declared.ask.Ask.{Ask}
 use Rattle.ws_extended.specs.declared.ask.Ask.TheVariants.{Query, SaveScreen, ReadScreen, ReadImmediate}
 use Rattle.ws_extended.specs.declared.ask.Ask.TheVariants.{ReadImmediateAlternate}
 use Rattle.ws_extended.specs.declared.extended_element.ExtendedElement.{ExtendedElement}
 use Rattle.ws_extended.specs.declared.extended_element.ExtendedElement.TheVariants.{Profile, Text, RestoreScreen}
-use Rattle.ws_extended.specs.declared.extended_element.ExtendedElement.TheVariants.{WriteError, Asks}
+use Rattle.ws_extended.specs.declared.extended_element.ExtendedElement.TheVariants.{Roll, WriteError, Asks}
 use Rattle.ws_extended.specs.declared.extended_place.ExtendedPlace.{ExtendedPlace}
 use Rattle.ws_extended.specs.declared.extended_place.ExtendedPlace.TheVariants.{InProfile, ErrorText, Asked}
 
@@ -39,6 +40,7 @@ abbrev pub extended_spelling : ExtendedElement → List ℕ
 extended_spelling (Profile e) = spelling e
 extended_spelling (Text e) = spelling e
 extended_spelling RestoreScreen = ESCAPE ∷ commands.RESTORE_SCREEN ∷ []
+extended_spelling (Roll r) = ESCAPE ∷ commands.ROLL ∷ r.control ∷ r.top ∷ r.bottom ∷ []
 extended_spelling WriteError = ESCAPE ∷ commands.WRITE_ERROR_CODE ∷ []
 extended_spelling (Asks ask) = ESCAPE ∷ ask_code ask ∷ ask_field ask
 
@@ -47,6 +49,7 @@ abbrev pub IsExtended : ExtendedElement → Type 0
 IsExtended (Profile e) = IsElement e
 IsExtended (Text e) = IsElement e
 IsExtended RestoreScreen = Unit {0}
+IsExtended (Roll r) = IsRoll r
 IsExtended WriteError = Unit {0}
 IsExtended (Asks ask) = Unit {0}
 
@@ -62,16 +65,19 @@ abbrev pub extended_follows : ExtendedPlace → ExtendedElement → Bool
 extended_follows (InProfile place) (Profile e) = element_rules.may_follow place e
 extended_follows (InProfile place) (Text e) = false
 extended_follows (InProfile place) RestoreScreen = true
+extended_follows (InProfile place) (Roll r) = true
 extended_follows (InProfile place) WriteError = true
 extended_follows (InProfile place) (Asks ask) = true
 extended_follows ErrorText (Profile e) = is_command e
 extended_follows ErrorText (Text e) = is_text e
 extended_follows ErrorText RestoreScreen = true
+extended_follows ErrorText (Roll r) = true
 extended_follows ErrorText WriteError = true
 extended_follows ErrorText (Asks ask) = true
 extended_follows (Asked before) (Profile e) = false
 extended_follows (Asked before) (Text e) = false
 extended_follows (Asked before) RestoreScreen = false
+extended_follows (Asked before) (Roll r) = false
 extended_follows (Asked before) WriteError = false
 extended_follows (Asked before) (Asks ask) = true
 
@@ -80,6 +86,7 @@ abbrev pub place_behind : ExtendedElement → ExtendedPlace
 place_behind (Profile e) = InProfile (element_rules.after e)
 place_behind (Text e) = ErrorText
 place_behind RestoreScreen = InProfile CommandsOnly
+place_behind (Roll r) = InProfile CommandsOnly
 place_behind WriteError = ErrorText
 place_behind (Asks ask) = Asked ask
 

@@ -1,5 +1,5 @@
 -- The laws of the code of a live host's elements.
-use Rattle.std.specs.Prelude.{◌≡◌, ◌≢◌, ℕ, ◌==◌, List, [], ◌∷◌, ◌++◌, Bool, true, false, ◌||◌, refl, if◌then◌else◌}
+use Rattle.std.specs.Prelude.{◌≡◌, ◌≢◌, ◌<◌, ℕ, ◌==◌, List, [], ◌∷◌, ◌++◌, Bool, true, false, ◌||◌, refl, if◌then◌else◌}
 use Rattle.std.proofs.Common.{sym, ap, ◌∙◌, subst, arith}
 use Rattle.std.proofs.lemmas.Bool.{false≢true}
 use Rattle.std.proofs.lemmas.List.{append-nil}
@@ -20,7 +20,7 @@ use Rattle.ws_extended.specs.declared.ask.Ask.TheVariants.{Query, SaveScreen, Re
 use Rattle.ws_extended.specs.declared.ask.Ask.TheVariants.{ReadImmediateAlternate}
 use Rattle.ws_extended.specs.declared.extended_element.ExtendedElement.{ExtendedElement}
 use Rattle.ws_extended.specs.declared.extended_element.ExtendedElement.TheVariants.{Profile, Text, RestoreScreen}
-use Rattle.ws_extended.specs.declared.extended_element.ExtendedElement.TheVariants.{WriteError, Asks}
+use Rattle.ws_extended.specs.declared.extended_element.ExtendedElement.TheVariants.{Roll, WriteError, Asks}
 use Rattle.ws_extended.specs.declared.extended_place.ExtendedPlace.{ExtendedPlace}
 use Rattle.ws_extended.specs.declared.extended_place.ExtendedPlace.TheVariants.{InProfile, ErrorText, Asked}
 
@@ -29,6 +29,7 @@ pub extended_nonempty : (u : ExtendedElement) → IsExtended u → extended_spel
 extended_nonempty (Profile e) h none = element_nonempty e h none
 extended_nonempty (Text e) h none = element_nonempty e h none
 extended_nonempty RestoreScreen h none = cc
+extended_nonempty (Roll r) h none = cc
 extended_nonempty WriteError h none = cc
 extended_nonempty (Asks ask) h none = cc
 
@@ -37,6 +38,10 @@ pub extended_bytes : (u : ExtendedElement) → IsExtended u → AreBytes (extend
 extended_bytes (Profile e) h = element_bytes e h
 extended_bytes (Text e) h = element_bytes e h
 extended_bytes RestoreScreen h = (omega arith, (omega arith, tt))
+extended_bytes (Roll r) h =
+    let top : r.top < 256 = omega (arith, h.order, h.high) in
+    let bottom : r.bottom < 256 = omega (arith, h.high) in
+    (omega arith, (omega arith, (h.byte, (top, (bottom, tt)))))
 extended_bytes WriteError h = (omega arith, (omega arith, tt))
 extended_bytes (Asks Query) h =
     (omega arith, (omega arith, (omega arith, (omega arith, (omega arith, (omega arith, (omega arith, tt)))))))
@@ -65,10 +70,21 @@ own_code (ReadMdtAlternate a b) rest code more h e = ap (λ n. is_one_of n own_c
 own_code (Put b) rest code more h e = no_code b 0x04 h (ap first e) refl
 own_code u rest code more h e = absurd (omega (arith, ap first e))
 
+-- a Roll by its bytes
+abbrev roll_back : List ℕ → ExtendedElement
+roll_back (escape ∷ code ∷ a ∷ b ∷ c ∷ rest) = Roll (record { control = a; top = b; bottom = c })
+roll_back bytes = RestoreScreen
+
+-- a command beside the profile without the bytes after its code, which a Roll alone has of its own
+abbrev bare : ExtendedElement → ExtendedElement
+bare (Roll r) = Roll (record { control = 0; top = 0; bottom = 0 })
+bare u = u
+
 -- the commands beside the profile by their codes
 abbrev pub by_code : ℕ → ExtendedElement
 by_code code =
     if code == 0x12 then RestoreScreen
+    else if code == 0x23 then Roll (record { control = 0; top = 0; bottom = 0 })
     else if code == 0x21 then WriteError
     else if code == 0xF3 then Asks Query
     else if code == 0x02 then Asks SaveScreen
@@ -82,10 +98,11 @@ IsOther (Profile e) = ⊥
 IsOther (Text e) = ⊥
 IsOther _ = Unit {0}
 
-pub other_code : (u : ExtendedElement) → IsOther u → by_code (second (extended_spelling u)) ≡ u
+other_code : (u : ExtendedElement) → IsOther u → by_code (second (extended_spelling u)) ≡ bare u
 other_code (Profile e) o = absurd o
 other_code (Text e) o = absurd o
 other_code RestoreScreen o = refl
+other_code (Roll r) o = refl
 other_code WriteError o = refl
 other_code (Asks Query) o = refl
 other_code (Asks SaveScreen) o = refl
@@ -100,6 +117,7 @@ pub other_front : (u : ExtendedElement) → IsOther u → (code : ℕ) × (more 
 other_front (Profile e) o = absurd o
 other_front (Text e) o = absurd o
 other_front RestoreScreen o = (0x12, [], refl, refl, refl)
+other_front (Roll r) o = (0x23, r.control ∷ r.top ∷ r.bottom ∷ [], refl, refl, refl)
 other_front WriteError o = (0x21, [], refl, refl, refl)
 other_front (Asks Query) o = (0xF3, ask_field Query, refl, refl, refl)
 other_front (Asks SaveScreen) o = (0x02, [], refl, refl, refl)
@@ -122,7 +140,13 @@ other_same u v rest o p e =
     let front : _ = other_front u o in
     let seconds : second (extended_spelling u) ≡ second (extended_spelling v) =
     ap second front.2 ∙ sym (ap (λ (l : List ℕ). second (l ++ rest)) front.2) ∙ sym (ap second e) in
-    sym (other_code u o) ∙ ap by_code seconds ∙ other_code v p
+    go u v e (sym (other_code u o) ∙ ap by_code seconds ∙ other_code v p)
+  where
+    go : (u v : ExtendedElement) → extended_spelling v ≡ extended_spelling u ++ rest → bare u ≡ bare v → u ≡ v
+    go (Roll r) (Roll q) e same = ap roll_back (sym e)
+    go (Roll r) v e same = absurd (cc)
+    go u (Roll q) e same = absurd (cc)
+    go u v e same = same
 
 -- text is no command
 pub text_or_command : {A : Type 0} (e : Element) → is_text e ≡ true → is_command e ≡ true → A

@@ -30,11 +30,11 @@ own_commands =
     commands.CLEAR_UNIT ∷ commands.CLEAR_FORMAT_TABLE ∷ commands.WRITE_TO_DISPLAY ∷ commands.READ_INPUT_FIELDS
     ∷ commands.READ_MDT_FIELDS ∷ commands.READ_MDT_FIELDS_ALTERNATE ∷ []
 
--- the codes of the seven commands beside the profile
+-- the codes of the eight commands beside the profile
 abbrev pub other_commands : List ℕ
 other_commands =
     commands.WRITE_STRUCTURED_FIELD ∷ commands.SAVE_SCREEN ∷ commands.RESTORE_SCREEN ∷ commands.WRITE_ERROR_CODE
-    ∷ commands.READ_SCREEN ∷ commands.READ_IMMEDIATE ∷ commands.READ_MDT_IMMEDIATE_ALTERNATE ∷ []
+    ∷ commands.ROLL ∷ commands.READ_SCREEN ∷ commands.READ_IMMEDIATE ∷ commands.READ_MDT_IMMEDIATE_ALTERNATE ∷ []
 
 -- only an element of the profile can begin with an escape and this code
 abbrev pub takes_command : ExtendedPlace → ℕ → Bool
@@ -66,11 +66,12 @@ escaped_reason (InProfile place) b = command_reason b
 escaped_reason ErrorText b = command_reason b
 escaped_reason (Asked ask) b = ask_reason ask
 
--- why no element beside the profile goes on with the byte: what is neither of the profile nor so short begins a query
+-- why no element beside the profile goes on with the byte: what is neither of the profile nor so short begins a Roll or
+-- a query
 abbrev pub other_reason : ExtendedPlace → List ℕ → ℕ → Reason
 other_reason place [] b = begin_reason place b
 other_reason place (escape ∷ []) b = escaped_reason place b
-other_reason place (escape ∷ code ∷ begun) b = StructuredField
+other_reason place (escape ∷ code ∷ begun) b = if code == commands.ROLL then reasons.Roll else StructuredField
 
 -- why no element goes on with a byte, by the bytes before it
 abbrev pub extended_reason : ExtendedPlace → List ℕ → ℕ → Reason

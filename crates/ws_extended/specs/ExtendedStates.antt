@@ -14,9 +14,11 @@ use Rattle.ws_screen.specs.Events.{History}
 use Rattle.ws_screen.specs.ScreenParts.{ScreenParts}
 use Rattle.ws_extended.specs.ErrorLine.{RESETS, error_begins, error_row, given_back, row_cells, shows_text}
 use Rattle.ws_extended.specs.Image.{image}
+use Rattle.ws_extended.specs.RollParts.{RollParts}
+use Rattle.ws_extended.specs.Rolling.{roll_shown}
 use Rattle.ws_extended.specs.declared.extended_element.ExtendedElement.{ExtendedElement}
 use Rattle.ws_extended.specs.declared.extended_element.ExtendedElement.TheVariants.{Profile, Text, RestoreScreen}
-use Rattle.ws_extended.specs.declared.extended_element.ExtendedElement.TheVariants.{WriteError, Asks}
+use Rattle.ws_extended.specs.declared.extended_element.ExtendedElement.TheVariants.{Roll, WriteError, Asks}
 
 -- a row that an error covers, as it was before
 pub record Kept : Type 0 where
@@ -71,6 +73,12 @@ covered state = record {
   text = 0;
 }
 
+-- the display after a Roll, whose write ends with it
+abbrev pub rolled_by : RollParts → ExtendedState → ExtendedState
+rolled_by r state = record state {
+  history = after_end (after_elements state.history (roll_shown r (screen_of state.history).cells));
+}
+
 -- a count of a text's bytes after an element of it
 abbrev pub bytes_behind : ℕ → Element → ℕ
 bytes_behind n (Put byte) = n + 1
@@ -87,6 +95,7 @@ state_after state (Text e) = record state {
   text = bytes_behind state.text e;
 }
 state_after state RestoreScreen = state_after_end (uncovered 0 state)
+state_after state (Roll r) = rolled_by r (uncovered 0 state)
 state_after state WriteError = covered (uncovered 0 state)
 state_after state (Asks ask) = state_after_end state
 
@@ -102,6 +111,7 @@ state_fault state (Text (Put byte)) =
     if state.text == COLUMNS then Some PastEnd else element_fault state.history (Put byte)
 state_fault state (Text e) = None
 state_fault state RestoreScreen = None
+state_fault state (Roll r) = None
 state_fault state WriteError = None
 state_fault state (Asks ask) = None
 

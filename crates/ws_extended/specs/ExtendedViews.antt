@@ -10,7 +10,7 @@ use Rattle.ws_extended.specs.ExtendedStates.{Kept, ExtendedState}
 use Rattle.ws_extended.specs.declared.error_line.KeptRow.{KeptRow}
 use Rattle.ws_extended.specs.declared.extended_element.ExtendedElement.{ExtendedElement}
 use Rattle.ws_extended.specs.declared.extended_element.ExtendedElement.TheVariants.{Profile, Text, RestoreScreen}
-use Rattle.ws_extended.specs.declared.extended_element.ExtendedElement.TheVariants.{WriteError, Asks}
+use Rattle.ws_extended.specs.declared.extended_element.ExtendedElement.TheVariants.{Roll, WriteError, Asks}
 
 -- a display: the screen as it is seen, the row of the error line, the row that an error covers, where one stands, and
 -- how many bytes its text has
@@ -37,6 +37,7 @@ abbrev pub leaves_write_open : ExtendedElement → Bool
 leaves_write_open (Profile e) = lets_orders_follow e
 leaves_write_open (Text e) = true
 leaves_write_open RestoreScreen = false
+leaves_write_open (Roll r) = false
 leaves_write_open WriteError = true
 leaves_write_open (Asks ask) = false
 
@@ -45,5 +46,6 @@ abbrev pub NeedsOpenWrite : ExtendedElement → ScreenParts → Type 0
 NeedsOpenWrite (Profile e) s = NeedsWrite e → IsSome s.writing
 NeedsOpenWrite (Text e) s = IsSome s.writing × (is_text e ≡ true)
 NeedsOpenWrite RestoreScreen s = Unit {0}
+NeedsOpenWrite (Roll r) s = Unit {0}
 NeedsOpenWrite WriteError s = Unit {0}
 NeedsOpenWrite (Asks ask) s = Unit {0}

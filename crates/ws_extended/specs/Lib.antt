@@ -15,6 +15,8 @@ pub mod ExtendedStates
 pub mod ExtendedViews
 pub mod Image
 pub mod QueryReply
+pub mod RollParts
+pub mod Rolling
 pub mod Saving
 pub mod Telling
 pub mod ToldParts

@@ -1,17 +1,17 @@
-//! The names under which the seven commands are printed and read.
+//! The names under which the commands beside the profile are printed and read that have no values of their own.
 ghost use Rattle.std.specs.Prelude.{◌≡◌, ℕ, List, Some, None, MatchOption};
 ghost use Rattle.ws_extended.specs.declared.extended_element.ExtendedElement.{ExtendedElement as AnElement};
 ghost use Rattle.ws_extended.specs.CommandNames as Spec;
 
 use crate::{Ask, ExtendedElement};
 
-/// The name of a command beside the profile; none of another element.
+/// The name of a command beside the profile that stands alone in its line; none of another element.
 pub fn command_name(element: &ExtendedElement) -> Option<&'static str>
     ensures { MatchOption result (Spec.command_name element.now ≡ None)
         (λ name. Spec.command_name element.now ≡ Some name.now) }
 {
     match element {
-        ExtendedElement::Profile(_) | ExtendedElement::Text(_) => None,
+        ExtendedElement::Profile(_) | ExtendedElement::Text(_) | ExtendedElement::Roll(_) => None,
         ExtendedElement::RestoreScreen => Some("RESTORE-SCREEN"),
         ExtendedElement::WriteError => Some("WRITE-ERROR"),
         ExtendedElement::Asks(Ask::Query) => Some("QUERY"),

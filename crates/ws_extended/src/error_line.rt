@@ -105,6 +105,17 @@ pub(crate) fn begin_error(screen: &mut Screen, row: u8)
     carry(screen, &Element::Sba(start_of(row)));
 }
 
+/// Writes cells from a row's first on, in a write of its own: those of one list and of another after it.
+pub(crate) fn write_cells(screen: &mut Screen, row: u8, first: &[u8], second: &[u8])
+    requires row { IsRow row }
+    requires clean { IsClean first.now × IsClean second.now }
+    ensures { Carries (given_back 0 row (first.now ++ second.now)) screen.old screen.new }
+{
+    carry(screen, &Element::Write { cc1: 0, cc2: 0 });
+    put_row(screen, row, first);
+    put_bytes(screen, second);
+}
+
 impl KeptRow {
     /// A row, as it is now.
     pub(crate) fn of(screen: &Screen, row: u8) -> KeptRow

@@ -9,6 +9,7 @@ ghost use Rattle.ws_extended.specs.ExtendedLaws.{extended_nonempty, extended_byt
 ghost use Rattle.ws_extended.specs.ExtendedMachine.{element_begun_in, inner_place, fits_phase};
 
 mod phase;
+mod rolls;
 mod running;
 mod steps;
 
@@ -20,13 +21,14 @@ use steps::place_inside;
 use ws_code::{Body, Code, End, Keep, Push, Run, Standing};
 use ws_stream::{Commands, Element, Place};
 
-/// Reads a live host's body element by element: what `Commands` reads, and seven commands beside it (SC30-3533,
-/// commands: 5250 Query, Save Screen, Restore Screen, Write Error Code, Read Screen, Read Immediate, Read Modified
-/// Immediate Alternate).
+/// Reads a live host's body element by element: what `Commands` reads, and eight commands beside it (SC30-3533,
+/// commands: 5250 Query, Save Screen, Restore Screen, Roll, Write Error Code, Read Screen, Read Immediate, Read
+/// Modified Immediate Alternate).
 ///
 /// A byte is refused as `Commands` refuses it, and beside that (own choice): in a structured field that isn't the
-/// query by `StructuredField`, after Write Error Code and its text where it is an order by `ErrorCode`, and after a
-/// command that asks at once, where only others of these may stand, by the reason that `Ask::reason` names.
+/// query by `StructuredField`, in a Roll by `Roll`, after Write Error Code and its text where it is an order by
+/// `ErrorCode`, and after a command that asks at once, where only others of these may stand, by the reason that
+/// `Ask::reason` names.
 #[derive(Drop)]
 pub struct ExtendedCommands {
     place: ExtendedPlace,
@@ -64,7 +66,9 @@ impl Code for ExtendedCommands {
     fn after(unit: &ExtendedElement) -> ExtendedPlace {
         match unit {
             ExtendedElement::Profile(element) => ExtendedPlace::InProfile(Commands::after(element)),
-            ExtendedElement::RestoreScreen => ExtendedPlace::InProfile(Place::CommandsOnly),
+            ExtendedElement::RestoreScreen | ExtendedElement::Roll(_) => {
+                ExtendedPlace::InProfile(Place::CommandsOnly)
+            }
             ExtendedElement::Text(_) | ExtendedElement::WriteError => ExtendedPlace::ErrorText,
             ExtendedElement::Asks(ask) => ExtendedPlace::Asked(*ask),
         }
@@ -116,6 +120,9 @@ impl Code for ExtendedCommands {
             ExtendedElement::Profile(element) | ExtendedElement::Text(element) => {
                 Commands::known(element);
             }
+            ExtendedElement::Roll(roll) => {
+                let _read = roll.control();
+            }
             ExtendedElement::RestoreScreen
             | ExtendedElement::WriteError
             | ExtendedElement::Asks(_) => {}
@@ -132,6 +139,7 @@ impl Body for ExtendedCommands {
                 ExtendedElement::Profile(element) => Commands::may_follow(place, element),
                 ExtendedElement::Text(_) => false,
                 ExtendedElement::RestoreScreen
+                | ExtendedElement::Roll(_)
                 | ExtendedElement::WriteError
                 | ExtendedElement::Asks(_) => true,
             },
@@ -143,6 +151,7 @@ impl Body for ExtendedCommands {
                     matches!(element, Element::Ic(_) | Element::Put(_))
                 }
                 ExtendedElement::RestoreScreen
+                | ExtendedElement::Roll(_)
                 | ExtendedElement::WriteError
                 | ExtendedElement::Asks(_) => true,
             },

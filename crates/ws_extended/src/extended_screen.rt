@@ -1,6 +1,7 @@
 //! A display as live hosts use it.
 mod elements;
 mod keys;
+mod screen_keys;
 mod steps;
 
 use crate::error_line::KeptRow;

@@ -16,9 +16,11 @@ ghost use Rattle.ws_screen.specs.Writes.{open_write};
 ghost use Rattle.ws_extended.specs.ErrorLine.{IsErrorText, IsRow, RESETS, after_error, after_reset, error_row, error_shown, given_back, row_cells, row_of, text_cursor};
 ghost use Rattle.ws_extended.specs.ExtendedElements.{extended_rules};
 ghost use Rattle.ws_extended.specs.ExtendedReasons.{extended_reason, other_commands};
-ghost use Rattle.ws_extended.specs.ExtendedStates.{ExtendedState, saved_screen, state_after_all, state_after_end, state_after_reset, state_fault};
+ghost use Rattle.ws_extended.specs.ExtendedStates.{ExtendedState, saved_screen, state_after, state_after_all, state_after_end, state_after_reset, state_fault};
 ghost use Rattle.ws_extended.specs.Image.{image, IsTyped};
-ghost use Rattle.ws_extended.specs.declared.extended_element.ExtendedElement.TheVariants.{Profile, Text, WriteError};
+ghost use Rattle.ws_extended.specs.RollParts.{IsRoll, RollParts};
+ghost use Rattle.ws_extended.specs.Rolling.{cells_after_roll};
+ghost use Rattle.ws_extended.specs.declared.extended_element.ExtendedElement.TheVariants.{Profile, Roll, Text, WriteError};
 ghost use Rattle.ws_extended.specs.declared.extended_place.ExtendedPlace.TheVariants.{InProfile};
 
 /// Each body of the profile is a body of a live host, spelled alike; and such a body is one of the profile where all
@@ -33,7 +35,7 @@ pub fn profile_is_extended()
 {}
 
 /// Where the profile stands, a byte that it takes is taken; one that isn't taken is refused for the profile's reason;
-/// and the profile refuses no other bytes that are taken than the codes of the seven commands.
+/// and the profile refuses no other bytes that are taken than the codes of the eight commands beside it.
 pub fn reasons_stay()
     ensures taken { (place : APlace) (bytes : List ℕ) (b : ℕ)
         → IsUnfinished element_rules place bytes
@@ -42,7 +44,7 @@ pub fn reasons_stay()
     ensures same { (place : APlace) (bytes : List ℕ) (b : ℕ)
         → IsUnfinished element_rules place bytes
         → extended_reason (InProfile place) bytes b ≡ element_reason place bytes b }
-    ensures seven { (place : APlace) (bytes : List ℕ) (b : ℕ)
+    ensures others { (place : APlace) (bytes : List ℕ) (b : ℕ)
         → IsUnfinished element_rules place bytes
         → (IsPrefix element_rules place (bytes ++ b ∷ []) → ⊥)
         → IsPrefix extended_rules (InProfile place) (bytes ++ b ∷ [])
@@ -78,6 +80,15 @@ pub fn profile_acts_alike()
     ensures refused { (h : History) (n : ℕ) (e : Element)
         → state_fault (record { history = h; kept = None; text = n }) (Profile e)
         ≡ element_fault h e }
+{}
+
+/// A Roll gives each of its rows the cells of another, where it has one, and leaves all else of a screen as it was:
+/// the other rows, fields, cursor, lock and lights.
+pub fn roll_moves_rows()
+    ensures { (h : History) (s : ScreenParts) → Gives h s → IsLegal s → s.writing ≡ None
+        → (n : ℕ) (roll : RollParts) → IsRoll roll
+        → Gives (state_after (record { history = h; kept = None; text = n }) (Roll roll)).history
+        (record s { cells = cells_after_roll roll s.cells }) }
 {}
 
 /// Whatever stood on a display, a saved screen that comes back is as it was, its error line too, and no error stands.

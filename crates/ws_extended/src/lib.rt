@@ -1,5 +1,5 @@
-//! What live hosts send beside the profile (SC30-3533), the elements of seven commands more; the image of a screen that
-//! is saved, and the line on which an error stands; what a station tells at once, and the bodies that it sends. No call
+//! What live hosts send beside the profile (SC30-3533), the elements of eight commands more; the image of a screen that
+//! is saved, rows that roll, and the line on which an error stands; what a station tells at once, and the bodies that it sends. No call
 //! takes memory.
 #![tactic(auto)]
 
@@ -18,6 +18,8 @@ mod extended_screen;
 mod image;
 mod laws;
 mod replies;
+mod roll;
+mod rolling;
 mod spell;
 mod telling;
 
@@ -35,7 +37,8 @@ pub use extended_screen::ExtendedScreen;
 pub use image::{known_image, put_image};
 pub use laws::{
     image_gives, image_is_small, profile_acts_alike, profile_is_extended, reasons_stay,
-    reset_gives_back, restore_gives_back,
+    reset_gives_back, restore_gives_back, roll_moves_rows,
 };
 pub use replies::{QUERY_REPLY_BYTES, query_reply};
+pub use roll::Roll;
 pub use telling::{MOST_TOLD_BYTES, put_told};

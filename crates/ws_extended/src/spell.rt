@@ -23,6 +23,12 @@ pub(crate) fn spell(unit: &ExtendedElement, into: &mut ArrayVec<u8, 32>)
             Commands::spell(element, into);
         }
         ExtendedElement::RestoreScreen => spell_command(into, command_code::RESTORE_SCREEN),
+        ExtendedElement::Roll(roll) => {
+            spell_command(into, command_code::ROLL);
+            into.push(roll.control());
+            into.push(roll.top());
+            into.push(roll.bottom());
+        }
         ExtendedElement::WriteError => spell_command(into, command_code::WRITE_ERROR_CODE),
         ExtendedElement::Asks(ask) => spell_ask(*ask, into),
     }

@@ -8,7 +8,7 @@ use Rattle.ws_code.specs.declared.address.TheConstants.{COLUMNS}
 use Rattle.ws_record.specs.declared.record.Record.{Record}
 use Rattle.ws_stream.specs.declared.element.Element.{Element}
 use Rattle.ws_stream.specs.declared.element.Element.TheVariants.{Write, Soh, Sba, Ic, Put, Mc}
-use Rattle.ws_screen.specs.Bodies.{after_elements, after_end}
+use Rattle.ws_screen.specs.Bodies.{after_elements, after_end, screen_of}
 use Rattle.ws_screen.specs.Controls.{has_bit}
 use Rattle.ws_screen.specs.Events.{History}
 use Rattle.ws_screen.specs.ScreenParts.{ScreenParts}
@@ -19,11 +19,13 @@ use Rattle.ws_screen.specs.declared.read_kind.ReadKind.TheVariants.{Input, Mdt, 
 use Rattle.ws_extended.specs.ErrorLine.{RESETS, error_begins, error_row, given_back, put_row, row_start, shows_text}
 use Rattle.ws_extended.specs.ExtendedStates.{ExtendedState, Kept, covered, gives_back, reset_history, saved_screen}
 use Rattle.ws_extended.specs.ExtendedStates.{state_after, state_after_all, state_after_reset, state_before, uncovered}
-use Rattle.ws_extended.specs.ExtendedStates.{uncovers}
+use Rattle.ws_extended.specs.ExtendedStates.{rolled_by, uncovers}
 use Rattle.ws_extended.specs.Image.{field_image, start_of_header_bytes, home_image, image, lights, read_image}
+use Rattle.ws_extended.specs.RollParts.{RollParts}
+use Rattle.ws_extended.specs.Rolling.{roll_shown, rolled}
 use Rattle.ws_extended.specs.declared.extended_element.ExtendedElement.{ExtendedElement}
 use Rattle.ws_extended.specs.declared.extended_element.ExtendedElement.TheVariants.{Profile, Text, RestoreScreen}
-use Rattle.ws_extended.specs.declared.extended_element.ExtendedElement.TheVariants.{WriteError, Asks}
+use Rattle.ws_extended.specs.declared.extended_element.ExtendedElement.TheVariants.{Roll, WriteError, Asks}
 use Rattle.ws_end.specs.declared.station.alarm.TheConstants.{ALARM}
 use Rattle.ws_end.specs.station.Alarms.{alarms_in, alarms_of, sounds_alarm}
 use Rattle.ws_end.proofs.AlarmLaws.{alarms_behind, alarms_behind_all, alarms_behind_end, alarms_behind_opcode}
@@ -80,6 +82,19 @@ covered_silent state = omega (
   error_silent (error_row state.history),
 )
 
+rolled_silent : (r : RollParts) (state : ExtendedState) → alarms_of (rolled_by r state).history
+    ≡ alarms_of state.history
+rolled_silent r state =
+    let cells : List ℕ = rolled r (screen_of state.history).cells in
+    let es : List Element = roll_shown r (screen_of state.history).cells in
+    omega (
+      arith,
+      alarms_behind_end (after_elements state.history es),
+      alarms_behind_all state.history es,
+      write_silent 0 0 refl (put_row r.top cells),
+      row_silent r.top cells,
+    )
+
 ready_silent : (state : ExtendedState) (e : Element)
     → alarms_of (state_before state e).history ≡ alarms_of state.history
 ready_silent state e = go (uncovers e)
@@ -101,6 +116,7 @@ after_one state (Text e) =
     omega (arith, alarms_behind state.history (shows_text e), same)
 after_one state RestoreScreen =
     omega (arith, alarms_behind_end (uncovered 0 state).history, uncovered_silent state)
+after_one state (Roll r) = omega (arith, rolled_silent r (uncovered 0 state), uncovered_silent state)
 after_one state WriteError = omega (arith, covered_silent (uncovered 0 state), uncovered_silent state)
 after_one state (Asks ask) = omega (arith, alarms_behind_end state.history)
 

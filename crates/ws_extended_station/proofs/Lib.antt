@@ -4,5 +4,6 @@ pub mod BesideRuns
 pub mod CarryingOut
 pub mod Pressing
 pub mod SavedLaws
+pub mod ScreenKeys
 pub mod Units
 pub mod WrittenLaws

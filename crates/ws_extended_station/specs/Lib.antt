@@ -5,4 +5,5 @@ pub mod ExtendedAlarms
 pub mod ExtendedDisplays
 pub mod ExtendedRecords
 pub mod SavedScreens
+pub mod ScreenKeys
 pub mod Written

@@ -9,6 +9,8 @@ ghost use Rattle.ws_extended_station.specs.Bytewise.{by_bytes, spelled_alike};
 ghost use Rattle.ws_extended_station.specs.ExtendedDisplays.{ExtendedHappened, extended, standing_row};
 ghost use Rattle.ws_extended_station.specs.ExtendedRecords as spec;
 
+mod screen_keys;
+
 use crate::carrying_out::apply_kept;
 use crate::record_bytes::{EMPTY_RECORD_BYTES, MOST_RECORD_BYTES, MOST_WRITTEN_BYTES, put_record};
 use crate::{ExtendedKey, ExtendedReply};

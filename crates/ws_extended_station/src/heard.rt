@@ -25,9 +25,10 @@ fn count_alarm(alarms: u64, element: &ExtendedElement) -> u64
     match element {
         ExtendedElement::Profile(element) => ws_session::count_alarm(alarms, element),
         ExtendedElement::Text(element) => ws_session::count_alarm(alarms, element),
-        ExtendedElement::RestoreScreen | ExtendedElement::WriteError | ExtendedElement::Asks(_) => {
-            alarms
-        }
+        ExtendedElement::RestoreScreen
+        | ExtendedElement::Roll(_)
+        | ExtendedElement::WriteError
+        | ExtendedElement::Asks(_) => alarms,
     }
 }
 

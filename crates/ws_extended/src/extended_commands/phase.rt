@@ -10,4 +10,10 @@ pub(crate) enum Phase {
     Inside,
     /// The next of the query's bytes, after so many of its structured field.
     InQuery(u8),
+    /// The control byte of a Roll.
+    Rolls,
+    /// The first of its rows, after its control byte.
+    RollsBy(u8),
+    /// The last of its rows, after its control byte and the first.
+    RollsFrom(u8, u8),
 }

@@ -83,7 +83,11 @@ impl ExtendedCommands {
             ExtendedPlace::InProfile(_) => match self.phase {
                 Phase::Begin => begins_profile(values),
                 Phase::Inside => true,
-                Phase::Escaped | Phase::InQuery(_) => false,
+                Phase::Escaped
+                | Phase::InQuery(_)
+                | Phase::Rolls
+                | Phase::RollsBy(_)
+                | Phase::RollsFrom(..) => false,
             },
             ExtendedPlace::ErrorText | ExtendedPlace::Asked(_) => false,
         }

@@ -10,7 +10,7 @@ ghost use Rattle.ws_stream.specs.Elements.{element_rules};
 ghost use Rattle.ws_stream.specs.Reasons.{element_reason};
 ghost use Rattle.ws_stream.specs.Taking.{reading_of};
 ghost use Rattle.ws_stream.specs.UnfinishedElement.{unfinished_of};
-ghost use Rattle.ws_stream.specs.declared.command_code.TheConstants.{ESCAPE, WRITE_STRUCTURED_FIELD};
+ghost use Rattle.ws_stream.specs.declared.command_code.TheConstants.{ESCAPE, ROLL, WRITE_STRUCTURED_FIELD};
 ghost use Rattle.ws_stream.specs.declared.place.Place.{Place as APlace};
 ghost use Rattle.ws_extended.specs.declared.extended_element.ExtendedElement.{ExtendedElement as AnElement};
 ghost use Rattle.ws_extended.specs.declared.extended_place.ExtendedPlace.TheVariants.{InProfile};
@@ -118,6 +118,7 @@ fn is_own_command(code: u8) -> bool
         | command_code::SAVE_SCREEN
         | command_code::RESTORE_SCREEN
         | command_code::WRITE_ERROR_CODE
+        | command_code::ROLL
         | command_code::READ_SCREEN
         | command_code::READ_IMMEDIATE
         | command_code::READ_MDT_IMMEDIATE_ALTERNATE => false,
@@ -141,11 +142,13 @@ pub(super) fn begins_profile(values: &[u8]) -> bool
     is_own_command(values[1])
 }
 
-// The answer to a byte after an escape, but where the profile's machine is asked or a query begins.
+// The answer to a byte after an escape, but where the profile's machine is asked, or a query or a Roll begins.
 fn behind_escape(place: ExtendedPlace, code: u8) -> Option<Push<ExtendedElement>>
     ensures answered { (push : APush AnElement) → result ≡ Some push → (begun : List ℕ)
         → IsStep extended_rules (reading place (ESCAPE ∷ [])) code (reading place begun) push }
-    ensures left { result ≡ None → code ≢ WRITE_STRUCTURED_FIELD
+    ensures rolls { result ≡ None → code ≡ ROLL
+        → IsUnfinished extended_rules place (ESCAPE ∷ ROLL ∷ []) }
+    ensures left { result ≡ None → code ≢ WRITE_STRUCTURED_FIELD → code ≢ ROLL
         → takes_command place code ≡ true }
 {
     match code {
@@ -240,6 +243,10 @@ impl ExtendedCommands {
         }
         match behind_escape(self.place, byte) {
             Some(push) => push,
+            None if byte == command_code::ROLL => {
+                self.phase = Phase::Rolls;
+                Push::More
+            }
             None => self.go_on(byte),
         }
     }
@@ -273,6 +280,9 @@ impl ExtendedCommands {
             Phase::Escaped => self.escaped(byte),
             Phase::Inside => self.go_on(byte),
             Phase::InQuery(count) => self.in_query(count, byte),
+            Phase::Rolls => self.roll_control(byte),
+            Phase::RollsBy(control) => self.roll_top(control, byte),
+            Phase::RollsFrom(control, top) => self.roll_bottom(control, top, byte),
         }
     }
 }

@@ -7,10 +7,11 @@ ghost use Rattle.ws_screen.specs.Faults.{fault, refusal};
 ghost use Rattle.ws_extended.specs.ErrorLine.{IsRow, sets_error_row};
 ghost use Rattle.ws_extended.specs.ExtendedStates.{ExtendedState, nulls_fields, state_after, state_before, state_fault, uncovers};
 ghost use Rattle.ws_extended.specs.ExtendedViews.{NeedsOpenWrite, Shows, leaves_write_open};
-ghost use Rattle.ws_extended.specs.declared.extended_element.ExtendedElement.TheVariants.{Profile, RestoreScreen, Text, WriteError};
+ghost use Rattle.ws_extended.specs.declared.extended_element.ExtendedElement.TheVariants.{Profile, RestoreScreen, Roll as RollBy, Text, WriteError};
 
 use super::ExtendedScreen;
-use crate::ExtendedElement;
+use crate::rolling::roll_rows;
+use crate::{ExtendedElement, Roll};
 use ws_code::{COLUMNS, ROWS, Reason};
 use ws_stream::Element;
 
@@ -175,6 +176,16 @@ impl ExtendedScreen {
         self.end_write();
     }
 
+    // Roll.
+    fn roll(&mut self, roll: &Roll)
+        ensures rolled { (state : ExtendedState) → Shows state self.old
+            → Shows (state_after state (RollBy roll.now)) self.new }
+        ensures closed { self.new.screen.writing ≡ None }
+    {
+        self.uncover(0);
+        roll_rows(&mut self.screen, roll);
+    }
+
     // Write Error Code.
     fn write_error(&mut self)
         ensures begun { (state : ExtendedState) → Shows state self.old
@@ -207,6 +218,10 @@ impl ExtendedScreen {
         match element {
             ExtendedElement::Profile(element) => self.apply_profile(element),
             ExtendedElement::Text(element) => self.show_text(element),
+            ExtendedElement::Roll(roll) => {
+                self.roll(roll);
+                Ok(())
+            }
             ExtendedElement::WriteError => {
                 self.write_error();
                 Ok(())

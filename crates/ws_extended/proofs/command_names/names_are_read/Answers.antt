@@ -8,7 +8,7 @@ use Rattle.ws_extended.specs.declared.ask.Ask.TheVariants.{Query, SaveScreen, Re
 use Rattle.ws_extended.specs.declared.ask.Ask.TheVariants.{ReadImmediateAlternate}
 use Rattle.ws_extended.specs.declared.extended_element.ExtendedElement.{ExtendedElement}
 use Rattle.ws_extended.specs.declared.extended_element.ExtendedElement.TheVariants.{Profile, Text, RestoreScreen}
-use Rattle.ws_extended.specs.declared.extended_element.ExtendedElement.TheVariants.{WriteError, Asks}
+use Rattle.ws_extended.specs.declared.extended_element.ExtendedElement.TheVariants.{Roll, WriteError, Asks}
 use Rattle.ws_extended.proofs.command_names.names_are_read.Goals as goal
 
 -- the entry of a name
@@ -24,6 +24,7 @@ read : (e : ExtendedElement) (name : List ℕ) → command_name e ≡ Some name 
 read (Profile e) name h = absurd (cc)
 read (Text e) name h = absurd (cc)
 read RestoreScreen name h = found RestoreScreen (codes "RESTORE-SCREEN") name refl h
+read (Roll r) name h = absurd (cc)
 read WriteError name h = found WriteError (codes "WRITE-ERROR") name refl h
 read (Asks Query) name h = found (Asks Query) (codes "QUERY") name refl h
 read (Asks SaveScreen) name h = found (Asks SaveScreen) (codes "SAVE-SCREEN") name refl h

@@ -40,10 +40,20 @@ go_on-requires-clause-reason c =
     subst (λ (l : List ℕ). (IsPrefix element_rules (inner_place m.place) (l ++ c.args.byte ∷ []) → ⊥)
     → element_reason (inner_place m.place) l c.args.byte ≡ extended_reason m.place l c.args.byte)
     (sym (escape_there m c.requires))
-    (command_reasons m.place c.args.byte (c.in-None.ensures.left refl c.if-byte-eq-WRITE_STRUCTURED_FIELD.false))
+    (command_reasons m.place c.args.byte
+    (c.in-None.ensures.left refl c.if-byte-eq-WRITE_STRUCTURED_FIELD.false c.if-byte-eq-ROLL.false))
 
 pub returns-in-None : goal.returns-in-None
 returns-in-None c =
+    let is = c.if-byte-eq-ROLL.true in (
+      refl,
+      ap (λ (n : ℕ). ESCAPE ∷ n ∷ []) (sym is),
+      subst (λ (n : ℕ). IsUnfinished extended_rules c.args.self.now.place (ESCAPE ∷ n ∷ [])) (sym is)
+          (c.in-None.ensures.rolls refl is),
+    )
+
+pub returns-in-None-2 : goal.returns-in-None-2
+returns-in-None-2 c =
     let m = c.args.self.now in
     let n = c.go_on.new.self in
     subst (λ (l : List ℕ). IsStep extended_rules (reading m.place l) c.args.byte (reading_by n) c.go_on.result)

@@ -1,4 +1,4 @@
-use Rattle.std.proofs.Common.{Option, sym, subst}
+use Rattle.std.proofs.Common.{Option, sym, subst, arith}
 use Rattle.ws_screen.specs.Bodies.{after_elements}
 use Rattle.ws_screen.specs.Given.{Gives}
 use Rattle.ws_extended.specs.ExtendedStates.{gives_back}
@@ -13,5 +13,6 @@ returns-in-Some c = λ h g.
     subst (λ (o : Option KeptRow). Gives (after_elements h (gives_back c.args.cc2 (kept_of o))) c.give_back.new.screen)
     (sym c.in-Some.is)
     (comes_back h c.args.screen.now c.end_write.new.self c.give_back.new.screen c.args.cc2 kept.row kept.cells g
-    c.end_write.ensures.events c.end_write.ensures.legal c.end_write.ensures.closed kept.on_screen kept.whole
+    c.end_write.ensures.events c.end_write.ensures.legal c.end_write.ensures.closed
+    (omega (arith, kept.on_screen, kept.whole))
     c.give_back.ensures.carried)

@@ -1,4 +1,4 @@
-use Rattle.std.proofs.Common.{Option, sym, subst}
+use Rattle.std.proofs.Common.{Option, sym, subst, arith}
 use Rattle.ws_screen.specs.Bodies.{after_elements}
 use Rattle.ws_screen.specs.Given.{Gives}
 use Rattle.ws_screen.proofs.Applies.{gives_end}
@@ -16,5 +16,6 @@ returns-in-Some-clause-given c = λ h g.
     (gives_end (after_elements h (given_back RESETS kept.row kept.cells)) c.give_back.new.screen
     c.end_write-in-Some.new.self
     (comes_back h c.args.screen.now c.end_write.new.self c.give_back.new.screen RESETS kept.row kept.cells g
-    c.end_write.ensures.events c.end_write.ensures.legal c.end_write.ensures.closed kept.on_screen kept.whole
+    c.end_write.ensures.events c.end_write.ensures.legal c.end_write.ensures.closed
+    (omega (arith, kept.on_screen, kept.whole))
     c.give_back.ensures.carried) c.end_write-in-Some.ensures.events)
