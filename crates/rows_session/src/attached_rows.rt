@@ -12,13 +12,13 @@ use ws_session::{
     Acted, Applied, Attached, HostEnd, HostEvent, HostRequest, KeyFault, SendFault, Station,
 };
 
-type StationLine<'a, K> = Attached<Station, SliceSource<'a>, K>;
+type StationOnSlice<'a, K> = Attached<Station, SliceSource<'a>, K>;
 
-type HostLine<'a> = Attached<HostEnd, SliceSource<'a>, VecSink>;
+type HostOnSlice<'a> = Attached<HostEnd, SliceSource<'a>, VecSink>;
 
 fn station_hears<K: Sink>(
     rt: &impl Abort,
-    line: &mut StationLine<'_, K>,
+    line: &mut StationOnSlice<'_, K>,
     wanted: Result<Option<Applied>, Fault>,
 ) {
     same(rt, line.hear(), wanted);
@@ -26,20 +26,20 @@ fn station_hears<K: Sink>(
 
 fn presses<K: Sink>(
     rt: &impl Abort,
-    line: &mut StationLine<'_, K>,
+    line: &mut StationOnSlice<'_, K>,
     key: Key,
     wanted: Result<Acted<KeyFault>, Fault>,
 ) {
     same(rt, line.press(key), wanted);
 }
 
-fn host_hears(rt: &impl Abort, line: &mut HostLine, wanted: Result<Option<HostEvent>, Fault>) {
+fn host_hears(rt: &impl Abort, line: &mut HostOnSlice, wanted: Result<Option<HostEvent>, Fault>) {
     same(rt, line.hear(), wanted);
 }
 
 fn does(
     rt: &impl Abort,
-    line: &mut HostLine,
+    line: &mut HostOnSlice,
     order: &HostRequest,
     wanted: Result<Acted<SendFault>, Fault>,
 ) {

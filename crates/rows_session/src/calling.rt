@@ -118,7 +118,7 @@ pub(crate) fn ask<S: Sink>(
 
 /// What a harness has heard: how many bytes it took, and what the last of them told.
 #[derive(Debug, Drop)]
-pub(crate) struct Heard {
+pub(crate) struct HostHeard {
     pub(crate) used: usize,
     pub(crate) event: Option<HostEvent>,
 }
@@ -129,7 +129,7 @@ pub(crate) fn await_event<S: Sink>(
     host: &mut HostEnd,
     bytes: &[u8],
     line: &mut S,
-) -> Result<Heard, Ended> {
+) -> Result<HostHeard, Ended> {
     for (at, byte) in bytes.iter().enumerate() {
         let HostStep { reply, event } = match host.push(*byte) {
             Ok(step) => step,
@@ -140,10 +140,10 @@ pub(crate) fn await_event<S: Sink>(
         }
         if event.is_some() {
             let used = at + 1;
-            return Ok(Heard { used, event });
+            return Ok(HostHeard { used, event });
         }
     }
-    Ok(Heard {
+    Ok(HostHeard {
         used: bytes.len(),
         event: None,
     })

@@ -1,6 +1,8 @@
 //! The callers of `calling.rt`, at work.
 
-use crate::calling::{Ended, Heard, ask, await_event, feed_piece, hear, screen_of, see, strike};
+use crate::calling::{
+    Ended, HostHeard, ask, await_event, feed_piece, hear, screen_of, see, strike,
+};
 use crate::end_rows::{
     ATTENTION, BOB, BOB_ANSWER, BOB_RECORD, BOB_TOLD, OPENED, OPENING, PAST_END, enter, is_told,
     joined, new_station,
@@ -94,7 +96,7 @@ fn an_emulator(rt: HostRuntime) {
 }
 
 // The host end hears so many of the bytes, and tells this.
-fn tells(rt: &impl Abort, alloc: Global, host: &mut HostEnd, bytes: &[u8], heard: Heard) {
+fn tells(rt: &impl Abort, alloc: Global, host: &mut HostEnd, bytes: &[u8], heard: HostHeard) {
     let mut down = VecSink::new(alloc);
     let told = await_event(host, bytes, &mut down).expect(rt, "told");
     same(rt, (told.used, told.event), (heard.used, heard.event));
@@ -106,7 +108,7 @@ fn asking_host(rt: &impl Abort, alloc: Global) -> HostEnd {
     host.open();
     let event = Some(HostEvent::Ready(TerminalType::Ibm3179Model2));
     let used = OPENED.len();
-    tells(rt, alloc, &mut host, OPENED, Heard { used, event });
+    tells(rt, alloc, &mut host, OPENED, HostHeard { used, event });
     let form = read_body::<Commands>(alloc, BOB).expect(rt, "a body");
     let mut down = VecSink::new(alloc);
     same(rt, ask(&mut host, form.as_slice(), &mut down), Ok(()));
@@ -135,13 +137,13 @@ fn a_harness(rt: HostRuntime) {
         .as_slice()
         .split_at_checked(10)
         .expect(&rt, "ten bytes");
-    let nothing = Heard {
+    let nothing = HostHeard {
         used: 10,
         event: None,
     };
     tells(&rt, alloc, &mut host, first, nothing);
     tells_bob(&rt, alloc, &mut host, rest);
-    let attention = Heard {
+    let attention = HostHeard {
         used: 12,
         event: Some(HostEvent::Attention),
     };

@@ -1,7 +1,7 @@
 //! Rows of live sessions at a station, over devices in memory: what `carry_lines` prints of their lines, whether all went
 //! well, and how many waits have begun. The program carries lines out one by one.
 ghost use Rattle.std.specs.Prelude.{◌≡◌, false};
-ghost use Rattle.ws_live.specs.live.Waits.{watch_tells, watch_times};
+ghost use Rattle.ws_live.specs.live.Watches.{watch_tells, watch_times};
 
 use crate::end_rows::{OPENING_AND_BOB, new_station};
 use crate::same_at;

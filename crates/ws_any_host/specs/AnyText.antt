@@ -16,7 +16,7 @@ use Rattle.ws_end.specs.declared.host_end.send_fault.SendFault.{SendFault}
 use Rattle.ws_text.specs.ItemLines.{hex_behind_blank}
 use Rattle.ws_live.specs.live.LiveText.{LineResult, LinesDo, bad_outcome, bad_text, line_result}
 use Rattle.ws_live.specs.live.ServeText.{given_outcome, given_text, unheard_outcome, unheard_text}
-use Rattle.ws_live.specs.live.Waits.{InTime, WatchTimes, WatchedDevices}
+use Rattle.ws_live.specs.live.Watches.{InTime, WatchTimes, WatchedDevices}
 use Rattle.ws_live.specs.live.WireLines.{WireRuns}
 use Rattle.ws_live.specs.declared.live.Closing.TheVariants.{Nothing, Done, Ended}
 use Rattle.ws_live.specs.declared.live.watch.WaitSpan.{WaitSpan}

@@ -2,7 +2,7 @@
 ghost use Rattle.std.specs.Prelude.{◌≡◌, false, List, ℕ, IfOk};
 ghost use Rattle.ws_text.specs.Printing.{Prints};
 ghost use Rattle.ws_live.specs.live.LiveText.{line_result, stops};
-ghost use Rattle.ws_live.specs.live.Waits.{watched_devices};
+ghost use Rattle.ws_live.specs.live.Watches.{watched_devices};
 ghost use Rattle.ws_any_host.specs.AnyText as Spec;
 ghost use Rattle.ws_code.specs.Device.{on_devices};
 

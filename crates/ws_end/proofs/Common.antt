@@ -75,13 +75,11 @@ pub use Rattle.ws_keys.proofs.ReadingLaws.{is_read, read_split}
 pub use Rattle.ws_end.specs.ActLaws.{came_append, trace_on, bytes_came}
 pub use Rattle.ws_end.specs.Acts.{Doing, Act, all_came, Did, Happening, Does, doing, items_of, IsTrace, Arrives}
 pub use Rattle.ws_end.specs.Acts.{as_list, Transitions, Happen, HoldsItems}
-pub use Rattle.ws_end.specs.EndTransitions.{station_transitions, station_at_key, IsKeyRefusal, StationTraces}
-pub use Rattle.ws_end.specs.EndTransitions.{host_transitions, HostTraces, IsKeyTaken, event_by}
+pub use Rattle.ws_end.specs.EndTransitions.{station_transitions, host_transitions}
 pub use Rattle.ws_end.specs.Reaction.{empty_record, Refuses, GoesOn}
 pub use Rattle.ws_end.specs.attached.Attachments.{AttachedParts, fault_of, HaveLed, HaveLedUnwritten, HasRefusedByte}
 pub use Rattle.ws_end.specs.attached.Attachments.{IsByteFault, HasTakenWaiting, IsWaitingFault, HasHeard, IsHearFault}
-pub use Rattle.ws_end.specs.attached.Attachments.{IsSendFailure}
-pub use Rattle.ws_end.specs.attached.Playing.{HaveBroughtPlayer, HasDone, records_from, keys_left_from}
+pub use Rattle.ws_end.specs.attached.Playing.{HaveBroughtPlayer, HasDone}
 pub use Rattle.ws_end.specs.attached.StationRun.{IsRunFault, IsRun, refusal_count, behind, run_text, RunUnwritten}
 pub use Rattle.ws_end.specs.attached.Written.{HasWritten, HasWrittenPrefix, IsUnheard}
 pub use Rattle.ws_end.specs.declared.attached.player.Player.{Player}
@@ -105,10 +103,8 @@ pub use Rattle.ws_end.specs.host_end.HostEndState.{ready_event, host_negotiates,
 pub use Rattle.ws_end.specs.host_end.HostEndState.{host_ends_cancel, signal, host_takes_record, SendReaction}
 pub use Rattle.ws_end.specs.host_end.HostEndState.{RefusesSend, Sends, host_cancel, host_send, asked_read}
 pub use Rattle.ws_end.specs.station.AnswerSpelling.{answer_spelling}
-pub use Rattle.ws_end.specs.station.Moments.{Presses, outcome, due, later, Moment, Outcome, idle_outcome}
-pub use Rattle.ws_end.specs.station.Moments.{outcome_of_both, at_item, at_moment, AreTaken, records_in_item}
-pub use Rattle.ws_end.specs.station.Moments.{moments_from, moments, at_key}
-pub use Rattle.ws_end.specs.station.StationReached.{AtStation, StationParts, StationReached, is_record, records_in}
+pub use Rattle.ws_end.specs.station.Moments.{due, later, moments_from, moments, refusals_at, refused_keys}
+pub use Rattle.ws_end.specs.station.StationReached.{AtStation, StationParts, StationReached, records_in}
 pub use Rattle.ws_end.specs.station.StationEndState.{StationEndState, opcode_events, after_record, after_key, screen_at}
 pub use Rattle.ws_end.specs.station.StationEndState.{opcode_answer, station_applies, station_takes, KeyReaction}
 pub use Rattle.ws_end.specs.station.StationEndState.{RefusesKey, station_key, answers_read, key_by_refusal}

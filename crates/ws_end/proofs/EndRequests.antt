@@ -3,13 +3,13 @@
 use Rattle.ws_end.proofs.Common as C
 use Rattle.std.specs.Prelude.{MatchResult, OnErr}
 use C.{◌≡◌, ◌+◌, List, [], ◌∷◌, ◌++◌, refl, subst, ◌∙◌, ℕ, ◌<◌, Option, Some, None, ap, sym, arith, ◌^◌, length, false}
-use C.{Err, Ok, Result, subst₂, append-nil, Rules, WentOut, FailedWithin, Fault, Write, plain_spelling, item_spelling}
+use C.{Err, Ok, Result, subst₂, append-nil, Rules, WentOut, Fault, Write, plain_spelling, item_spelling}
 use C.{record_spelling, header, CancelInvite, PutGet, Item, answer_rules, element_rules, AnswerPart, Element}
 use C.{ScreenParts, ReadKind, Read, Key, Doing, Did, Happening, Does, doing, items_of, IsTrace, Transitions}
-use C.{station_transitions, station_at_key, host_at_send, host_transitions, HostTraces, AttachedParts, HaveLed}
-use C.{HaveLedUnwritten, Applied, HostRequest, SendFault, SendFailed, KeyFault, AtHost, HostReached, HostParts, IsSent}
-use C.{IsSendFault, HostEndState, SendReaction, RefusesSend, answer_spelling, StationParts, StationReached}
-use C.{StationEndState, TakesNoMore, RefusesKey, station_key, answer_record, Opcode, host_send, IsSome, ◌≢◌}
+use C.{station_transitions, host_at_send, host_transitions, AttachedParts, HaveLed, HaveLedUnwritten, Applied}
+use C.{HostRequest, SendFault, SendFailed, KeyFault, AtHost, HostReached, HostParts, IsSent, IsSendFault, HostEndState}
+use C.{SendReaction, RefusesSend, answer_spelling, StationParts, StationReached, StationEndState, TakesNoMore}
+use C.{RefusesKey, answer_record, Opcode, host_send, IsSome, ◌≢◌}
 use Rattle.ws_code.specs.Device.{Devices}
 use Rattle.ws_keys.specs.declared.answer.Answer.{Answer}
 use Rattle.ws_code.specs.declared.fault.Fault.TheVariants.{Memory as NoMemory}
@@ -24,11 +24,11 @@ use Rattle.ws_end.specs.host_end.HostReached.{CarriesOut, sent_bytes}
 use Rattle.ws_end.specs.host_end.HostEndState.{host_requests}
 use Rattle.ws_end.specs.declared.host_end.send_fault.SendFault.TheVariants.{Memory}
 use Rattle.ws_end.specs.station.Displays.{DisplayOf, EndStateOn, KeyReactionOn, on_display}
-use Rattle.ws_end.specs.station.StationActs.{TracesOnDisplay}
+use Rattle.ws_end.specs.driver.DriverBehaviour.{DriverTraces}
 use Rattle.ws_end.specs.station.StationTransitions.{at_key_on, key_on}
 use Rattle.ws_end.specs.station.StationReacting.{PartsOn, transitions_on}
 use Rattle.ws_end.specs.station.StationEndState.{profile}
-use Rattle.ws_end.specs.station.Stations.{ReachedOn, IsKeyedOn}
+use Rattle.ws_end.specs.station.Stations.{ReachedOn, IsKeyedOn, station_driving}
 use Rattle.ws_end.proofs.Shuts.{not_shut, shut_fails}
 use Rattle.ws_end.specs.Acts.{protocol_of}
 
@@ -93,7 +93,7 @@ module _ {D P U H PlaceV V K R : Type 0} (rules : Rules P U) (d : DisplayOf D U 
 
   module _ (old new : PartsOn D P) (key : K) where
     pub key_silent_traces : KeyedOn old new key (Ok None) → (TakesNoMore old → ⊥)
-        → TracesOnDisplay (on_display rules d) old (Did key ∷ []) [] [] new
+        → DriverTraces (station_driving (on_display rules d)) old (Did key ∷ []) [] [] new
     key_silent_traces p works = record {
       led = λ bytes items state l few.
           let k = p bytes items state l (omega (arith, few)) in
@@ -102,7 +102,7 @@ module _ {D P U H PlaceV V K R : Type 0} (rules : Rules P U) (d : DisplayOf D U 
     }
 
     pub key_sent_traces : (answer : Answer) → KeyedOn old new key (Ok (Some answer)) → (TakesNoMore old → ⊥)
-        → TracesOnDisplay (on_display rules d) old (Did key ∷ []) (answer_spelling answer) [] new
+        → DriverTraces (station_driving (on_display rules d)) old (Did key ∷ []) (answer_spelling answer) [] new
     key_sent_traces answer p works = record {
       led = λ bytes items state l few. key_trace new bytes items state key _
           (key_sends old new bytes items state key _ (p bytes items state l (omega (arith, few))));
@@ -110,7 +110,7 @@ module _ {D P U H PlaceV V K R : Type 0} (rules : Rules P U) (d : DisplayOf D U 
     }
 
     pub key_refused_traces : (fault : KeyFault) → KeyedOn old new key (Err fault) → new ≡ old
-        → TracesOnDisplay (on_display rules d) old (Did key ∷ []) [] [] new
+        → DriverTraces (station_driving (on_display rules d)) old (Did key ∷ []) [] [] new
     key_refused_traces fault p same = record {
       led = λ bytes items state l few.
           let k = p bytes items state l (omega (arith, few)) in
@@ -140,19 +140,18 @@ known_keyed old new key result is e k = subst (λ (z : Result (Option Answer) Ke
 -- what the act of a key has written, and where it has led
 pub key_did : (new : StationParts) (bytes : List ℕ) (items : List (Item Element)) (state : StationEndState) (key : Key)
     (text : List ℕ) (events : List Applied) → IsTrace (protocol_of element_rules answer_rules station_transitions)
-    (StationReached new)
-    bytes items state (Did key ∷ []) text events → (text ≡ plain_spelling answer_rules (station_at_key state
-    (station_key state key)).written) × StationReached new bytes items (station_at_key state
-    (station_key state key)).state
+    (StationReached new) bytes items state (Did key ∷ []) text events
+    → (text ≡ plain_spelling answer_rules (doing station_transitions state (Does key ∷ [])).written)
+    × StationReached new bytes items (doing station_transitions state (Does key ∷ [])).state
 key_did new bytes items state key text events g =
     let does : g.happened ≡ Does key ∷ [] = g.happen.1 ∙ ap (λ z. Does key ∷ z) g.happen.2 in
     let n = subst (λ (hs : List (Happening Element Key)).
     (text ≡ plain_spelling answer_rules (doing station_transitions state hs).written)
     × StationReached new (bytes ++ []) (items ++ items_of hs) (doing station_transitions state hs).state) does
-    (g.wrote, g.reached) in
-    let d = station_at_key state (station_key state key) in (
-      n.0 ∙ ap (λ z. plain_spelling answer_rules z) (append-nil d.written),
-      subst₂ (λ x its. StationReached new x its d.state) (append-nil bytes) (append-nil items) n.1,
+    (g.wrote, g.reached) in (
+      n.0,
+      subst₂ (λ x its. StationReached new x its (doing station_transitions state (Does key ∷ [])).state)
+          (append-nil bytes) (append-nil items) n.1,
     )
 
 -- at an attached end
@@ -169,10 +168,6 @@ module _ {E S K Request Event : Type 0}
       → HaveLed behaviour devices now to (Did request ∷ []) []
   request_led went = rw (← is) (record { written = text; led = gone; wrote = went })
 
-  pub request_unwritten : FailedWithin devices.writer from.sink to.sink text
-      → HaveLedUnwritten behaviour devices now to (Did request ∷ [])
-  request_unwritten failed = rw (← is) (record { written = text; events = []; led = gone; failed = failed })
-
 -- what follows from a refusal holds of a refused one
 pub refused_then : {Why : Type 0} (acted : Acted Why) {P Q : Why → Type 0} → IfRefused acted P
     → ((why : Why) → P why → Q why) → IfRefused acted Q
@@ -187,57 +182,6 @@ unwritten_alone Write h none works = (refl, (h.fault works).0)
 unwritten_alone NoMemory h none works = absurd (none (h.wanting refl))
 unwritten_alone why h none works = absurd (h.fault works)
 
--- A record that a host end sends, as an act.
-
-abbrev SendTrace : HostParts → List ℕ → List (Item AnswerPart) → HostEndState → List ℕ → SendReaction → Type 0
-SendTrace new bytes items state text z = Trace answer_rules element_rules host_transitions
-    (HostReached new) bytes items state text (host_at_send state z)
-
-abbrev HasSent : HostParts → List ℕ → List (Item AnswerPart) → HostEndState → HostRequest → List ℕ → Type 0
-HasSent new bytes items state request text =
-    IsTrace (protocol_of answer_rules element_rules host_transitions) (HostReached new) bytes items state
-    (Did request ∷ []) text []
-
-host_request_trace : (new : HostParts) (bytes : List ℕ) (items : List (Item AnswerPart)) (state : HostEndState)
-    (request : HostRequest) (text : List ℕ) → SendTrace new bytes items state text (host_requests state request)
-    → HasSent new bytes items state request text
-host_request_trace new bytes items state request text = request_trace _ _ _ _ bytes items state text request
-
--- whatever led to the host end, a request sends this, or is refused
-abbrev pub IsRequested : HostParts → HostParts → HostRequest → List ℕ → Type 0
-IsRequested old new request text =
-    AtHost old (λ bytes items state. length bytes + 1 < 2 ^ 64 → IsSent new bytes items
-    (host_requests state request) text)
-
-abbrev pub IsRequestRefused : HostParts → HostRequest → SendFault → Type 0
-IsRequestRefused old request fault =
-    AtHost old (λ bytes items state. length bytes + 1 < 2 ^ 64 → host_requests state request ≡ RefusesSend fault)
-
-module _ (old new : HostParts) (request : HostRequest) where
-  host_request_traces : (text : List ℕ) → IsRequested old new request text → (TakesNoMore old → ⊥)
-      → HostTraces old (Did request ∷ []) text [] new
-  host_request_traces text p works = record {
-    led = λ bytes items state l few.
-        let s = p bytes items state l (omega (arith, few)) in
-        host_request_trace new bytes items state request text
-        (rw s.2 (s.3 ∙ sym (append-nil (item_spelling element_rules s.1)), refl, s.6));
-    shut = λ shut. absurd (works shut);
-  }
-
-  host_request_refused : (fault : SendFault) → new ≡ old → IsRequestRefused old request fault
-      → HostTraces old (Did request ∷ []) [] [] new
-  host_request_refused fault same p = record {
-    led = λ bytes items state l few. host_request_trace new bytes items state request []
-        (rw (p bytes items state l (omega (arith, few))) (refl, refl, rw same l));
-    shut = λ shut. record { no_byte = refl; same = same; unwritten = refl; no_event = refl };
-  }
-
--- What is taken isn't refused.
-
-send_taken : (new : HostParts) (bytes : List ℕ) (items : List (Item AnswerPart)) (reaction : SendReaction)
-    (text : List ℕ) → IsSent new bytes items reaction text → (fault : SendFault) → reaction ≡ RefusesSend fault → ⊥
-send_taken new bytes items reaction text s fault e = cc (s.2, e)
-
 -- a send that is refused for another reason than want of memory
 pub refrains : (reaction : SendReaction) (fault : SendFault) → fault ≢ Memory → IsSendFault reaction fault
     → reaction ≡ RefusesSend fault
@@ -250,16 +194,23 @@ module _ (request : HostRequest) (old new : HostParts) where
   works : (sent : Sent) → CarriesOut request old new (Ok sent) → TakesNoMore old → ⊥
   works sent c = not_shut _ _ SendFailed _ c.failed c.full
 
-  refrained : (fault : SendFault) → fault ≢ Memory → CarriesOut request old new (Err fault)
-      → IsRequestRefused old request fault
-  refrained fault ne c bytes items state l few = refrains _ fault ne (c.sent bytes items state l few)
+  fails : (fault : SendFault) → CarriesOut request old new (Err fault) → TakesNoMore old → fault ≡ SendFailed
+  fails fault c shut = (let e : ◌≡◌ {A = Result Sent SendFault} (Err fault) (Err SendFailed) =
+      shut_fails _ _ SendFailed _ c.failed c.full shut in cc)
+
+  -- by what the host end does at the request
+  goes : (bytes : List ℕ) (items : List (Item AnswerPart)) (state : HostEndState) (text : List ℕ)
+      → Trace answer_rules element_rules host_transitions (HostReached new) bytes items state text
+      (host_at_send state (host_requests state request))
+      → IsTrace (protocol_of answer_rules element_rules host_transitions) (HostReached new) bytes items state
+      (Did request ∷ []) text []
+  goes bytes items state text = request_trace _ _ _ _ bytes items state text request
 
   wanted : CarriesOut request old new (Err Memory) → IsSendWanting old request
   wanted c = (
     record {
       led = λ bytes items state l few fault e. (let s = c.sent bytes items state l few in cc (s.2, e));
-      works = λ shut. (let e : ◌≡◌ {A = Result Sent SendFault} (Err Memory) (Err SendFailed) =
-          shut_fails _ _ SendFailed _ c.failed c.full shut in cc);
+      works = λ shut. (let e = fails Memory c shut in cc);
     },
     c.wanting refl,
   )
@@ -267,9 +218,15 @@ module _ (request : HostRequest) (old new : HostParts) where
   pub does_request : (result : Result Sent SendFault) → CarriesOut request old new result
       → HasDoneRequest (request_judged request) old new result
   does_request (Ok sent) c = record {
-    done = host_request_traces old new request (sent_bytes sent) c.sent (works sent c);
+    done = record {
+      led = λ bytes items state l few.
+          let s = c.sent bytes items state l (omega (arith, few)) in
+          goes bytes items state (sent_bytes sent)
+          (rw s.2 (s.3 ∙ sym (append-nil (item_spelling element_rules s.1)), refl, s.6));
+      shut = λ shut. absurd (works sent c shut);
+    };
     taken = record {
-      led = λ bytes items state l few. send_taken new bytes items _ _ (c.sent bytes items state l few);
+      led = λ bytes items state l few fault e. (let s = c.sent bytes items state l few in cc (s.2, e));
       works = works sent c;
     };
     refused = tt;
@@ -281,11 +238,14 @@ module _ (request : HostRequest) (old new : HostParts) where
     taken = tt;
     refused = λ ne. (
       record {
-        led = refrained fault ne c;
-        shut = λ shut. (let e : ◌≡◌ {A = Result Sent SendFault} (Err fault) (Err SendFailed) =
-            shut_fails _ _ SendFailed _ c.failed c.full shut in cc);
+        led = λ bytes items state l few. refrains _ fault ne (c.sent bytes items state l few);
+        shut = fails fault c;
       },
-      host_request_refused old new request fault c.same (refrained fault ne c),
+      record {
+        led = λ bytes items state l few. goes bytes items state []
+            (rw (refrains _ fault ne (c.sent bytes items state l (omega (arith, few)))) (refl, refl, rw c.same l));
+        shut = λ shut. record { no_byte = refl; same = c.same; unwritten = refl; no_event = refl };
+      },
     );
     wanting = λ e. wanted (rw e at c);
     same = c.same;

@@ -2,9 +2,8 @@
 
 use Rattle.ws_end.proofs.Common as C
 use C.{is_ok, is_err, OnOk, ◌≡◌, ◌+◌, ◌≤◌, List, [], ◌∷◌, ◌++◌, refl, ◌∙◌, ℕ, Option, Some, None, ap, sym, arith, ◌^◌}
-use C.{inl, inr, length, if◌then◌else◌, true, false, is_some, map, nat_lt, IsSome, Err, Ok, ◌==◌, Result, both_ways}
-use C.{false≢true, nat_tests, eqb_tells, IsChain, spelling_of, Reason, AnswerMismatch, telnet_spelling, Telnet}
-use C.{host_allows_records, HostState, Answer, telnet_bytes, AnswersWith, plain_spelling, item_spelling}
+use C.{length, if◌then◌else◌, true, false, is_some, map, nat_lt, IsSome, Err, Ok, ◌==◌, Result, false≢true, nat_tests}
+use C.{IsChain, spelling_of, Reason, AnswerMismatch, host_allows_records, HostState, Answer, AnswersWith, item_spelling}
 use C.{record_spelling, header, Opcode, CancelInvite, NoOperation, Item, RecordItem, TelnetItem, header_length, is_body}
 use C.{element_rules, AnswerPart, Element, after_elements, after_end, body_fault, cancelled, Gives, Follows}
 use C.{ScreenParts, ReadKind, one_screen, read_answer, HostAnswer, empty_record, Refuses, HostEvent, Answered}
@@ -12,10 +11,8 @@ use C.{Cancelled, HostKept, IsReaction, host_reacting, HostReached, HostParts, I
 use C.{sent_record, is_outstanding, after_read, event_output, ready_event, host_negotiates, host_reads, host_reads_by}
 use C.{host_ends_cancel, signal, host_takes_record, Sends, host_cancel, host_send, asked_read}
 use Rattle.ws_end.specs.declared.driver.halt.Halt.TheVariants as halt
-
-host_tokens : (ts : List Telnet) → plain_spelling element_rules (map TelnetItem ts) ≡ telnet_bytes ts
-host_tokens [] = refl
-host_tokens (t ∷ ts) = ap (λ z. telnet_spelling t ++ z) (host_tokens ts)
+use Rattle.ws_end.proofs.driver.Drivings.{is_empty}
+use Rattle.ws_end.proofs.station.StationSteps.{plain_tokens}
 
 -- a token that isn't refused
 pub negotiated : (old : HostKept) (options : HostState) (state : HostEndState) (answer : Option (Answer HostState))
@@ -28,7 +25,7 @@ negotiated old options state (Some answer) reply event h a e = (
   record { options = answer.after; kept = state.kept; cancelling = state.cancelling },
   record { items = map TelnetItem answer.reply; event = ready_event (host_allows_records state.options) answer.after },
   refl,
-  a.1 ∙ sym (host_tokens _),
+  a.1 ∙ sym (plain_tokens element_rules _),
   e ∙ ap (λ o. ready_event (host_allows_records o) options) h.options
       ∙ ap (ready_event (host_allows_records state.options)) a.0,
   record { options = a.0; given = h.given; cancelling = h.cancelling },
@@ -57,8 +54,9 @@ module _ (old : HostKept) (state : HostEndState) (h : HostStands old state) (siz
       ∙ ap (λ s. host_reads state (read_answer kind s.fields parts)) (sym
       (one_screen state.kept old.screen h.given size)) ∙ ap (host_reads state) is
 
-  pub answer_taken : (screen : ScreenParts) (answer : HostAnswer) → read_answer kind old.screen.fields parts ≡ Some answer
-      → Follows cancelled old.screen screen → IsReaction host_reacting (record old { screen = screen }) [] (λ output. output)
+  pub answer_taken : (screen : ScreenParts) (answer : HostAnswer)
+      → read_answer kind old.screen.fields parts ≡ Some answer → Follows cancelled old.screen screen
+      → IsReaction host_reacting (record old { screen = screen }) [] (λ output. output)
       (host_reads_by state (asked_read state) parts) (Ok (record { reply = []; event = Some (Answered answer) }))
   answer_taken screen answer a f = (
     after_read state state.cancelling,
@@ -86,10 +84,6 @@ module _ (old : HostKept) (state : HostEndState) (h : HostStands old state) (siz
     by (Some answer) is s = (after_read state state.cancelling, event_output _, reads_by _ is, (answer, refl))
     by None is s = absurd (false≢true s)
 
-some_parts : (p : AnswerPart) (ps : List AnswerPart) → (length (p ∷ ps) == 0) ≡ true → ⊥
-some_parts p ps e =
-    elim (eqb_tells (length (p ∷ ps)) 0) [ inl h ↦ omega (arith, h.1) | inr h ↦ both_ways (length (p ∷ ps) == 0) h.0 e ]
-
 -- an empty record without an opcode
 pub signalled : (host : HostKept) (state : HostEndState) (flags : ℕ) (opcode : Opcode) (parts : List AnswerPart)
     (event : Option HostEvent) → HostStands host state → opcode ≡ NoOperation → (length parts == 0) ≡ true
@@ -97,12 +91,13 @@ pub signalled : (host : HostKept) (state : HostEndState) (flags : ℕ) (opcode :
     (host_takes_record state flags opcode parts) (Ok (record { reply = []; event = event }))
 signalled host state flags opcode [] event h is none s =
     (state, event_output _, ap (λ o. host_takes_record state flags o []) is, refl, s, h)
-signalled host state flags opcode (p ∷ ps) event h is none s = absurd (some_parts p ps none)
+signalled host state flags opcode (p ∷ ps) event h is none s = (let e = is_empty (p ∷ ps) none in cc)
 
 module _ (old : HostParts) (bytes : List ℕ) (items : List (Item AnswerPart)) (state : HostEndState)
     (l : HostReached old bytes items state) where
-  pub cancel_sent : host_allows_records old.reacts.options ≡ true → is_some old.reacts.screen.pending ≡ true → old.reacts.cancelling ≡ false
-      → (text : List ℕ) → text ≡ item_spelling element_rules (empty_record 0 CancelInvite)
+  pub cancel_sent : host_allows_records old.reacts.options ≡ true → is_some old.reacts.screen.pending ≡ true
+      → old.reacts.cancelling ≡ false → (text : List ℕ)
+      → text ≡ item_spelling element_rules (empty_record 0 CancelInvite)
       → IsSent (record old { reacts = record old.reacts { cancelling = true } }) bytes items (host_cancel state) text
   cancel_sent allows pends answered text e =
       let next : HostEndState = record { options = state.options; kept = state.kept; cancelling = true } in

@@ -165,14 +165,3 @@ module _ {Place U : Type 0} (rules : Rules Place U) (bytes : List ℕ) (units : 
   ran_some begins NoMemory run unit some = absurd (let e = run.4 in cc)
   ran_some begins (Bad reason) run unit some =
       absurd (let none = slot_none slot (keeps_alone run.0 [] run.3) in cc)
-
-  -- bytes of a body are never refused
-  pub ran_bad : IsPrefixFree rules → Begins rules → (body : List U) → IsChain rules rules.first body
-      → (reason : Reason) → IsSlotRun rules reading values to standing slot (Bad reason) → (more : List ℕ)
-      → (bytes ++ values) ++ more ≡ spelling_of rules body → ⊥
-  ran_bad free begins body chain reason run more same =
-      let stop = run.0 in
-      never_bad rules (bytes ++ stop.front) units stop.before.read
-      (read_on rules bytes units reading read stop.front stop.before.read stop.before.keep stop.on) free begins body
-      chain stop.last
-      more (behind_last stop more ∙ same) run.1

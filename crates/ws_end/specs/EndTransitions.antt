@@ -1,6 +1,6 @@
 -- The transitions of both ends: what each does at an item that arrives and at what its caller does (RFC 1205, 4777).
 
-use Rattle.std.specs.Prelude.{◌≡◌, ℕ, ◌+◌, ◌^◌, ◌<◌, List, length, true}
+use Rattle.std.specs.Prelude.{◌≡◌, ◌+◌, ◌^◌, ◌<◌, List, length, true}
 use Rattle.ws_record.specs.declared.record.Item.{Item}
 use Rattle.ws_stream.specs.declared.answer_part.AnswerPart.{AnswerPart}
 use Rattle.ws_stream.specs.declared.element.Element.{Element}
@@ -8,22 +8,13 @@ use Rattle.ws_keys.specs.declared.key.Key.{Key}
 use Rattle.ws_end.specs.declared.end_step.Applied.{Applied}
 use Rattle.ws_end.specs.declared.end_step.HostRequest.{HostRequest}
 use Rattle.ws_end.specs.declared.host_end.host_event.HostEvent.{HostEvent}
-use Rattle.ws_end.specs.declared.station.key_fault.KeyFault.{KeyFault}
-use Rattle.ws_end.specs.declared.refusal.Refusal.{Refusal}
 use Rattle.ws_end.specs.declared.host_end.send_fault.SendFault.{SendFault}
 use Rattle.ws_end.specs.declared.host_end.send_fault.SendFault.TheVariants.{Failed as SendFailed}
-use Rattle.ws_end.specs.Acts.{Act, Doing, Transitions}
+use Rattle.ws_end.specs.Acts.{Doing, Transitions}
 use Rattle.ws_end.specs.Reaction.{Reaction}
-use Rattle.ws_end.specs.station.StationEndState.{StationEndState, KeyReaction, profile, on_profile}
-use Rattle.ws_end.specs.station.StationTransitions.{at_key_on}
+use Rattle.ws_end.specs.station.StationEndState.{StationEndState, profile}
 use Rattle.ws_end.specs.station.StationReacting.{at_item_on, transitions_on}
-use Rattle.ws_end.specs.station.StationActs.{TracesOnDisplay, RefusesOn, IsKeyRefusalOn, IsKeyTakenOn}
-pub use Rattle.ws_end.specs.Reaction.{goes_on}
-pub use Rattle.ws_end.specs.station.StationTransitions.{applied, event_by}
-pub use Rattle.ws_end.specs.station.StationReacting.{applied_by}
 use Rattle.ws_end.specs.host_end.HostEndState.{HostEndState, host_requests, RefusesSend}
-use Rattle.ws_end.specs.station.StationReached.{StationParts}
-use Rattle.ws_end.specs.driver.DriverBehaviour.{DriverTraces, DriverRefuses}
 use Rattle.ws_end.specs.driver.Driven.{TakesNoMore, transitions_of}
 use Rattle.ws_end.specs.host_end.HostReached.{AtHost, takes_memory}
 use Rattle.ws_end.specs.host_end.HostReacting.{HostParts, host_driving}
@@ -35,21 +26,9 @@ abbrev pub station_at_item : StationEndState → Item Element → Reaction Stati
     → Doing StationEndState AnswerPart Applied
 station_at_item = at_item_on profile
 
--- a key that is refused has no effect
-abbrev pub station_at_key : StationEndState → KeyReaction → Doing StationEndState AnswerPart Applied
-station_at_key = at_key_on profile
-
 -- the transitions of a station: what it does at items and keys, and which items it takes
 abbrev pub station_transitions : Transitions StationEndState Element AnswerPart Key Applied
 station_transitions = transitions_on profile
-
--- the acts lead from one station to another, which wrote and told this in them
-abbrev pub StationTraces : StationParts → List (Act Key) → List ℕ → List Applied → StationParts → Type 0
-StationTraces = TracesOnDisplay on_profile
-
--- the station takes these bytes, writes and tells nothing at them, and refuses the one after them
-abbrev pub StationRefuses : StationParts → List ℕ → ℕ → Refusal → StationParts → Type 0
-StationRefuses = RefusesOn on_profile
 
 -- The host end's caller sends records and cancels. It tells its events.
 
@@ -57,31 +36,11 @@ StationRefuses = RefusesOn on_profile
 abbrev pub host_transitions : Transitions HostEndState AnswerPart Element HostRequest HostEvent
 host_transitions = transitions_of host_driving
 
--- the acts lead from one host end to another, which wrote and told this in them
-abbrev pub HostTraces : HostParts → List (Act HostRequest) → List ℕ → List HostEvent → HostParts → Type 0
-HostTraces = DriverTraces host_driving
-
--- the host end takes these bytes, writes and tells nothing at them, and refuses the one after them
-abbrev pub HostRefuses : HostParts → List ℕ → ℕ → Refusal → HostParts → Type 0
-HostRefuses = DriverRefuses host_driving
-
--- Why a key or a send has no effect, by the state in which the end stands, or since it is shut.
-
--- the station refuses the key, for this reason, by all that came and was pressed before
-abbrev pub IsKeyRefusal : StationParts → Key → KeyFault → Type 0
-IsKeyRefusal = IsKeyRefusalOn on_profile
-
 -- the host end refuses the request, for this reason, by all that came and was sent before, or since it is shut
 pub record IsSendRefusal (host : HostParts) (request : HostRequest) (fault : SendFault) : Type 0 where
   pub led : AtHost host (λ bytes items state. length bytes + 1 < 2 ^ 64 → host_requests state request
       ≡ RefusesSend fault)
   pub shut : TakesNoMore host → fault ≡ SendFailed
-
--- A key or a send has its effect: the state in which the end stands doesn't refuse it, and the end isn't shut.
-
--- the station has no reason to refuse the key
-abbrev pub IsKeyTaken : StationParts → Key → Type 0
-IsKeyTaken = IsKeyTakenOn on_profile
 
 -- the host end has no reason to refuse the request, and isn't shut
 pub record IsSendTaken (host : HostParts) (request : HostRequest) : Type 0 where

@@ -15,7 +15,7 @@ pub(crate) mod waiting;
 pub(crate) mod writing;
 
 use crate::attached::waiting::Waiting;
-use crate::attached::writing::{Heard, hear_piece, press_key};
+use crate::attached::writing::{PieceTaken, hear_piece, press_key};
 use crate::end::End;
 use crate::{Acted, Acting, KeyFault, SendFault, StationDisplay, StationOn};
 use std::marker::Model;
@@ -172,7 +172,7 @@ impl<E: End, S: Source, K: Sink> Attached<E, S, K> {
         ensures breaks { IfErr result (λ fault.
             (self.new.broken ≡ true) × (breaks fault ≡ true)) }
     {
-        let Heard { used, event } = hear_piece(
+        let PieceTaken { used, event } = hear_piece(
             &mut self.end,
             &mut self.sink,
             self.waiting.as_slice(),

@@ -4,22 +4,21 @@ pub use Rattle.ws_end.proofs.Common.{flat_map, ◌&&◌, not, OnOk, IfOk, ◌≡
 pub use Rattle.ws_end.proofs.Common.{◌∙◌, ℕ, zero, suc, ◌<◌, Option, Some, None, take, drop, ap, sym, arith}
 pub use Rattle.ws_end.proofs.Common.{take-append-drop, ◌^◌, min, inl, inr, length, get_or, append_assoc, add-one}
 pub use Rattle.ws_end.proofs.Common.{length-append, length-drop, drop-cons, ◌≢◌, if◌then◌else◌, ◌⊎◌, Bool, true, false}
-pub use Rattle.ws_end.proofs.Common.{is_some, map, nat_lt, ◌-◌, IsSome, Err, Ok, Result, ap₂, subst₂, take-append-add}
-pub use Rattle.ws_end.proofs.Common.{cases_lt, false≢true, nat_tests, flat_map-append, length-take-le, append-nil}
-pub use Rattle.ws_end.proofs.Common.{take_all, take-append-le, take-take, drop_all, err_from_is_err_and, on_ok_weaker}
-pub use Rattle.ws_end.proofs.Common.{Rules, spelling_of, Gave, one_more, Fault, Reason, RecordBeforeNegotiation}
-pub use Rattle.ws_end.proofs.Common.{gave_more, take_some, length_rest, held_went_out, Telnet, host_allows_records}
-pub use Rattle.ws_end.proofs.Common.{HostState, Answer, station_allows_records, station_answer, TerminalType}
-pub use Rattle.ws_end.proofs.Common.{plain_spelling, item_spelling, record_spelling, header, Opcode, CancelInvite}
-pub use Rattle.ws_end.proofs.Common.{NoOperation, PutGet, Item, RecordItem, TelnetItem, Record, header_length}
-pub use Rattle.ws_end.proofs.Common.{answer_rules, is_body, element_prefix_free, element_begins, element_rules}
-pub use Rattle.ws_end.proofs.Common.{AnswerPart, Element, after_elements, after_end, body_fault, cancelled, History}
-pub use Rattle.ws_end.proofs.Common.{Edit, ScreenParts, open_write, Field, ReadKind, one_screen, edit_of, events_by}
-pub use Rattle.ws_end.proofs.Common.{key_refusal, read_answer, Read, Attention, SystemRequest, HostAnswer, Key, Send}
-pub use Rattle.ws_end.proofs.Common.{KeyRefusal, came_append, bytes_came, Act, all_came, Happening, doing, items_of}
-pub use Rattle.ws_end.proofs.Common.{IsTrace, Arrives, as_list, Transitions, Happen, HoldsItems, station_transitions}
-pub use Rattle.ws_end.proofs.Common.{host_transitions, empty_record, Refuses, GoesOn, TakesNoMore, AtHost, HostReached}
-pub use Rattle.ws_end.proofs.Common.{IsSent, IsSendFault, HostParts, HostStands, HostEndState, sent_record}
+pub use Rattle.ws_end.proofs.Common.{is_some, map, nat_lt, ◌-◌, Err, Ok, Result, ap₂, subst₂, take-append-add, cases_lt}
+pub use Rattle.ws_end.proofs.Common.{false≢true, nat_tests, flat_map-append, length-take-le, append-nil, take_all}
+pub use Rattle.ws_end.proofs.Common.{take-append-le, take-take, drop_all, err_from_is_err_and, on_ok_weaker, Rules}
+pub use Rattle.ws_end.proofs.Common.{spelling_of, Gave, one_more, Fault, Reason, RecordBeforeNegotiation, gave_more}
+pub use Rattle.ws_end.proofs.Common.{take_some, length_rest, held_went_out, Telnet, host_allows_records, HostState}
+pub use Rattle.ws_end.proofs.Common.{Answer, station_allows_records, station_answer, TerminalType, plain_spelling}
+pub use Rattle.ws_end.proofs.Common.{item_spelling, record_spelling, header, Opcode, CancelInvite, NoOperation, PutGet}
+pub use Rattle.ws_end.proofs.Common.{Item, RecordItem, TelnetItem, Record, header_length, answer_rules, is_body}
+pub use Rattle.ws_end.proofs.Common.{element_prefix_free, element_begins, element_rules, AnswerPart, Element}
+pub use Rattle.ws_end.proofs.Common.{after_elements, after_end, body_fault, cancelled, History, Edit, ScreenParts}
+pub use Rattle.ws_end.proofs.Common.{open_write, Field, ReadKind, one_screen, edit_of, events_by, key_refusal}
+pub use Rattle.ws_end.proofs.Common.{read_answer, Read, Attention, SystemRequest, HostAnswer, Key, Send, KeyRefusal}
+pub use Rattle.ws_end.proofs.Common.{came_append, bytes_came, Act, all_came, Happening, doing, items_of, Arrives}
+pub use Rattle.ws_end.proofs.Common.{as_list, Transitions, Happen, HoldsItems, station_transitions, empty_record}
+pub use Rattle.ws_end.proofs.Common.{Refuses, GoesOn, AtHost, HostReached, IsSent, HostParts, HostEndState, sent_record}
 pub use Rattle.ws_end.proofs.Common.{is_outstanding, after_read, event_output, ready_event, host_negotiates, host_reads}
 pub use Rattle.ws_end.proofs.Common.{host_reads_by, host_ends_cancel, signal, host_takes_record, SendReaction}
 pub use Rattle.ws_end.proofs.Common.{RefusesSend, Sends, host_cancel, host_send, answer_spelling, AtStation}
@@ -28,7 +27,7 @@ pub use Rattle.ws_end.proofs.Common.{after_key, screen_at, opcode_answer, statio
 pub use Rattle.ws_end.proofs.Common.{RefusesKey, station_key, answers_read, key_by_refusal, answer_record}
 pub use Rattle.std.specs.List.{AllByRecursion}
 pub use Rattle.std.specs.Prelude.{◌||◌, filter}
-pub use Rattle.std.proofs.Common.{add-zero, length-take, unwrap_or, add-suc, replicate}
+pub use Rattle.std.proofs.Common.{add-zero, length-take, unwrap_or, replicate}
 pub use Rattle.std.proofs.Math.Seq.{take-add, drop-append_seam}
 pub use Rattle.std.proofs.lemmas.Bool.{ltb-true, ltb-false}
 pub use Rattle.std.proofs.lemmas.List.{drop-drop, map-append}
@@ -58,9 +57,9 @@ pub use Rattle.ws_keys.specs.Splits.{answer_of}
 pub use Rattle.ws_keys.proofs.KeyLaws.{aids_answer}
 pub use Rattle.ws_keys.proofs.ReadingLaws.{own_reading, same_reading}
 pub use Rattle.ws_keys.proofs.StationLaws.{same_apart}
-pub use Rattle.ws_end.specs.Acts.{AllTaken, Traces}
-pub use Rattle.ws_end.specs.EndTransitions.{station_at_item, StationRefuses, HostRefuses, goes_on}
-pub use Rattle.ws_end.specs.Reaction.{Reaction}
+pub use Rattle.ws_end.specs.Acts.{AllTaken}
+pub use Rattle.ws_end.specs.EndTransitions.{station_at_item}
+pub use Rattle.ws_end.specs.Reaction.{Reaction, goes_on}
 pub use Rattle.ws_session.specs.Telnets.{telnets}
 pub use Rattle.ws_end.specs.declared.end_step.Applied.{Applied}
 pub use Rattle.ws_end.specs.declared.end_step.HostRequest.TheVariants.{Cancel as Cancelling}
@@ -80,8 +79,7 @@ pub use Rattle.ws_end.specs.declared.station.answer.TheConstants.{ATN, SRQ}
 pub use Rattle.ws_end.specs.declared.station.key_fault.KeyFault.{KeyFault}
 pub use Rattle.ws_end.specs.declared.station.key_fault.KeyFault.TheVariants.{Failed as KeyFailed, NotReady}
 pub use Rattle.ws_session.specs.declared.world.Event.{Event}
-pub use Rattle.ws_session.specs.declared.world.Event.TheVariants.{Host, KeyRefused, SendRefused, StationRefused}
-pub use Rattle.ws_session.specs.declared.world.Event.TheVariants.{HostRefused}
+pub use Rattle.ws_session.specs.declared.world.Event.TheVariants.{Host, KeyRefused, SendRefused}
 pub use Rattle.ws_session.specs.declared.world.Move.{Move}
 pub use Rattle.ws_session.specs.declared.world.Move.TheVariants.{ToStation, ToHost, Cancel, Key as Press}
 pub use Rattle.ws_session.specs.declared.world.Move.TheVariants.{Send as SendMove}

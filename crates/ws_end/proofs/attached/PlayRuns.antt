@@ -5,13 +5,13 @@ use C.{IfOk, IfErr, ◌≡◌, ◌+◌, ◌≤◌, List, [], ◌++◌, refl, ◌
 use C.{length, length-append, ◌≢◌, Err, Ok, Result, ◌*◌, Writer, Reader, FailedWithin, Gave, most_reads, one_more}
 use C.{Fault, Write, Refused, Truncated, gave_more, gave_all, TerminalType, IsInGrammar, IsTruncated, Item}
 use C.{element_rules, Element, Place, Key, HaveBroughtPlayer, HasDone, IsRunFault, IsRun, refusal_count, behind, Player}
-use C.{outcome, due, later, AtStation, StationParts, StationReached, StationEndState, new_station_end}
+use C.{due, later, refused_keys, AtStation, StationParts, StationReached, StationEndState, new_station_end}
 use Rattle.ws_code.specs.declared.fault.Fault.TheVariants.{Read}
 use Rattle.ws_end.specs.declared.attached.run.Played.{Played}
 use Rattle.ws_end.proofs.attached.PlaySteps.{keys_taken}
-use Rattle.ws_end.proofs.attached.Plays.{text_of}
+use Rattle.ws_end.proofs.attached.Plays.{text_from}
 use Rattle.ws_code.specs.Device.{on_devices}
-use Rattle.ws_end.specs.attached.StationRun.{asked, outflow, passing}
+use Rattle.ws_end.specs.attached.StationRun.{schedule, outflow, passing}
 
 -- what the loop over a source keeps: the bytes that it gave have brought the player here, and are at most 4,096 a read
 pub record Reading {R S : Type 0} (reader : Reader R) (source now : R) (reads : ℕ) (writer : Writer S)
@@ -19,7 +19,7 @@ pub record Reading {R S : Type 0} (reader : Reader R) (source now : R) (reads : 
   pub bytes : List ℕ
   pub items : List (Item Element)
   pub gave : Gave reader source now reads bytes
-  pub come : HaveBroughtPlayer (asked t keys) (outflow writer sink here) player bytes items
+  pub come : HaveBroughtPlayer (schedule t keys) (outflow writer sink here) player bytes items
   pub few : length bytes ≤ 4096 * reads
 
 module _ {R S : Type 0} (reader : Reader R) (writer : Writer S) (t : TerminalType) (keys : List (ℕ × Key)) where
@@ -28,29 +28,26 @@ module _ {R S : Type 0} (reader : Reader R) (writer : Writer S) (t : TerminalTyp
 
   -- before the first read the keys are pressed that wait for no record
   pub run_starts : (station : StationParts) (source : R) (sink here : S) (player : Player)
-      → HasDone writer [] [] (record { station = station; records = 0; pressed = 0; keys_refused = 0 })
-      player sink here (outcome (new_station_end t) (due 0 keys)) → drop player.pressed keys ≡ later 0 keys
+      → HasDone writer [] [] (record { station = station; pressed = 0; keys_refused = 0 }) player sink here
+      (new_station_end t) (due 0 keys) × (drop player.pressed keys ≡ later 0 keys)
       → Reading reader source source 0 writer t keys sink here player
-  run_starts station source sink here player done left = record {
+  run_starts station source sink here player (done, left) = record {
     bytes = [];
     items = [];
     gave = gave_none _;
     come = record {
       is_behind = record { reached = done.reached; taken = keys_taken _ 0 keys };
-      refused = done.refused 0 refl ∙ ap refusal_count (let e : 0 + (outcome (new_station_end t) (due 0 keys)).refused
-          ≡ (outcome (new_station_end t) (due 0 keys)).refused = omega arith in e);
-      records = done.records;
+      refused = done.refused 0 refl ∙ ap refusal_count (let e : 0 + refused_keys (new_station_end t) (due 0 keys)
+          ≡ refused_keys (new_station_end t) (due 0 keys) = omega arith in e);
       left = left;
-      few = omega (arith, done.records);
       wrote = done.wrote;
     };
     few = omega arith;
   }
 
   pub start_fails : (station : StationParts) (source : R) (sink here : S) → StationReached station [] []
-      (new_station_end
-      t) → FailedWithin writer sink here (text_of (outcome (new_station_end t) (due 0 keys)).written)
-      → IsRun (asked t keys) (passing (on_devices writer reader) sink here source source)
+      (new_station_end t) → FailedWithin writer sink here (text_from (new_station_end t) (due 0 keys))
+      → IsRun (schedule t keys) (passing (on_devices writer reader) sink here source source)
       (Err Write)
   start_fails station source sink here l failed = record {
     bytes = [];
@@ -80,18 +77,18 @@ module _ {R S : Type 0} (reader : Reader R) (writer : Writer S) (t : TerminalTyp
         → IfErr result (λ fault. (bytes : List ℕ) (items : List (Item Element)) (state : StationEndState)
         → StationReached player.station bytes items state → length bytes + 1 < 2 ^ 64
         → (fault ≡ Truncated (length bytes)) × IsTruncated {Place = Place} {U = Element} element_rules bytes)
-        → IsRun (asked t keys) (passing (on_devices writer reader) sink here source now') result
+        → IsRun (schedule t keys) (passing (on_devices writer reader) sink here source now') result
     run_ends now' room (Ok played) h made same ok err = record {
       bytes = r.bytes;
       items = r.items;
       gave = gave_all reader source now now' reads r.bytes room r.gave one_left h made same;
-      accepted = ok.2 r.bytes r.items (behind (asked t keys) r.items).state r.come.is_behind.reached;
+      accepted = ok.2 r.bytes r.items (behind (schedule t keys) r.items).state r.come.is_behind.reached;
       is_behind = record { reached = rw ok.0 r.come.is_behind.reached; taken = r.come.is_behind.taken };
       refused = ok.1 ∙ r.come.refused;
       wrote = r.come.wrote;
     }
     run_ends now' room (Err fault) h made same ok err =
-        let e = err r.bytes r.items (behind (asked t keys) r.items).state r.come.is_behind.reached
+        let e = err r.bytes r.items (behind (schedule t keys) r.items).state r.come.is_behind.reached
         (omega (arith, r.few, one_left)) in
         rw e.0 (record {
           bytes = r.bytes;
@@ -107,7 +104,7 @@ module _ {R S : Type 0} (reader : Reader R) (writer : Writer S) (t : TerminalTyp
     -- a read that failed
     pub run_unread : (now' : R) (room : ℕ) → reader.gives now room None now'
         → reader.failures now' ≡ one_more (reader.failures now)
-        → IsRun (asked t keys) (passing (on_devices writer reader) sink here source now')
+        → IsRun (schedule t keys) (passing (on_devices writer reader) sink here source now')
         (Err Read)
     run_unread now' room made counted = record {
       bytes = r.bytes;
@@ -137,7 +134,7 @@ module _ {R S : Type 0} (reader : Reader R) (writer : Writer S) (t : TerminalTyp
       -- a piece that is taken
       pub reads_on : (next : Player) (to : S)
           → ((items : List (Item Element))
-          × HaveBroughtPlayer (asked t keys) (outflow writer sink to) next (r.bytes ++ given) items)
+          × HaveBroughtPlayer (schedule t keys) (outflow writer sink to) next (r.bytes ++ given) items)
           → Reading reader source now' (reads + 1) writer t keys sink to next
       reads_on next to come = record {
         bytes = r.bytes ++ given;
@@ -148,9 +145,9 @@ module _ {R S : Type 0} (reader : Reader R) (writer : Writer S) (t : TerminalTyp
       }
 
       -- and one that isn't
-      pub run_stops : (to : S) (fault : Fault) → IsRunFault (asked t keys) (outflow writer sink to) (length r.bytes)
+      pub run_stops : (to : S) (fault : Fault) → IsRunFault (schedule t keys) (outflow writer sink to) (length r.bytes)
           (r.bytes ++ given) fault
-          → IsRun (asked t keys) (passing (on_devices writer reader) sink to source now')
+          → IsRun (schedule t keys) (passing (on_devices writer reader) sink to source now')
           (Err fault)
       run_stops to (Refused place reason) f = (
         record {
@@ -174,7 +171,7 @@ pub run_endless : {R S : Type 0} (reader : Reader R) (writer : Writer S)
     (t : TerminalType) (keys : List (ℕ × Key)) (source now : R) (reads : ℕ) (sink here : S) (player : Player)
     → Reading reader source now reads writer t keys sink here player
     → reads ≡ most_reads
-    → IsRun (asked t keys) (passing (on_devices writer reader) sink here source now) (Err Read)
+    → IsRun (schedule t keys) (passing (on_devices writer reader) sink here source now) (Err Read)
 run_endless reader writer t keys source now reads sink here player r is = record {
   bytes = r.bytes;
   items = r.items;

@@ -2,42 +2,25 @@
 
 use Rattle.ws_end.proofs.Common as C
 use C.{◌≡◌, ◌+◌, ◌≤◌, List, [], ◌∷◌, ◌++◌, refl, subst, ◌∙◌, ℕ, ◌<◌, take, drop, ap, sym, arith, take-append-drop, ◌^◌}
-use C.{min, inl, inr, length, append_assoc, length-append, Bool, true, false, nat_lt, ◌-◌, Err, Ok, length-take-le}
-use C.{append-nil, Writer, WentOut, FailedWithin, Fault, Write, Refused, went_out_none, went_out_both}
-use C.{failed_within_both, TerminalType, Item, RecordItem, TelnetItem, element_rules, Element, Key, HoldsItems}
-use C.{fault_of, HaveBroughtPlayer, HasDone, records_from, keys_left_from, IsRunFault, refusal_count, behind, run_text}
-use C.{RunUnwritten, Player, Refusal, At, EndStep, Presses, outcome, due, later, Moment, Outcome, idle_outcome}
-use C.{outcome_of_both, at_item, at_moment, AreTaken, records_in_item, moments_from, moments, AtStation, StationParts}
-use C.{StationReached, is_record, StationEndState, new_station_end, Applied, event_by, is_some, Option, AnswerPart}
-use C.{None, ◌⊎◌, IsPrefixTaken, Failed, Memory, GoesOn, Result, answer_rules, plain_spelling, station_takes}
+use C.{inl, inr, length, append_assoc, length-append, false, nat_lt, ◌-◌, Err, Ok, length-take-le, nat_tests}
+use C.{append-nil, Writer, WentOut, FailedWithin, Fault, Write, Refused, went_out_both, failed_within_both, ap₂}
+use C.{TerminalType, Item, element_rules, Element, Key, HoldsItems, fault_of, HaveBroughtPlayer, IsRunFault}
+use C.{refusal_count, behind, run_text, RunUnwritten, Player, Refusal, At, EndStep, due, later, Happening, Does, Doing}
+use C.{refused_keys, records_in, moments_from, moments, AtStation, StationParts, StationReached, StationEndState}
+use C.{new_station_end, Applied, AnswerPart, IsPrefixTaken, Failed, Memory, Result, station_transitions, Arrives}
+use Rattle.std.proofs.Common.{add-zero}
 use Rattle.std.proofs.lemmas.Bool.{cases_Bool}
-use Rattle.ws_end.specs.station.Moments.{Arrives}
+use Rattle.ws_end.specs.Acts.{AllTaken}
+use Rattle.ws_end.specs.ActLaws.{taken_append}
 use Rattle.ws_end.specs.Reaction.{goes_on}
+use Rattle.ws_end.specs.driver.Reacting.{at_reaction}
 use Rattle.ws_end.specs.station.Stations.{station_driving}
-use Rattle.ws_end.proofs.attached.Plays.{outcome_append, text_append, later_by, none_due, text_of}
-use Rattle.ws_end.specs.attached.StationRun.{asked, outflow}
+use Rattle.ws_end.specs.station.StationReacting.{station_puts}
+use Rattle.ws_end.specs.attached.StationRun.{schedule, outflow, refused_behind}
 use Rattle.ws_end.specs.station.StationEndState.{on_profile}
-
--- the last of these bytes completes an item, at which the station goes on with this reply
-record TakesItem (new : StationParts) (bytes : List ℕ) (items : List (Item Element)) (state : StationEndState)
-    (reply : List ℕ) : Type 0 where
-  item : Item Element
-  next : StationEndState
-  writes : List (Item AnswerPart)
-  goes_on : station_takes state item ≡ GoesOn next writes
-  spelled : reply ≡ plain_spelling answer_rules writes
-  reached : StationReached new bytes (items ++ item ∷ []) next
-
--- what a prefix gives at which the station goes on
-parts : (new : StationParts) (bytes : List ℕ) (items : List (Item Element)) (state : StationEndState)
-    (step : EndStep Applied (List ℕ)) → IsPrefixTaken (station_driving on_profile) new bytes items state (Ok step)
-    → (StationReached new bytes items state × (step.reply ≡ []) × (step.event ≡ None))
-    ⊎ ((taken : TakesItem new bytes items state step.reply) × (step.event ≡ event_by (is_record taken.item)))
-parts new bytes items state step (inl q) = inl q
-parts new bytes items state step (inr q) = inr (
-  record { item = q.0; next = q.1; writes = q.2; goes_on = q.3; spelled = q.4; reached = q.6 },
-  q.5,
-)
+use Rattle.ws_end.proofs.RecordCounts.{records_append}
+use Rattle.ws_end.proofs.attached.Plays.{text_append, state_append, refused_append, later_by, none_due, text_of}
+use Rattle.ws_end.proofs.attached.Plays.{text_from, state_from, PressedAll}
 
 -- what a prefix gives is known, or its bytes
 pub known_step : (new : StationParts) (bytes : List ℕ) (items : List (Item Element)) (state : StationEndState)
@@ -57,275 +40,205 @@ known_bytes new bytes prefix is items state step e f =
 
 -- ---- the moments of one item more
 
-moments_more : (n : ℕ) (keys : List (ℕ × Key)) (items : List (Item Element)) (item : Item Element)
-    → moments_from n keys (items ++ item ∷ []) ≡ moments_from n keys items ++ Arrives item ∷ due
-    (records_from n items + records_in_item item) (keys_left_from n keys items)
-moments_more n keys [] item = refl
-moments_more n keys (i ∷ items) item =
-    ap (λ z. due n keys ++ Arrives i ∷ z) (moments_more (n + records_in_item i) (later n keys) items item) ∙ sym
-    (append_assoc (due n keys) (Arrives i ∷ moments_from (n + records_in_item i) (later n keys) items)
-    (Arrives item ∷ due
-    (records_from (n + records_in_item i) items + records_in_item item)
-    (keys_left_from (n + records_in_item i) (later n keys) items)))
-
-left_more : (n : ℕ) (keys : List (ℕ × Key)) (items : List (Item Element)) (item : Item Element) → keys_left_from n keys
-    (items ++ item ∷ []) ≡ later (records_from n items + records_in_item item) (keys_left_from n keys items)
-left_more n keys [] item = refl
-left_more n keys (i ∷ items) item = left_more (n + records_in_item i) (later n keys) items item
-
-records_more : (n : ℕ) (items : List (Item Element)) (item : Item Element) → records_from n (items ++ item ∷ [])
-    ≡ records_from n items + records_in_item item
-records_more n [] item = refl
-records_more n (i ∷ items) item = records_more (n + records_in_item i) items item
-
-due_later : (n : ℕ) (keys : List (ℕ × Key)) → (due n (later n keys) ≡ []) × (later n (later n keys) ≡ later n keys)
-due_later n [] = (refl, refl)
-due_later n (k ∷ ks) = elim (cases_Bool (nat_lt n k.0)) [
-  | inl e ↦ (let q = none_due n k ks e in (ap (due n) q.1 ∙ q.0, ap (later n) q.1))
-  | inr e ↦ (let q = later_by n k ks e in
-      let next = due_later n ks in (ap (due n) q ∙ next.0, ap (later n) q ∙ next.1 ∙ sym q))
+-- the keys that are left behind some records, and then behind more
+later_on : (m n : ℕ) (keys : List (ℕ × Key)) → m ≤ n → later n (later m keys) ≡ later n keys
+later_on m n [] h = refl
+later_on m n (k ∷ ks) h = elim (cases_Bool (nat_lt m k.0)) [
+  | inl e ↦ ap (later n) (none_due m k ks e).1
+  | inr e ↦ (let f : nat_lt n k.0 ≡ false = grind (arith, nat_tests, e, h) in
+      ap (later n) (later_by m k ks e) ∙ later_on m n ks h ∙ sym (later_by n k ks f))
 ]
 
--- behind items no key is due
-pub left_settled : (n : ℕ) (keys : List (ℕ × Key)) (items : List (Item Element))
-    → (due (records_from n items) (keys_left_from n keys items) ≡ [])
-    × (later (records_from n items) (keys_left_from n keys items) ≡ keys_left_from n keys items)
-left_settled n keys [] = due_later n keys
-left_settled n keys (i ∷ items) = left_settled (n + records_in_item i) (later n keys) items
+due_none : (n : ℕ) (keys : List (ℕ × Key)) → due n (later n keys) ≡ []
+due_none n [] = refl
+due_none n (k ∷ ks) = elim (cases_Bool (nat_lt n k.0)) [
+  | inl e ↦ (let q = none_due n k ks e in ap (due n) q.1 ∙ q.0)
+  | inr e ↦ ap (due n) (later_by n k ks e) ∙ due_none n ks
+]
 
-taken_append : (s : StationEndState) (ms ns : List Moment) → AreTaken s ms → AreTaken (outcome s ms).state ns
-    → AreTaken s (ms ++ ns)
-taken_append s [] ns a b = b
-taken_append s (m ∷ ms) ns a b = (a.0, taken_append (at_moment s m).state ms ns a.1 b)
+moments_more : (n : ℕ) (keys : List (ℕ × Key)) (items : List (Item Element)) (item : Item Element)
+    → moments_from n keys (items ++ item ∷ []) ≡ moments_from n keys items
+    ++ Arrives item ∷ due (n + records_in (items ++ item ∷ [])) (later (n + records_in items) keys)
+moments_more n keys [] item =
+    ap (λ m. due n keys ++ Arrives item ∷ due (n + records_in (item ∷ [])) (later m keys)) (sym (add-zero n))
+moments_more n keys (i ∷ items) item =
+    let m : ℕ = n + records_in (i ∷ []) in
+    let all : m + records_in (items ++ item ∷ []) ≡ n + records_in (i ∷ (items ++ item ∷ [])) =
+    omega (arith, records_append (i ∷ []) (items ++ item ∷ [])) in
+    let some : m + records_in items ≡ n + records_in (i ∷ items) = omega (arith, records_append (i ∷ []) items) in
+    let left : later (m + records_in items) (later n keys) ≡ later (n + records_in (i ∷ items)) keys =
+    later_on n _ keys (omega arith) ∙ ap (λ k. later k keys) some in
+    ap (λ z. due n keys ++ Arrives i ∷ z) (moments_more m (later n keys) items item
+    ∙ ap₂ (λ a ks. moments_from m (later n keys) items ++ Arrives item ∷ due a ks) all left)
+    ∙ sym (append_assoc (due n keys) (Arrives i ∷ moments_from m (later n keys) items)
+    (Arrives item ∷ due (n + records_in (i ∷ (items ++ item ∷ []))) (later (n + records_in (i ∷ items)) keys)))
 
-pub keys_taken : (s : StationEndState) (n : ℕ) (ks : List (ℕ × Key)) → AreTaken s (due n ks)
+pub keys_taken : (s : StationEndState) (n : ℕ) (ks : List (ℕ × Key)) → AllTaken station_transitions s (due n ks)
 keys_taken s n [] = tt
 keys_taken s n (k ∷ ks) = elim (cases_Bool (nat_lt n k.0)) [
   | inl e ↦ rw e tt
-  | inr e ↦ rw e (refl, keys_taken (at_moment s (Presses k.1)).state n ks)
+  | inr e ↦ rw e (tt, keys_taken (state_from s (Does k.1 ∷ [])) n ks)
 ]
 
--- one record is counted, and no Telnet command
--- a record ends where something is told
-ends_with : (event : Option Applied) (ends : Bool) → event ≡ event_by ends → is_some event ≡ ends
-ends_with event true e = ap is_some e
-ends_with event false e = ap is_some e
+-- What bytes have made of a station: no item is complete with them, or one is, and the keys are due that follow it.
+record Goes (keys : List (ℕ × Key)) (new : StationParts) (bytes : List ℕ) (items : List (Item Element))
+    (state : StationEndState) (reply : List ℕ) : Type 0 where
+  more : List (Item Element)
+  happened : List (Happening Element Key)
+  next : moments keys more ≡ moments keys items
+      ++ (happened ++ due (records_in more) (later (records_in items) keys))
+  longer : records_in items ≤ records_in more
+  taken : AllTaken station_transitions state happened
+  unrefused : refused_keys state happened ≡ 0
+  spelled : reply ≡ text_from state happened
+  reached : StationReached new bytes more (state_from state happened)
 
-one_of : (item : Item Element) (ends : Bool) → ends ≡ is_record item → ends ≡ false → records_in_item item ≡ 0
-one_of (RecordItem r) ends is e = (let h : true ≡ false = sym is ∙ e in cc)
-one_of (TelnetItem token) ends is e = refl
-
-one_of_record : (item : Item Element) (ends : Bool) → ends ≡ is_record item → ends ≡ true → records_in_item item ≡ 1
-one_of_record (RecordItem r) ends is e = refl
-one_of_record (TelnetItem token) ends is e = (let h : false ≡ true = sym is ∙ e in cc)
+goes : (keys : List (ℕ × Key)) (new : StationParts) (bytes : List ℕ) (items : List (Item Element))
+    (state : StationEndState) (step : EndStep Applied (List ℕ))
+    → IsPrefixTaken (station_driving on_profile) new bytes items state (Ok step)
+    → Goes keys new bytes items state step.reply
+goes keys new bytes items state step (inl q) = record {
+  more = items;
+  happened = [];
+  next = sym (ap (λ z. moments keys items ++ z) (due_none (records_in items) keys) ∙ append-nil (moments keys items));
+  longer = omega arith;
+  taken = tt;
+  unrefused = refl;
+  spelled = q.1;
+  reached = q.0;
+}
+goes keys new bytes items state step (inr q) =
+    let does : station_transitions.at state (Arrives q.0) ≡ record { state = q.1; written = q.2; events = _ } =
+    ap (at_reaction (station_puts q.0) state) q.3 in
+    record {
+      more = items ++ q.0 ∷ [];
+      happened = Arrives q.0 ∷ [];
+      next = moments_more 0 keys items q.0 ∙ ap₂ (λ a b. moments keys items ++ Arrives q.0 ∷ due a (later b keys))
+          (let e : 0 + records_in (items ++ q.0 ∷ []) ≡ records_in (items ++ q.0 ∷ []) = omega arith in e)
+          (let e : 0 + records_in items ≡ records_in items = omega arith in e);
+      longer = omega (arith, records_append items (q.0 ∷ []));
+      taken = (ap goes_on q.3, tt);
+      unrefused = refl;
+      spelled = q.4 ∙ sym (ap text_of (append-nil q.2))
+          ∙ ap (λ (d : Doing StationEndState AnswerPart Applied). text_of (d.written ++ [])) (sym does);
+      reached = subst (λ (d : Doing StationEndState AnswerPart Applied).
+          StationReached new bytes (items ++ q.0 ∷ []) d.state) (sym does) q.6;
+    }
 
 module _ {S : Type 0} (writer : Writer S) (t : TerminalType) (keys : List (ℕ × Key))
     (start now : S) (old : Player) (before : StationParts) (bytes : List ℕ) (items : List (Item Element))
-    (piece : List ℕ) (used : ℕ) (within : used ≤ length piece) (some : 0 < used)
-    (c : HaveBroughtPlayer (asked t keys) (outflow writer start now) (record old { station = before }) bytes items)
+    (piece : List ℕ) (used : ℕ) (within : used ≤ length piece)
+    (c : HaveBroughtPlayer (schedule t keys) (outflow writer start now) (record old { station = before }) bytes items)
+    (few : length bytes + length piece + 1 < 2 ^ 64) (step : EndStep Applied (List ℕ))
+    (prefixed : IsPrefixTaken (station_driving on_profile) old.station (bytes ++ take used piece) items
+    (behind (schedule t keys) items).state (Ok step))
   where
-    abbrev so_far : Outcome
-    so_far = behind (asked t keys) items
-
     abbrev longer : List ℕ
     longer = bytes ++ take used piece
 
-    size : length longer ≡ length bytes + used
-    size = omega (arith, length-append bytes (take used piece), length-take-le used piece within)
+    abbrev so_far : StationEndState
+    so_far = (behind (schedule t keys) items).state
 
-    -- no item is complete
-    inside_comes : (reply : List ℕ) (to : S) → reply ≡ [] → StationReached old.station longer items so_far.state
-        → WentOut writer now to reply → HaveBroughtPlayer (asked t keys) (outflow writer start to) old longer items
-    inside_comes reply to silent reached went = record {
-      is_behind = record { reached = reached; taken = c.is_behind.taken };
-      refused = c.refused;
-      records = c.records;
-      left = c.left;
-      few = omega (arith, c.few, size);
-      wrote = rw (← (ap (λ z. run_text (asked t keys) items ++ z) silent ∙ append-nil (run_text (asked t keys) items)))
-          (went_out_both writer start now to (run_text (asked t keys) items) reply c.wrote went);
+    abbrev gone : Goes keys old.station longer items so_far step.reply
+    gone = goes keys old.station longer items so_far step prefixed
+
+    abbrev keys_due : List (Happening Element Key)
+    keys_due = due (records_in gone.more) (drop old.pressed keys)
+
+    room : length longer + 1 < 2 ^ 64
+    room = omega (arith, few, length-append bytes (take used piece), length-take-le used piece within)
+
+    moments_are : moments keys gone.more ≡ moments keys items ++ (gone.happened ++ keys_due)
+    moments_are = gone.next
+        ∙ ap (λ z. moments keys items ++ (gone.happened ++ due (records_in gone.more) z)) (sym c.left)
+
+    taken_more : AllTaken station_transitions (new_station_end t) (moments keys gone.more)
+    taken_more = rw moments_are (taken_append station_transitions (new_station_end t) (moments keys items)
+        (gone.happened ++ keys_due) c.is_behind.taken (taken_append station_transitions so_far gone.happened keys_due
+        gone.taken (keys_taken (state_from so_far gone.happened) (records_in gone.more) (drop old.pressed keys))))
+
+    text_more : run_text (schedule t keys) items ++ (step.reply ++ text_from (state_from so_far gone.happened) keys_due)
+        ≡ run_text (schedule t keys) gone.more
+    text_more = ap (λ z. run_text (schedule t keys) items
+        ++ (z ++ text_from (state_from so_far gone.happened) keys_due)) gone.spelled
+        ∙ ap (λ z. run_text (schedule t keys) items ++ z) (sym (text_append so_far gone.happened keys_due))
+        ∙ sym (text_append (new_station_end t) (moments keys items) (gone.happened ++ keys_due))
+        ∙ ap (text_from (new_station_end t)) (sym moments_are)
+
+    refused_more : refused_behind (schedule t keys) gone.more
+        ≡ refused_behind (schedule t keys) items + refused_keys (state_from so_far gone.happened) keys_due
+    refused_more = ap (refused_keys (new_station_end t)) moments_are ∙ omega (
+      arith,
+      refused_append (new_station_end t) (moments keys items) (gone.happened ++ keys_due),
+      refused_append so_far gone.happened keys_due,
+      gone.unrefused,
+    )
+
+    state_more : (behind (schedule t keys) gone.more).state ≡ state_from (state_from so_far gone.happened) keys_due
+    state_more = ap (state_from (new_station_end t)) moments_are
+        ∙ state_append (new_station_end t) (moments keys items) (gone.happened ++ keys_due)
+        ∙ state_append so_far gone.happened keys_due
+
+    -- the keys that are due behind it are pressed
+    pub goes_behind : (new : Player) (mid to : S) → WentOut writer now mid step.reply
+        → PressedAll writer old new mid to keys → (next : List (Item Element))
+        × HaveBroughtPlayer (schedule t keys) (outflow writer start to) new longer next
+    goes_behind new mid to went pressed =
+        let p = pressed longer gone.more (state_from so_far gone.happened) gone.reached room in (
+          gone.more,
+          record {
+            is_behind = record { reached = rw state_more p.0.reached; taken = taken_more };
+            refused = p.0.refused (refused_behind (schedule t keys) items) c.refused
+                ∙ ap refusal_count (sym refused_more);
+            left = p.1 ∙ ap (later (records_in gone.more)) c.left ∙ later_on _ _ keys gone.longer;
+            wrote = rw (← text_more)
+                (went_out_both writer start now to _ _ c.wrote (went_out_both writer now mid to _ _ went p.0.wrote));
+          },
+        )
+
+    unwritten : (to : S) → FailedWithin writer start to (run_text (schedule t keys) gone.more)
+        → RunUnwritten (schedule t keys) (outflow writer start to) (bytes ++ piece)
+    unwritten to failed = record {
+      before = longer;
+      after = drop used piece;
+      split = ap (λ z. bytes ++ z) (sym (take-append-drop used piece)) ∙ sym (append_assoc bytes _ _);
+      items = gone.more;
+      so_far = gone.reached.so_far.bytes;
+      begun = old.station.live.begun;
+      holds = gone.reached.reached.holds;
+      taken = taken_more;
+      failed = failed;
     }
 
-    module _ (reply : List ℕ)
-        (taken : TakesItem old.station longer items so_far.state reply) where
-      abbrev more : List (Item Element)
-      more = items ++ taken.item ∷ []
+    -- the reply isn't written
+    pub reply_fails : (to : S) → FailedWithin writer now to step.reply
+        → RunUnwritten (schedule t keys) (outflow writer start to) (bytes ++ piece)
+    reply_fails to failed =
+        unwritten to (rw (← text_more) (failed_within_both writer start now to _ _ _ c.wrote failed))
 
-      abbrev due_then : List Moment
-      due_then = due (records_from 0 items + records_in_item taken.item) (keys_left_from 0 keys items)
-
-      abbrev did : Outcome
-      did = record { state = taken.next; written = taken.writes; refused = 0 }
-
-      abbrev keyed : Outcome
-      keyed = outcome taken.next due_then
-
-      one_more : behind (asked t keys) more ≡ outcome_of_both so_far (outcome_of_both did keyed)
-      one_more = ap (outcome (new_station_end t)) (moments_more 0 keys items _)
-          ∙ outcome_append _ _ _ ∙ ap (λ r. let a : Outcome = at_item so_far.state r in
-          outcome_of_both so_far (outcome_of_both a (outcome a.state due_then))) taken.goes_on
-
-      taken_more : AreTaken (new_station_end t) (moments keys more)
-      taken_more = rw (moments_more 0 keys items taken.item)
-          (taken_append (new_station_end t) (moments keys items) (Arrives taken.item ∷ due_then) c.is_behind.taken (
-            ap goes_on taken.goes_on,
-            keys_taken (at_moment so_far.state (Arrives taken.item)).state
-                (records_from 0 items + records_in_item taken.item) (keys_left_from 0 keys items),
-          ))
-
-      text_more : run_text (asked t keys) items ++ (reply ++ text_of keyed.written) ≡ run_text (asked t keys) more
-      text_more = ap (λ z. run_text (asked t keys) items ++ (z ++ text_of keyed.written)) taken.spelled
-          ∙ ap (λ z. run_text (asked t keys) items ++ z) (sym (text_append taken.writes keyed.written))
-          ∙ sym (text_append so_far.written (taken.writes ++ keyed.written)) ∙ ap (λ (o : Outcome). text_of o.written)
-          (sym one_more)
-
-      -- an item is, and the keys that are due behind it are pressed
-      item_comes : (records : ℕ) (new : Player) (mid to : S) → records ≡ old.records + records_in_item taken.item
-          → WentOut writer now mid reply → HasDone writer longer more (record old { records = records })
-          new mid to keyed
-          → drop new.pressed keys ≡ later (records_from 0 items + records_in_item taken.item) (keys_left_from
-          0 keys items) → records_in_item taken.item ≤ 1
-          → HaveBroughtPlayer (asked t keys) (outflow writer start to) new longer more
-      item_comes records new mid to is went done left one = record {
-        is_behind = record { reached = rw one_more done.reached; taken = taken_more };
-        refused = done.refused so_far.refused c.refused ∙ ap refusal_count
-            (let e : so_far.refused + keyed.refused ≡ so_far.refused + (0 + keyed.refused) = omega arith in e)
-            ∙ ap (λ (o : Outcome). refusal_count o.refused) (sym one_more);
-        records = done.records ∙ is ∙ ap (λ n. n + records_in_item taken.item) c.records ∙ sym (records_more 0 items _);
-        left = left ∙ sym (left_more 0 keys items _);
-        few = omega (arith, done.records, is, one, c.few, some, size);
-        wrote = rw (← text_more)
-            (went_out_both writer start now to (run_text (asked t keys) items) (reply ++ text_of keyed.written) c.wrote
-            (went_out_both writer now mid to reply (text_of keyed.written) went done.wrote));
-      }
-
-      unwritten : (to : S) → FailedWithin writer start to (run_text (asked t keys) more)
-          → RunUnwritten (asked t keys) (outflow writer start to) (bytes ++ piece)
-      unwritten to failed = record {
-        before = longer;
-        after = drop used piece;
-        split = ap (λ z. bytes ++ z) (sym (take-append-drop used piece)) ∙ sym (append_assoc bytes _ _);
-        items = more;
-        so_far = taken.reached.so_far.bytes;
-        begun = old.station.live.begun;
-        holds = taken.reached.reached.holds;
-        taken = taken_more;
-        failed = failed;
-      }
-
-      reply_unwritten : (to : S) → FailedWithin writer now to reply
-          → RunUnwritten (asked t keys) (outflow writer start to) (bytes ++ piece)
-      reply_unwritten to failed = unwritten to (rw (← text_more) (failed_within_both writer start now to
-          (run_text (asked t keys) items) reply (text_of keyed.written) c.wrote failed))
-
-      keys_unwritten : (mid to : S) → WentOut writer now mid reply → FailedWithin writer mid to
-          (text_of keyed.written) → RunUnwritten (asked t keys) (outflow writer start to) (bytes ++ piece)
-      keys_unwritten mid to went failed =
-          let xs = run_text (asked t keys) items in
-          let ys = text_of keyed.written in
-          let text : (xs ++ reply) ++ (ys ++ []) ≡ run_text (asked t keys) more = append_assoc xs reply (ys ++ [])
-          ∙ ap (λ z. xs ++ (reply ++ z)) (append-nil ys) ∙ text_more in
-          unwritten to (rw (← text) (failed_within_both writer start mid to
-          (xs ++ reply) ys [] (went_out_both writer start now mid xs reply c.wrote went) failed))
-
-    -- ---- by what the prefix has done
-    module _ (few : length bytes + length piece + 1 < 2 ^ 64) where
-      room : length longer + 1 < 2 ^ 64
-      room = omega (arith, few, size, within)
-
-      module _ (step : EndStep Applied (List ℕ))
-          (prefixed : IsPrefixTaken (station_driving on_profile) old.station longer items so_far.state (Ok step)) where
-        -- the reply isn't written
-        pub reply_fails : (to : S) → FailedWithin writer now to step.reply
-            → RunUnwritten (asked t keys) (outflow writer start to) (bytes ++ piece)
-        reply_fails to failed = elim (parts old.station longer items so_far.state step prefixed) [
-          | inl i ↦ (let none = rw i.1 at failed in
-              absurd (let e : 0 < 0 = omega (arith, none.within) in omega (arith, e)))
-          | inr taken ↦ reply_unwritten step.reply taken.0 to failed
-        ]
-
-        -- it ends no record
-        pub no_record : (to : S) → is_some step.event ≡ false → WentOut writer now to step.reply
-            → (next : List (Item Element)) × HaveBroughtPlayer (asked t keys) (outflow writer start to) old longer next
-        no_record to e went = elim (parts old.station longer items so_far.state step prefixed) [
-          | inl i ↦ (items, inside_comes step.reply to i.1 i.0 went)
-          | inr taken ↦ (let item : Item Element = taken.0.item in
-              let one : records_in_item item ≡ 0 = one_of item (is_some step.event)
-              (ends_with step.event _ taken.1) e in
-              let same : records_from 0 items + records_in_item item ≡ records_from 0 items = omega (arith, one) in
-              let settled = left_settled 0 keys items in
-              let none : due (records_from 0 items + records_in_item item)
-              (keys_left_from 0 keys items) ≡ [] = ap (λ n. due n (keys_left_from 0 keys items)) same ∙ settled.0 in
-              let state : StationEndState = taken.0.next in
-              let done : HasDone writer longer
-              (items ++ item ∷ []) (record old { records = old.records }) old to to (idle_outcome state) = record {
-                reached = taken.0.reached;
-                refused = λ n is. is ∙ ap refusal_count (let f : n ≡ n + 0 = omega arith in f);
-                records = refl;
-                wrote = went_out_none writer to;
-              } in (
-                items ++ item ∷ [],
-                item_comes step.reply taken.0 _ old to to (omega (arith, one)) went
-                    (subst (λ (ms : List Moment). HasDone writer longer (items ++ item ∷ [])
-                    (record old { records = old.records }) old to to (outcome state ms)) (sym none) done) (c.left
-                    ∙ sym settled.1 ∙ ap (λ n. later n (keys_left_from 0 keys items)) (sym same)) (omega (arith, one)),
-              ))
-        ]
-
-        -- it ends one
-        module _ (ends : is_some step.event ≡ true) (records : ℕ) (is : records ≡ min (old.records + 1) (2 ^ 64 - 1))
-            (mid : S) (went : WentOut writer now mid step.reply) where
-          counts : (item : Item Element) → step.event ≡ event_by (is_record item) → (records_in_item item ≡ 1)
-              × (records ≡ old.records + records_in_item item) × (records ≡ records_from 0 items + records_in_item item)
-          counts item e =
-              let one : records_in_item item ≡ 1 = one_of_record item (is_some step.event)
-              (ends_with step.event _ e) ends in
-              let f : records ≡ old.records + records_in_item item =
-              omega (arith, one, is, c.few, few) in
-              (one, f, f ∙ ap (λ n. n + records_in_item item) c.records)
-
-          now_due : (item : Item Element) → step.event ≡ event_by (is_record item) → due records (drop old.pressed keys)
-              ≡ due (records_from 0 items + records_in_item item) (keys_left_from 0 keys items)
-          now_due item e = ap (λ z. due z (drop old.pressed keys)) (counts item e).2
-              ∙ ap (due (records_from 0 items + records_in_item item)) c.left
-
-          pub record_comes : (new : Player) (to : S) → AtStation old.station (λ bytes items state. length bytes + 1
-              < 2 ^ 64 → HasDone writer bytes items (record old { records = records }) new mid to (outcome state
-              (due records (drop old.pressed keys)))) → drop new.pressed keys ≡ later records (drop old.pressed keys)
-              → (next : List (Item Element))
-              × HaveBroughtPlayer (asked t keys) (outflow writer start to) new longer next
-          record_comes new to done left = elim (parts old.station longer items so_far.state step prefixed) [
-            | inl i ↦ absurd (let e : true ≡ false = sym ends ∙ ap is_some i.2 in cc)
-            | inr taken ↦ (let item : Item Element = taken.0.item in
-                let n = counts item taken.1 in (
-                  items ++ item ∷ [],
-                  item_comes step.reply taken.0 _ new mid to n.1 went (rw (← now_due item taken.1) (done longer (items
-                      ++ item ∷ []) taken.0.next taken.0.reached room))
-                      (left ∙ ap (λ z. later z (drop old.pressed keys)) n.2
-                      ∙ ap (later (records_from 0 items + records_in_item item)) c.left) (omega (arith, n.0)),
-                ))
-          ]
-
-          pub keys_fail : (to : S) → AtStation old.station (λ bytes items state. length bytes + 1 < 2 ^ 64
-              → FailedWithin
-              writer mid to (text_of (outcome state (due records (drop old.pressed keys))).written))
-              → RunUnwritten (asked t keys) (outflow writer start to) (bytes ++ piece)
-          keys_fail to failed = elim (parts old.station longer items so_far.state step prefixed) [
-            | inl i ↦ absurd (let e : true ≡ false = sym ends ∙ ap is_some i.2 in cc)
-            | inr taken ↦ keys_unwritten step.reply taken.0 mid to went
-                (rw (← now_due taken.0.item taken.1) (failed longer (items ++ taken.0.item ∷ [])
-                taken.0.next taken.0.reached room))
-          ]
+    -- or what the keys send
+    pub keys_fail : (mid to : S) → WentOut writer now mid step.reply
+        → AtStation old.station (λ bytes items state. length bytes + 1 < 2 ^ 64 → FailedWithin writer mid to
+        (text_from state (due (records_in items) (drop old.pressed keys))))
+        → RunUnwritten (schedule t keys) (outflow writer start to) (bytes ++ piece)
+    keys_fail mid to went failed =
+        let xs = run_text (schedule t keys) items in
+        let ys = text_from (state_from so_far gone.happened) keys_due in
+        let text : (xs ++ step.reply) ++ (ys ++ []) ≡ run_text (schedule t keys) gone.more =
+        append_assoc xs step.reply (ys ++ []) ∙ ap (λ z. xs ++ (step.reply ++ z)) (append-nil ys) ∙ text_more in
+        unwritten to (rw (← text) (failed_within_both writer start mid to (xs ++ step.reply) ys []
+        (went_out_both writer start now mid xs step.reply c.wrote went)
+        (failed longer gone.more (state_from so_far gone.happened) gone.reached room)))
 
 -- the byte behind a prefix is refused, or its item
 pub refused_as : {S : Type 0} (writer : Writer S) (t : TerminalType) (keys : List (ℕ × Key))
     (start now : S) (old : Player) (new : StationParts) (bytes : List ℕ) (items : List (Item Element))
-    → HaveBroughtPlayer (asked t keys) (outflow writer start now) old bytes items
+    → HaveBroughtPlayer (schedule t keys) (outflow writer start now) old bytes items
     → (piece prefix : List ℕ) (byte : ℕ) (rest : List ℕ)
     → piece ≡ prefix ++ byte ∷ rest → HoldsItems element_rules (bytes ++ prefix) items → (refusal : Refusal)
     → IsPrefixTaken (station_driving on_profile) new (bytes ++ (prefix ++ byte ∷ [])) items
-    (behind (asked t keys) items).state (Err refusal)
-    → IsRunFault (asked t keys) (outflow writer start now) (length bytes) (bytes ++ piece) (fault_of refusal)
+    (behind (schedule t keys) items).state (Err refusal)
+    → IsRunFault (schedule t keys) (outflow writer start now) (length bytes) (bytes ++ piece) (fault_of refusal)
 refused_as writer t keys start now old new bytes items c piece prefix byte rest split held (At place reason) f =
     let upto : (bytes ++ prefix) ++ byte ∷ [] ≡ bytes ++ (prefix ++ byte ∷ []) = append_assoc bytes prefix
     (byte ∷ []) in
@@ -353,8 +266,8 @@ refused_as writer t keys start now old new bytes items c piece prefix byte rest 
 -- a fault of a last read is one where that read began earlier
 pub fault_within : (t : TerminalType) (keys : List (ℕ × Key)) {S : Type 0} (writer : Writer S)
     (start now : S) (first first' : ℕ) (bytes : List ℕ) (fault : Fault) → first' ≤ first
-    → IsRunFault (asked t keys) (outflow writer start now) first bytes fault
-    → IsRunFault (asked t keys) (outflow writer start now) first' bytes fault
+    → IsRunFault (schedule t keys) (outflow writer start now) first bytes fault
+    → IsRunFault (schedule t keys) (outflow writer start now) first' bytes fault
 fault_within t keys writer start now first first' bytes (Refused place reason) le f = record {
   before = f.before;
   prefix = f.prefix;

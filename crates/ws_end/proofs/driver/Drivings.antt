@@ -335,10 +335,10 @@ module _ {R K Place U Request Event Reply : Type 0} (d : Driving R K Place U Req
   none_complete old news step (inr (inl e)) no_event unwritten = rw e (step, refl, no_event, unwritten, refl)
   none_complete old news step (inr (inr q)) no_event unwritten = rw q.1 (step, refl, no_event, unwritten, refl)
 
--- a step that writes and tells nothing
-pub is_empty : (bytes : List ℕ) → (length bytes == 0) ≡ true → bytes ≡ []
+-- a list without an element
+pub is_empty : {A : Type 0} (xs : List A) → (length xs == 0) ≡ true → xs ≡ []
 is_empty [] e = refl
-is_empty (b ∷ bytes) e = absurd (elim (eqb_tells (length (b ∷ bytes)) 0) [
+is_empty (x ∷ xs) e = absurd (elim (eqb_tells (length (x ∷ xs)) 0) [
   | inl h ↦ omega (arith, h.1)
-  | inr h ↦ both_ways (length (b ∷ bytes) == 0) h.0 e
+  | inr h ↦ both_ways (length (x ∷ xs) == 0) h.0 e
 ])

@@ -13,8 +13,8 @@ use Rattle.ws_end.specs.station.StationReacting.{PartsOn, StationKept, StationSt
 use Rattle.ws_end.specs.station.Stations.{ReachedOn, IsKeyedOn}
 use Rattle.ws_end.proofs.RecordCounts.{records_append}
 
-plain_tokens : {Place U : Type 0} (rules : Rules Place U) (ts : List Telnet) → plain_spelling rules (map TelnetItem ts)
-    ≡ telnet_bytes ts
+pub plain_tokens : {Place U : Type 0} (rules : Rules Place U) (ts : List Telnet)
+    → plain_spelling rules (map TelnetItem ts) ≡ telnet_bytes ts
 plain_tokens rules [] = refl
 plain_tokens rules (t ∷ ts) = ap (λ z. telnet_spelling t ++ z) (plain_tokens rules ts)
 
@@ -104,8 +104,3 @@ module _ {D P U H PlaceV V K R : Type 0} (rules : Rules P U) (d : DisplayOf D U 
     pressed key may new (Ok (Some Attention)) p = (reacts key may ∙ p.0, led_on new p.1)
     pressed key may new (Ok (Some SystemRequest)) p = (reacts key may ∙ p.0, led_on new p.1)
     pressed key may new (Err refusal) p = (reacts key may ∙ p.0, ap (showing old) p.1)
-
-    pub not_ready : (key : K) → (d.sends key && not (station_allows_records old.reacts.options)) ≡ true
-        → key_on d state key ≡ RefusesKey NotReady
-    not_ready key not_yet = ap (λ (b : Bool). if b then RefusesKey NotReady else d.presses state key)
-        (ap (λ o. d.sends key && not (station_allows_records o)) (sym l.stands.options) ∙ not_yet)

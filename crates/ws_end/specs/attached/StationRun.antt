@@ -15,11 +15,14 @@ use Rattle.ws_stream.specs.Elements.{element_rules}
 use Rattle.ws_stream.specs.declared.element.Element.{Element}
 use Rattle.ws_keys.specs.declared.key.Key.{Key}
 use Rattle.ws_end.specs.declared.attached.run.Played.{Played}
-use Rattle.ws_end.specs.Acts.{HoldsItems}
-use Rattle.ws_end.specs.station.Moments.{Outcome, outcome, AreTaken, moments}
+use Rattle.ws_stream.specs.declared.answer_part.AnswerPart.{AnswerPart}
+use Rattle.ws_end.specs.declared.end_step.Applied.{Applied}
+use Rattle.ws_end.specs.Acts.{AllTaken, Doing, doing, HoldsItems}
+use Rattle.ws_end.specs.EndTransitions.{station_transitions}
+use Rattle.ws_end.specs.station.Moments.{moments, refused_keys}
 use Rattle.ws_end.specs.station.StationReached.{StationParts, StationReached}
 use Rattle.ws_end.specs.Reaction.{Refuses}
-use Rattle.ws_end.specs.station.StationEndState.{new_station_end, station_takes, on_profile}
+use Rattle.ws_end.specs.station.StationEndState.{StationEndState, new_station_end, station_takes, on_profile}
 use Rattle.ws_end.specs.driver.Driven.{Completes}
 use Rattle.ws_end.specs.station.Stations.{station_driving}
 
@@ -39,14 +42,14 @@ pub record LastRead {R : Type 0} (reader : Reader R) (source source' : R) : Type
   pub gave_last : reader.gives before room (Some last) source'
   pub uncounted : reader.failures source' ≡ reader.failures source
 
--- what a run is asked: its terminal, and the keys to be pressed, each after so many records
-pub record Asked : Type 0 where
+-- what a run is given: its terminal, and the keys to be pressed, each after so many records
+pub record Schedule : Type 0 where
   pub terminal : TerminalType
   pub keys : List (ℕ × Key)
 
 -- this terminal, and these keys
-abbrev pub asked : TerminalType → List (ℕ × Key) → Asked
-asked terminal keys = record { terminal = terminal; keys = keys }
+abbrev pub schedule : TerminalType → List (ℕ × Key) → Schedule
+schedule terminal keys = record { terminal = terminal; keys = keys }
 
 -- a sink, by what it may take, as it was and as it is
 pub record Outflow (S : Type 0) : Type 1 where
@@ -71,10 +74,14 @@ abbrev pub passing : {S R : Type 0} → Devices R S → S → S → R → R → 
 passing devices sink sink' source source' =
     record { devices = devices; sink = sink; sink' = sink'; source = source; source' = source' }
 
-module _ (run : Asked) where
+module _ (run : Schedule) where
   -- what a new station has done after these items and the keys that were due
-  abbrev pub behind : List (Item Element) → Outcome
-  behind items = outcome (new_station_end run.terminal) (moments run.keys items)
+  abbrev pub behind : List (Item Element) → Doing StationEndState AnswerPart Applied
+  behind items = doing station_transitions (new_station_end run.terminal) (moments run.keys items)
+
+  -- how many of the keys it has refused
+  abbrev pub refused_behind : List (Item Element) → ℕ
+  refused_behind items = refused_keys (new_station_end run.terminal) (moments run.keys items)
 
   -- what a new station has written after these items and the keys that were due
   abbrev pub run_text : List (Item Element) → List ℕ
@@ -82,7 +89,7 @@ module _ (run : Asked) where
 
   -- no item of these is refused, where the keys are pressed that are due
   abbrev pub AreTakenAll : List (Item Element) → Type 0
-  AreTakenAll items = AreTaken (new_station_end run.terminal) (moments run.keys items)
+  AreTakenAll items = AllTaken station_transitions (new_station_end run.terminal) (moments run.keys items)
 
   -- the bytes hold these items, none of them is refused, and the station is one after them and the keys that were due
   pub record IsBehind (bytes : List ℕ) (items : List (Item Element)) (station : StationParts) : Type 0 where
@@ -143,7 +150,7 @@ module _ (run : Asked) where
       pub gave : GaveAll line.devices.reader line.source line.source' bytes
       pub accepted : IsInGrammar element_rules bytes items
       pub is_behind : IsBehind bytes items played.station
-      pub refused : played.keys_refused ≡ refusal_count (behind items).refused
+      pub refused : played.keys_refused ≡ refusal_count (refused_behind items)
       pub wrote : HasWrittenAll sink_of items
 
     -- the source gave its end inside a token or a record

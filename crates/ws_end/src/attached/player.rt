@@ -1,12 +1,15 @@
 //! A run of a station, so far: the bytes that it has taken, and the keys that were pressed.
-ghost use Rattle.std.specs.Prelude.{◌≡◌, ◌<◌, ◌≤◌, ◌+◌, ◌^◌, ◌++◌, length, take, drop, IfOk, IfErr, OnOk};
+ghost use Rattle.std.specs.Prelude.{◌≡◌, ◌<◌, ◌≤◌, ◌+◌, ◌^◌, ◌++◌, ◌∷◌, [], length, take, drop, IfOk, IfErr, OnOk};
 ghost use Rattle.ws_code.specs.Device.{FailedWithin};
 ghost use Rattle.ws_record.specs.Encode.{plain_spelling};
 ghost use Rattle.ws_record.specs.Grammar.{IsInGrammar};
 ghost use Rattle.ws_record.specs.Refusal.{IsTruncated};
 ghost use Rattle.ws_stream.specs.AnswerParts.{answer_rules};
 ghost use Rattle.ws_stream.specs.Elements.{element_rules};
-ghost use Rattle.ws_end.specs.station.Moments.{Presses, at_moment, outcome, due, later};
+ghost use Rattle.ws_end.specs.Acts.{Does, doing};
+ghost use Rattle.ws_end.specs.EndTransitions.{station_transitions};
+ghost use Rattle.ws_end.specs.station.Moments.{due, later};
+ghost use Rattle.ws_end.specs.station.StationCounts.{records_in};
 ghost use Rattle.ws_end.specs.attached.Playing.{AtPlayer, HasDone, IsBrought};
 ghost use Rattle.ws_end.specs.station.StationReached.{AtStation};
 ghost use Rattle.ws_end.specs.attached.StationRun.{IsRunFault, outflow};
@@ -17,11 +20,10 @@ use crate::{Acted, Played, Station, StationDisplay};
 use ws_code::{Fault, Sink, write_whole};
 use ws_keys::Key;
 
-// A station in a run, how many records it has applied, how many keys were pressed, and how many of these it refused.
+// A station in a run, how many keys were pressed, and how many of these it refused.
 #[derive(Drop)]
 pub(crate) struct Player {
     pub(crate) station: Station,
-    pub(crate) records: u64,
     pub(crate) pressed: usize,
     pub(crate) keys_refused: u32,
 }
@@ -31,14 +33,13 @@ impl Player {
     fn press<S: Sink>(&mut self, sink: &mut S, key: Key) -> Result<(), Fault>
         ensures done { OnOk result (AtStation self.old.station (λ bytes items state.
             length bytes + 1 < 2 ^ 64
-            → HasDone S.writer bytes items self.old self.new sink.old sink.new (at_moment
-            state (Presses key)))) }
-        ensures place { (self.new.pressed ≡ self.old.pressed)
-            × (self.new.records ≡ self.old.records) }
+            → HasDone S.writer bytes items self.old self.new sink.old sink.new
+            state (Does key ∷ []))) }
+        ensures place { self.new.pressed ≡ self.old.pressed }
         ensures fault { IfErr result (λ fault. (fault ≡ Fault.Write)
             × AtStation self.old.station (λ bytes items state. length bytes + 1 < 2 ^ 64
             → FailedWithin S.writer sink.old sink.new (plain_spelling answer_rules
-            (at_moment state (Presses key)).written))) }
+            (doing station_transitions state (Does key ∷ [])).written))) }
     {
         match press_key(&mut self.station, sink, key) {
             Ok(Acted::Done) => Ok(()),
@@ -58,18 +59,19 @@ impl Player {
     ) -> Result<(), Fault>
         ensures done { OnOk result (AtStation self.old.station (λ bytes items state.
             length bytes + 1 < 2 ^ 64
-            → HasDone S.writer bytes items self.old self.new sink.old sink.new (outcome
-            state (due self.old.records (drop self.old.pressed keys.now))))) }
-        ensures left { OnOk result (drop self.new.pressed keys.now
-            ≡ later self.old.records (drop self.old.pressed keys.now)) }
+            → HasDone S.writer bytes items self.old self.new sink.old sink.new
+            state (due (records_in items) (drop self.old.pressed keys.now))
+            × (drop self.new.pressed keys.now
+            ≡ later (records_in items) (drop self.old.pressed keys.now)))) }
         ensures fault { IfErr result (λ fault. (fault ≡ Fault.Write)
             × AtStation self.old.station (λ bytes items state. length bytes + 1 < 2 ^ 64
-            → FailedWithin S.writer sink.old sink.new (plain_spelling answer_rules
-            (outcome state (due self.old.records (drop self.old.pressed keys.now))).written))) }
+            → FailedWithin S.writer sink.old sink.new (plain_spelling answer_rules (doing
+            station_transitions state (due (records_in items)
+            (drop self.old.pressed keys.now))).written))) }
     {
         while self.pressed < keys.len() {
             let next = keys[self.pressed];
-            if self.records < u64::from(next.0) {
+            if self.station.records() < u64::from(next.0) {
                 return Ok(());
             }
             self.press(sink, next.1)?;
@@ -78,7 +80,7 @@ impl Player {
         Ok(())
     }
 
-    // Takes a prefix of the piece, writes what it gives, and behind a record presses the keys that are due.
+    // Takes a prefix of the piece, writes what it gives, and presses the keys that are due then.
     fn take<S: Sink>(
         &mut self,
         sink: &mut S,
@@ -100,10 +102,7 @@ impl Player {
         match step {
             Ok(step) => {
                 write_whole(sink, self.station.display().bytes(&step.reply))?;
-                if step.event.is_some() {
-                    self.records = self.records.saturating_add(1);
-                    self.press_due(sink, keys)?;
-                }
+                self.press_due(sink, keys)?;
                 Ok(used)
             }
             Err(refusal) => Err(fault_of(refusal)),

@@ -3,7 +3,7 @@ ghost use Rattle.std.specs.Prelude.{[]};
 ghost use Rattle.ws_nego.specs.declared.terminal.TerminalType.{TerminalType as ATerminal};
 ghost use Rattle.ws_end.specs.station.StationReached.{IsFresh, StationReached};
 ghost use Rattle.ws_code.specs.Device.{on_devices};
-ghost use Rattle.ws_end.specs.attached.StationRun.{IsRun, asked, passing};
+ghost use Rattle.ws_end.specs.attached.StationRun.{IsRun, schedule, passing};
 ghost use Rattle.ws_end.specs.station.StationEndState.{new_station_end};
 
 use crate::Station;
@@ -37,12 +37,11 @@ pub fn run_station<R: Source, S: Sink>(
 ) -> Result<Played, Fault>
     requires { IsFresh station }
     ensures { (terminal : ATerminal) → StationReached station [] [] (new_station_end terminal)
-        → IsRun (asked terminal keys.now) (passing (on_devices S.writer R.reader)
+        → IsRun (schedule terminal keys.now) (passing (on_devices S.writer R.reader)
         sink.old sink.new source.old source.new) result }
 {
     let mut player = Player {
         station,
-        records: 0,
         pressed: 0,
         keys_refused: 0,
     };

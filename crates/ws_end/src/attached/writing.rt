@@ -14,7 +14,7 @@ use ws_code::{Fault, Sink, write_whole};
 
 // What a piece led to: how many bytes of it are gone, and what the end told, or why it stopped.
 #[derive(Drop)]
-pub(crate) struct Heard<T> {
+pub(crate) struct PieceTaken<T> {
     pub(crate) used: usize,
     pub(crate) event: Result<Option<T>, Fault>,
 }
@@ -25,7 +25,7 @@ pub(crate) fn hear_piece<E: End, K: Sink>(
     end: &mut E,
     sink: &mut K,
     piece: &[u8],
-) -> Heard<E::Event>
+) -> PieceTaken<E::Event>
     requires { 0 < length piece.now }
     // How much of the piece is used.
     ensures within { result.used ≤ length piece.now }
@@ -43,16 +43,16 @@ pub(crate) fn hear_piece<E: End, K: Sink>(
     let EndFed { used, step } = end.feed(piece);
     match step {
         Ok(step) => match write_whole(sink, end.bytes(&step.reply)) {
-            Ok(()) => Heard {
+            Ok(()) => PieceTaken {
                 used,
                 event: Ok(step.event),
             },
-            Err(fault) => Heard {
+            Err(fault) => PieceTaken {
                 used,
                 event: Err(fault),
             },
         },
-        Err(refusal) => Heard {
+        Err(refusal) => PieceTaken {
             used: used.max(1),
             event: Err(fault_of(refusal)),
         },

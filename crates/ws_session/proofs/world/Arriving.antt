@@ -161,14 +161,16 @@ module _ {E Request EndEvent : Type 0} (behaviour : Behaviour E Request EndEvent
       → length now.from.bytes + 1 < 2 ^ 64 → AreDelivered behaviour telling now 0 now
   none_delivered stays now few = record {
     bytes = [];
-    written = [];
-    events = [];
     first = refl;
     few = few;
-    come = none_comes stays now.end;
+    come = record {
+      written = [];
+      events = [];
+      comes = none_comes stays now.end;
+      to_is = rw (append-nil now.to.bytes);
+      told_is = sym (append-nil now.events);
+    };
     from_is = rw (add-zero now.from.at);
-    to_is = rw (append-nil now.to.bytes);
-    told_is = sym (append-nil now.events);
   }
 
   module _ (old mid : AtEnd E) (n : ℕ) (d : AreDelivered behaviour telling old n mid) where
@@ -194,13 +196,9 @@ module _ {E Request EndEvent : Type 0} (behaviour : Behaviour E Request EndEvent
         let whole : length rest ≤ n = omega (arith, all, came, length-drop old.from.at old.from.bytes) in
         record {
           bytes = d.bytes;
-          written = d.written;
-          events = d.events;
           few = d.few;
           come = d.come;
           from_is = d.from_is;
-          to_is = d.to_is;
-          told_is = d.told_is;
           first = d.first ∙ take_all n rest whole ∙ sym (take_all m rest (omega (arith, whole, le)));
         }
 
@@ -228,16 +226,18 @@ module _ {E Request EndEvent : Type 0} (behaviour : Behaviour E Request EndEvent
           omega (arith, length-append d.bytes e.bytes) in
           record {
             bytes = d.bytes ++ e.bytes;
-            written = d.written ++ e.written;
-            events = d.events ++ e.events;
             first = ap (λ z. z ++ e.bytes) d.first
                 ∙ ap (λ z. take n rest ++ z) (e.first ∙ ap (take m) next) ∙ sym (take-add n m rest);
             few = d.few;
-            come = come_on follows old.end mid.end new.end d.bytes e.bytes d.written e.written d.events e.events d.come
-                e.come;
+            come = record {
+              written = d.written ++ e.written;
+              events = d.events ++ e.events;
+              comes = come_on follows old.end mid.end new.end d.bytes e.bytes d.written e.written d.events e.events
+                  d.comes e.comes;
+              to_is = rw (e.to_is, d.to_is, append_assoc old.to.bytes d.written e.written);
+              told_is = rw (e.told_is, d.told_is, append_assoc old.events d.events e.events);
+            };
             from_is = rw (e.from_is, d.from_is, joined);
-            to_is = rw (e.to_is, d.to_is, append_assoc old.to.bytes d.written e.written);
-            told_is = rw (e.told_is, d.told_is, append_assoc old.events d.events e.events);
           }
 
       -- a piece more
@@ -257,12 +257,8 @@ module _ {E Request EndEvent : Type 0} (behaviour : Behaviour E Request EndEvent
           )) in
           more_delivered used (record {
             bytes = xs;
-            written = h.written;
-            events = h.events;
             first = piece;
             few = rw (came.1) d.few;
-            come = h.comes;
+            come = h;
             from_is = rw size on;
-            to_is = h.to_is;
-            told_is = h.told_is;
           })

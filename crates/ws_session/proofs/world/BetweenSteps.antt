@@ -17,7 +17,7 @@ use Rattle.ws_screen.specs.Cells.{cell}
 use Rattle.ws_screen.specs.Given.{ends_of}
 use Rattle.ws_session.proofs.world.Betweens.{after_posted_more, marks_down_more, within_record, marks_up_more}
 use Rattle.ws_session.proofs.world.Betweens.{after_posted, opcode_alike, posted_alike, marks_down, closed_end}
-use Rattle.ws_session.proofs.world.Betweens.{end_events, record_of, Waits, mark_left, fit_alike, screened, betweens}
+use Rattle.ws_session.proofs.world.Betweens.{end_events, record_of, Awaits, mark_left, fit_alike, screened, betweens}
 use Rattle.ws_session.proofs.world.Betweens.{marks_up, fit_more, marks_of, Screens, is_stop, Between, Replies, Signal}
 use Rattle.ws_session.proofs.world.Betweens.{Posted, whole, sents, Body, Sent, Stop, Ends}
 use Rattle.ws_session.proofs.world.Turns.{down_read, send_read, down_text, send_text, send_stop, down_stop, DownMark}
@@ -91,10 +91,10 @@ turn_record a c h (Body o other (e ∷ body) ok) ds es t =
 turn_record a c h Stop ds es t = rw (marks_up_more es Ends) (at_turn t (down_stop (marks_down ds)) refl)
 
 waits_more : (places : List Field) (asked : Option ReadKind) (es : List Sent) (later : List HostAnswer) (d : Posted)
-    → Waits places asked es later → Waits places asked (es ++ answers_to d) later
+    → Awaits places asked es later → Awaits places asked (es ++ answers_to d) later
 waits_more places asked es later (Body o other body ok) w = rw (append-nil es) w
 waits_more places asked es later Stop w = more es later w where
-  more : (es : List Sent) (later : List HostAnswer) → Waits places asked es later → Waits places asked
+  more : (es : List Sent) (later : List HostAnswer) → Awaits places asked es later → Awaits places asked
       (es ++ Ends ∷ []) later
   more [] later w = w
   more (Replies parts ∷ es) later w = (w.0, w.1, w.2, w.3, w.4, w.5, w.6, w.7, more es w.3 w.8)
@@ -127,7 +127,7 @@ module _ {t : TerminalType} {ex : Exchange} {s : StationEndState} {h : HostEndSt
 
 -- while no answer is on its way nothing is awaited
 pub waits_any : (p q : List Field) (a o : Option ReadKind) (es : List Sent) (later : List HostAnswer)
-    → (marks_up es ≡ []) ⊎ (marks_up es ≡ Done ∷ []) → Waits p a es later → Waits q o es later
+    → (marks_up es ≡ []) ⊎ (marks_up es ≡ Done ∷ []) → Awaits p a es later → Awaits q o es later
 waits_any p q a o [] later n w = w
 waits_any p q a o (Replies parts ∷ es) later n w = elim n [ inl e ↦ cc | inr e ↦ cc ]
 waits_any p q a o (Ends ∷ es) later n w = waits_any p q a o es later (inl (elim n [ inl e ↦ cc | inr e ↦ cc ])) w
@@ -209,8 +209,8 @@ module _ {t : TerminalType} {ex : Exchange} {s : StationEndState} {h : HostEndSt
   key_signal allows flags = betweens b.exchanges b.host_ready (inr allows) b.screens
       (subst (TurnAt (pending_read h.kept) h.cancelling (pending_read s.happened) (marks_down ds))
       (sym (marks_up_more es _ ∙ append-nil (marks_up es))) b.turn) (more es later b.waits) where
-        more : (es : List Sent) (later : List HostAnswer) → Waits (layouts (fields h.kept)) (pending_read h.kept)
-            es later → Waits (layouts (fields h.kept)) (pending_read h.kept) (es ++ Signal flags ∷ []) later
+        more : (es : List Sent) (later : List HostAnswer) → Awaits (layouts (fields h.kept)) (pending_read h.kept)
+            es later → Awaits (layouts (fields h.kept)) (pending_read h.kept) (es ++ Signal flags ∷ []) later
         more [] later w = w
         more (Replies parts ∷ es) later w = (w.0, w.1, w.2, w.3, w.4, w.5, w.6, w.7, more es w.3 w.8)
         more (e ∷ es) later w = more es later w
@@ -244,8 +244,8 @@ module _ {t : TerminalType} {ex : Exchange} {s : StationEndState} {h : HostEndSt
       betweens b.exchanges b.host_ready (inr allows) (keyed o b.screens)
       (rw (marks_up_more es reply) (rw dropped found.0)) (more es later found.3 b.waits places found.1) where
         more : (es : List Sent) (later : List HostAnswer) → marks_up es ≡ []
-            → Waits (layouts (fields h.kept)) (pending_read h.kept) es later → layouts (fields s.happened) ≡ layouts
-            (fields h.kept) → pending_read h.kept ≡ Some kind → Waits (layouts (fields h.kept)) (pending_read h.kept)
+            → Awaits (layouts (fields h.kept)) (pending_read h.kept) es later → layouts (fields s.happened) ≡ layouts
+            (fields h.kept) → pending_read h.kept ≡ Some kind → Awaits (layouts (fields h.kept)) (pending_read h.kept)
             (es ++ Replies (answer_parts kind (screen_at s) aid) ∷ []) (later ++ answer_of kind (screen_at s) aid ∷ [])
         more [] later n w places asked =
             let x = answer_of kind (screen_at s) aid in
@@ -282,7 +282,7 @@ module _ {t : TerminalType} {ex : Exchange} {s : StationEndState} {h : HostEndSt
       (marks_down ds ++ mark_left (read_left_by None (e ∷ body)) ∷ []) (marks_up es)) (sym i.0)
       (turn_sent _ _ i.0 i.1 b.turn)
 
-  waits_after : (body : List Element) → is_outstanding h body ≡ false → Waits
+  waits_after : (body : List Element) → is_outstanding h body ≡ false → Awaits
       (layouts (fields (after_end (after_elements h.kept body)))) (read_left_by (pending_read h.kept) body) es later
   waits_after [] out = rw (end_events _) b.waits
   waits_after (e ∷ body) out =

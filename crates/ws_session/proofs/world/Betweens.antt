@@ -85,12 +85,12 @@ Fit h [] = Unit {0}
 Fit h (d ∷ ds) = (body_fault h (record_of d).body ≡ None) × Fit (after_record h (record_of d)) ds
 
 -- each answer on its way fits the asked read, and says what is awaited
-abbrev pub Waits : List Field → Option ReadKind → List Sent → List HostAnswer → Type 0
-Waits places asked [] later = later ≡ []
-Waits places asked (Replies parts ∷ es) later = (kind : ReadKind) × (fs : List Field) × (x : HostAnswer)
+abbrev pub Awaits : List Field → Option ReadKind → List Sent → List HostAnswer → Type 0
+Awaits places asked [] later = later ≡ []
+Awaits places asked (Replies parts ∷ es) later = (kind : ReadKind) × (fs : List Field) × (x : HostAnswer)
     × (rest : List HostAnswer) × (asked ≡ Some kind) × (layouts fs ≡ places) × (read_answer kind fs parts ≡ Some x)
-    × (later ≡ x ∷ rest) × Waits places asked es rest
-Waits places asked (e ∷ es) later = Waits places asked es later
+    × (later ≡ x ∷ rest) × Awaits places asked es rest
+Awaits places asked (e ∷ es) later = Awaits places asked es later
 
 -- what happened to the screens of both ends
 pub record Screens (happened kept : History) (ds : List Posted) : Type 0 where
@@ -107,7 +107,7 @@ pub record Between (t : TerminalType) (ex : Exchange) (s : StationEndState) (h :
   pub screens : Screens s.happened h.kept ds
   pub open screens use *
   pub turn : TurnAt (pending_read h.kept) h.cancelling (pending_read s.happened) (marks_down ds) (marks_up es)
-  pub waits : Waits (layouts (fields h.kept)) (pending_read h.kept) es later
+  pub waits : Awaits (layouts (fields h.kept)) (pending_read h.kept) es later
 
 abbrev pub screened : {happened kept : History} {ds : List Posted} → Alike kept (after_posted happened ds)
     → Fit happened ds → AreApart 0 (fields happened) → open_write kept ≡ None → Screens happened kept ds
@@ -117,7 +117,7 @@ abbrev pub betweens : {t : TerminalType} {ex : Exchange} {s : StationEndState} {
     {ds : List Posted} {es : List Sent} {later : List HostAnswer} → Exchanges t ex s.options h.options ts us
     → (ds ≡ []) ⊎ (host_allows_records h.options ≡ true) → (es ≡ []) ⊎ (station_allows_records s.options ≡ true)
     → Screens s.happened h.kept ds → TurnAt (pending_read h.kept) h.cancelling (pending_read s.happened) (marks_down ds)
-    (marks_up es) → Waits (layouts (fields h.kept)) (pending_read h.kept) es later → Between t ex s h ts us ds es later
+    (marks_up es) → Awaits (layouts (fields h.kept)) (pending_read h.kept) es later → Between t ex s h ts us ds es later
 betweens x h s c t w = record { exchanges = x; host_ready = h; station_ready = s; screens = c; turn = t; waits = w }
 
 -- RECORDS AND HISTORIES

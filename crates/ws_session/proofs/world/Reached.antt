@@ -26,10 +26,9 @@ use Rattle.ws_session.proofs.world.Worlds.{sound}
 use Rattle.ws_end.specs.station.Stations.{IsKeyedOn}
 use Rattle.ws_end.specs.station.StationEndState.{on_profile}
 
-pub more_moves : (moves : List Move) (move : Move) (w : Session) → after_moves w (moves ++ move ∷ []) ≡ after_move
-    (after_moves w moves) move
-more_moves [] move w = refl
-more_moves (m ∷ moves) move w = more_moves moves move _
+pub after_both : (xs ys : List Move) (w : Session) → after_moves w (xs ++ ys) ≡ after_moves (after_moves w xs) ys
+after_both [] ys w = refl
+after_both (x ∷ xs) ys w = after_both xs ys _
 
 -- what holds of the bytes that came to an end, of their items and of its state
 abbrev pub OfStation : Type 1
@@ -46,7 +45,7 @@ module _ {S : OfStation} {H : OfHost} {t : TerminalType} {w : Session} {old : Wo
   going_station = is_sound.station_going
 
   pub reached_by : (move : Move) → after_move w move ≡ after_moves (new_session t) (r.moves ++ move ∷ [])
-  reached_by move = ap (λ z. after_move z move) r.by_moves ∙ sym (more_moves r.moves move (new_session t))
+  reached_by move = ap (λ z. after_move z move) r.by_moves ∙ sym (after_both r.moves (move ∷ []) (new_session t))
 
   pub going_host : w.host_refused ≡ false
   going_host = is_sound.host_going
@@ -155,10 +154,6 @@ module _ {t : TerminalType} {w : Session} {old : WorldParts} (r : Runs t old w) 
   host_gives few host (Err NoMemory) new c is = absurd is
   host_gives few host (Err fault) new c is = rw (is, c.same)
       (host_refrained fault (refrains _ fault (λ e. cc) (c.sent _ _ _ r.host (few_up r few))))
-
-pub weaker_ok : {A E : Type 0} (r : Result A E) (P Q : A → Type 0) → ((a : A) → P a → Q a) → IfOk r P → IfOk r Q
-weaker_ok (Ok a) P Q f p = f a p
-weaker_ok (Err e) P Q f p = tt
 
 pub both_if_ok : {A E : Type 0} (r : Result A E) (P Q : A → Type 0) → IfOk r P → IfOk r Q → IfOk r (λ a. P a × Q a)
 both_if_ok (Ok a) P Q p q = (p, q)

@@ -14,8 +14,9 @@ use Rattle.ws_nego.proofs.Exchanges.{x_few}
 use Rattle.ws_record.proofs.Flights.{total_append, all_arrived, total_cons, InFlight, IsInside, not_more, total, quiet}
 use Rattle.ws_record.proofs.Flights.{size}
 use Rattle.ws_session.proofs.Bytewise.{none_refused, bytes_down, bytes_up}
-use Rattle.ws_session.proofs.world.Betweens.{Replies, tokens, posted, Posted, Waits, sents, Sound, Sent}
+use Rattle.ws_session.proofs.world.Betweens.{Replies, tokens, posted, Posted, Awaits, sents, Sound, Sent}
 use Rattle.ws_session.proofs.world.Bytes.{next_down, next_up}
+use Rattle.ws_session.proofs.world.Reached.{after_both}
 use Rattle.ws_session.proofs.world.Worlds.{sound}
 
 pub prefix_empty : {X : Type 0} (xs ys : List X) → xs ++ ys ≡ [] → xs ≡ []
@@ -81,7 +82,7 @@ no_answers (u ∷ us) items = no_answers us items
 
 -- each of those on its way says what is awaited
 as_many : (places : List Field) (asked : Option ReadKind) (es : List Sent) (later : List HostAnswer)
-    → Waits places asked es later → length later ≡ length (filter is_answer (sents es))
+    → Awaits places asked es later → length later ≡ length (filter is_answer (sents es))
 as_many places asked [] later w = ap length w
 as_many places asked (Replies parts ∷ es) later (kind, fs, x, rest, a, b, c, d, w) = ap length d
     ∙ ap suc (as_many _ asked es rest w)
@@ -240,10 +241,6 @@ all_trace bytes n few e = omega (arith, few, length-drop n bytes, ap length e)
 
 none_left : (bytes : List ℕ) (n : ℕ) → n ≡ length bytes → drop n bytes ≡ []
 none_left bytes n e = drop_all n bytes (omega (arith, e))
-
-after_both : (xs ys : List Move) (w : Session) → after_moves w (xs ++ ys) ≡ after_moves (after_moves w xs) ys
-after_both [] ys w = refl
-after_both (x ∷ xs) ys w = after_both xs ys _
 
 module _ (t : TerminalType) (ms : List Move) (report : Report) (r : IsReport report (after_moves (new_session t) ms))
   where

@@ -73,11 +73,8 @@ module _ {E Request EndEvent : Type 0} (behaviour : Behaviour E Request EndEvent
   -- so many of the bytes in flight have come to an end, or all where there were fewer
   pub record AreDelivered (old : AtEnd E) (count : ℕ) (new : AtEnd E) : Type 0 where
     pub bytes : List ℕ
-    pub written : List ℕ
-    pub events : List Event
     pub first : bytes ≡ take count (drop old.from.at old.from.bytes)
     pub few : length old.from.bytes + 1 < 2 ^ 64
-    pub come : Comes old.end bytes new.end written events
+    pub come : HasCome old.end bytes new.end old.to new.to old.events new.events
+    pub open come use *
     pub from_is : new.from ≡ record old.from { at = old.from.at + length bytes }
-    pub to_is : new.to ≡ record old.to { bytes = old.to.bytes ++ written }
-    pub told_is : new.events ≡ old.events ++ events

@@ -12,7 +12,7 @@ returns-in_err-press_due g c =
 
 pub loop-init : goal.loop-init
 loop-init g c = λ t l. run_starts _ _ t _ _ _ _ _ _
-    (c.in_ok-press_due.ensures.done [] [] (new_station_end t) l (omega arith)) c.in_ok-press_due.ensures.left
+    (c.in_ok-press_due.ensures.done [] [] (new_station_end t) l (omega arith))
 
 pub returns-in-Ok-eq0 : goal.returns-in-Ok-eq0
 returns-in-Ok-eq0 g c = λ t l.

@@ -1,9 +1,10 @@
-use Rattle.ws_session.proofs.Common.{[], ◌++◌, refl, subst, ◌∙◌, take, drop, ap₂, sym, inl, inr, take_all, longer_by}
-use Rattle.ws_session.proofs.Common.{flat_map-append, err_from_is_err_and, Crossing, Runs, WorldParts, new_session}
-use Rattle.ws_session.proofs.Common.{after_moves}
+use Rattle.std.proofs.lemmas.Result.{IfOk-weaker}
+use Rattle.ws_session.proofs.Common.{[], ◌∷◌, ◌++◌, refl, subst, ◌∙◌, take, drop, ap₂, sym, inl, inr, take_all}
+use Rattle.ws_session.proofs.Common.{longer_by, flat_map-append, err_from_is_err_and, Crossing, Runs, WorldParts}
+use Rattle.ws_session.proofs.Common.{new_session, after_moves}
 use Rattle.ws_session.specs.world.Carried.{brought_down, brought_up}
 use Rattle.ws_session.proofs.world.Crossed.{brought_more, crossed_on, faithful_back, faithful_prefix, stop_behind}
-use Rattle.ws_session.proofs.world.Reached.{more_moves, weaker_ok}
+use Rattle.ws_session.proofs.world.Reached.{after_both}
 use Rattle.ws_session.proofs.world.World.run_carried.Goals as goal
 
 pub loop-step-init : goal.loop-step-init
@@ -35,7 +36,7 @@ loop-step-preserved g c =
           let p = i.runs (faithful_prefix _ q.0 f) (faithful_prefix i.ups q.1 h) in
           let same = q.6 (faithful_back _ q.0 f) (faithful_back i.ups q.1 h) in
           let ran = c.in_ok-take.ensures.taken t w (subst (λ (z : WorldParts). Runs t z w) (sym same) p.0) in (
-            rw (longer, more_moves _ _ _) ran,
+            rw (longer, after_both _ (_ ∷ []) _) ran,
             rw longer (flat_map-append (λ (c : Crossing). c.sent) i.downs q.0 ∙ ap₂ (λ x y. x ++ y) p.1
                 (q.4 ∙ ap₂ (λ k b. brought_down (drop k b) step) p.0.at_station p.0.down)
                 ∙ sym (brought_more _ start (take n moves) step)),
@@ -51,7 +52,7 @@ returns-clause-done g c =
     let moves = c.args.moves.now in
     let all = take_all c.loop-step.step-index moves c.loop-step-test.false in
     let i = c.loop-step.invariant in
-    weaker_ok c.report.result _ _ (λ r q. (
+    IfOk-weaker c.report.result _ _ (λ r q. (
       i.downs,
       i.ups,
       i.went_down,

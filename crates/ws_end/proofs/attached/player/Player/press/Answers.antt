@@ -1,11 +1,13 @@
-use Rattle.ws_end.proofs.Common.{subst, IsKeyTaken}
+use Rattle.ws_end.proofs.Common.{subst}
+use Rattle.ws_end.specs.station.StationActs.{IsKeyTakenOn}
+use Rattle.ws_end.specs.station.StationEndState.{on_profile}
 use Rattle.ws_end.specs.attached.Requests.{IfDone}
 use Rattle.ws_end.proofs.attached.Plays.{taken_done, press_failed, refused_done}
 use Rattle.ws_end.proofs.attached.player.Player.press.Goals as goal
 
 pub returns-in-Ok-Done-clause-done : goal.returns-in-Ok-Done-clause-done
 returns-in-Ok-Done-clause-done g c =
-    let taken = subst (λ o. IfDone o (IsKeyTaken c.args.self.now.station c.args.key))
+    let taken = subst (λ o. IfDone o (IsKeyTakenOn on_profile c.args.self.now.station c.args.key))
     c.in-Ok-Done.field-0-is c.in-Ok-Done.ensures.taken in
     λ bytes items state l few. taken_done _ _ bytes items state _ _ _ _ l few c.in-Ok-Done.ensures.pressed taken
 

@@ -17,17 +17,16 @@ use Rattle.ws_end.proofs.Common.{
 }
 use Rattle.ws_end.proofs.Common.{behind}
 use Rattle.ws_end.proofs.Feedings.{value_at}
-use Rattle.ws_end.proofs.attached.PlaySteps.{no_record, record_comes, keys_fail, known_bytes, known_step, reply_fails}
-use Rattle.ws_end.proofs.attached.PlaySteps.{refused_as}
+use Rattle.ws_end.proofs.attached.PlaySteps.{goes_behind, keys_fail, known_bytes, known_step, refused_as, reply_fails}
 use Rattle.ws_end.proofs.attached.player.Player.take.Goals as goal
-use Rattle.ws_end.specs.attached.StationRun.{asked}
+use Rattle.ws_end.specs.attached.StationRun.{schedule}
 
 pub returns-in-Err-clause-fault : goal.returns-in-Err-clause-fault
 returns-in-Err-clause-fault g c = λ start t bytes items h few.
     let f = c.take_prefix-used in
     let piece = c.args.piece.now in
     let m = f.result.used - 1 in
-    let so_far = behind (asked t c.args.keys.now) items in
+    let so_far = behind (schedule t c.args.keys.now) items in
     let prefixed = f.ensures.prefixed bytes items so_far.state h.is_behind.reached (omega (arith, few)) in
     let some : 0 < f.result.used = f.ensures.used (λ e. (known_step f.new.self (bytes ++ take f.result.used piece)
     items so_far.state f.result.step (Err Failed) e prefixed).0) in
@@ -48,8 +47,7 @@ returns-in_err-write_whole-in-Ok-clause-fault g c =
     let prefixed = known_step _ _ items _ _ _ c.in-Ok.is (f.ensures.prefixed bytes items _ h.is_behind.reached
     (omega (arith, few))) in
     rw failed.0 (reply_fails _ t _ start _ (record c.args.self.now { station = f.new.self }) _ bytes items
-    c.args.piece.now f.result.used f.ensures.within (f.ensures.used (λ e. cc
-    (c.in-Ok.is, e))) h few c.in-Ok.step prefixed
+    c.args.piece.now f.result.used f.ensures.within h few c.in-Ok.step prefixed
     c.write_whole.new.sink (rw c.bytes.ensures.written at failed.1)))
 
 pub returns-in_err-press_due-in-Ok-clause-fault : goal.returns-in_err-press_due-in-Ok-clause-fault
@@ -62,31 +60,15 @@ returns-in_err-press_due-in-Ok-clause-fault g c =
     let prefixed = known_step _ _ items _ _ _ c.in-Ok.is (f.ensures.prefixed bytes items _ h.is_behind.reached
     (omega (arith, few))) in
     rw failed.0 (keys_fail _ t _ start _ (record c.args.self.now { station = f.new.self }) _ bytes items
-    c.args.piece.now f.result.used f.ensures.within (f.ensures.used (λ e. cc
-    (c.in-Ok.is, e))) h few c.in-Ok.step prefixed
-    (sym c.is_some.ensures ∙ c.if-is_some.true) _ c.saturating_add-self.ensures _
-    (rw c.bytes.ensures.written at c.in_ok-write_whole-in-Ok.ensures.ok) c.press_due.new.sink failed.1))
+    c.args.piece.now f.result.used f.ensures.within h few c.in-Ok.step prefixed _ c.press_due.new.sink
+    (rw c.bytes.ensures.written at c.in_ok-write_whole-in-Ok.ensures.ok) failed.1))
 
 pub returns-in_ok-press_due-in-Ok-clause-come : goal.returns-in_ok-press_due-in-Ok-clause-come
 returns-in_ok-press_due-in-Ok-clause-come g c =
     let f = c.take_prefix-used in
-    let done = c.in_ok-press_due-in-Ok.ensures in
     λ start t bytes items h few.
     let prefixed = known_step _ _ items _ _ _ c.in-Ok.is (f.ensures.prefixed bytes items _ h.is_behind.reached
     (omega (arith, few))) in
-    record_comes _ t _ start _ (record c.args.self.now { station = f.new.self }) _ bytes items
-    c.args.piece.now f.result.used f.ensures.within (f.ensures.used (λ e. cc
-    (c.in-Ok.is, e))) h few c.in-Ok.step prefixed
-    (sym c.is_some.ensures ∙ c.if-is_some.true) _ c.saturating_add-self.ensures _
-    (rw c.bytes.ensures.written at c.in_ok-write_whole-in-Ok.ensures.ok) _ _ done.done done.left
-
-pub returns-else-is_some-clause-come : goal.returns-else-is_some-clause-come
-returns-else-is_some-clause-come g c =
-    let f = c.take_prefix-used in
-    λ start t bytes items h few.
-    let prefixed = known_step _ _ items _ _ _ c.in-Ok.is (f.ensures.prefixed bytes items _ h.is_behind.reached
-    (omega (arith, few))) in
-    no_record _ t _ start _ (record c.args.self.now { station = f.new.self }) _ bytes items
-    c.args.piece.now f.result.used f.ensures.within (f.ensures.used (λ e. cc
-    (c.in-Ok.is, e))) h few c.in-Ok.step prefixed
-    _ (sym c.is_some.ensures ∙ c.if-is_some.false) (rw c.bytes.ensures.written at c.in_ok-write_whole-in-Ok.ensures.ok)
+    goes_behind _ t _ start _ (record c.args.self.now { station = f.new.self }) _ bytes items
+    c.args.piece.now f.result.used f.ensures.within h few c.in-Ok.step prefixed _ _ _
+    (rw c.bytes.ensures.written at c.in_ok-write_whole-in-Ok.ensures.ok) c.in_ok-press_due-in-Ok.ensures.done
