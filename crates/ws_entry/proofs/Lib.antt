@@ -1,0 +1,4 @@
+pub mod Cells
+pub mod FollowedKeys
+pub mod NoRules
+pub mod Pressings

@@ -1,0 +1,4 @@
+pub mod EntryDisplays
+pub mod EntryLaws
+pub mod EntryRules
+pub mod Following
