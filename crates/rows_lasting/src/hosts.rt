@@ -7,7 +7,6 @@ use ws_extended_station::{ExtendedDisplay, ExtendedKey};
 use ws_keys::{Answer, Key};
 use ws_lasting::{LastingStation, RefusedRecord};
 use ws_nego::TerminalType;
-use ws_session::StationDisplay;
 
 pub(crate) type Tested = LastingStation<ExtendedDisplay>;
 
@@ -17,7 +16,7 @@ const OPENING: &[u8] =
 pub(crate) const FORM: &[u8] = b"\x00\x1d\x12\xa0\x00\x00\x04\x00\x00\x03\
 \x04\x40\x04\x11\x00\x08\x11\x06\x34\x1d\x40\x00\x20\x00\x0a\x04\x52\x00\x00\xff\xef";
 
-// A record whose body begins by a Roll.
+// A record whose body is a Roll with a bit set that is to be off.
 pub(crate) const ROLL: &[u8] =
     b"\x00\x0f\x12\xa0\x00\x00\x04\x00\x00\x03\x04\x23\x61\x01\x05\xff\xef";
 
@@ -30,6 +29,25 @@ pub(crate) const COMMAND: &[u8] =
 
 pub(crate) const OTHER: &[u8] = b"\x00\x0e\x12\xa0\x00\x00\x04\x80\x00\x00\x10\x05\x01\x21\xff\xef";
 
+// The record of a body, in which each FF stands twice.
+pub(crate) fn record(rt: &impl Abort, alloc: Global, body: &[u8]) -> Vec<u8> {
+    let mut record = Vec::new(alloc);
+    let length = body.len().saturating_add(10).min(255) as u8;
+    record.push(0x00).expect(rt, "memory");
+    record.push(length).expect(rt, "memory");
+    record
+        .extend_from_slice(b"\x12\xa0\x00\x00\x04\x00\x00\x03")
+        .expect(rt, "memory");
+    for byte in body {
+        record.push(*byte).expect(rt, "memory");
+        if *byte == 0xff {
+            record.push(*byte).expect(rt, "memory");
+        }
+    }
+    record.extend_from_slice(b"\xff\xef").expect(rt, "memory");
+    record
+}
+
 // What the station writes at these bytes, one at a time.
 pub(crate) fn written(
     rt: &impl Abort,
@@ -41,7 +59,7 @@ pub(crate) fn written(
     for byte in bytes {
         let reply = station.push(*byte).expect(rt, "a byte");
         written
-            .extend_from_slice(station.display().bytes(&reply))
+            .extend_from_slice(station.bytes(&reply))
             .expect(rt, "memory");
     }
     written
@@ -57,7 +75,7 @@ pub(crate) fn fed(rt: &impl Abort, alloc: Global, station: &mut Tested, bytes: &
             let step = fed.step.expect(rt, "a piece");
             used = used.saturating_add(fed.used);
             written
-                .extend_from_slice(station.display().bytes(&step.reply))
+                .extend_from_slice(station.bytes(&step.reply))
                 .expect(rt, "memory");
         }
     }
@@ -75,11 +93,15 @@ pub(crate) fn fresh() -> Tested {
     Tested::new(TerminalType::Ibm3179Model2)
 }
 
-// A station that has negotiated.
-pub(crate) fn ready(rt: &impl Abort, alloc: Global) -> Tested {
-    let mut station = fresh();
+// It negotiates.
+pub(crate) fn negotiated(rt: &impl Abort, alloc: Global, mut station: Tested) -> Tested {
     written(rt, alloc, &mut station, OPENING);
     station
+}
+
+// A station that has negotiated.
+pub(crate) fn ready(rt: &impl Abort, alloc: Global) -> Tested {
+    negotiated(rt, alloc, fresh())
 }
 
 // It then shows the form.

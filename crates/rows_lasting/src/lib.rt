@@ -6,6 +6,10 @@ mod bad_input;
 #[cfg(test)]
 mod hosts;
 #[cfg(test)]
+mod identities;
+#[cfg(test)]
+mod rolls;
+#[cfg(test)]
 mod rows;
 
 #[cfg(test)]

@@ -22,7 +22,7 @@ fn a_refused_command_is_answered_at_its_eor_and_nothing_else_happens(rt: HostRun
         let is_last = count == ROLL.len();
         same(
             &rt,
-            station.display().bytes(&step.reply),
+            station.bytes(&step.reply),
             if is_last { COMMAND } else { b"" },
         );
         same(
@@ -31,7 +31,7 @@ fn a_refused_command_is_answered_at_its_eor_and_nothing_else_happens(rt: HostRun
             is_last,
         );
     }
-    refused(&rt, &station, 1, 33, 11);
+    refused(&rt, &station, 1, 33, 12);
     same(&rt, station.records(), 1);
     typed(&rt, &mut station, 'O');
     answers(&rt, &mut station, ANSWER);
@@ -162,7 +162,7 @@ fn three_records_are_refused_and_the_form_is_shown(rt: HostRuntime) {
     for _ in 0..3u8 {
         same(&rt, fed(&rt, alloc, &mut station, ROLL).as_slice(), COMMAND);
     }
-    refused(&rt, &station, 3, 33, 11);
+    refused(&rt, &station, 3, 33, 12);
     same(&rt, fed(&rt, alloc, &mut station, FORM).as_slice(), b"");
     same(&rt, station.records(), 1);
     answers(&rt, &mut station, b"\x06\x35\xf1");

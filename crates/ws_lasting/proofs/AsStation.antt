@@ -1,4 +1,4 @@
-use Rattle.std.proofs.Common.{◌≡◌, ℕ, List, [], ◌∷◌, ◌++◌, refl, sym, ap, ◌∙◌, inl, inr, true}
+use Rattle.std.proofs.Common.{◌≡◌, ℕ, List, [], ◌∷◌, ◌++◌, None, refl, sym, ap, ◌∙◌, inl, inr, true}
 use Rattle.std.proofs.lemmas.Grind.{flat_map-append}
 use Rattle.std.proofs.lemmas.List.{map-append}
 use Rattle.ws_code.specs.Code.{Rules, IsPrefixFree, IsSpelled}
@@ -31,7 +31,7 @@ use Rattle.ws_lasting.proofs.TokenSteps.{token_step}
 module _ {D P U H PlaceV V K R : Type 0} (rules : Rules P U) (d : DisplayOf D U H PlaceV V K R)
     (free : IsPrefixFree rules) (begins : Begins rules) where
   abbrev Stood : EndStateOn H → List ℕ → List ℕ → Footing H
-  Stood state so_far begun = record { state = state; so_far = so_far; begun = begun }
+  Stood state so_far begun = record { state = state; environ = None; so_far = so_far; begun = begun }
 
   module _ {bytes : List ℕ} {items : List (Item U)} {so_far begun left over : List ℕ} (state : EndStateOn H) (b : ℕ)
       (h : Holds rules bytes items so_far begun) where
@@ -40,14 +40,14 @@ module _ {D P U H PlaceV V K R : Type 0} (rules : Rules P U) (d : DisplayOf D U 
         → IsAtByte (on_display rules d) (Stood state so_far begun) b (Stood state left over) [] []
     none_complete k = elim (token_step b h.cut k.cut) [
       | inl m ↦ (let same = one_holds rules free begins (holds_more rules h (b ∷ []) m.1) k in
-          (More, (m.0, m.1), (refl, sym same.1, refl, refl)))
+          (More, (m.0, m.1), (refl, refl, sym same.1, refl, refl)))
       | inr t ↦ by t.0 t.1 t.2
     ] where
       by : (t : Token) → over ≡ [] → IsSpelled token_rules tt (begun ++ b ∷ []) t
           → IsAtByte (on_display rules d) (Stood state so_far begun) b (Stood state left over) [] []
       by (Data v) none s =
           let same = one_holds rules free begins (holds_data rules h b v s) k in
-          (Whole (Data v), (none, s), (refl, sym same.1, refl, refl))
+          (Whole (Data v), (none, s), (refl, refl, sym same.1, refl, refl))
       by (TelnetToken u) none s =
           let same = one_holds rules free begins (holds_command rules h b u s) k in
           absurd (no_more rules free begins items (TelnetItem u) (sym same.0))
@@ -81,6 +81,7 @@ module _ {D P U H PlaceV V K R : Type 0} (rules : Rules P U) (d : DisplayOf D U 
             (none, s),
             (
               sym gone.0,
+              refl,
               sym same.1,
               ap (plain_spelling d.out) (sym gone.1) ∙ plain_tokens d.out _,
               ap (λ (i : Item U). all_carried_out (applied_by i)) (sym is),
@@ -93,6 +94,7 @@ module _ {D P U H PlaceV V K R : Type 0} (rules : Rules P U) (d : DisplayOf D U 
             Whole Eor,
             (none, s),
             (
+              refl,
               sym same.1,
               inl (
                 (r.0, r.1, r.2, writes, ap (takes_on d state) is ∙ goes, refl),

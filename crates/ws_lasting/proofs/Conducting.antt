@@ -6,22 +6,19 @@ use Rattle.ws_code.proofs.Lists.{same_last}
 use Rattle.ws_end.specs.Behaviour.{TakesSome}
 use Rattle.ws_end.specs.Ends.{IsShut}
 use Rattle.ws_end.specs.declared.end_step.EndFed.{EndFed}
-use Rattle.ws_end.specs.declared.end_step.EndStep.{EndStep}
 use Rattle.ws_end.specs.declared.refusal.Refusal.{Refusal}
 use Rattle.ws_end.specs.declared.refusal.Refusal.TheVariants.{Failed}
 use Rattle.ws_end.specs.station.Displays.{OnDisplay}
 use Rattle.ws_end.proofs.Feedings.{value_at}
 use Rattle.ws_lasting.specs.Behaviour.{AreQuiet, AreTakenSo, LastingRefuses, lasting_behaviour}
-use Rattle.ws_lasting.specs.Footings.{AtLasting, LastingOf}
+use Rattle.ws_lasting.specs.Footings.{AtLasting, LastingOf, LastingStep, bytes_written}
+use Rattle.ws_lasting.specs.declared.lasting_reply.LastingReply.{LastingReply}
 use Rattle.ws_lasting.specs.declared.record_event.RecordEvent.{RecordEvent}
 
 -- What a piece gives a station that no record ends is what one gives an end.
 
 module _ (on : OnDisplay) (old : LastingOf on) (piece : List ℕ) (some : 0 < length piece) (new : LastingOf on) where
-  abbrev Written : LastingOf on → on.Replied → List ℕ
-  Written station reply = on.does.written station.station.reacts.screen reply
-
-  abbrev Fails : Result (EndStep RecordEvent on.Replied) Refusal → Type 0
+  abbrev Fails : Result (LastingStep on.Replied) Refusal → Type 0
   Fails result = result ≡ Err Failed
 
   -- a byte ends the session
@@ -69,17 +66,17 @@ module _ (on : OnDisplay) (old : LastingOf on) (piece : List ℕ) (some : 0 < le
             ))
       ]
 
-  pub takes_some : (fed : EndFed RecordEvent on.Replied) → fed.used ≤ length piece
+  pub takes_some : (fed : EndFed RecordEvent (LastingReply on.Replied)) → fed.used ≤ length piece
       → (0 < length piece → (fed.step ≡ Err Failed → ⊥) → 0 < fed.used)
       → AtLasting on old (λ at. old.taken + 1 < 2 ^ 64 → AreTakenSo on old new at (take fed.used piece) fed.step)
       → AtLasting on old (λ at. (n : ℕ) → n < fed.used → AreQuiet on at (take n piece))
       → OnErr fed.step (IsSome new.ended)
       → (IsShut old.ended old.taken → (fed.step ≡ Err Failed) × (fed.used ≡ 0))
       → (IsSome old.ended → new ≡ old)
-      → TakesSome (lasting_behaviour on) Written old piece new fed
+      → TakesSome (lasting_behaviour on) (bytes_written on) old piece new fed
   takes_some fed within any taken first after stopped failed = by fed.step refl where
-    by : (step : Result (EndStep RecordEvent on.Replied) Refusal) → fed.step ≡ step
-        → TakesSome (lasting_behaviour on) Written old piece new fed
+    by : (step : Result (LastingStep on.Replied) Refusal) → fed.step ≡ step
+        → TakesSome (lasting_behaviour on) (bytes_written on) old piece new fed
     by (Ok step) is =
         let works : IsShut old.ended old.taken → ⊥ = λ shut. cc (is, (stopped shut).0) in
         rw is (record {

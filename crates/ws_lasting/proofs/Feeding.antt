@@ -1,19 +1,27 @@
-use Rattle.std.proofs.Common.{◌≡◌, ℕ, List, [], ◌∷◌, ◌++◌, refl, sym, ap, ◌∙◌, subst, append-nil, arith, length, length-append, take, zero, suc, ◌≤◌, ◌<◌, ◌+◌, ◌^◌, Option, None, Err, Ok, subst₂}
-use Rattle.std.proofs.lemmas.List.{take-take, length-take-le}
+use Rattle.std.proofs.Common.{◌≡◌, ℕ, List, [], ◌∷◌, ◌++◌, refl, sym, ap, ◌∙◌, append-nil, append_assoc, arith, length, length-append, take, zero, suc, ◌≤◌, ◌<◌, ◌+◌, Err, Ok, None, OnOk, Result}
+use Rattle.std.proofs.lemmas.List.{length-take, take-take}
+use Rattle.ws_code.proofs.DeviceLaws.{length_rest}
+use Rattle.ws_code.proofs.Pieces.{bytes_on, each_on, left_of}
 use Rattle.ws_end.specs.ActLaws.{bytes_came, came_append}
-use Rattle.ws_end.specs.Acts.{Came, all_came, as_list}
-use Rattle.ws_end.specs.declared.end_step.EndStep.{EndStep}
+use Rattle.ws_end.specs.Acts.{Came, all_came}
+use Rattle.ws_end.specs.declared.end_step.EndFed.{EndFed}
 use Rattle.ws_end.specs.declared.refusal.Refusal.{Refusal}
 use Rattle.ws_end.specs.declared.refusal.Refusal.TheVariants.{At, Failed, Memory}
 use Rattle.ws_end.specs.station.Displays.{OnDisplay}
-use Rattle.ws_lasting.specs.Behaviour.{AreQuiet, IsLast, LeadsOnFrom}
-use Rattle.ws_lasting.specs.Counting.{IsCounted}
-use Rattle.ws_lasting.specs.Footings.{LastingOf, IsByteTaken, StandsAt}
+use Rattle.ws_lasting.specs.Behaviour.{AreQuiet, AreTakenSo, LeadsOnFrom}
+use Rattle.ws_lasting.specs.Footings.{AtLasting, LastingOf, LastingStep, IsByteTaken, bytes_written}
+use Rattle.ws_lasting.specs.Fronts.{IsFrontTaken}
 use Rattle.ws_lasting.specs.Lasting.{FootingOn, IsAtByte, Lasts}
+use Rattle.ws_lasting.specs.declared.lasting_reply.LastingReply.{LastingReply}
 use Rattle.ws_lasting.specs.declared.record_event.RecordEvent.{RecordEvent}
-use Rattle.ws_lasting.specs.LastingLaws.{counted_both, lasts_both}
+use Rattle.ws_lasting.specs.LastingLaws.{leads_both, lasts_both}
 
--- What comes of acts one after another.
+-- What comes of bytes one after another.
+
+-- what holds, holds where it went well
+pub ok_so : {A B P : Type 0} (result : Result A B) → P → OnOk result P
+ok_so (Ok it) p = p
+ok_so (Err why) p = tt
 
 module _ (on : OnDisplay) where
   -- bytes at which nothing is written or told, and one more
@@ -40,59 +48,98 @@ module _ (on : OnDisplay) where
         nothing [] y e = (refl, sym e)
         nothing (c ∷ x) y e = cc
 
-  -- a byte that leads on, after others at which nothing was written or told
-  pub leads_more : (a b c : LastingOf on) (at : FootingOn on) (came : List ℕ) (byte : ℕ) (w : List ℕ)
-      (t : List RecordEvent) (l : LeadsOnFrom on a b at (all_came came) [] []) (next : FootingOn on)
-      → IsAtByte on l.0 byte next w t → StandsAt on c next → IsCounted b.counts t c.counts → c.taken ≡ b.taken + 1
-      → LeadsOnFrom on a c at (all_came (came ++ byte ∷ [])) w t
-  leads_more a b c at came byte w t l next step st counted taken = (
-    next,
-    lasts_more came byte at l.0 next w t l.1 step,
-    st,
-    counted_both a.counts b.counts c.counts [] t l.3 counted,
-    (let m = ap length (bytes_came on.Pressed came) in
-        let n = ap length (bytes_came on.Pressed (came ++ byte ∷ [])) in
-        omega (arith, l.4, taken, m, n, length-append came (byte ∷ []))),
+  -- a byte that is taken is taken alone
+  pub taken_alone : (old new : LastingOf on) (at : FootingOn on) (byte : ℕ)
+      (result : Result (LastingStep on.Replied) Refusal) → IsByteTaken on old new at byte result
+      → OnOk result (new.taken ≡ old.taken + 1) → AreTakenSo on old new at (byte ∷ []) result
+  taken_alone old new at byte (Ok step) h counted = (
+    h.0,
+    (h.0, _, [], _, [], h.1, (refl, refl, refl), sym (append-nil _), sym (append-nil _)),
+    h.2,
+    h.3,
+    counted,
   )
+  taken_alone old new at byte (Err (At place reason)) h counted =
+      ([], byte, refl, (at, (refl, refl, refl), omega (arith, h.0), h.1))
+  taken_alone old new at byte (Err Failed) h counted = absurd h
+  taken_alone old new at byte (Err Memory) h counted = absurd h
 
-  -- the byte after those at which nothing was written or told, where it ends the session
-  pub ends_so : (a b c : LastingOf on) (at : FootingOn on) (front : List ℕ) (byte : ℕ)
-      (l : LeadsOnFrom on a b at (all_came front) [] []) (why : Refusal) → IsByteTaken on b c l.0 byte (Err why)
-      → IsLast on at a.taken front byte why
-  ends_so a b c at front byte l (At place reason) h =
-      let n = ap length (bytes_came on.Pressed front) in
-      (l.0, l.1, h.0 ∙ l.4 ∙ ap (λ (k : ℕ). a.taken + k) n, h.1)
-  ends_so a b c at front byte l Failed h = h
-  ends_so a b c at front byte l Memory h = h
+  module _ (a b c : LastingOf on) (at : FootingOn on) (came : List ℕ)
+      (l : LeadsOnFrom on a b at (all_came came) [] []) where
+    -- what comes of others after them
+    pub taken_after : (more : List ℕ) (result : Result (LastingStep on.Replied) Refusal)
+        → AreTakenSo on b c l.0 more result → AreTakenSo on a c at (came ++ more) result
+    taken_after more (Ok step) t = rw (came_append came more)
+        (leads_both on a b c at (all_came came) (all_came more) [] _ [] _ l t)
+    taken_after more (Err (At place reason)) t = (
+      came ++ t.0,
+      t.1,
+      ap (λ z. came ++ z) t.2 ∙ sym (append_assoc came t.0 (t.1 ∷ [])),
+      (
+        t.3.0,
+        rw (came_append came t.0)
+            (lasts_both on (all_came came) (all_came t.0) at l.0 t.3.0 [] [] [] [] l.1 t.3.1),
+        (let n = ap length (bytes_came on.Pressed came) in omega (arith, t.3.2, l.4, n, length-append came t.0)),
+        t.3.3,
+      ),
+    )
+    taken_after more (Err Failed) t = absurd t.3
+    taken_after more (Err Memory) t = absurd t.3
 
-  module _ (a b c : LastingOf on) (at : FootingOn on) (piece : List ℕ) (used : ℕ) (within : used ≤ length piece)
+    quiet_after : (more : List ℕ) → AreQuiet on l.0 more → AreQuiet on at (came ++ more)
+    quiet_after more q = (
+      q.0,
+      rw (came_append came more) (lasts_both on (all_came came) (all_came more) at l.0 q.0 [] [] [] [] l.1 q.1),
+    )
+
+  module _ (a b : LastingOf on) (at : FootingOn on) (piece : List ℕ) (used : ℕ)
       (l : LeadsOnFrom on a b at (all_came (take used piece)) [] []) where
-    size : b.taken ≡ a.taken + used
-    size =
-        let n = ap length (bytes_came on.Pressed (take used piece)) in
-        omega (arith, l.4, n, length-take-le used piece within)
-
-    -- a byte more can be counted
-    pub room : (count : ℕ) → used < count → a.taken + count < 2 ^ 64 → b.taken + 1 < 2 ^ 64
-    room count inside fits = omega (arith, size, inside, fits)
-
     pub quiet_at : (n : ℕ) → n ≤ used → AreQuiet on at (take n piece)
     quiet_at n le = rw (take-take n used piece le) at (quiet_front (take used piece) at l.0 n l.1)
 
-    -- the next byte leads on
-    pub one_more : (byte : ℕ) (step : EndStep RecordEvent on.Replied) → IsByteTaken on b c l.0 byte (Ok step)
-        → c.taken ≡ b.taken + 1 → take (used + 1) piece ≡ take used piece ++ byte ∷ []
-        → LeadsOnFrom on a c at (all_came (take (used + 1) piece)) (on.does.written c.station.reacts.screen step.reply)
-        (as_list step.event)
-    one_more byte step h counted is = subst (λ (x : List ℕ). LeadsOnFrom on a c at (all_came x)
-        (on.does.written c.station.reacts.screen step.reply) (as_list step.event)) (sym is)
-        (leads_more a b c at (take used piece) byte _ _ l h.0 h.1 h.2 h.3 counted)
+    -- nor at those before the last of a front of what is left
+    pub quiet_on : (more : ℕ) → ((n : ℕ) → n < more → AreQuiet on l.0 (take n (left_of piece used)))
+        → (n : ℕ) → n < used + more → AreQuiet on at (take n piece)
+    quiet_on more rest = each_on (λ z. AreQuiet on at z) [] piece used more quiet_at
+        (λ n lt. quiet_after a b b at (take used piece) l (take n (left_of piece used)) (rest n lt))
 
-    -- and writes and tells nothing
-    pub one_quiet : (byte : ℕ) (step : EndStep RecordEvent on.Replied) → IsByteTaken on b c l.0 byte (Ok step)
-        → c.taken ≡ b.taken + 1 → take (used + 1) piece ≡ take used piece ++ byte ∷ []
-        → (step.event ≡ None) × (on.does.written c.station.reacts.screen step.reply ≡ [])
-        → LeadsOnFrom on a c at (all_came (take (used + 1) piece)) [] []
-    one_quiet byte step h counted is silent =
-        subst₂ (λ (z : List ℕ) (o : Option RecordEvent). LeadsOnFrom on a c at (all_came (take (used + 1) piece)) z
-        (as_list o)) silent.1 silent.0 (one_more byte step h counted is)
+  -- bytes at which nothing is written or told lead on
+  pub quiet_so : (a b : LastingOf on) (at : FootingOn on) (came : List ℕ)
+      (result : Result (LastingStep on.Replied) Refusal) → (gave : LastingStep on.Replied)
+      × (result ≡ Ok gave) × (gave.event ≡ None) × (bytes_written on b gave.reply ≡ [])
+      → AreTakenSo on a b at came result → LeadsOnFrom on a b at (all_came came) [] []
+  quiet_so a b at came result silent t = rw (silent.2, silent.3) at (rw silent.1 at t)
+
+  -- so does a front of what is left of a piece
+  pub front_silent : (a b c : LastingOf on) (piece : List ℕ) (used : ℕ)
+      (fed : EndFed RecordEvent (LastingReply on.Replied))
+      → IsFrontTaken on b (left_of piece used) c fed → (gave : LastingStep on.Replied) × (fed.step ≡ Ok gave)
+      × (gave.event ≡ None) × (bytes_written on c gave.reply ≡ []) → (used ≤ length piece)
+      × (b.taken ≡ a.taken + used) × AtLasting on a (λ at. LeadsOnFrom on a b at (all_came (take used piece)) [] [])
+      → (used + fed.used ≤ length piece) × (c.taken ≡ a.taken + (used + fed.used))
+      × AtLasting on a (λ at. LeadsOnFrom on a c at (all_came (take (used + fed.used) piece)) [] [])
+  front_silent a b c piece used fed f silent led = (
+    omega (arith, f.within, length_rest piece used, led.0),
+    (let n = rw silent.1 at f.counted in omega (arith, n, led.1)),
+    λ at st. (
+        let l = led.2 at st in
+        quiet_so a c at (take (used + fed.used) piece) fed.step silent
+        (rw (bytes_on [] piece used fed.used) at (taken_after a b c at (take used piece) l
+        (take fed.used (left_of piece used)) fed.step (f.taken l.0 l.2)))),
+  )
+
+  -- a front of a front of a piece is one of the piece
+  pub front_so : (old new : LastingOf on) (piece : List ℕ) (count : ℕ)
+      (fed : EndFed RecordEvent (LastingReply on.Replied))
+      → IsFrontTaken on old (take count piece) new fed → IsFrontTaken on old piece new fed
+  front_so old new piece count fed f =
+      let n = length-take count piece in
+      let within : fed.used ≤ count = (let w = f.within in omega (arith, w, n)) in
+      record {
+        within = (let w = f.within in omega (arith, w, n));
+        some = f.some;
+        taken = λ at st. rw (take-take fed.used count piece within) at (f.taken at st);
+        first = λ at st m lt. rw (take-take m count piece (omega (arith, lt, within))) at (f.first at st m lt);
+        counted = f.counted;
+        after = f.after;
+      }

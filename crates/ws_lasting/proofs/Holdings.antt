@@ -1,6 +1,6 @@
 use Rattle.ws_record.proofs.Common as C
 use C.{AllByRecursion, ◌≡◌, ℕ, List, [], ◌∷◌, ◌++◌, drop, refl, sym, ap, ◌∙◌, length, inl, inr, arith}
-use C.{length-append, append-nil, append_assoc, Rules, IsSpelled, IsUnfinished, IsPrefixFree, IsCut, Reason}
+use C.{length-append, append-nil, append_assoc, take_at, ◌≤◌, ◌+◌, IsOpenPrefix, Rules, IsSpelled, IsUnfinished, IsPrefixFree, IsCut, Reason}
 use C.{SpellsBytes, Begins, one_cut, CanEnd, cut_ends, cut_unit, joined, AllByRecursion-append, flat_map-append, map-append}
 use C.{carried, HasNoEor, token_rules, token_prefix_free, token_begins, Token, Data, Eor, TelnetToken, IsRecord, Holds, record_bytes, IsStretch}
 use C.{IsFramed, CanBeFramed, IsRefused, Layer, IsReason, Tokens, Header, Body}
@@ -108,6 +108,32 @@ module _ {Place U : Type 0} (rules : Rules Place U) (free : IsPrefixFree rules) 
     begins_tokens cut =
         let ends = cut_ends token_rules token_can_end _ _ _ cut in
         record { units = ends.0; more = ends.1; whole = ends.2; spelled = ends.3 }
+
+    -- where bytes with one more of data begin a stream that is refused later, the record so far fits
+    pub fits_before : {bytes : List ℕ} {items : List (Item U)} {so_far begun : List ℕ}
+        → (h : Holds rules bytes items so_far begun) (c v : ℕ) → IsSpelled token_rules tt (begun ++ c ∷ []) (Data v)
+        → (more : List ℕ) (place : ℕ) (reason : Reason) → IsRefused rules ((bytes ++ c ∷ []) ++ more) place reason
+        → length (bytes ++ c ∷ []) ≤ place → CanBeFramed (so_far ++ v ∷ [])
+        × BeginsList rules (drop 10 (so_far ++ v ∷ []))
+    fits_before {bytes} {items} {so_far} h c v s more place reason r after =
+        let p = (refused_forms rules begins can law _ _ _).0 r in
+        let n = length-append bytes (c ∷ []) in
+        let long : length (bytes ++ c ∷ []) ≡ length bytes + 1 = omega (arith, n) in
+        let opened : (layer : Layer) → IsOpenPrefix rules layer (bytes ++ c ∷ []) =
+        λ layer. rw (take_at (bytes ++ c ∷ []) more (length bytes + 1) long) at
+        (p.least (length bytes) (omega (arith, long, after)) layer) in
+        let k = holds_data rules h c v s in
+        let elsewhere : (x : List ℕ) → EndsRecord (bytes ++ c ∷ []) x → ⊥ =
+        λ x e. (let kinds = (one_end _ _ _ _ _ (ends_with_one (held rules h Tokens) c s) e).1 in cc) in (
+          elim (opened Header) [
+            | inl q ↦ absurd (elsewhere _ q.1)
+            | inr q ↦ subst CanBeFramed (left_same q.1 k) q.2
+          ],
+          elim (opened Body) [
+            | inl q ↦ absurd (elsewhere _ q.1)
+            | inr q ↦ subst (λ x. BeginsList rules (drop 10 x)) (left_same q.1 k) q.2
+          ],
+        )
 
     -- bytes that leave a right record open are open
     still_open : {bytes : List ℕ} {items : List (Item U)} {so_far begun : List ℕ}

@@ -52,11 +52,14 @@ module _ {D P U H PlaceV V K R : Type 0} (rules : Rules P U) (d : DisplayOf D U 
     works : new.ended ≡ None
     works = ap (λ (z : LastingParts _ _). z.ended) same ∙ st.works
 
+    named : new.environ ≡ at.environ
+    named = ap (λ (z : LastingParts _ _). z.environ) same ∙ st.is_environ
+
     go : (o : Option RefusedRecord) → old.passing ≡ o → ReadsOrPasses (on_display rules d) old at o
         → IsKeyHeard (on_display rules d) old new at key result
     go None is (r, size) = pressed_so r.bytes r.items result (λ next l. (
         let one = one_holds rules free begins l.reached.holds r.reached.reached.holds in
-        stands_reading rules d new (record at { state = next }) works begun
+        stands_reading rules d new (record at { state = next }) works begun named
         (ap (λ (z : LastingParts _ _). z.passing) same ∙ is) (record {
           bytes = r.bytes;
           items = r.items;
@@ -67,7 +70,7 @@ module _ {D P U H PlaceV V K R : Type 0} (rules : Rules P U) (d : DisplayOf D U 
         }) (ap (λ (z : LastingParts _ _). z.size) same ∙ size)))
         (keyed r.bytes r.items at.state r.reached (let n = r.few in omega (arith, n, few)))
     go (Some why) is p = pressed_so [] [] result (λ next l. (
-        stands_passing rules d new (record at { state = next }) works begun why
+        stands_passing rules d new (record at { state = next }) works begun named why
         (ap (λ (z : LastingParts _ _). z.passing) same ∙ is)
         (record { reached = l; of_record = p.of_record; spoilt = p.spoilt })))
         (keyed [] [] at.state p.reached (omega arith))

@@ -4,8 +4,13 @@ pub mod Feeding
 pub mod Holdings
 pub mod Judging
 pub mod Keying
+pub mod Others
 pub mod Passing
 pub mod Pushing
 pub mod ReadingOn
 pub mod Taking
 pub mod TokenSteps
+pub mod Refusing
+pub mod Runs
+pub mod ReadingRuns
+pub mod ReadingEnds

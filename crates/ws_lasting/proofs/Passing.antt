@@ -1,25 +1,23 @@
-use Rattle.std.proofs.Common.{◌≡◌, ℕ, List, [], ◌∷◌, ◌++◌, refl, sym, ap, ◌∙◌, inl, inr, subst, append_assoc, length, arith}
-use Rattle.std.proofs.Common.{Option, Some, None, Ok, Err, true, false, Bool}
+use Rattle.std.proofs.Common.{◌≡◌, ℕ, List, [], ◌∷◌, ◌++◌, refl, sym, ap, ap₂, ◌∙◌, inl, inr, subst, append_assoc, length}
+use Rattle.std.proofs.Common.{arith, Option, Some, None, Ok, true, false, Bool}
 use Rattle.std.specs.Prelude.{◌&&◌}
 use Rattle.ws_code.specs.Code.{Rules, IsPrefixFree}
 use Rattle.ws_code.specs.declared.code.Push.TheVariants.{More, Unit as Whole}
-use Rattle.ws_code.specs.declared.reason.Reason.TheVariants.{RecordBeforeNegotiation}
 use Rattle.ws_code.proofs.CodeLaws.{Begins}
 use Rattle.ws_telnet.specs.declared.token.Telnet.{Telnet}
 use Rattle.ws_telnet.specs.declared.token.Token.TheVariants.{Data, Eor, Telnet as TelnetToken}
 use Rattle.ws_nego.specs.Options.{telnet_bytes}
 use Rattle.ws_nego.specs.Station.{station_answer, station_allows_records}
 use Rattle.ws_record.proofs.Encodings.{holds_nothing}
-use Rattle.ws_end.specs.declared.end_step.EndStep.{EndStep}
-use Rattle.ws_end.specs.declared.refusal.Refusal.TheVariants.{At}
 use Rattle.ws_end.specs.station.Displays.{DisplayOf, EndStateOn, on_display}
 use Rattle.ws_end.specs.station.Stations.{ReachedOn, PartsOn}
 use Rattle.ws_lasting.specs.Counting.{IsCounted}
-use Rattle.ws_lasting.specs.Footings.{LastingParts, IsReading, IsPassingOver, ReadsOrPasses, StandsAt, IsWordHeard}
+use Rattle.ws_lasting.specs.Footings.{LastingParts, LastingStep, IsPassingOver, IsReading, IsReplied, IsWordHeard, ReadsOrPasses, StandsAt}
+use Rattle.ws_lasting.specs.Footings.{bytes_written}
+use Rattle.ws_lasting.specs.Identity.{environ_after, reply_to}
 use Rattle.ws_lasting.specs.Lasting.{Footing}
 use Rattle.ws_lasting.specs.Negative.{negative}
 use Rattle.ws_lasting.specs.Records.{IsSpoilt}
-use Rattle.ws_lasting.specs.declared.record_event.RecordEvent.{RecordEvent}
 use Rattle.ws_lasting.specs.declared.record_event.RecordEvent.TheVariants.{Refused}
 use Rattle.ws_lasting.specs.declared.record_event.RefusedRecord.{RefusedRecord}
 use Rattle.ws_lasting.specs.LastingLaws.{counted_none}
@@ -47,26 +45,28 @@ module _ {D P U H PlaceV V K R : Type 0} (rules : Rules P U) (d : DisplayOf D U 
         few = omega arith;
       }
 
-  pub spoilt_more : (so_far : List ℕ) (b : ℕ) (why : RefusedRecord) → IsSpoilt rules so_far why
-      → IsSpoilt rules (so_far ++ b ∷ []) why
-  spoilt_more so_far b why s = record {
+  pub spoilt_more : (so_far more : List ℕ) (why : RefusedRecord) → IsSpoilt rules so_far why
+      → IsSpoilt rules (so_far ++ more) why
+  spoilt_more so_far more why s = record {
     front = s.front;
     byte = s.byte;
-    rest = s.rest ++ b ∷ [];
-    split = ap (λ x. x ++ b ∷ []) s.split ∙ append_assoc s.front (s.byte ∷ s.rest) (b ∷ []);
+    rest = s.rest ++ more;
+    split = ap (λ x. x ++ more) s.split ∙ append_assoc s.front (s.byte ∷ s.rest) more;
     at_place = s.at_place;
     framed = s.framed;
     begins = s.begins;
     unfit = s.unfit;
   }
 
-  module _ (new : LastingParts D P) (at : Footing H) (works : new.ended ≡ None) (is_begun : new.begun ≡ at.begun) where
+  module _ (new : LastingParts D P) (at : Footing H) (works : new.ended ≡ None) (is_begun : new.begun ≡ at.begun)
+      (is_environ : new.environ ≡ at.environ) where
     -- it passes over a record
     pub stands_passing : (why : RefusedRecord) → new.passing ≡ Some why
         → IsPassingOver (on_display rules d) new.station at why → StandsAt (on_display rules d) new at
     stands_passing why passing p = record {
       works = works;
       is_begun = is_begun;
+      is_environ = is_environ;
       within = subst (λ (o : Option RefusedRecord). ReadsOrPasses (on_display rules d) new at o) (sym passing) p;
     }
 
@@ -75,6 +75,7 @@ module _ {D P U H PlaceV V K R : Type 0} (rules : Rules P U) (d : DisplayOf D U 
     stands_reading passing p size = record {
       works = works;
       is_begun = is_begun;
+      is_environ = is_environ;
       within = subst (λ (o : Option RefusedRecord). ReadsOrPasses (on_display rules d) new at o) (sym passing)
           (p, size);
     }
@@ -100,67 +101,82 @@ module _ {D P U H PlaceV V K R : Type 0} (rules : Rules P U) (d : DisplayOf D U 
   -- at each word
   module _ (old : LastingParts D P) (at : Footing H) (why : RefusedRecord) (here : ℕ)
       (p : IsPassingOver (on_display rules d) old.station at why) (passing : old.passing ≡ Some why)
-      (works : old.ended ≡ None) (step : EndStep RecordEvent R) where
-    module _ (silent : d.written old.station.reacts.screen step.reply ≡ []) (untold : step.event ≡ None) where
+      (works : old.ended ≡ None) (named : old.environ ≡ at.environ) (step : LastingStep R) where
+    module _ (silent : bytes_written (on_display rules d) old step.reply ≡ []) (untold : step.event ≡ None) where
       pub passes_more : IsWordHeard (on_display rules d) old.counts old at here More (Ok step)
       passes_more = rw untold (
-        record { state = at.state; so_far = at.so_far; begun = old.begun },
-        (refl, refl, silent, refl),
-        stands_passing old _ works refl why passing
+        record at { begun = old.begun },
+        (refl, refl, refl, silent, refl),
+        stands_passing old _ works refl named why passing
             (record { reached = p.reached; of_record = p.of_record; spoilt = p.spoilt }),
         counted_none old.counts,
       )
 
       pub passes_data : (b : ℕ) → IsWordHeard (on_display rules d) old.counts old at here (Whole (Data b)) (Ok step)
       passes_data b = rw untold (
-        record { state = at.state; so_far = at.so_far ++ b ∷ []; begun = old.begun },
-        (refl, refl, silent, refl),
-        stands_passing old _ works refl why passing (record {
+        record at { so_far = at.so_far ++ b ∷ []; begun = old.begun },
+        (refl, refl, refl, silent, refl),
+        stands_passing old _ works refl named why passing (record {
           reached = p.reached;
           of_record = p.of_record;
-          spoilt = spoilt_more at.so_far b why p.spoilt;
+          spoilt = spoilt_more at.so_far (b ∷ []) why p.spoilt;
         }),
         counted_none old.counts,
       )
 
-    pub passes_telnet : (new : LastingParts D P) (t : Telnet)
-        → d.written new.station.reacts.screen step.reply
-        ≡ telnet_bytes (station_answer old.station.reacts.options t).reply → step.event ≡ None
-        → new ≡ record old {
+    pub passes_telnet : (mid new : LastingParts D P) (t : Telnet) (reply : R)
+        → d.written mid.station.reacts.screen reply ≡ telnet_bytes (station_answer old.station.reacts.options t).reply
+        → mid ≡ record old {
           station = record old.station {
             reacts = record old.station.reacts {
               options = (station_answer old.station.reacts.options t).after;
             };
           };
-        } → IsWordHeard (on_display rules d) old.counts new at here (Whole (TelnetToken t)) (Ok step)
-    passes_telnet new t written untold same = rw untold (
-      record {
-        state = record { options = (station_answer at.state.options t).after; happened = at.state.happened };
-        so_far = at.so_far;
-        begun = new.begun;
-      },
-      (refl, refl, written ∙ ap (λ z. telnet_bytes (station_answer z t).reply) p.reached.stands.options, refl),
-      stands_passing new _ (ap (λ (z : LastingParts _ _). z.ended) same ∙ works) refl why
-          (ap (λ (z : LastingParts _ _). z.passing) same ∙ passing) (record {
-            reached = subst (λ (z : PartsOn D P). ReachedOn (on_display rules d) z [] []
-                (record { options = (station_answer at.state.options t).after; happened = at.state.happened }))
-                (sym (ap (λ (z : LastingParts _ _). z.station) same)) (answered old.station at.state t p.reached);
-            of_record = p.of_record;
-            spoilt = p.spoilt;
-          }),
-      subst (λ (z : LastingParts D P). IsCounted old.counts [] z.counts) (sym same) (counted_none old.counts),
-    )
+        } → IsReplied (on_display rules d) mid new t reply step.reply → step.event ≡ None
+        → IsWordHeard (on_display rules d) old.counts new at here (Whole (TelnetToken t)) (Ok step)
+    passes_telnet mid new t reply written answers replied untold =
+        let same = replied.same ∙ ap (λ (z : LastingParts D P). (record z {
+          environ = environ_after z.environ t;
+          environ_reply = new.environ_reply;
+        })) answers in
+        rw untold (
+          record at {
+            state = record { options = (station_answer at.state.options t).after; happened = at.state.happened };
+            environ = environ_after at.environ t;
+            begun = new.begun;
+          },
+          (
+            refl,
+            refl,
+            refl,
+            replied.written old.station.reacts.options written
+                ∙ ap₂ (λ z e. telnet_bytes (reply_to z e t)) p.reached.stands.options
+                (ap (λ (z : LastingParts D P). z.environ) answers ∙ named),
+            refl,
+          ),
+          stands_passing new _ (ap (λ (z : LastingParts D P). z.ended) same ∙ works) refl
+              (ap (λ (z : LastingParts D P). z.environ) same ∙ ap (λ e. environ_after e t) named) why
+              (ap (λ (z : LastingParts D P). z.passing) same ∙ passing) (record {
+                reached = subst (λ (z : PartsOn D P). ReachedOn (on_display rules d) z [] []
+                    (record { options = (station_answer at.state.options t).after; happened = at.state.happened }))
+                    (sym (ap (λ (z : LastingParts D P). z.station) same)) (answered old.station at.state t p.reached);
+                of_record = p.of_record;
+                spoilt = p.spoilt;
+              }),
+          subst (λ (z : LastingParts D P). IsCounted old.counts [] z.counts) (sym same) (counted_none old.counts),
+        )
 
     pub passes_eor : IsPrefixFree rules → Begins rules → (new : LastingParts D P)
         → station_allows_records old.station.reacts.options ≡ true
-        → old.begun ≡ [] → d.written new.station.reacts.screen step.reply ≡ negative why.reason
+        → old.begun ≡ [] → bytes_written (on_display rules d) new step.reply ≡ negative why.reason
         → step.event ≡ Some (Refused why)
         → new ≡ record old { size = 0; passing = None; counts = new.counts }
         → IsCounted old.counts (Refused why ∷ []) new.counts
         → IsWordHeard (on_display rules d) old.counts new at here (Whole Eor) (Ok step)
     passes_eor free begins new allows between written told same counted = rw told (
-      record { state = at.state; so_far = []; begun = new.begun },
+      record at { so_far = []; begun = new.begun },
       (
+        refl,
         refl,
         inr (
           refl,
@@ -172,17 +188,11 @@ module _ {D P U H PlaceV V K R : Type 0} (rules : Rules P U) (d : DisplayOf D U 
         ),
       ),
       stands_reading new _ (ap (λ (z : LastingParts _ _). z.ended) same ∙ works) refl
+          (ap (λ (z : LastingParts _ _). z.environ) same ∙ named)
           (ap (λ (z : LastingParts _ _). z.passing) same)
           (reads_anew free begins new.station new.taken _ refl (ap (λ (z : LastingParts _ _). z.begun) same ∙ between)
           (subst (λ (z : PartsOn D P). ReachedOn (on_display rules d) z [] [] at.state)
           (sym (ap (λ (z : LastingParts _ _). z.station) same)) p.reached))
           (ap (λ (z : LastingParts _ _). z.size) same),
       counted,
-    )
-
-    pub passes_late : (new : LastingParts D P) → station_allows_records old.station.reacts.options ≡ false
-        → IsWordHeard (on_display rules d) old.counts new at here (Whole Eor) (Err (At here RecordBeforeNegotiation))
-    passes_late new forbids = (
-      refl,
-      (inr (inr (ap station_allows_records (sym p.reached.stands.options) ∙ forbids, refl)), refl),
     )

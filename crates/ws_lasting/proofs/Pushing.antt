@@ -24,7 +24,7 @@ one_told (Some a) (Some b) e = cc
 module _ {R K Place U Deed Event Reply : Type 0} (d : Driving R K Place U Deed Event Reply) (old new : Driven R K Place)
     (b : ℕ) (bytes : List ℕ) (items : List (Item U)) (state : d.does.State) where
   -- a byte that brings this completes no item, or one
-  came_one : (step : EndStep Event Reply)
+  pub came_one : (step : EndStep Event Reply)
       → Come d (IsReached d new) bytes items state (b ∷ []) (d.does.written new.reacts step.reply) (as_list step.event)
       → GoesOnAt d new (bytes ++ b ∷ []) items state step
   came_one step g = elim g.happen [

@@ -1,19 +1,17 @@
-use Rattle.std.proofs.Common.{◌≡◌, ℕ, refl, subst, Ok, Err, Result, Option}
+use Rattle.std.proofs.Common.{◌≡◌, ℕ, refl, ap, subst, Ok, Err, Result}
 use Rattle.ws_code.specs.declared.code.Push.{Push}
 use Rattle.ws_code.specs.declared.code.Push.TheVariants.{More, Unit as Whole, Bad}
 use Rattle.ws_telnet.specs.declared.token.Token.{Token}
 use Rattle.ws_telnet.specs.declared.token.Token.TheVariants.{Data, Eor, Telnet as TelnetToken}
-use Rattle.ws_end.specs.declared.end_step.EndStep.{EndStep}
 use Rattle.ws_end.specs.declared.refusal.Refusal.{Refusal}
 use Rattle.ws_end.specs.declared.refusal.Refusal.TheVariants.{At, Failed, Memory}
 use Rattle.ws_end.specs.station.Displays.{OnDisplay}
-use Rattle.ws_lasting.specs.Footings.{LastingOf, IsByteTaken, IsFollowed, IsWordHeard}
+use Rattle.ws_lasting.specs.Footings.{LastingOf, LastingStep, IsByteTaken, IsFollowed, IsWordHeard}
 use Rattle.ws_lasting.specs.Lasting.{FootingOn, IsTokenStep}
-use Rattle.ws_lasting.specs.declared.record_event.RecordEvent.{RecordEvent}
 
 module _ (on : OnDisplay) (old new : LastingOf on) (at : FootingOn on) (byte : ℕ) (word : Push Token) where
   -- what comes of a byte is what comes of its word
-  pub taken_so : (result : Result (EndStep RecordEvent on.Replied) Refusal)
+  pub taken_so : (result : Result (LastingStep on.Replied) Refusal)
       → IsTokenStep at.begun byte new.begun word → IsWordHeard on old.counts new at old.taken word result
       → IsByteTaken on old new at byte result
   taken_so (Ok step) t h =
@@ -23,10 +21,11 @@ module _ (on : OnDisplay) (old new : LastingOf on) (at : FootingOn on) (byte : �
   taken_so (Err Memory) t h = h
 
 -- what is followed takes no byte
-pub followed : (on : OnDisplay) (old new : LastingOf on) (word : Push Token) (event : Option RecordEvent)
-    → IsFollowed on old new word event → (new.begun ≡ old.begun) × (new.taken ≡ old.taken)
-followed on old new More event f = rw f.0 (refl, refl)
-followed on old new (Whole (Data b)) event f = rw f.0 (refl, refl)
-followed on old new (Whole Eor) event f = rw f.1 (refl, refl)
-followed on old new (Whole (TelnetToken t)) event f = rw f.0 (refl, refl)
-followed on old new (Bad reason) event f = rw f.0 (refl, refl)
+pub followed : (on : OnDisplay) (old new : LastingOf on) (word : Push Token) (reply : on.Replied)
+    (step : LastingStep on.Replied) → IsFollowed on old new word reply step → (new.begun ≡ old.begun) × (new.taken ≡ old.taken)
+followed on old new More reply step f = rw f.0 (refl, refl)
+followed on old new (Whole (Data b)) reply step f = rw f.0 (refl, refl)
+followed on old new (Whole Eor) reply step f = rw f.1 (refl, refl)
+followed on old new (Whole (TelnetToken t)) reply step f =
+    (ap (λ (z : LastingOf on). z.begun) f.0.same, ap (λ (z : LastingOf on). z.taken) f.0.same)
+followed on old new (Bad reason) reply step f = rw f.0 (refl, refl)

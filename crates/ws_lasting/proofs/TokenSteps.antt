@@ -9,7 +9,7 @@ use Rattle.ws_telnet.specs.declared.token.Token.{Token}
 
 -- What a byte more makes of tokens, by how the bytes with it are cut.
 
-at_end : {X : Type 0} (xs : List X) → (xs ≡ []) ⊎ ((ys : List X) × (y : X) × (xs ≡ ys ++ y ∷ []))
+pub at_end : {X : Type 0} (xs : List X) → (xs ≡ []) ⊎ ((ys : List X) × (y : X) × (xs ≡ ys ++ y ∷ []))
 at_end [] = inl refl
 at_end (x ∷ xs) = elim (at_end xs) [
   | inl none ↦ inr ([], x, ap (λ z. x ∷ z) none)

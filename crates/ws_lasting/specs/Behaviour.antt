@@ -5,13 +5,12 @@ use Rattle.ws_keys.specs.declared.answer.Answer.{Answer}
 use Rattle.ws_end.specs.Acts.{Act, ComesToNothing, all_came, as_list, bytes_of}
 use Rattle.ws_end.specs.Behaviour.{Behaviour}
 use Rattle.ws_end.specs.Ends.{IsShut}
-use Rattle.ws_end.specs.declared.end_step.EndStep.{EndStep}
 use Rattle.ws_end.specs.declared.refusal.Refusal.{Refusal}
 use Rattle.ws_end.specs.declared.refusal.Refusal.TheVariants.{At, Failed, Memory}
 use Rattle.ws_end.specs.station.AnswerSpelling.{answer_spelling}
 use Rattle.ws_end.specs.station.Displays.{OnDisplay}
 use Rattle.ws_lasting.specs.Counting.{IsCounted}
-use Rattle.ws_lasting.specs.Footings.{AtLasting, LastingOf, StandsAt}
+use Rattle.ws_lasting.specs.Footings.{AtLasting, LastingOf, LastingStep, StandsAt, bytes_written}
 use Rattle.ws_lasting.specs.Lasting.{FootingOn, IsFatal, Lasts}
 use Rattle.ws_lasting.specs.declared.record_event.RecordEvent.{RecordEvent}
 
@@ -41,9 +40,9 @@ module _ (on : OnDisplay) where
 
   -- what comes of bytes that are taken: they lead on, or the last of them ends the session
   abbrev pub AreTakenSo : LastingOf on → LastingOf on → FootingOn on → List ℕ
-      → Result (EndStep RecordEvent on.Replied) Refusal → Type 0
+      → Result (LastingStep on.Replied) Refusal → Type 0
   AreTakenSo old new at came (Ok step) = LeadsOnFrom old new at (all_came came)
-      (on.does.written new.station.reacts.screen step.reply) (as_list step.event)
+      (bytes_written on new step.reply) (as_list step.event)
   AreTakenSo old new at came (Err why) = (front : List ℕ) × (byte : ℕ) × (came ≡ front ++ byte ∷ [])
       × IsLast at old.taken front byte why
 

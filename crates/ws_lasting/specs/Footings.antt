@@ -3,8 +3,12 @@
 use Rattle.std.specs.Prelude.{◌≡◌, ℕ, ◌+◌, ◌^◌, ◌<◌, ◌≤◌, List, [], ◌∷◌, Option, Some, None, Result, Ok, Err, OnOk, OnErr, IsSome, true, length}
 use Rattle.ws_code.specs.declared.code.Push.{Push}
 use Rattle.ws_code.specs.declared.code.Push.TheVariants.{Unit as Whole}
+use Rattle.ws_telnet.specs.declared.token.Telnet.{Telnet}
 use Rattle.ws_telnet.specs.declared.token.Token.{Token}
-use Rattle.ws_telnet.specs.declared.token.Token.TheVariants.{Data, Eor}
+use Rattle.ws_telnet.specs.declared.token.Token.TheVariants.{Data, Eor, Telnet as TelnetToken}
+use Rattle.ws_nego.specs.Options.{telnet_bytes}
+use Rattle.ws_nego.specs.Station.{StationState, station_answer}
+use Rattle.ws_identity.specs.Environ.{EnvironState}
 use Rattle.ws_record.specs.declared.opcode.Opcode.TheVariants.{NoOperation}
 use Rattle.ws_screen.specs.declared.read_kind.ReadKind.{ReadKind}
 use Rattle.ws_keys.specs.Contents.{answer_bytes}
@@ -20,17 +24,20 @@ use Rattle.ws_end.specs.station.Displays.{OnDisplay, RefusesKey, Silent, Answers
 use Rattle.ws_end.specs.station.StationTransitions.{key_on}
 use Rattle.ws_end.specs.station.Stations.{ItemsOf, ReachedOn, PartsOn, EndStateOf, StationOf}
 use Rattle.ws_lasting.specs.Counting.{IsCounted}
+use Rattle.ws_lasting.specs.Identity.{environ_after, reply_to}
 use Rattle.ws_lasting.specs.Lasting.{FootingOn, IsAtByte, IsAtWord, IsFatal, IsFatalWord}
 use Rattle.ws_lasting.specs.Negative.{is_of_record}
 use Rattle.ws_lasting.specs.Records.{IsSpoilt}
+use Rattle.ws_lasting.specs.declared.lasting_reply.LastingReply.{LastingReply}
+use Rattle.ws_lasting.specs.declared.lasting_reply.LastingReply.TheVariants.{Station, Environ}
 use Rattle.ws_lasting.specs.declared.record_counts.RecordCounts.{RecordCounts}
 use Rattle.ws_lasting.specs.declared.record_event.RecordEvent.{RecordEvent}
 use Rattle.ws_lasting.specs.declared.record_event.RecordEvent.TheVariants.{CarriedOut}
 use Rattle.ws_lasting.specs.declared.record_event.RefusedRecord.{RefusedRecord}
 
 -- What such a station keeps: a station, the bytes of the token that has begun, how many bytes the open record has, why
--- it is refused if it is passed over, what the session has come to, how many bytes it has taken, and why it takes no
--- more.
+-- it is refused if it is passed over, what the session has come to, how many bytes it has taken, why it takes no more,
+-- NEW-ENVIRON if it has an identity, and the bytes that this answered last.
 pub record LastingParts (D P : Type 0) : Type 0 where
   pub station : PartsOn D P
   pub begun : List ℕ
@@ -39,10 +46,21 @@ pub record LastingParts (D P : Type 0) : Type 0 where
   pub counts : RecordCounts
   pub taken : ℕ
   pub ended : Option Refusal
+  pub environ : Option EnvironState
+  pub environ_reply : List ℕ
+
+-- what the last byte taken gives it
+abbrev pub LastingStep : Type 0 → Type 0
+LastingStep R = EndStep RecordEvent (LastingReply R)
 
 module _ (on : OnDisplay) where
   abbrev pub LastingOf : Type 0
   LastingOf = LastingParts on.Parts on.Place
+
+  -- the bytes of what it has just written
+  abbrev pub bytes_written : LastingOf → LastingReply on.Replied → List ℕ
+  bytes_written lasting (Station reply) = on.does.written lasting.station.reacts.screen reply
+  bytes_written lasting Environ = lasting.environ_reply
 
   -- the station reads: these bytes of an open record have come to it
   pub record IsReading (station : StationOf on) (taken : ℕ) (at : FootingOn on) : Type 0 where
@@ -67,6 +85,7 @@ module _ (on : OnDisplay) where
   pub record StandsAt (lasting : LastingOf) (at : FootingOn on) : Type 0 where
     pub works : lasting.ended ≡ None
     pub is_begun : lasting.begun ≡ at.begun
+    pub is_environ : lasting.environ ≡ at.environ
     pub within : ReadsOrPasses lasting at lasting.passing
 
   -- this holds of wherever the station stands
@@ -75,16 +94,16 @@ module _ (on : OnDisplay) where
 
   -- what comes of a byte: what it makes of a station, or why it ends the session
   abbrev pub IsByteTaken : LastingOf → LastingOf → FootingOn on → ℕ
-      → Result (EndStep RecordEvent on.Replied) Refusal → Type 0
+      → Result (LastingStep on.Replied) Refusal → Type 0
   IsByteTaken old new at byte (Ok step) = (next : FootingOn on)
-      × IsAtByte on at byte next (on.does.written new.station.reacts.screen step.reply) (as_list step.event)
+      × IsAtByte on at byte next (bytes_written new step.reply) (as_list step.event)
       × StandsAt new next × IsCounted old.counts (as_list step.event) new.counts
   IsByteTaken old new at byte (Err (At place reason)) = (place ≡ old.taken) × IsFatal on at byte reason
   IsByteTaken old new at byte (Err why) = ⊥
 
   -- what a byte gives
   pub record TakesByte (old : LastingOf) (byte : ℕ) (new : LastingOf)
-      (result : Result (EndStep RecordEvent on.Replied) Refusal) : Type 0 where
+      (result : Result (LastingStep on.Replied) Refusal) : Type 0 where
     pub taken : AtLasting old (λ at. old.taken + 1 < 2 ^ 64 → IsByteTaken old new at byte result)
     pub counted : OnOk result (new.taken ≡ old.taken + 1)
     pub after : OnErr result (IsSome new.ended)
@@ -92,31 +111,43 @@ module _ (on : OnDisplay) where
     pub failed : IsSome old.ended → result ≡ Err Failed
 
   -- the reply of what a byte gives, or why it ends the session
-  abbrev pub replied_by : Result (EndStep RecordEvent on.Replied) Refusal → Result on.Replied Refusal
+  abbrev pub replied_by : Result (LastingStep on.Replied) Refusal → Result (LastingReply on.Replied) Refusal
   replied_by (Ok step) = Ok step.reply
   replied_by (Err why) = Err why
 
   -- a byte gives this reply, or is refused so
-  abbrev pub IsPushedSo : LastingOf → ℕ → LastingOf → Result on.Replied Refusal → Type 0
-  IsPushedSo old byte new result = (gave : Result (EndStep RecordEvent on.Replied) Refusal)
+  abbrev pub IsPushedSo : LastingOf → ℕ → LastingOf → Result (LastingReply on.Replied) Refusal → Type 0
+  IsPushedSo old byte new result = (gave : Result (LastingStep on.Replied) Refusal)
       × TakesByte old byte new gave × (result ≡ replied_by gave)
 
   -- what comes of the last byte taken, by what it makes of tokens
   abbrev pub IsWordHeard : RecordCounts → LastingOf → FootingOn on → ℕ → Push Token
-      → Result (EndStep RecordEvent on.Replied) Refusal → Type 0
+      → Result (LastingStep on.Replied) Refusal → Type 0
   IsWordHeard counts new at here word (Ok step) = (next : FootingOn on)
-      × IsAtWord on at word next (on.does.written new.station.reacts.screen step.reply) (as_list step.event)
+      × IsAtWord on at word next (bytes_written new step.reply) (as_list step.event)
       × StandsAt new next × IsCounted counts (as_list step.event) new.counts
   IsWordHeard counts new at here word (Err (At place reason)) = (place ≡ here) × IsFatalWord on at word reason
   IsWordHeard counts new at here word (Err why) = ⊥
 
-  -- what becomes of a station that reads, where the last byte isn't refused, and what it tells
-  abbrev pub IsFollowed : LastingOf → LastingOf → Push Token → Option RecordEvent → Type 0
-  IsFollowed old new (Whole (Data b)) event = (new ≡ record old { size = old.size + 1 }) × (event ≡ None)
-  IsFollowed old new (Whole Eor) event = (counts : RecordCounts)
+  -- what is written at a Telnet command at which the station on the display gives this reply
+  pub record IsReplied (old new : LastingOf) (token : Telnet) (reply : on.Replied) (result : LastingReply on.Replied)
+      : Type 0 where
+    pub same : new ≡ record old { environ = environ_after old.environ token; environ_reply = new.environ_reply }
+    pub written : (options : StationState)
+        → on.does.written old.station.reacts.screen reply ≡ telnet_bytes (station_answer options token).reply
+        → bytes_written new result ≡ telnet_bytes (reply_to options old.environ token)
+
+  -- what becomes of a station that reads, where the last byte isn't refused, at which the station on the display gives
+  -- this reply; and what it gives
+  abbrev pub IsFollowed : LastingOf → LastingOf → Push Token → on.Replied → LastingStep on.Replied → Type 0
+  IsFollowed old new (Whole (Data b)) reply step = (new ≡ record old { size = old.size + 1 })
+      × (step ≡ record { reply = Station reply; event = None })
+  IsFollowed old new (Whole Eor) reply step = (counts : RecordCounts)
       × (new ≡ record old { size = 0; passing = None; counts = counts })
-      × IsCounted old.counts (CarriedOut ∷ []) counts × (event ≡ Some CarriedOut)
-  IsFollowed old new other event = (new ≡ old) × (event ≡ None)
+      × IsCounted old.counts (CarriedOut ∷ []) counts
+      × (step ≡ record { reply = Station reply; event = Some CarriedOut })
+  IsFollowed old new (Whole (TelnetToken t)) reply step = IsReplied old new t reply step.reply × (step.event ≡ None)
+  IsFollowed old new other reply step = (new ≡ old) × (step ≡ record { reply = Station reply; event = None })
 
   -- what a key gives: its refusal, with the station as it was; or what it sends
   abbrev pub IsKeyHeard : LastingOf → LastingOf → FootingOn on → on.Pressed → Result (Option Answer) KeyFault → Type 0

@@ -1,7 +1,7 @@
 -- A station that no record ends: each stands for itself. One that is refused is answered, and nothing else comes of it
 -- (RFC 1205, flag ERR)
 
-use Rattle.std.specs.Prelude.{◌≡◌, ℕ, List, [], ◌∷◌, ◌++◌, ◌⊎◌, Bool, false, true, ◌&&◌, length}
+use Rattle.std.specs.Prelude.{◌≡◌, ℕ, List, [], ◌∷◌, ◌++◌, ◌⊎◌, Bool, false, true, ◌&&◌, Option, length}
 use Rattle.ws_code.specs.Code.{IsSpelled, IsUnfinished, IsPrefix}
 use Rattle.ws_code.specs.declared.code.Push.{Push}
 use Rattle.ws_code.specs.declared.code.Push.TheVariants.{More, Unit as Whole, Bad}
@@ -12,6 +12,7 @@ use Rattle.ws_telnet.specs.declared.token.Token.{Token}
 use Rattle.ws_telnet.specs.declared.token.Token.TheVariants.{Data, Eor, Telnet as TelnetToken}
 use Rattle.ws_nego.specs.Options.{telnet_bytes}
 use Rattle.ws_nego.specs.Station.{station_answer, station_allows_records}
+use Rattle.ws_identity.specs.Environ.{EnvironState}
 use Rattle.ws_record.specs.declared.record.Item.{Item}
 use Rattle.ws_record.specs.declared.record.Item.TheVariants.{Record as RecordItem}
 use Rattle.ws_record.specs.declared.record.Record.{Record}
@@ -23,17 +24,24 @@ use Rattle.ws_end.specs.declared.end_step.Applied.{Applied}
 use Rattle.ws_end.specs.station.Displays.{OnDisplay, EndStateOn}
 use Rattle.ws_end.specs.station.StationTransitions.{takes_on, key_on, at_key_on}
 use Rattle.ws_end.specs.station.Stations.{EndStateOf}
+use Rattle.ws_lasting.specs.Identity.{environ_after, reply_to}
 use Rattle.ws_lasting.specs.Negative.{is_of_record, negative}
 use Rattle.ws_lasting.specs.Records.{IsUnfit, IsSpoilt}
 use Rattle.ws_lasting.specs.declared.record_event.RecordEvent.{RecordEvent}
 use Rattle.ws_lasting.specs.declared.record_event.RecordEvent.TheVariants.{CarriedOut, Refused}
 use Rattle.ws_lasting.specs.declared.record_event.RefusedRecord.{RefusedRecord}
 
--- Where a station stands: on this state, after these bytes of an open record and these of an unfinished token.
+-- Where a station stands: on this state, with this of NEW-ENVIRON if it has an identity, after these bytes of an open
+-- record and these of an unfinished token.
 pub record Footing (H : Type 0) : Type 0 where
   pub state : EndStateOn H
+  pub environ : Option EnvironState
   pub so_far : List ℕ
   pub begun : List ℕ
+
+-- where it stands before the first byte
+abbrev pub new_footing : {H : Type 0} → EndStateOn H → Option EnvironState → Footing H
+new_footing state environ = record { state = state; environ = environ; so_far = []; begun = [] }
 
 -- what a byte makes of tokens: the one that has begun grows by it, or ends with it, or none goes on with it
 abbrev pub IsTokenStep : List ℕ → ℕ → List ℕ → Push Token → Type 0
@@ -73,24 +81,24 @@ module _ (on : OnDisplay) where
   IsRefusedFor state bytes why =
       IsSpoilt on.rules bytes why ⊎ (IsTokenRefused state bytes Eor why.reason × (why.place ≡ length bytes))
 
-  -- What a token makes of a station that stands on this state, after these bytes of a record: the state that it comes
-  -- to, the bytes of the record then, what it writes, and what it tells.
-  abbrev pub IsAtToken : EndStateOf on → List ℕ → Token → EndStateOf on → List ℕ → List ℕ → List RecordEvent → Type 0
-  IsAtToken state so_far (Data b) next left written told =
-      (next ≡ state) × (left ≡ so_far ++ b ∷ []) × (written ≡ []) × (told ≡ [])
-  IsAtToken state so_far (TelnetToken t) next left written told =
-      (next ≡ record { options = (station_answer state.options t).after; happened = state.happened })
-      × (left ≡ so_far) × (written ≡ telnet_bytes (station_answer state.options t).reply) × (told ≡ [])
-  IsAtToken state so_far Eor next left written told = (left ≡ [])
-      × ((IsPerformed state so_far next written × (told ≡ CarriedOut ∷ []))
-      ⊎ ((next ≡ state) × (why : RefusedRecord) × (may_pass_over state why.reason ≡ true) × IsRefusedFor state so_far why
-      × (written ≡ negative why.reason) × (told ≡ Refused why ∷ [])))
+  -- what a token makes of a station: where it stands then, what it writes, and what it tells
+  abbrev pub IsAtToken : FootingOn → Token → FootingOn → List ℕ → List RecordEvent → Type 0
+  IsAtToken at (Data b) next written told = (next.state ≡ at.state) × (next.environ ≡ at.environ)
+      × (next.so_far ≡ at.so_far ++ b ∷ []) × (written ≡ []) × (told ≡ [])
+  IsAtToken at (TelnetToken t) next written told =
+      (next.state ≡ record { options = (station_answer at.state.options t).after; happened = at.state.happened })
+      × (next.environ ≡ environ_after at.environ t) × (next.so_far ≡ at.so_far)
+      × (written ≡ telnet_bytes (reply_to at.state.options at.environ t)) × (told ≡ [])
+  IsAtToken at Eor next written told = (next.environ ≡ at.environ) × (next.so_far ≡ [])
+      × ((IsPerformed at.state at.so_far next.state written × (told ≡ CarriedOut ∷ []))
+      ⊎ ((next.state ≡ at.state) × (why : RefusedRecord) × (may_pass_over at.state why.reason ≡ true)
+      × IsRefusedFor at.state at.so_far why × (written ≡ negative why.reason) × (told ≡ Refused why ∷ [])))
 
   -- what a byte makes of a station, by what it makes of tokens
   abbrev pub IsAtWord : FootingOn → Push Token → FootingOn → List ℕ → List RecordEvent → Type 0
-  IsAtWord at More next written told =
-      (next.state ≡ at.state) × (next.so_far ≡ at.so_far) × (written ≡ []) × (told ≡ [])
-  IsAtWord at (Whole t) next written told = IsAtToken at.state at.so_far t next.state next.so_far written told
+  IsAtWord at More next written told = (next.state ≡ at.state) × (next.environ ≡ at.environ)
+      × (next.so_far ≡ at.so_far) × (written ≡ []) × (told ≡ [])
+  IsAtWord at (Whole t) next written told = IsAtToken at t next written told
   IsAtWord at (Bad reason) next written told = ⊥
 
   abbrev pub IsAtByte : FootingOn → ℕ → FootingOn → List ℕ → List RecordEvent → Type 0
@@ -106,7 +114,7 @@ module _ (on : OnDisplay) where
       × (written ≡ first ++ rest) × (told ≡ now ++ later)
   Lasts at (Did key ∷ acts) next written told =
       let done : Doing (EndStateOf on) on.Writes Applied = at_key_on on.does at.state (key_on on.does at.state key) in
-      (rest : List ℕ) × Lasts (record { state = done.state; so_far = at.so_far; begun = at.begun }) acts next rest told
+      (rest : List ℕ) × Lasts (record at { state = done.state }) acts next rest told
       × (written ≡ plain_spelling on.does.out done.written ++ rest)
 
   -- what a byte makes of tokens ends the session: no token goes on with it, or one is refused, and not as a record is

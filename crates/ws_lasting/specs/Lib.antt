@@ -1,8 +1,11 @@
 pub mod AsStation
 pub mod Behaviour
 pub mod Counting
+pub mod Identity
 pub mod Lasting
 pub mod LastingLaws
 pub mod Negative
 pub mod Records
 pub mod Footings
+pub mod Fronts
+pub mod Others

@@ -1,9 +1,10 @@
 //! A station that no record ends, as an end of a session.
 ghost use Rattle.ws_lasting.specs.Behaviour.{lasting_behaviour};
+ghost use Rattle.ws_lasting.specs.Footings.{bytes_written};
 ghost use Rattle.ws_lasting.specs.LastingLaws.{lasting_follows, lasting_stays};
 ghost use Rattle.ws_end.specs.station.Displays.{on_display as on};
 
-use crate::{LastingStation, RecordEvent};
+use crate::{LastingReply, LastingStation, RecordEvent};
 use ws_code::Code;
 use ws_session::{End, EndFed, StationDisplay};
 
@@ -12,18 +13,18 @@ impl<D: StationDisplay> End for LastingStation<D> {
 
     type Event = RecordEvent;
 
-    type Reply = D::Reply;
+    type Reply = LastingReply<D::Reply>;
 
     ghost behaviour = { lasting_behaviour (on D.Commands.rules D.does) };
 
-    ghost written = { λ station reply. D.does.written station.station.reacts.screen reply };
+    ghost written = { bytes_written (on D.Commands.rules D.does) };
 
-    fn feed(&mut self, piece: &[u8]) -> EndFed<RecordEvent, D::Reply> {
+    fn feed(&mut self, piece: &[u8]) -> EndFed<RecordEvent, LastingReply<D::Reply>> {
         LastingStation::feed(self, piece)
     }
 
-    fn bytes<'a>(&'a self, reply: &'a D::Reply) -> &'a [u8] {
-        self.display().bytes(reply)
+    fn bytes<'a>(&'a self, reply: &'a LastingReply<D::Reply>) -> &'a [u8] {
+        LastingStation::bytes(self, reply)
     }
 
     ghost stays = { lasting_stays (on D.Commands.rules D.does) };

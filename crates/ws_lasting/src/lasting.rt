@@ -1,7 +1,9 @@
 //! A station that no record ends.
 ghost use Rattle.std.specs.Prelude.{◌≡◌, ◌&&◌, ◌≢◌, ◌≤◌, ◌<◌, ◌+◌, ◌-◌, ◌^◌, ◌∷◌, ℕ, [], None, Some, Err, IfOk, IsSome, OnErr, OnOk};
+ghost use Rattle.ws_identity.specs.Environ.{new_environ};
 ghost use Rattle.ws_lasting.specs.Behaviour.{LastingTraces, sent_by};
 ghost use Rattle.ws_lasting.specs.Footings.{AtLasting, IsByteTaken, IsKeyHeard, IsPushedSo, StandsAt};
+ghost use Rattle.ws_lasting.specs.Lasting.{new_footing};
 ghost use Rattle.ws_end.specs.Acts.{Did};
 ghost use Rattle.ws_end.specs.Ends.{IsShut};
 ghost use Rattle.ws_end.specs.declared.refusal.Refusal.{Refusal as ARefusal};
@@ -11,16 +13,20 @@ ghost use Rattle.ws_end.specs.station.StationTransitions.{new_state_on};
 
 mod feeding;
 mod hearing;
+mod identity;
 mod passing;
+mod runs;
 mod steps;
 mod tells;
 
-use crate::{RecordCounts, RecordEvent, RefusedRecord};
+use crate::{LastingReply, LastingStep, RecordCounts, RefusedRecord};
+use arrayvec::ArrayVec;
 use std::marker::Model;
-use ws_code::Code;
+use ws_code::{ByteList, Code};
+use ws_identity::{Environ, Identity, Reply};
 use ws_keys::Answer;
 use ws_nego::TerminalType;
-use ws_session::{EndStep, KeyFault, Refusal, StationDisplay, StationOn};
+use ws_session::{KeyFault, Refusal, StationDisplay, StationOn};
 use ws_telnet::Tokens;
 
 /// A station that goes on after a record that it refuses.
@@ -36,6 +42,10 @@ pub struct LastingStation<D: StationDisplay> {
     taken: u64,
     /// Why it takes no more bytes.
     ended: Option<Refusal>,
+    /// NEW-ENVIRON, where it has an identity.
+    environ: Option<Environ>,
+    /// What that answered last.
+    environ_reply: Reply,
 }
 
 impl<D: StationDisplay> Model for LastingStation<D> {
@@ -56,6 +66,8 @@ impl<D: StationDisplay> Model for LastingStation<D> {
       counts = s.counts;
       taken = s.taken;
       ended = s.ended;
+      environ = s.environ;
+      environ_reply = s.environ_reply;
     } };
 
     // A token has begun or not, and the open record's bytes were taken.
@@ -63,10 +75,29 @@ impl<D: StationDisplay> Model for LastingStation<D> {
 }
 
 impl<D: StationDisplay> LastingStation<D> {
-    /// A station that has taken no byte and no key.
+    /// A station that has taken no byte and no key. It has no identity, and refuses NEW-ENVIRON.
     pub fn new(terminal: TerminalType) -> Self
         ensures stands { StandsAt (on D.Commands.rules D.does) result
-            (record { state = new_state_on D.does terminal; so_far = []; begun = [] }) }
+            (new_footing (new_state_on D.does terminal) None) }
+        ensures counts { result.counts ≡ record { carried_out = 0; refused = 0; last = None } }
+        ensures taken { result.taken ≡ 0 }
+    {
+        Self::start(terminal, None)
+    }
+
+    /// One with an identity, which it tells a host that asks for it by NEW-ENVIRON (RFC 1572, RFC 4777).
+    pub fn with_identity(terminal: TerminalType, identity: Identity) -> Self
+        ensures stands { StandsAt (on D.Commands.rules D.does) result
+            (new_footing (new_state_on D.does terminal) (Some (new_environ identity))) }
+        ensures counts { result.counts ≡ record { carried_out = 0; refused = 0; last = None } }
+        ensures taken { result.taken ≡ 0 }
+    {
+        Self::start(terminal, Some(Environ::new(identity)))
+    }
+
+    fn start(terminal: TerminalType, environ: Option<Environ>) -> Self
+        ensures stands { StandsAt (on D.Commands.rules D.does) result
+            (new_footing (new_state_on D.does terminal) environ) }
         ensures counts { result.counts ≡ record { carried_out = 0; refused = 0; last = None } }
         ensures taken { result.taken ≡ 0 }
     {
@@ -78,6 +109,8 @@ impl<D: StationDisplay> LastingStation<D> {
             counts: RecordCounts::new(),
             taken: 0,
             ended: None,
+            environ,
+            environ_reply: ByteList::of(ArrayVec::new()),
         }
     }
 
@@ -90,7 +123,7 @@ impl<D: StationDisplay> LastingStation<D> {
     /// `At` the first byte after which the bytes are no tokens, that a record has which comes while records aren't
     /// allowed and is refused, or at which one ends that isn't allowed any more. It answers `Failed` from then on, as
     /// after 18,446,744,073,709,551,615 bytes.
-    pub fn take_byte(&mut self, byte: u8) -> Result<EndStep<RecordEvent, D::Reply>, Refusal>
+    pub fn take_byte(&mut self, byte: u8) -> Result<LastingStep<D::Reply>, Refusal>
         ensures taken { AtLasting (on D.Commands.rules D.does) self.old (λ at.
             self.old.taken + 1 < 2 ^ 64
             → IsByteTaken (on D.Commands.rules D.does) self.old self.new at byte result) }
@@ -106,7 +139,7 @@ impl<D: StationDisplay> LastingStation<D> {
             return self.stop(Refusal::Failed);
         }
         let word = self.step(byte);
-        self.count();
+        self.count(1);
         match self.passing {
             None => self.read(byte, word),
             Some(why) => self.pass(why, word),
@@ -118,7 +151,7 @@ impl<D: StationDisplay> LastingStation<D> {
     /// # Errors
     ///
     /// As `take_byte`.
-    pub fn push(&mut self, byte: u8) -> Result<D::Reply, Refusal>
+    pub fn push(&mut self, byte: u8) -> Result<LastingReply<D::Reply>, Refusal>
         ensures { IsPushedSo (on D.Commands.rules D.does) self.old byte self.new result }
     {
         match self.take_byte(byte) {

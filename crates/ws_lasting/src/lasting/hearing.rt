@@ -1,23 +1,27 @@
 //! What comes of a byte where a station reads.
-ghost use Rattle.std.specs.Prelude.{◌≡◌, ◌≢◌, ◌<◌, ◌-◌, ◌^◌, [], ℕ, None, Some, IsSome, OnErr, length, true, false};
-ghost use Rattle.ws_lasting.specs.Footings.{IsFollowed, IsReading, IsWordHeard};
+ghost use Rattle.std.specs.Prelude.{◌≡◌, ◌≢◌, ◌<◌, ◌-◌, ◌^◌, [], ℕ, List, None, Some, IsSome, OnErr, length, true, false};
+ghost use Rattle.ws_lasting.specs.Footings.{IsFollowed, IsReading, IsWordHeard, LastingOf, bytes_written};
+ghost use Rattle.ws_lasting.specs.Fronts.{IsWordRefused};
 ghost use Rattle.ws_lasting.specs.Lasting.{Footing, IsTokenStep};
+ghost use Rattle.ws_record.specs.declared.record.Item.{Item};
 ghost use Rattle.ws_end.specs.station.Displays.{on_display as on};
+ghost use Rattle.ws_end.specs.station.StationReacting.{StationStands};
 
 use crate::negative::negative;
-use crate::{LastingStation, RecordEvent};
+use crate::{LastingReply, LastingStation, LastingStep, RecordEvent};
 use arrayvec::ArrayVec;
-use ws_code::{ByteList, Code, Push};
+use ws_code::{ByteList, Code, Push, Reason};
 use ws_session::{EndStep, Refusal, StationDisplay};
 use ws_telnet::Token;
 
 // A step at which nothing is written or told.
-pub(super) fn silence<D: StationDisplay>() -> EndStep<RecordEvent, D::Reply>
-    ensures written { (display : D) → D.does.written display result.reply ≡ [] }
+pub(super) fn silence<D: StationDisplay>() -> LastingStep<D::Reply>
+    ensures written { (lasting : LastingOf (on D.Commands.rules D.does))
+        → bytes_written (on D.Commands.rules D.does) lasting result.reply ≡ [] }
     ensures told { result.event ≡ None }
 {
     EndStep {
-        reply: D::reply(ByteList::of(ArrayVec::new())),
+        reply: LastingReply::Station(D::reply(ByteList::of(ArrayVec::new()))),
         event: None,
     }
 }
@@ -36,7 +40,7 @@ impl<D: StationDisplay> LastingStation<D> {
         &mut self,
         byte: u8,
         word: Push<Token>,
-    ) -> Result<EndStep<RecordEvent, D::Reply>, Refusal>
+    ) -> Result<LastingStep<D::Reply>, Refusal>
         requires counted { 0 < self.old.taken }
         requires room { self.old.size < self.old.taken }
         requires few { self.old.taken < 2 ^ 64 }
@@ -44,6 +48,7 @@ impl<D: StationDisplay> LastingStation<D> {
             → IsReading (on D.Commands.rules D.does) self.old.station (self.old.taken - 1) at
             → IsTokenStep at.begun byte self.old.begun word → self.old.size ≡ length at.so_far
             → self.old.passing ≡ None → self.old.ended ≡ None
+            → self.old.environ ≡ at.environ
             → IsWordHeard (on D.Commands.rules D.does)
             self.old.counts self.new at (self.old.taken - 1) word result }
         ensures same { (self.new.begun ≡ self.old.begun) × (self.new.taken ≡ self.old.taken) }
@@ -53,48 +58,79 @@ impl<D: StationDisplay> LastingStation<D> {
             return self.end(reason);
         }
         let reason = match self.hear(byte) {
-            Ok(step) => {
-                let event = self.follow(&word);
-                return Ok(EndStep {
-                    reply: step.reply,
-                    event,
-                });
-            }
+            Ok(step) => return Ok(self.follow(&word, step.reply)),
             Err(Refusal::At { place: _, reason }) => reason,
             Err(Refusal::Failed) => return self.stop(Refusal::Failed),
             Err(Refusal::Memory) => return self.stop(Refusal::Memory),
         };
+        self.refuse(reason, is_end(&word))
+    }
+
+    // Refuses the last byte taken, with which a record ends or doesn't.
+    pub(super) fn refuse(
+        &mut self,
+        reason: Reason,
+        is_end: bool,
+    ) -> Result<LastingStep<D::Reply>, Refusal>
+        requires { 0 < self.old.taken }
+        ensures heard { (at : Footing D.Happened) (items : List (Item D.Commands.Unit))
+            (byte : ℕ) (word : Push Token)
+            → StationStands D.does self.old.station.reacts items at.state
+            → IsTokenStep at.begun byte self.old.begun word
+            → IsWordRefused (on D.Commands.rules D.does) at word reason
+            → (is_end ≡ true → word ≡ Push.Unit Token.Eor)
+            → (is_end ≡ false → word ≢ Push.Unit Token.Eor)
+            → self.old.size ≡ length at.so_far → self.old.ended ≡ None
+            → self.old.environ ≡ at.environ
+            → IsWordHeard (on D.Commands.rules D.does)
+            self.old.counts self.new at (self.old.taken - 1) word result }
+        ensures same { (self.new.begun ≡ self.old.begun) × (self.new.taken ≡ self.old.taken) }
+        ensures after { OnErr result (IsSome self.new.ended) }
+    {
         if !self.may_pass_over(reason) {
             return self.end(reason);
         }
         let why = self.refused_here(reason);
         self.revive();
-        if is_end(&word) {
-            self.close(RecordEvent::Refused(why));
-            return Ok(EndStep {
-                reply: D::reply(negative(why.reason)),
-                event: Some(RecordEvent::Refused(why)),
-            });
+        if !is_end {
+            self.pass_over(why);
+            return Ok(silence::<D>());
         }
-        self.pass_over(why);
-        Ok(silence::<D>())
+        self.close(RecordEvent::Refused(why));
+        Ok(EndStep {
+            reply: LastingReply::Station(D::reply(negative(why.reason))),
+            event: Some(RecordEvent::Refused(why)),
+        })
     }
 
-    // Follows the last byte taken, which isn't refused, and gives what it tells.
-    fn follow(&mut self, word: &Push<Token>) -> Option<RecordEvent>
+    // Follows the last byte taken, which isn't refused and at which the station on the display writes this.
+    fn follow(&mut self, word: &Push<Token>, reply: D::Reply) -> LastingStep<D::Reply>
         requires { self.old.size < self.old.taken }
-        ensures { IsFollowed (on D.Commands.rules D.does) self.old self.new word.now result }
+        ensures { IsFollowed (on D.Commands.rules D.does) self.old self.new word.now reply result }
     {
         match word {
             Push::Unit(Token::Data(_)) => {
-                self.grow();
-                None
+                self.grow(1);
+                EndStep {
+                    reply: LastingReply::Station(reply),
+                    event: None,
+                }
             }
             Push::Unit(Token::Eor) => {
                 self.close(RecordEvent::CarriedOut);
-                Some(RecordEvent::CarriedOut)
+                EndStep {
+                    reply: LastingReply::Station(reply),
+                    event: Some(RecordEvent::CarriedOut),
+                }
             }
-            _ => None,
+            Push::Unit(Token::Telnet(telnet)) => EndStep {
+                reply: self.replied(telnet, reply),
+                event: None,
+            },
+            _ => EndStep {
+                reply: LastingReply::Station(reply),
+                event: None,
+            },
         }
     }
 }

@@ -6,7 +6,7 @@ ghost use Rattle.ws_end.specs.station.Displays.{on_display as on};
 
 use super::hearing::silence;
 use crate::negative::negative;
-use crate::{LastingStation, RecordEvent, RefusedRecord};
+use crate::{LastingReply, LastingStation, LastingStep, RecordEvent, RefusedRecord};
 use ws_code::{Code, Push, Reason};
 use ws_session::{EndStep, Refusal, StationDisplay};
 use ws_telnet::Token;
@@ -17,12 +17,13 @@ impl<D: StationDisplay> LastingStation<D> {
         &mut self,
         why: RefusedRecord,
         word: Push<Token>,
-    ) -> Result<EndStep<RecordEvent, D::Reply>, Refusal>
+    ) -> Result<LastingStep<D::Reply>, Refusal>
         requires { 0 < self.old.taken }
         ensures heard { (at : Footing D.Happened) (byte : ℕ)
             → IsPassingOver (on D.Commands.rules D.does) self.old.station at why
             → IsTokenStep at.begun byte self.old.begun word
             → self.old.passing ≡ Some why → self.old.ended ≡ None
+            → self.old.environ ≡ at.environ
             → IsWordHeard (on D.Commands.rules D.does)
             self.old.counts self.new at (self.old.taken - 1) word result }
         ensures same { (self.new.begun ≡ self.old.begun) × (self.new.taken ≡ self.old.taken) }
@@ -31,17 +32,20 @@ impl<D: StationDisplay> LastingStation<D> {
         match word {
             Push::More => Ok(silence::<D>()),
             Push::Unit(Token::Data(_)) => Ok(silence::<D>()),
-            Push::Unit(Token::Telnet(telnet)) => Ok(EndStep {
-                reply: self.answer(&telnet),
-                event: None,
-            }),
+            Push::Unit(Token::Telnet(telnet)) => {
+                let reply = self.answer(&telnet);
+                Ok(EndStep {
+                    reply: self.replied(&telnet, reply),
+                    event: None,
+                })
+            }
             Push::Unit(Token::Eor) => {
                 if !self.allows_records() {
                     return self.end(Reason::RecordBeforeNegotiation);
                 }
                 self.close(RecordEvent::Refused(why));
                 Ok(EndStep {
-                    reply: D::reply(negative(why.reason)),
+                    reply: LastingReply::Station(D::reply(negative(why.reason))),
                     event: Some(RecordEvent::Refused(why)),
                 })
             }

@@ -1,5 +1,5 @@
 //! The steps of a station that no record ends, each of which writes one part of it.
-ghost use Rattle.std.specs.Prelude.{◌≡◌, ◌&&◌, ◌<◌, ◌+◌, ◌-◌, ◌^◌, ◌∷◌, ℕ, List, [], None, Some, Err, OnErr, length};
+ghost use Rattle.std.specs.Prelude.{◌≡◌, ◌&&◌, ◌<◌, ◌≤◌, ◌+◌, ◌-◌, ◌^◌, ◌∷◌, ℕ, List, [], None, Some, Err, OnErr, length};
 ghost use Rattle.ws_lasting.specs.Counting.{IsCounted};
 ghost use Rattle.ws_lasting.specs.Lasting.{IsTokenStep};
 ghost use Rattle.ws_lasting.specs.Negative.{is_of_record as spec_of_record};
@@ -14,7 +14,7 @@ ghost use Rattle.ws_end.specs.station.StationReacting.{StationStands, station_dr
 ghost use Rattle.ws_end.specs.station.Stations.{AtStationOn, IsKeyedOn, ReachedOn};
 
 use crate::negative::is_of_record;
-use crate::{LastingStation, RecordEvent, RefusedRecord};
+use crate::{LastingStation, LastingStep, RecordEvent, RefusedRecord};
 use ws_code::{Code, Push, Reason};
 use ws_keys::Answer;
 use ws_session::{Applied, EndStep, KeyFault, Refusal, StationDisplay};
@@ -33,12 +33,12 @@ impl<D: StationDisplay> LastingStation<D> {
         self.station.key(key)
     }
 
-    // Counts a byte.
-    pub(super) fn count(&mut self)
-        requires room { self.old.taken + 1 < 2 ^ 64 }
-        ensures { self.new ≡ record self.old { taken = self.old.taken + 1 } }
+    // Counts bytes.
+    pub(super) fn count(&mut self, bytes: usize)
+        requires room { self.old.taken + bytes < 2 ^ 64 }
+        ensures { self.new ≡ record self.old { taken = self.old.taken + bytes } }
     {
-        self.taken += 1;
+        self.taken += bytes as u64;
     }
 
     // What a byte makes of tokens.
@@ -112,13 +112,13 @@ impl<D: StationDisplay> LastingStation<D> {
         }
     }
 
-    // Counts a byte of the open record.
-    pub(super) fn grow(&mut self)
-        requires room { self.old.size < self.old.taken }
-        ensures { self.new ≡ record self.old { size = self.old.size + 1 } }
+    // Counts bytes of the open record.
+    pub(super) fn grow(&mut self, bytes: usize)
+        requires room { self.old.size + bytes ≤ self.old.taken }
+        ensures { self.new ≡ record self.old { size = self.old.size + bytes } }
     {
         let _taken = self.taken;
-        self.size += 1;
+        self.size += bytes as u64;
     }
 
     // Passes over the rest of a record.
@@ -140,7 +140,7 @@ impl<D: StationDisplay> LastingStation<D> {
     }
 
     // Takes no more bytes.
-    pub(super) fn stop(&mut self, why: Refusal) -> Result<EndStep<RecordEvent, D::Reply>, Refusal>
+    pub(super) fn stop(&mut self, why: Refusal) -> Result<LastingStep<D::Reply>, Refusal>
         ensures result { result ≡ Err why }
         ensures end { self.new ≡ record self.old { ended = Some why } }
     {
@@ -149,7 +149,7 @@ impl<D: StationDisplay> LastingStation<D> {
     }
 
     // Refuses the last byte taken, and takes no more.
-    pub(super) fn end(&mut self, reason: Reason) -> Result<EndStep<RecordEvent, D::Reply>, Refusal>
+    pub(super) fn end(&mut self, reason: Reason) -> Result<LastingStep<D::Reply>, Refusal>
         ensures result { result ≡ Err (ARefusal.At (self.old.taken - 1) reason) }
         ensures end { self.new
             ≡ record self.old { ended = Some (ARefusal.At (self.old.taken - 1) reason) } }

@@ -1,11 +1,11 @@
 //! What a station that no record ends tells of itself.
 ghost use Rattle.std.specs.Prelude.{IsTrue, ◌↔◌, ◌≡◌, ◌+◌, ◌^◌, ◌<◌, [], Err, IfErr, IsSome, OnOk};
-ghost use Rattle.ws_lasting.specs.Footings.{AtLasting};
+ghost use Rattle.ws_lasting.specs.Footings.{AtLasting, bytes_written};
 ghost use Rattle.ws_nego.specs.Station.{station_allows_records};
 ghost use Rattle.ws_end.specs.Ends.{IsShut, refused_byte};
 ghost use Rattle.ws_end.specs.station.Displays.{on_display as on};
 
-use crate::{LastingStation, RefusedRecord};
+use crate::{LastingReply, LastingStation, RefusedRecord};
 use ws_code::{Code, Fault, Reason};
 use ws_screen::Screen;
 use ws_session::{Refusal, StationDisplay};
@@ -16,6 +16,16 @@ impl<D: StationDisplay> LastingStation<D> {
         ensures { result.now ≡ self.now.station.reacts.screen }
     {
         self.station.display()
+    }
+
+    /// The bytes of what it has just written.
+    pub fn bytes<'a>(&'a self, reply: &'a LastingReply<D::Reply>) -> &'a [u8]
+        ensures { result.now ≡ bytes_written (on D.Commands.rules D.does) self.now reply.now }
+    {
+        match reply {
+            LastingReply::Station(reply) => self.display().bytes(reply),
+            LastingReply::Environ => self.environ_reply.as_slice(),
+        }
     }
 
     /// The screen.

@@ -1,31 +1,35 @@
 use Rattle.std.proofs.Common.{◌-◌, ◌∙◌, refl, sym, rules}
+use Rattle.ws_lasting.specs.declared.lasting_reply.LastingReply.TheVariants.{Station}
 use Rattle.ws_lasting.proofs.Passing.{passes_more, passes_data, passes_telnet, passes_eor}
 use Rattle.ws_lasting.proofs.lasting.LastingStation.pass.Goals as goal
 
 pub returns-in-More-clause-heard : goal.returns-in-More-clause-heard
-returns-in-More-clause-heard g c = rw c.in-More.is (λ at byte p step passing works.
+returns-in-More-clause-heard g c = rw c.in-More.is (λ at byte p step passing works named.
     passes_more g.D.Commands.Code.rules g.D.StationDisplay.does c.args.self.now at c.args.why
-    (c.args.self.now.taken - 1) p passing works c.silence.result (c.silence.ensures.written _) c.silence.ensures.told)
+    (c.args.self.now.taken - 1) p passing works named c.silence.result
+    (c.silence.ensures.written c.args.self.now) c.silence.ensures.told)
 
 pub returns-in-Unit-Data-clause-heard : goal.returns-in-Unit-Data-clause-heard
 returns-in-Unit-Data-clause-heard g c =
-    rw (c.in-Unit-Data.is, c.in-Unit-Data.field-0-is) (λ at byte p step passing works.
+    rw (c.in-Unit-Data.is, c.in-Unit-Data.field-0-is) (λ at byte p step passing works named.
     passes_data g.D.Commands.Code.rules g.D.StationDisplay.does c.args.self.now at c.args.why
-    (c.args.self.now.taken - 1) p passing works c.silence-in-Unit-Data.result (c.silence-in-Unit-Data.ensures.written _)
+    (c.args.self.now.taken - 1) p passing works named c.silence-in-Unit-Data.result
+    (c.silence-in-Unit-Data.ensures.written c.args.self.now)
     c.silence-in-Unit-Data.ensures.told _)
 
 pub returns-in-Unit-Telnet-clause-heard : goal.returns-in-Unit-Telnet-clause-heard
 returns-in-Unit-Telnet-clause-heard g c =
-    rw (c.in-Unit-Telnet.is, c.in-Unit-Telnet.field-0-is) (λ at byte p step passing works.
+    rw (c.in-Unit-Telnet.is, c.in-Unit-Telnet.field-0-is) (λ at byte p step passing works named.
     passes_telnet g.D.Commands.Code.rules g.D.StationDisplay.does c.args.self.now at c.args.why
-    (c.args.self.now.taken - 1) p passing works (record { reply = c.answer.result; event = _ }) c.answer.new.self
-    c.in-Unit-Telnet.telnet c.answer.ensures.reply refl c.answer.ensures.options)
+    (c.args.self.now.taken - 1) p passing works named (record { reply = c.replied.result; event = _ })
+    c.answer-reply.new.self c.replied.new.self c.in-Unit-Telnet.telnet c.answer-reply.result
+    c.answer-reply.ensures.reply c.answer-reply.ensures.options c.replied.ensures refl)
 
 pub returns-else-not-allows_records-clause-heard : goal.returns-else-not-allows_records-clause-heard
 returns-else-not-allows_records-clause-heard g c =
-    rw (c.in-Unit-Eor.is, c.in-Unit-Eor.field-0-is) (λ at byte p step passing works.
+    rw (c.in-Unit-Eor.is, c.in-Unit-Eor.field-0-is) (λ at byte p step passing works named.
     passes_eor g.D.Commands.Code.rules g.D.StationDisplay.does c.args.self.now at c.args.why
-    (c.args.self.now.taken - 1) p passing works (record { reply = c.reply.result; event = _ })
+    (c.args.self.now.taken - 1) p passing works named (record { reply = Station c.reply.result; event = _ })
     g.met.D.Commands.Code.prefix_free g.met.D.Commands.Code.begins c.close.new.self
     (sym c.allows_records.ensures ∙ search (rules, c.if-not-allows_records.false)) step.0
     (c.reply.ensures.written _ ∙ c.negative.ensures) refl c.close.ensures.same c.close.ensures.counted)

@@ -1,7 +1,7 @@
 use Rattle.std.proofs.Common.{refl, arith}
 use Rattle.ws_telnet.proofs.OneToken.{fresh_begins}
 use Rattle.ws_lasting.proofs.Passing.{reads_anew}
-use Rattle.ws_lasting.proofs.lasting.LastingStation.new.Goals as goal
+use Rattle.ws_lasting.proofs.lasting.LastingStation.start.Goals as goal
 
 pub invariant_of-result : goal.invariant_of-result
 invariant_of-result g c = (fresh_begins c.start.result c.start.ensures.fresh, omega arith)
@@ -10,6 +10,7 @@ pub returns-clause-stands : goal.returns-clause-stands
 returns-clause-stands g c = record {
   works = refl;
   is_begun = c.start.ensures.fresh;
+  is_environ = refl;
   within = (
     reads_anew g.D.Commands.Code.rules g.D.StationDisplay.does g.met.D.Commands.Code.prefix_free
         g.met.D.Commands.Code.begins c.new.result 0 _ refl refl c.new.ensures.reached,
