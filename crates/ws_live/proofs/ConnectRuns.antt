@@ -19,8 +19,8 @@ use Rattle.ws_live.specs.declared.live.connect.Waited.{Waited}
 use Rattle.ws_live.specs.declared.live.connect.Waited.TheVariants as waits
 use Rattle.ws_live.specs.declared.live.connect_line.Awaited.{Awaited}
 use Rattle.ws_live.specs.declared.live.connect_line.Awaited.TheVariants as awaits
-use Rattle.ws_printing.specs.declared.report.Report.{Report}
-use Rattle.ws_printing.specs.declared.report.Report.TheVariants as reported
+use Rattle.ws_printing.specs.declared.station_report.StationReport.{StationReport}
+use Rattle.ws_printing.specs.declared.station_report.StationReport.TheVariants as reported
 use Rattle.ws_live.specs.declared.live.watch.WaitSpan.TheVariants.{AtOnce}
 use Rattle.ws_live.specs.live.ConnectText.{pressed, closing_of_both, IsMet, IsKeyPressed, KeyRuns}
 use Rattle.ws_live.specs.live.ConnectText.{ArePressed, KeysRun, Hears, HasWaited, HearsOne, HearsNone, WaitsFor}
@@ -71,7 +71,7 @@ ahead_more ahead [] one = refl
 ahead_more ahead (first ∷ told) one = ahead_more (one_more ahead) told one
 
 -- how long a report waits that is no note
-pub report_span : (report : Report) → ((note : List ℕ) → report ≡ reported.Note note → ⊥)
+pub report_span : (report : StationReport) → ((note : List ℕ) → report ≡ reported.Note note → ⊥)
     → report_waits report ≡ Some AtOnce
 report_span reported.Status other = refl
 report_span (reported.Cells cell) other = refl
@@ -207,7 +207,7 @@ module _ {S K : Type 0} (display : WatchedDisplay S K) where
   is_waited operated from to ahead (awaits.Quiet time) waited other loud h = absurd (loud time refl)
 
   -- a report that is no note
-  pub reports : (report : Report) (from to : Watched × ℕ) (came : LineResult)
+  pub reports : (report : StationReport) (from to : Watched × ℕ) (came : LineResult)
       → ((note : List ℕ) → report ≡ reported.Note note → ⊥)
       → ShowsStation display (λ station. IsReportText (reported_station display.at.on.does station) report) from came to
       → Reports display report from came to

@@ -4,7 +4,7 @@ use Rattle.std.specs.Prelude.{codes}
 use Rattle.std.proofs.Common.{◌≡◌, ℕ, List, ◌++◌, true, refl, sym, ap, ◌∙◌, subst}
 use Rattle.ws_code.specs.Address.{IsRowAndColumn}
 use Rattle.ws_text.specs.Words.{IsSmall, IsCell}
-use Rattle.ws_printing.specs.declared.report.Span.{Span}
+use Rattle.ws_printing.specs.declared.station_report.Span.{Span}
 use Rattle.ws_live.specs.declared.script.script_line.LineFault.{LineFault}
 use Rattle.ws_live.specs.declared.script.script_line.LineFault.TheVariants.{Bad, Memory}
 use Rattle.ws_live.specs.live.ConnectLines.{IsBehindRow, IsCellCount, IsPlaced, IsRowText, IsSpanText}

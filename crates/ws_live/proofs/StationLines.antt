@@ -10,12 +10,12 @@ use Rattle.ws_live.specs.declared.live.connect_line.Awaited.{Awaited}
 use Rattle.ws_live.specs.declared.live.connect_line.StationLine.{StationLine}
 use Rattle.ws_live.specs.declared.live.connect_line.StationLine.TheVariants.{Nothing, Press, Await, Fields, Show, Bad}
 use Rattle.ws_live.specs.declared.live.connect_line.StationLine.TheVariants.{Stroke as StrokeLine, Report as ReportLine}
-use Rattle.ws_printing.specs.declared.report.Report.{Report}
-use Rattle.ws_printing.specs.declared.report.Report.TheVariants.{Status, Cells, Text as ShownText, Note}
-use Rattle.ws_printing.specs.declared.report.Span.{Span}
-use Rattle.ws_live.specs.declared.live.stroke.Filling.{Filling}
-use Rattle.ws_live.specs.declared.live.stroke.Stroke.{Stroke}
-use Rattle.ws_live.specs.declared.live.stroke.Stroke.TheVariants.{Cursor, NewLine, EraseEof, Fill}
+use Rattle.ws_printing.specs.declared.station_report.StationReport.{StationReport}
+use Rattle.ws_printing.specs.declared.station_report.StationReport.TheVariants.{Status, Cells, Text as ShownText, Note}
+use Rattle.ws_printing.specs.declared.station_report.Span.{Span}
+use Rattle.ws_live.specs.declared.live.script_stroke.FieldFilling.{FieldFilling}
+use Rattle.ws_live.specs.declared.live.script_stroke.ScriptStroke.{ScriptStroke}
+use Rattle.ws_live.specs.declared.live.script_stroke.ScriptStroke.TheVariants.{Cursor, NewLine, EraseEof, Fill}
 use Rattle.ws_live.specs.live.ConnectLines.{AreKeysOf, AreNamed, MeansKeys, MeansStroke, MeansWait, IsAwaited}
 use Rattle.ws_live.specs.live.ConnectLines.{IsRowText, IsSpanText, MeansReport, IsCellText, IsFilling, IsTextAwaited}
 use Rattle.ws_live.specs.live.ConnectLines.{IsTextWait, IsCommandSoFar, IsStationSoFar, MeansStationLine}
@@ -47,14 +47,14 @@ module _ {Q : Type 0} (w : KeyWords Q) where
   no_keys word keys free (inserted text e k) = false≢true (ap has_no_blank (sym e) ∙ free)
   no_keys word keys free (named name e k) = false≢true (ap has_no_blank (sym e) ∙ free)
 
-  no_stroke : (word : List ℕ) (stroke : Stroke Q) → has_no_blank word ≡ true → (word ≡ codes "newline" → ⊥)
+  no_stroke : (word : List ℕ) (stroke : ScriptStroke Q) → has_no_blank word ≡ true → (word ≡ codes "newline" → ⊥)
       → (word ≡ codes "erase" → ⊥) → MeansStroke w word stroke → ⊥
   no_stroke word (Cursor cell) free nn ne m = false≢true (ap has_no_blank (sym m.1) ∙ free)
   no_stroke word NewLine free nn ne m = nn m
   no_stroke word EraseEof free nn ne m = ne m
   no_stroke word (Fill filling) free nn ne m = false≢true (ap has_no_blank (sym m.1) ∙ free)
 
-  no_report : (word : List ℕ) (report : Report) → has_no_blank word ≡ true → (word ≡ codes "status" → ⊥)
+  no_report : (word : List ℕ) (report : StationReport) → has_no_blank word ≡ true → (word ≡ codes "status" → ⊥)
       → MeansReport word report → ⊥
   no_report word Status free ns m = ns m
   no_report word (Cells cell) free ns m = false≢true (ap has_no_blank (sym m.1) ∙ free)
@@ -80,12 +80,12 @@ module _ {Q : Type 0} (w : KeyWords Q) where
       ⊎ (((command ≡ codes "insert") × AreKeysOf w true words keys)
       ⊎ ((command ≡ codes "key") × AreNamed w words keys))
 
-  abbrev pub StrokeSays : List ℕ → List ℕ → Stroke Q → Type 0
+  abbrev pub StrokeSays : List ℕ → List ℕ → ScriptStroke Q → Type 0
   StrokeSays command words (Cursor cell) = (command ≡ codes "cursor") × IsCellText words cell
   StrokeSays command words (Fill filling) = (command ≡ codes "field") × IsFilling w words filling
   StrokeSays command words stroke = ⊥
 
-  abbrev pub ReportSays : List ℕ → List ℕ → Report → Type 0
+  abbrev pub ReportSays : List ℕ → List ℕ → StationReport → Type 0
   ReportSays command words Status = ⊥
   ReportSays command words (Cells cell) = (command ≡ codes "cells") × IsRowText words cell
   ReportSays command words (ShownText span) = (command ≡ codes "show") × IsSpanText words span
@@ -110,7 +110,7 @@ module _ {Q : Type 0} (w : KeyWords Q) where
       (let u = split_unique command (codes "key") words name free refl e in
       inr (inr (u.0, subst (λ (z : List ℕ). AreNamed w z keys) (sym u.1) k)))
 
-  stroke_says : (command words : List ℕ) (stroke : Stroke Q) → has_no_blank command ≡ true
+  stroke_says : (command words : List ℕ) (stroke : ScriptStroke Q) → has_no_blank command ≡ true
       → MeansStroke w ((command ++ codes " ") ++ words) stroke → StrokeSays command words stroke
   stroke_says command words (Cursor cell) free m =
       (let u = split_unique command (codes "cursor") words m.0 free refl m.1 in
@@ -121,7 +121,7 @@ module _ {Q : Type 0} (w : KeyWords Q) where
       (let u = split_unique command (codes "field") words m.0 free refl m.1 in
       (u.0, subst (λ (z : List ℕ). IsFilling w z filling) (sym u.1) m.2))
 
-  report_says : (command words : List ℕ) (report : Report) → has_no_blank command ≡ true
+  report_says : (command words : List ℕ) (report : StationReport) → has_no_blank command ≡ true
       → MeansReport ((command ++ codes " ") ++ words) report → ReportSays command words report
   report_says command words Status free m = blank_inside command words (ap has_no_blank m)
   report_says command words (Cells cell) free m =
@@ -276,7 +276,7 @@ module _ {Q : Type 0} (w : KeyWords Q) where
       none_by command words (codes "cursor") free plain e (cell_says words none_is)
 
   -- no field that there may be
-  filling_says : (words : List ℕ) → ((f : Filling Q) → IsFilling w words f → ⊥) → (line : StationLine Q)
+  filling_says : (words : List ℕ) → ((f : FieldFilling Q) → IsFilling w words f → ⊥) → (line : StationLine Q)
       → Says (codes "field") words line → ⊥
   filling_says words none_is (StrokeLine (Fill filling)) h = none_is filling h.1
   filling_says words none_is (StrokeLine NewLine) h = h
@@ -284,7 +284,7 @@ module _ {Q : Type 0} (w : KeyWords Q) where
   filling_says words none_is line h = false≢true (by_command (codes "field") words line h)
 
   pub no_filling_line : (command words : List ℕ) → has_no_blank command ≡ true → IsNoComment ((command ++ codes " ")
-      ++ words) → command ≡ codes "field" → ((f : Filling Q) → IsFilling w words f → ⊥) → (line : StationLine Q)
+      ++ words) → command ≡ codes "field" → ((f : FieldFilling Q) → IsFilling w words f → ⊥) → (line : StationLine Q)
       → MeansStationLine w ((command ++ codes " ") ++ words) line → ⊥
   no_filling_line command words free plain e none_is =
       none_by command words (codes "field") free plain e (filling_says words none_is)
@@ -351,7 +351,7 @@ module _ {Q : Type 0} (w : KeyWords Q) where
       → IsCommandSoFar w ((command ++ codes " ") ++ words)
   awaits_so_far command words e t = inr (words, behind command words (codes "await") e, t)
 
-  pub fills_so_far : (command words : List ℕ) → command ≡ codes "field" → (f : Filling Q) × IsFilling w words f
+  pub fills_so_far : (command words : List ℕ) → command ≡ codes "field" → (f : FieldFilling Q) × IsFilling w words f
       → IsCommandSoFar w ((command ++ codes " ") ++ words)
   fills_so_far command words e f =
       inl (StrokeLine (Fill f.0), (words, behind command words (codes "field") e, f.1))

@@ -19,9 +19,9 @@ use Rattle.ws_end.specs.declared.attached.acted.Acted.TheVariants as acted
 use Rattle.ws_end.specs.declared.station.key_fault.KeyFault.{KeyFault}
 use Rattle.ws_live.specs.declared.live.Closing.{Closing}
 use Rattle.ws_live.specs.declared.live.Closing.TheVariants.{Declined, Done}
-use Rattle.ws_live.specs.declared.live.stroke.Filling.{Filling}
-use Rattle.ws_live.specs.declared.live.stroke.Stroke.{Stroke}
-use Rattle.ws_live.specs.declared.live.stroke.Stroke.TheVariants.{Cursor, NewLine, EraseEof, Fill}
+use Rattle.ws_live.specs.declared.live.script_stroke.FieldFilling.{FieldFilling}
+use Rattle.ws_live.specs.declared.live.script_stroke.ScriptStroke.{ScriptStroke}
+use Rattle.ws_live.specs.declared.live.script_stroke.ScriptStroke.TheVariants.{Cursor, NewLine, EraseEof, Fill}
 use Rattle.ws_live.specs.live.ConnectText.{key_refused_text, pressed, KeyRuns, KeysUntil, StrokeRuns}
 use Rattle.ws_live.specs.live.Stroking.{keys_behind, no_field_text, stroke_keys, stroke_runs}
 use Rattle.ws_live.specs.live.LiveText.{LineResult, LinesDo, line_result}
@@ -78,7 +78,7 @@ module _ {Q : Type 0} (profile : Key → Q) where
   keys_on runs n = ap display_keys (sym (take-append-drop n runs)) ∙ keys_both (take n runs) (drop n runs)
 
 -- nothing is typed behind a stroke that fills no field
-pub no_keys_behind : {Q : Type 0} (stroke : Stroke Q) → ((f : Filling Q) → stroke ≡ Fill f → ⊥)
+pub no_keys_behind : {Q : Type 0} (stroke : ScriptStroke Q) → ((f : FieldFilling Q) → stroke ≡ Fill f → ⊥)
     → keys_behind stroke ≡ []
 no_keys_behind (Cursor cell) other = refl
 no_keys_behind NewLine other = refl
@@ -192,7 +192,7 @@ module _ {S K : Type 0} (display : KeyedDisplay S K) where
         (until_stopped (display_keys profile (take (i + 1) runs)) (display_keys profile (drop (i + 1) runs)) from to
         came (both before next) other)
 
-  module _ (s : ScreenParts) (stroke : Stroke (KeyAt display.at)) (from to : Parts) (came : LineResult) where
+  module _ (s : ScreenParts) (stroke : ScriptStroke (KeyAt display.at)) (from to : Parts) (came : LineResult) where
     abbrev Strokes : Option (List KeyRun) → Type 0
     Strokes runs = StrokeRuns display
         (option_map (λ runs. map display.words.profile (keys_of runs) ++ keys_behind stroke) runs) from came to

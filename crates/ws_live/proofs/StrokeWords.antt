@@ -4,7 +4,7 @@ use Rattle.std.specs.Prelude.{codes}
 use Rattle.std.proofs.Common.{◌≡◌, ℕ, List, ◌++◌, true, sym, ap, ◌∙◌, subst}
 use Rattle.ws_code.specs.Address.{IsRowAndColumn}
 use Rattle.ws_text.specs.Words.{IsNumber, IsSmall, IsCell}
-use Rattle.ws_live.specs.declared.live.stroke.Filling.{Filling}
+use Rattle.ws_live.specs.declared.live.script_stroke.FieldFilling.{FieldFilling}
 use Rattle.ws_live.specs.live.ConnectLines.{IsCellText, IsFieldText, IsFilling}
 use Rattle.ws_live.specs.script.KeyWords.{KeyWords}
 use Rattle.ws_live.specs.script.ScriptFaults.{has_no_blank}
@@ -45,7 +45,7 @@ off_screen row column r c is_r is_c off cell m =
 module _ {Q : Type 0} (w : KeyWords Q) where
   -- two are its number and its text
   pub no_field_text : (words word text : List ℕ) → words ≡ (word ++ codes " ") ++ text → has_no_blank word ≡ true
-      → ((f : Filling Q) → IsFieldText w word text f → ⊥) → (f : Filling Q) → IsFilling w words f → ⊥
+      → ((f : FieldFilling Q) → IsFieldText w word text f → ⊥) → (f : FieldFilling Q) → IsFilling w words f → ⊥
   no_field_text words word text e free none_is f m =
       let u = split_unique word m.0 text m.1 free (digits_have_no_blank m.0 m.3.0.0.0.1) (sym e ∙ m.2) in
       let first : IsFieldText w word m.1 f = subst (λ (z : List ℕ). IsFieldText w z m.1 f) (sym u.0) m.3 in

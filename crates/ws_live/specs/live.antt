@@ -7,5 +7,5 @@ pub mod Operating
 pub mod ServeLines
 pub mod ServeText
 pub mod Stroking
-pub mod Waits
+pub mod Watches
 pub mod WireLines

@@ -2,6 +2,6 @@
 
 pub(crate) mod fault;
 pub(crate) mod live_address;
-pub(crate) mod live_asked;
 pub(crate) mod open_streams;
 pub(crate) mod sender;
+pub(crate) mod session_asked;

@@ -1,12 +1,12 @@
 ghost use Rattle.std.specs.Prelude.{◌≡◌, ◌++◌, List, ℕ, IfOk, string_bytes};
 ghost use Rattle.ws_live.specs.cause.CauseTexts as Spec;
 
-pub(crate) mod cause_kinds;
 pub(crate) mod cause_lines;
 pub(crate) mod cause_words;
 pub(crate) mod causes;
 pub(crate) mod told_line;
 pub(crate) mod vocabulary;
+pub(crate) mod word_kind;
 
 use std::alloc::{AllocError, Global};
 
@@ -53,6 +53,10 @@ pub enum Cause<'a> {
 }
 
 /// A cause in words. Of the word at fault the first 60 characters stand in it; a control character and `\` as `\HH`.
+///
+/// # Errors
+///
+/// `AllocError` where a growth was refused.
 pub fn cause_text(alloc: Global, cause: Cause<'_>) -> Result<String, AllocError>
     ensures { IfOk result (λ text. (shown : List ℕ)
         × (string_bytes text ≡ Spec.saying cause.entry ++ shown)) }

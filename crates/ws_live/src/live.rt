@@ -5,7 +5,7 @@ ghost use Rattle.ws_printing.specs.Buffering.{Buffering, buffered_writer};
 ghost use Rattle.ws_text.specs.Printed.{IsPrinted};
 ghost use Rattle.ws_text.specs.Printing.{IsOut, Prints};
 ghost use Rattle.ws_live.specs.live.LiveText as Spec;
-ghost use Rattle.ws_live.specs.live.Waits.{HasBegunIf, InTime, WatchTells};
+ghost use Rattle.ws_live.specs.live.Watches.{HasBegunIf, InTime, WatchTells};
 ghost use Rattle.ws_printing.specs.declared.paint.Paint.{Paint as APaint};
 ghost use Rattle.ws_live.specs.declared.live.watch.WaitSpan.{WaitSpan as ASpan};
 
@@ -16,9 +16,9 @@ pub(crate) mod live_line;
 pub(crate) mod pressing;
 pub(crate) mod repeated;
 pub(crate) mod report_words;
+pub(crate) mod script_stroke;
 pub(crate) mod serve;
 pub(crate) mod serve_line;
-pub(crate) mod stroke;
 pub(crate) mod stroke_words;
 pub(crate) mod watch;
 pub(crate) mod wire_line;
@@ -136,8 +136,12 @@ pub trait LiveMove<E, S, K>: LiveLine {
 /// closed so, and `ok` with `ready`. Screens are printed in the paint. So many records are ahead, that lines which show
 /// something have taken.
 ///
-/// `Write` where the sink or the connection failed, `Read` where a read failed, though not for want of time, `Memory`
-/// where a growth was refused.
+/// # Errors
+///
+/// The first fault of a line, or `Write` where the sink failed at a line that has none; no line is carried out behind
+/// it. A line's fault is `Write` where the connection failed; `Read` where a read failed, though not for want of time,
+/// or a wait took 4,294,967,296 reads or things told; `Memory` where a growth was refused; `Failed` where the end was
+/// shut before.
 pub fn carry_lines<E, S, K, L: LiveMove<E, S, K>, W: Watch<S>, O: Sink>(
     attached: &mut Attached<E, S, K>,
     ahead: &mut u64,
@@ -174,6 +178,10 @@ pub fn carry_lines<E, S, K, L: LiveMove<E, S, K>, W: Watch<S>, O: Sink>(
 }
 
 /// Carries a line out, as `carry_lines` does.
+///
+/// # Errors
+///
+/// The fault of the line, as at `carry_lines`; where it has none, `Write` where the sink failed.
 pub fn carry_line<E, S, K, L: LiveMove<E, S, K>, W: Watch<S>, O: Sink>(
     attached: &mut Attached<E, S, K>,
     ahead: &mut u64,

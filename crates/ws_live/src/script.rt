@@ -29,6 +29,8 @@ pub enum ScriptFault {
 
 /// The moves of a script's lines, in order.
 ///
+/// # Errors
+///
 /// `Line` where a line is bad, with the number of the first one. `Memory` where a growth was refused, and the script is
 /// good as far as it was read.
 pub fn read_script(alloc: Global, text: &[u8]) -> Result<Vec<Move>, ScriptFault>

@@ -7,7 +7,7 @@ use Rattle.ws_record.specs.Encode.{plain_spelling}
 use Rattle.ws_record.specs.RawBody.{raw_rules}
 use Rattle.ws_record.specs.declared.record.Item.TheVariants.{Telnet}
 use Rattle.ws_end.specs.attached.Attachments.{AttachedParts}
-use Rattle.ws_live.specs.declared.asked.live_asked.ServeAsked.{ServeAsked}
+use Rattle.ws_live.specs.declared.asked.session_asked.ServeAsked.{ServeAsked}
 use Rattle.ws_any_host.specs.AnyReached.{AnyParts, AnyReached}
 use Rattle.ws_any_host.specs.AnyOptions.{new_negotiated, once_opened}
 use Rattle.ws_any_host.specs.declared.any_line.AnyLine.{AnyLine}

@@ -14,8 +14,8 @@ use Rattle.ws_end.specs.attached.Attachments.{AttachedParts}
 use Rattle.ws_end.specs.host_end.HostReached.{HostParts, HostReached, unopened_host_end, state_after_open}
 use Rattle.ws_end.specs.station.StationTransitions.{new_state_on}
 use Rattle.ws_end.specs.station.Stations.{ReachedOn}
-use Rattle.ws_live.specs.declared.asked.live_asked.ConnectAsked.{ConnectAsked}
-use Rattle.ws_live.specs.declared.asked.live_asked.ServeAsked.{ServeAsked}
+use Rattle.ws_live.specs.declared.asked.session_asked.ConnectAsked.{ConnectAsked}
+use Rattle.ws_live.specs.declared.asked.session_asked.ServeAsked.{ServeAsked}
 use Rattle.ws_live.specs.declared.live.connect_line.StationLine.{StationLine}
 use Rattle.ws_live.specs.declared.live.serve_line.HostLine.{HostLine}
 use Rattle.ws_live.specs.declared.live.serve_line.HostLine.TheVariants.{Await}

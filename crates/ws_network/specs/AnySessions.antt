@@ -16,7 +16,7 @@ use Rattle.ws_any_host.specs.declared.any_line.AnyLine.TheVariants.{Await}
 use Rattle.ws_network.specs.SessionPrinting.{IsTextAndOn, session_lines}
 use Rattle.ws_network.specs.Sessions.{at_connection}
 use Rattle.ws_network.specs.Times.{ConnectionReads, ConnectionWrites, no_writes, timed, timed_waits, timed_writer}
-use Rattle.ws_live.specs.declared.asked.live_asked.ServeAsked.{ServeAsked}
+use Rattle.ws_live.specs.declared.asked.session_asked.ServeAsked.{ServeAsked}
 
 -- a host whose opening went out carried out the lines, and then took what came
 pub record IsAnyServed (asked : ServeAsked) (lines : List AnyLine) (came : Account) : Type 0 where

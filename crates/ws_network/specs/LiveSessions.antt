@@ -8,12 +8,12 @@ use Rattle.ws_printing.specs.Printouts.{Printout}
 use Rattle.ws_network.specs.AnySessions.{IsAnyServed}
 use Rattle.ws_network.specs.ManySessions.{HasServedBy}
 use Rattle.ws_network.specs.Sessions.{HasConnected, IsServed}
-use Rattle.ws_live.specs.declared.asked.live_asked.Live.{Live}
-use Rattle.ws_live.specs.declared.asked.live_asked.Live.TheVariants.{Connect, Serve}
-use Rattle.ws_live.specs.declared.asked.live_asked.ServeAsked.{ServeAsked}
+use Rattle.ws_live.specs.declared.asked.session_asked.SessionAsked.{SessionAsked}
+use Rattle.ws_live.specs.declared.asked.session_asked.SessionAsked.TheVariants.{Connect, Serve}
+use Rattle.ws_live.specs.declared.asked.session_asked.ServeAsked.{ServeAsked}
 
 -- the script that is named for a live session, if one is
-abbrev pub script_of : Live → Option (Bor (List ℕ))
+abbrev pub script_of : SessionAsked → Option (Bor (List ℕ))
 script_of (Connect asked) = asked.script
 script_of (Serve asked) = asked.script
 
@@ -24,6 +24,6 @@ module _ {O : Type 0} (out : Printout O) where
   HasServedAs true asked all_well = HasServedBy any_language IsAnyServed out asked all_well
 
   -- what a live session came to that didn't end early, by the words that asked for it
-  abbrev pub HasRunLive : Live → Bool → Type 0
+  abbrev pub HasRunLive : SessionAsked → Bool → Type 0
   HasRunLive (Connect asked) all_well = HasConnected out asked all_well
   HasRunLive (Serve asked) all_well = HasServedAs asked.any asked all_well

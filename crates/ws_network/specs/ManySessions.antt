@@ -7,7 +7,7 @@ use Rattle.ws_live.specs.live.LiveScript.{LineLanguage}
 use Rattle.ws_live.specs.live.LiveText.{Account, account}
 use Rattle.ws_printing.specs.Printouts.{IsPrintedOut, Printout}
 use Rattle.ws_network.specs.Sessions.{AreFromScript}
-use Rattle.ws_live.specs.declared.asked.live_asked.ServeAsked.{ServeAsked}
+use Rattle.ws_live.specs.declared.asked.session_asked.ServeAsked.{ServeAsked}
 
 -- the line of a session by its number
 abbrev pub number_line : ℕ → List ℕ

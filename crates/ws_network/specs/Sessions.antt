@@ -31,8 +31,8 @@ use Rattle.ws_live.specs.declared.live.serve_line.HostLine.TheVariants.{Await}
 use Rattle.ws_network.specs.SessionPrinting.{IsTextAndOn, session_lines}
 use Rattle.ws_network.specs.Times.{ConnectionReads, ConnectionWrites, no_reads, no_writes, timed, timed_waits}
 use Rattle.ws_network.specs.Times.{timed_writer}
-use Rattle.ws_live.specs.declared.asked.live_asked.ConnectAsked.{ConnectAsked}
-use Rattle.ws_live.specs.declared.asked.live_asked.ServeAsked.{ServeAsked}
+use Rattle.ws_live.specs.declared.asked.session_asked.ConnectAsked.{ConnectAsked}
+use Rattle.ws_live.specs.declared.asked.session_asked.ServeAsked.{ServeAsked}
 use Rattle.ws_end.specs.station.Stations.{StationOf}
 
 -- where a script is named, the lines are those that its file, whatever it holds, means

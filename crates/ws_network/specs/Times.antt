@@ -4,7 +4,8 @@ use Rattle.std.specs.Prelude.{◌≡◌, ℕ, Bool, true, false, Option, None, S
 use Rattle.std.specs.Option.{is_some}
 use Rattle.std_io.specs.declared.io.kind.ErrorKind.{ErrorKind}
 use Rattle.ws_code.specs.Device.{Devices, Reader, Writer, on_devices}
-use Rattle.ws_live.specs.live.Waits.{WatchTells, WatchTimes, WatchedDevices, watch_tells, watch_times, watched_devices}
+use Rattle.ws_live.specs.live.Watches.{WatchTells, WatchTimes, WatchedDevices}
+use Rattle.ws_live.specs.live.Watches.{watch_tells, watch_times, watched_devices}
 use Rattle.std_io.specs.declared.io.kind.ErrorKind.TheVariants.{WouldBlock, TimedOut}
 
 -- what is known of the reads from a connection: how many failed, of what kind the error of the last of these was, and

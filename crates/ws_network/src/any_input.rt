@@ -5,7 +5,7 @@ ghost use Rattle.ws_code.specs.Device.{on_devices};
 ghost use Rattle.ws_any_host.specs.declared.any_line.AnyLine.{AnyLine as AnAnyLine};
 ghost use Rattle.ws_any_host.specs.declared.any_line.AnyLine.TheVariants.{Await};
 ghost use Rattle.ws_any_host.specs.AnyText.{AnyRunsInTime};
-ghost use Rattle.ws_live.specs.live.Waits.{watched_devices};
+ghost use Rattle.ws_live.specs.live.Watches.{watched_devices};
 ghost use Rattle.ws_network.specs.SessionPrinting.{AreScripted, IsPrintedBehind, serve_printing, session_lines};
 
 use crate::live_input::carry_session;
@@ -19,8 +19,10 @@ use ws_session::Attached;
 /// Carries out the lines of a script at a host that takes any record, or without one those of standard input, and then
 /// takes what the station sends, unless a byte was refused: true where all went well.
 ///
-/// Faults as at another host; behind the lines those of `carry_on`.
-pub fn carry_at_any_host<R, S, K, W, O>(
+/// # Errors
+///
+/// As `carry_at_host`; behind the lines as `carry_on`.
+pub(crate) fn carry_at_any_host<R, S, K, W, O>(
     rt: &R,
     attached: &mut Attached<AnyHost, S, K>,
     ahead: &mut u64,

@@ -16,9 +16,12 @@ use ws_live::{HostPort, RunFault, ToldFault, Unconnected, no_connection};
 /// Tries the addresses of a host one after another, for as long as the wait lasts. Each has its part of what is left of
 /// it then, so that one that doesn't answer leaves time for the others.
 ///
-/// `NoConnection` where the host isn't found or none connects in time, with the cause of the last that was tried; `Memory`
-/// where a growth was refused.
-pub fn connect_to<R: Clock + Net<Stream = TcpStream>>(
+/// # Errors
+///
+/// `NoConnection` with `UnknownName` where the host isn't found, with `Late` where the time is over before an address
+/// is tried, with the cause of the last one where none connects; else as `settled`. `Memory` where a growth was
+/// refused.
+pub(crate) fn connect_to<R: Clock + Net<Stream = TcpStream>>(
     rt: &R,
     alloc: Global,
     to: HostPort<'_>,
@@ -45,7 +48,11 @@ pub fn connect_to<R: Clock + Net<Stream = TcpStream>>(
 }
 
 /// A connection on which small pieces are sent at once.
-pub fn settled(stream: TcpStream) -> Result<TcpStream, ToldFault> {
+///
+/// # Errors
+///
+/// `NoConnection` where it can't be set so, with the cause by the kind of the error.
+pub(crate) fn settled(stream: TcpStream) -> Result<TcpStream, ToldFault> {
     match stream.set_nodelay(true) {
         Ok(()) => Ok(stream),
         Err(error) => Err(failed(error)),
@@ -53,7 +60,7 @@ pub fn settled(stream: TcpStream) -> Result<TcpStream, ToldFault> {
 }
 
 /// No connection, since a call failed by this error.
-pub fn failed(error: io::Error) -> ToldFault
+pub(crate) fn failed(error: io::Error) -> ToldFault
     ensures { result ≡ told.NoConnection (unconnected_by (error_kind error)) }
 {
     ToldFault::NoConnection(no_connection(error.kind()))

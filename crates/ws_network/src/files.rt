@@ -13,8 +13,11 @@ use ws_live::{LiveLine, RunFault, ScriptFault, ToldFault, Vocabulary, bad_line, 
 
 /// The lines of a script, where one is named.
 ///
-/// `Read` where its file can't be read, `Line` and `Memory` as `read_lines` has them.
-pub fn read_script_file<R: Files + AllocGlobal, L: LiveLine>(
+/// # Errors
+///
+/// `Read` where its file can't be read, `Line` where a line is bad, with the number of the first one and its cause;
+/// `Memory` where a growth was refused.
+pub(crate) fn read_script_file<R: Files + AllocGlobal, L: LiveLine>(
     rt: &R,
     script: Option<&str>,
     vocabulary: Vocabulary,
@@ -41,7 +44,7 @@ pub fn read_script_file<R: Files + AllocGlobal, L: LiveLine>(
 }
 
 /// The lines as a slice.
-pub fn lines_of<L>(script: &Option<Vec<L>>) -> Option<&[L]>
+pub(crate) fn lines_of<L>(script: &Option<Vec<L>>) -> Option<&[L]>
     ensures { MatchOption script.now (is_none result ≡ true)
         (λ read. MatchOption result ⊥ (λ lines. lines.now ≡ read.items)) }
 {
@@ -52,7 +55,11 @@ pub fn lines_of<L>(script: &Option<Vec<L>>) -> Option<&[L]>
 }
 
 /// The file of a recording, where one is named.
-pub fn make_record<R: AllocGlobal + Files<File = File>>(
+///
+/// # Errors
+///
+/// As `make_file`.
+pub(crate) fn make_record<R: AllocGlobal + Files<File = File>>(
     rt: &R,
     record: Option<&str>,
 ) -> Result<Option<File>, RunFault> {

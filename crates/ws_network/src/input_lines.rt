@@ -15,9 +15,11 @@ use ws_text::first_line;
 /// Reads the next line of standard input with those that belong to it; `None` behind the last. Where the session tells
 /// when it is ready, what stands for a bad line comes in its place.
 ///
-/// `Line` where it is bad with those that belong to it, and the session doesn't tell so; `Read` where standard input
-/// can't be read, `Memory` where a growth was refused.
-pub fn next_line<B: BufRead + Drop, L: LiveLine>(
+/// # Errors
+///
+/// `Line` where it is bad with those that belong to it, and the session doesn't tell when it is ready; `Read` where
+/// standard input can't be read, `Memory` where a growth was refused.
+pub(crate) fn next_line<B: BufRead + Drop, L: LiveLine>(
     input: &mut InputLines<B>,
     vocabulary: Vocabulary,
     ready: bool,
@@ -68,7 +70,7 @@ fn without_end(raw: &[u8]) -> &[u8] {
 
 /// The lines of standard input, one by one. It is seen as the number of those that were taken.
 #[derive(Drop)]
-pub struct InputLines<B> {
+pub(crate) struct InputLines<B> {
     reader: B,
     alloc: Global,
     // One that was read to see that it belongs to none before it.
@@ -87,7 +89,7 @@ impl<B> Model for InputLines<B> {
 
 impl<B: BufRead + Drop> InputLines<B> {
     /// None was taken.
-    pub fn new(alloc: Global, reader: B) -> Self
+    pub(crate) fn new(alloc: Global, reader: B) -> Self
         ensures { result ≡ 0 }
     {
         InputLines {
@@ -162,7 +164,7 @@ impl<B: BufRead + Drop> InputLines<B> {
 }
 
 /// Why no line was to be had, by the kind of the error.
-pub fn unread_line(kind: ErrorKind) -> ToldFault
+pub(crate) fn unread_line(kind: ErrorKind) -> ToldFault
     ensures { result ≡ unread_fault kind }
 {
     ToldFault::Run(match kind {

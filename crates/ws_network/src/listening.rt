@@ -11,7 +11,11 @@ use ws_live::{BufferedSink, HostPort, RunFault, ToldFault, Unconnected, hand_on,
 use ws_text::{Output, put_text};
 
 /// Listens at an address, tells that it does, and takes one station. No other waits behind it: nobody listens any more.
-pub fn take_station<R, O>(
+///
+/// # Errors
+///
+/// As `listen`, and then as `take_next`.
+pub(crate) fn take_station<R, O>(
     rt: &R,
     at: HostPort<'_>,
     out: &mut BufferedSink<O>,
@@ -29,7 +33,12 @@ where
 }
 
 /// Listens at an address, and tells that it does.
-pub fn listen<R, O>(
+///
+/// # Errors
+///
+/// `NoConnection` where nothing can listen there, or the address can't be told, with the cause by the kind of the
+/// error. `Memory` where a growth was refused; `Write` where the sink failed.
+pub(crate) fn listen<R, O>(
     rt: &R,
     at: HostPort<'_>,
     out: &mut BufferedSink<O>,
@@ -61,7 +70,11 @@ fn unbound(kind: ErrorKind) -> Unconnected
 }
 
 /// Takes the next station.
-pub fn take_next(listener: &TcpListener) -> Result<TcpStream, ToldFault> {
+///
+/// # Errors
+///
+/// `NoConnection` where none can be taken, with the cause by the kind of the error; also as `settled`.
+pub(crate) fn take_next(listener: &TcpListener) -> Result<TcpStream, ToldFault> {
     match listener.accept() {
         Ok((stream, _)) => settled(stream),
         Err(error) => Err(failed(error)),

@@ -4,7 +4,7 @@ ghost use Rattle.std.specs.Option.{is_some};
 ghost use Rattle.ws_code.specs.Device.{on_devices};
 ghost use Rattle.ws_live.specs.live.ConnectText.{StationRunsInTime};
 ghost use Rattle.ws_live.specs.live.Operating.{live_display};
-ghost use Rattle.ws_live.specs.live.Waits.{InTime, watched_devices};
+ghost use Rattle.ws_live.specs.live.Watches.{InTime, watched_devices};
 ghost use Rattle.ws_live.specs.live.LiveText as Spec;
 ghost use Rattle.ws_network.specs.SessionPrinting.{AreScripted, TellsWell, IsPrintedBehind, serve_printing};
 ghost use Rattle.ws_network.specs.SessionPrinting.{session_lines, session_printing};
@@ -28,9 +28,11 @@ use ws_session::{Attached, HostEnd, StationOn};
 /// Carries out the lines of a script at a station, or without one those of standard input: true where all went well.
 /// Screens are printed in the paint.
 ///
-/// Faults as `carry_line` has them; without a script also `Read` where standard input fails, and `Line` and `Memory`
-/// where a line of it is bad, or a growth was refused in reading it.
-pub fn carry_at_station<D, R, S, K, W, O>(
+/// # Errors
+///
+/// As `carry_line`. Without a script also `Read` where standard input can't be read, `Line` where a line of it is bad,
+/// unless the session tells when it is ready, and `Memory` where a growth was refused in reading it.
+pub(crate) fn carry_at_station<D, R, S, K, W, O>(
     rt: &R,
     attached: &mut Attached<StationOn<D>, S, K>,
     ahead: &mut u64,
@@ -71,8 +73,10 @@ where
 /// Carries out the lines of a script at a host, or without one those of standard input, and then answers the station
 /// on, unless a byte was refused: true where all went well.
 ///
-/// Faults as at a station; behind the lines those of `answer_on`.
-pub fn carry_at_host<R, S, K, W, O>(
+/// # Errors
+///
+/// As `carry_at_station`; behind the lines as `answer_on`.
+pub(crate) fn carry_at_host<R, S, K, W, O>(
     rt: &R,
     attached: &mut Attached<HostEnd, S, K>,
     ahead: &mut u64,
@@ -123,7 +127,11 @@ where
 }
 
 /// Carries out the lines of a script, or without one those of standard input.
-pub fn carry_session<R, E, S, K, L, W, O>(
+///
+/// # Errors
+///
+/// As `carry_at_station`.
+pub(crate) fn carry_session<R, E, S, K, L, W, O>(
     rt: &R,
     attached: &mut Attached<E, S, K>,
     ahead: &mut u64,

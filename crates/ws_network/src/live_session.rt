@@ -12,11 +12,11 @@ ghost use Rattle.ws_network.specs.Sessions.{HasConnected, HasConnectedOn};
 use crate::connecting::connect_to;
 use crate::files::{lines_of, make_record, read_script_file};
 use crate::live_input::carry_at_station;
-use crate::recording::{Recording, Sender};
+use crate::recording::{PieceSender, Recording};
 use crate::serving::serve_lines;
 use crate::timed_sink::TimedSink;
 use crate::timed_source::{TimedSource, close};
-use crate::timer::{Timer, Waits};
+use crate::timer::{TimedWatch, Timer};
 use std::fs::File;
 use std::net::{Net, TcpListener, TcpStream};
 use std::rt::{Files, Runtime};
@@ -25,8 +25,8 @@ use ws_any_host::AnyLine;
 use ws_code::Sink;
 use ws_extended_station::ExtendedDisplay;
 use ws_live::{
-    BufferedSink, ConnectAsked, HostLine, Live, NamedKey, OpenStreams, OperatedDisplay, ServeAsked,
-    StationLine, ToldFault, Vocabulary,
+    BufferedSink, ConnectAsked, HostLine, NamedKey, OpenStreams, OperatedDisplay, ServeAsked,
+    SessionAsked, StationLine, ToldFault, Vocabulary,
 };
 use ws_session::{Attached, ProfileDisplay, StationOn};
 
@@ -39,7 +39,7 @@ use ws_session::{Attached, ProfileDisplay, StationOn};
 /// of a recording can't be made; `NoConnection`. Then those met in running, `Write` too where that file can't be written.
 pub fn run_live<R, O>(
     rt: &R,
-    asked: Live<'_>,
+    asked: SessionAsked<'_>,
     streams: OpenStreams,
     out: &mut BufferedSink<O>,
 ) -> Result<bool, ToldFault>
@@ -54,8 +54,8 @@ where
         → IsErr result × (out.new.sink ≡ out.old.sink) }
 {
     match asked {
-        Live::Connect(asked) => connect(rt, &asked, streams, out),
-        Live::Serve(asked) => serve(rt, &asked, streams, out),
+        SessionAsked::Connect(asked) => connect(rt, &asked, streams, out),
+        SessionAsked::Serve(asked) => serve(rt, &asked, streams, out),
     }
 }
 
@@ -110,22 +110,22 @@ where
     let recording = Recording::new(rt, file.as_ref());
     let mut attached = Attached::new(
         StationOn::<D>::new(asked.terminal),
-        TimedSource::new(&stream, &timer, &recording, Sender::Host),
-        TimedSink::new(&stream, &timer, &recording, Sender::Station),
+        TimedSource::new(&stream, &timer, &recording, PieceSender::Host),
+        TimedSink::new(&stream, &timer, &recording, PieceSender::Station),
     );
     let mut ahead = 0u64;
     let outcome = carry_at_station(
         rt,
         &mut attached,
         &mut ahead,
-        &mut Waits::new(&timer),
+        &mut TimedWatch::new(&timer),
         lines_of(&script),
         vocabulary,
         asked.ready,
         asked.paint,
         out,
     );
-    close(rt, &stream, &recording, Sender::Host);
+    close(rt, &stream, &recording, PieceSender::Host);
     recording.judge(outcome)
 }
 

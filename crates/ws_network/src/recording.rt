@@ -21,14 +21,14 @@ const NAMES_TRIED: u32 = 10_000;
 
 /// Who sent a piece.
 #[derive(Clone, Copy)]
-pub enum Sender {
+pub enum PieceSender {
     Host,
     Station,
 }
 
 /// What is recorded of a connection, which begins with it. Without a file nothing is.
 #[derive(Drop)]
-pub struct Recording<'a, C> {
+pub(crate) struct Recording<'a, C> {
     clock: &'a C,
     file: Option<&'a File>,
     begun: Option<Instant>,
@@ -37,7 +37,7 @@ pub struct Recording<'a, C> {
 
 impl<'a, C: Clock> Recording<'a, C> {
     /// A recording in this file of a connection that begins now.
-    pub fn new(clock: &'a C, file: Option<&'a File>) -> Self {
+    pub(crate) fn new(clock: &'a C, file: Option<&'a File>) -> Self {
         Recording {
             clock,
             file,
@@ -46,8 +46,12 @@ impl<'a, C: Clock> Recording<'a, C> {
         }
     }
 
-    /// What a session came to, whose pieces were recorded: `Write` where the file couldn't be written.
-    pub fn judge(&self, outcome: Result<bool, ToldFault>) -> Result<bool, ToldFault>
+    /// What a session came to, whose pieces were recorded.
+    ///
+    /// # Errors
+    ///
+    /// `Write` where the file couldn't be written, whatever the session came to; else the fault that it came to.
+    pub(crate) fn judge(&self, outcome: Result<bool, ToldFault>) -> Result<bool, ToldFault>
         ensures done { IfOk result (λ all_well. outcome ≡ Ok all_well) }
         ensures fault { IfErr result (λ fault.
             (fault ≡ told.Run run.Write) ⊎ (outcome ≡ Err fault)) }
@@ -59,7 +63,11 @@ impl<'a, C: Clock> Recording<'a, C> {
     }
 
     /// Records a piece that crossed the connection.
-    pub fn keep(&self, sender: Sender, bytes: &[u8]) -> io::Result<()> {
+    ///
+    /// # Errors
+    ///
+    /// `WriteZero` where the file couldn't be written; `judge` answers `Write` from then on.
+    pub(crate) fn keep(&self, sender: PieceSender, bytes: &[u8]) -> io::Result<()> {
         let Some(file) = self.file else {
             return Ok(());
         };
@@ -94,7 +102,7 @@ fn put_piece<O: Sink>(
     out: &mut O,
     output: Output,
     milliseconds: u64,
-    sender: Sender,
+    sender: PieceSender,
     bytes: &[u8],
 ) -> Output
     ensures { Prints O.writer out.old out.new output result
@@ -106,20 +114,23 @@ fn put_piece<O: Sink>(
     put_text(out, output, "\n")
 }
 
-fn sender_word(sender: Sender) -> &'static str
+fn sender_word(sender: PieceSender) -> &'static str
     ensures { result.now ≡ Spec.sender_word sender }
 {
     match sender {
-        Sender::Host => " host ",
-        Sender::Station => " station ",
+        PieceSender::Host => " host ",
+        PieceSender::Station => " station ",
     }
 }
 
 /// Makes the file of a recording, which its owner alone can read: of this name, or where a file has it already of this
 /// and `-1`, `-2` and so on. What is no plain file, as a pipe, is written as it is.
 ///
-/// `Write` where it can't be made, `Memory` where a growth was refused.
-pub fn make_file<R: AllocGlobal + Files<File = File>>(
+/// # Errors
+///
+/// `Write` where it can't be made or opened, also where all of 10,000 names are taken; `Memory` where a growth was
+/// refused.
+pub(crate) fn make_file<R: AllocGlobal + Files<File = File>>(
     rt: &R,
     name: &str,
 ) -> Result<File, RunFault> {

@@ -11,16 +11,16 @@ ghost use Rattle.ws_live.specs.live.LiveText.{Account, account};
 ghost use Rattle.ws_printing.specs.Printouts.{printout};
 ghost use Rattle.ws_live.specs.asked.OpenStreams.{missing};
 ghost use Rattle.ws_live.specs.declared.asked.fault.RunFault.{RunFault as AFault};
-ghost use Rattle.ws_live.specs.declared.asked.live_asked.ServeAsked.{ServeAsked as AnAsked};
+ghost use Rattle.ws_live.specs.declared.asked.session_asked.ServeAsked.{ServeAsked as AnAsked};
 
 use crate::any_input::carry_at_any_host;
 use crate::files::{lines_of, make_record, read_script_file};
 use crate::listening::{listen, take_next, take_station};
 use crate::live_input::carry_at_host;
-use crate::recording::{Recording, Sender};
+use crate::recording::{PieceSender, Recording};
 use crate::timed_sink::TimedSink;
 use crate::timed_source::{TimedSource, close};
-use crate::timer::{Timer, Waits};
+use crate::timer::{TimedWatch, Timer};
 use std::fs::File;
 use std::net::{Net, TcpListener, TcpStream};
 use std::rt::{Files, Runtime};
@@ -35,11 +35,16 @@ use ws_session::{Attached, HostEnd};
 use ws_text::{Output, put_number, put_text};
 
 /// Lines that are carried out at a host, new for each station.
-pub trait ServedLine: LiveLine {
+pub(crate) trait ServedLine: LiveLine {
     // A host whose opening went out carried these lines out, and this is the account of it.
     ghost served: { AnAsked → List Self → Account → Type 0 };
 
     /// Carries the lines out at a connection, or without a script those of standard input, and what comes behind them.
+    ///
+    /// # Errors
+    ///
+    /// `Write` where the host's opening or the recording's file can't be written; else as `carry_at_host`, or as
+    /// `carry_at_any_host`.
     fn serve<R, O>(
         rt: &R,
         asked: &ServeAsked<'_>,
@@ -60,7 +65,12 @@ pub trait ServedLine: LiveLine {
 }
 
 /// Serves one station, or as many as are asked for one after another: true where all went well.
-pub fn serve_lines<R, L, O>(
+///
+/// # Errors
+///
+/// In this order: as `read_script_file`; as `OpenStreams::suffice`; as `make_file`; as `listen`. Then for each station
+/// `Write` where the line of its session can't be printed, as `take_next`, and as `ServedLine::serve`.
+pub(crate) fn serve_lines<R, L, O>(
     rt: &R,
     asked: &ServeAsked<'_>,
     vocabulary: Vocabulary,
@@ -184,21 +194,21 @@ impl ServedLine for HostLine {
         let recording = Recording::new(rt, file);
         let timer = Timer::new(rt, Duration::from_secs(u64::from(asked.wait)));
         let mut host = HostEnd::new(rt.alloc());
-        let mut sink = TimedSink::new(stream, &timer, &recording, Sender::Host);
+        let mut sink = TimedSink::new(stream, &timer, &recording, PieceSender::Host);
         write_whole(&mut sink, host.open().as_slice())?;
-        let source = TimedSource::new(stream, &timer, &recording, Sender::Station);
+        let source = TimedSource::new(stream, &timer, &recording, PieceSender::Station);
         let mut attached = Attached::new(host, source, sink);
         let mut ahead = 0u64;
         let outcome = carry_at_host(
             rt,
             &mut attached,
             &mut ahead,
-            &mut Waits::new(&timer),
+            &mut TimedWatch::new(&timer),
             script,
             asked.ready,
             out,
         );
-        close(rt, stream, &recording, Sender::Station);
+        close(rt, stream, &recording, PieceSender::Station);
         recording.judge(outcome)
     }
 }
@@ -222,21 +232,21 @@ impl ServedLine for AnyLine {
         let recording = Recording::new(rt, file);
         let timer = Timer::new(rt, Duration::from_secs(u64::from(asked.wait)));
         let mut host = AnyHost::new(rt.alloc());
-        let mut sink = TimedSink::new(stream, &timer, &recording, Sender::Host);
+        let mut sink = TimedSink::new(stream, &timer, &recording, PieceSender::Host);
         write_whole(&mut sink, host.open().as_slice())?;
-        let source = TimedSource::new(stream, &timer, &recording, Sender::Station);
+        let source = TimedSource::new(stream, &timer, &recording, PieceSender::Station);
         let mut attached = Attached::new(host, source, sink);
         let mut ahead = 0u64;
         let outcome = carry_at_any_host(
             rt,
             &mut attached,
             &mut ahead,
-            &mut Waits::new(&timer),
+            &mut TimedWatch::new(&timer),
             script,
             asked.ready,
             out,
         );
-        close(rt, stream, &recording, Sender::Station);
+        close(rt, stream, &recording, PieceSender::Station);
         recording.judge(outcome)
     }
 }

@@ -3,7 +3,7 @@ ghost use Rattle.std.specs.Io.{WritesAtMost};
 ghost use Rattle.std.specs.Prelude.{◌≡◌};
 ghost use Rattle.ws_network.specs.Times as Spec;
 
-use crate::recording::{Recording, Sender};
+use crate::recording::{PieceSender, Recording};
 use crate::timer::{Timer, no_time};
 use std::io;
 use std::io::{ErrorKind, Write};
@@ -15,11 +15,11 @@ use ws_code::{DeviceFailed, Sink};
 /// Writes into a connection. The bytes of one text, in as many writes as it asks for, go out in the time of the wait in
 /// which it is written, or in one of its own. What goes out is recorded.
 #[derive(Drop)]
-pub struct TimedSink<'a, C> {
+pub(crate) struct TimedSink<'a, C> {
     stream: &'a TcpStream,
     timer: &'a Timer<'a, C>,
     recording: &'a Recording<'a, C>,
-    sender: Sender,
+    sender: PieceSender,
     failures: u64,
     // How many bytes of the text didn't go out yet, and when its time is over.
     unsent: usize,
@@ -36,11 +36,11 @@ impl<'a, C> Model for TimedSink<'a, C> {
 
 impl<'a, C: Clock> TimedSink<'a, C> {
     /// No write has failed. What is written comes from this sender.
-    pub fn new(
+    pub(crate) fn new(
         stream: &'a TcpStream,
         timer: &'a Timer<'a, C>,
         recording: &'a Recording<'a, C>,
-        sender: Sender,
+        sender: PieceSender,
     ) -> Self
         ensures { result ≡ Spec.no_writes }
     {

@@ -5,7 +5,7 @@ ghost use Rattle.std_io.specs.IoError.{error_kind};
 ghost use Rattle.ws_code.specs.Device.{one_more};
 ghost use Rattle.ws_network.specs.Times as Spec;
 
-use crate::recording::{Recording, Sender};
+use crate::recording::{PieceSender, Recording};
 use crate::timer::{Timer, no_time};
 use std::io;
 use std::io::{ErrorKind, Read};
@@ -19,11 +19,11 @@ const LINGER: u64 = 1;
 
 /// Reads from a connection for as long as the wait lasts, and has what it reads recorded.
 #[derive(Drop)]
-pub struct TimedSource<'a, C> {
+pub(crate) struct TimedSource<'a, C> {
     stream: &'a TcpStream,
     timer: &'a Timer<'a, C>,
     recording: &'a Recording<'a, C>,
-    sender: Sender,
+    sender: PieceSender,
     failures: u64,
     // Of what kind the error of the last read that failed was, and whether the time that was over then was that in which
     // nothing had come.
@@ -41,11 +41,11 @@ impl<'a, C> Model for TimedSource<'a, C> {
 
 impl<'a, C: Clock> TimedSource<'a, C> {
     /// No read has failed. What is read comes from this sender.
-    pub fn new(
+    pub(crate) fn new(
         stream: &'a TcpStream,
         timer: &'a Timer<'a, C>,
         recording: &'a Recording<'a, C>,
-        sender: Sender,
+        sender: PieceSender,
     ) -> Self
         ensures { result ≡ Spec.no_reads }
     {
@@ -61,7 +61,7 @@ impl<'a, C: Clock> TimedSource<'a, C> {
     }
 
     /// Whether the last read that failed did so for want of time.
-    pub fn is_late(&self) -> bool
+    pub(crate) fn is_late(&self) -> bool
         ensures { result ≡ Spec.was_late self.now }
     {
         match self.failure {
@@ -71,7 +71,7 @@ impl<'a, C: Clock> TimedSource<'a, C> {
     }
 
     /// Whether the time that was over at the last read that failed was that in which nothing had come.
-    pub fn is_at_rest(&self) -> bool
+    pub(crate) fn is_at_rest(&self) -> bool
         ensures { result ≡ self.now.rested }
     {
         self.rested
@@ -163,7 +163,12 @@ fn is_want_of_time(kind: ErrorKind) -> bool
 
 /// Ends a connection in order: nothing more is written, and what the other side still sends is taken for a moment, so
 /// that it isn't told of a fault.
-pub fn close<R: Clock>(rt: &R, stream: &TcpStream, recording: &Recording<'_, R>, sender: Sender) {
+pub(crate) fn close<R: Clock>(
+    rt: &R,
+    stream: &TcpStream,
+    recording: &Recording<'_, R>,
+    sender: PieceSender,
+) {
     if stream.shutdown(Shutdown::Write).is_err() {
         return;
     }

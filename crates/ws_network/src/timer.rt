@@ -15,7 +15,7 @@ const MOMENT: u64 = 10;
 
 /// The time of a wait, which all that is read and written in it shares, and of a write that stands in none.
 #[derive(Drop)]
-pub struct Timer<'a, C> {
+pub(crate) struct Timer<'a, C> {
     clock: &'a C,
     /// How long a wait, or a write of some bytes, may take.
     limit: Duration,
@@ -31,7 +31,7 @@ pub struct Timer<'a, C> {
 
 impl<'a, C: Clock> Timer<'a, C> {
     /// A timer of waits of this time. One begins now.
-    pub fn new(clock: &'a C, limit: Duration) -> Self {
+    pub(crate) fn new(clock: &'a C, limit: Duration) -> Self {
         Timer {
             clock,
             limit,
@@ -43,12 +43,12 @@ impl<'a, C: Clock> Timer<'a, C> {
     }
 
     /// What is left of the wait; `None` where its time is over.
-    pub fn left(&self) -> Option<Duration> {
+    pub(crate) fn left(&self) -> Option<Duration> {
         self.left_until(self.until.get())
     }
 
     /// What is left of it for a read; `None` where its time is over, or nothing has come for the time of a quiet one.
-    pub fn left_to_read(&self) -> Option<Duration> {
+    pub(crate) fn left_to_read(&self) -> Option<Duration> {
         match self.span.get() {
             WaitSpan::Quiet(_) => {
                 self.left_until(earlier(self.until.get(), self.rests_at.get()))
@@ -58,12 +58,12 @@ impl<'a, C: Clock> Timer<'a, C> {
     }
 
     /// Whether a read takes only what has already come.
-    pub fn is_at_once(&self) -> bool {
+    pub(crate) fn is_at_once(&self) -> bool {
         matches!(self.span.get(), WaitSpan::AtOnce)
     }
 
     /// Whether the wait is over since nothing has come, where it is over.
-    pub fn is_at_rest(&self) -> bool {
+    pub(crate) fn is_at_rest(&self) -> bool {
         match (self.span.get(), self.rests_at.get(), self.until.get()) {
             (WaitSpan::Quiet(_), Some(rests_at), Some(until)) => rests_at <= until,
             _ => false,
@@ -71,7 +71,7 @@ impl<'a, C: Clock> Timer<'a, C> {
     }
 
     /// Bytes came. A quiet wait goes on for its time from now on.
-    pub fn note_bytes(&self) {
+    pub(crate) fn note_bytes(&self) {
         if let WaitSpan::Quiet(milliseconds) = self.span.get() {
             let time = Duration::from_millis(u64::from(milliseconds));
             self.rests_at.set(end_of_wait(self.clock, time));
@@ -79,7 +79,7 @@ impl<'a, C: Clock> Timer<'a, C> {
     }
 
     /// When the time of a write is over that begins now: with the wait in which it stands, though it has a moment.
-    pub fn end_of_write(&self) -> Option<Instant> {
+    pub(crate) fn end_of_write(&self) -> Option<Instant> {
         if self.is_waiting.get() {
             later(
                 self.until.get(),
@@ -91,7 +91,7 @@ impl<'a, C: Clock> Timer<'a, C> {
     }
 
     /// What is left until then; `None` where nothing is.
-    pub fn left_until(&self, until: Option<Instant>) -> Option<Duration> {
+    pub(crate) fn left_until(&self, until: Option<Instant>) -> Option<Duration> {
         let Ok(now) = Instant::now(self.clock) else {
             return None;
         };
@@ -114,35 +114,35 @@ impl<'a, C: Clock> Timer<'a, C> {
 }
 
 /// A watch that is told where the next line begins: what is written stands in no wait then, before one begins.
-pub trait LineWatch<S>: Watch<S> {
+pub(crate) trait LineWatch<S>: Watch<S> {
     /// The waits before are over.
     fn end_waits(&mut self)
         ensures kept { self.new ≡ self.old };
 }
 
-/// The waits of a session, which have the time of a timer. It counts them, up to the greatest value of 64 bits.
+/// A watch by a timer. It counts the waits of a session, up to the greatest value of 64 bits.
 #[derive(Drop)]
-pub struct Waits<'a, C> {
+pub(crate) struct TimedWatch<'a, C> {
     timer: &'a Timer<'a, C>,
     begun: u64,
 }
 
-impl<'a, C> Model for Waits<'a, C> {
+impl<'a, C> Model for TimedWatch<'a, C> {
     ghost Value = { ℕ };
 
     ghost view = { λ waits. waits.begun };
 }
 
-impl<'a, C: Clock> Waits<'a, C> {
+impl<'a, C: Clock> TimedWatch<'a, C> {
     /// No wait has begun.
-    pub fn new(timer: &'a Timer<'a, C>) -> Self
+    pub(crate) fn new(timer: &'a Timer<'a, C>) -> Self
         ensures { result ≡ 0 }
     {
-        Waits { timer, begun: 0 }
+        TimedWatch { timer, begun: 0 }
     }
 }
 
-impl<'a, C: Clock> Watch<TimedSource<'a, C>> for Waits<'a, C> {
+impl<'a, C: Clock> Watch<TimedSource<'a, C>> for TimedWatch<'a, C> {
     ghost times = { Spec.timed_waits };
 
     ghost tells = { Spec.timed_tells };
@@ -168,7 +168,7 @@ impl<'a, C: Clock> Watch<TimedSource<'a, C>> for Waits<'a, C> {
     }
 }
 
-impl<'a, C: Clock> LineWatch<TimedSource<'a, C>> for Waits<'a, C> {
+impl<'a, C: Clock> LineWatch<TimedSource<'a, C>> for TimedWatch<'a, C> {
     fn end_waits(&mut self) {
         self.timer.rest();
     }
@@ -199,6 +199,6 @@ fn end_of_wait<C: Clock>(clock: &C, limit: Duration) -> Option<Instant> {
 }
 
 /// The error of a call for which no time is left.
-pub fn no_time() -> io::Error {
+pub(crate) fn no_time() -> io::Error {
     io::Error::from(ErrorKind::TimedOut)
 }

@@ -7,9 +7,13 @@ use std::alloc::{AllocError, Global};
 use std::net::SocketAddr;
 use std::time::Duration;
 
-/// The addresses in the order in which they are tried: those of IPv6 and of IPv4 take turns, and of each the order stays.
-/// It begins with the first.
-pub fn by_turns(alloc: Global, found: &[SocketAddr]) -> Result<Vec<SocketAddr>, AllocError>
+/// The addresses in the order in which they are tried: those of IPv6 and of IPv4 take turns, and of each the order
+/// stays. It begins with the first.
+///
+/// # Errors
+///
+/// `AllocError` where a growth was refused.
+pub(crate) fn by_turns(alloc: Global, found: &[SocketAddr]) -> Result<Vec<SocketAddr>, AllocError>
     ensures { IfOk result (λ order. order.items ≡ Spec.by_turns found.now) }
 {
     let [first, ..] = found else {
@@ -59,7 +63,7 @@ fn take_turns(
 }
 
 /// What each of so many addresses has of the time that is left.
-pub fn share(left: Duration, addresses: usize) -> Duration
+pub(crate) fn share(left: Duration, addresses: usize) -> Duration
     requires some { 0 < addresses }
     ensures { as_nanos result ≡ as_nanos left / min addresses (2 ^ 32 - 1) }
 {

@@ -10,7 +10,7 @@ use Rattle.ws_nego.specs.Terminal.{terminal_type_name as terminal_name}
 use Rattle.ws_screen.specs.ScreenParts.{ScreenParts}
 use Rattle.ws_keys.specs.declared.key.KeyRefusal.{KeyRefusal}
 use Rattle.ws_keys.specs.declared.key.KeyRefusal.TheVariants.{Locked, Protected, WrongCharacter, DupNotAllowed, NoRoom}
-use Rattle.ws_keys.specs.declared.key.KeyRefusal.TheVariants.{NoReadPending, MandatoryEnter}
+use Rattle.ws_keys.specs.declared.key.KeyRefusal.TheVariants.{NoReadPending, MandatoryEnter, FieldExitRequired, MandatoryFill}
 use Rattle.ws_keys.specs.declared.host_answer.HostAnswer.{HostAnswer}
 use Rattle.ws_keys.specs.declared.host_answer.ReadField.{ReadField}
 use Rattle.ws_end.specs.declared.station.key_fault.KeyFault.{KeyFault}
@@ -57,6 +57,8 @@ refusal_name DupNotAllowed = codes "DupNotAllowed"
 refusal_name NoRoom = codes "NoRoom"
 refusal_name NoReadPending = codes "NoReadPending"
 refusal_name MandatoryEnter = codes "MandatoryEnter"
+refusal_name FieldExitRequired = codes "FieldExitRequired"
+refusal_name MandatoryFill = codes "MandatoryFill"
 
 -- why a key has no effect
 abbrev pub key_fault_name : KeyFault → List ℕ

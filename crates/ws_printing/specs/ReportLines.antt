@@ -17,9 +17,9 @@ use Rattle.ws_text.specs.ItemLines.{cell_text}
 use Rattle.ws_printing.specs.Characters.{characters_text, without_last_blanks}
 use Rattle.ws_printing.specs.FieldLines.{shown_from}
 use Rattle.ws_printing.specs.ScreenLines.{lock_name}
-use Rattle.ws_printing.specs.declared.report.Report.{Report}
-use Rattle.ws_printing.specs.declared.report.Span.{Span}
-use Rattle.ws_printing.specs.declared.report.Report.TheVariants.{Status, Cells, Text, Note}
+use Rattle.ws_printing.specs.declared.station_report.StationReport.{StationReport}
+use Rattle.ws_printing.specs.declared.station_report.Span.{Span}
+use Rattle.ws_printing.specs.declared.station_report.StationReport.TheVariants.{Status, Cells, Text, Note}
 
 -- whether records may be sent both ways
 abbrev pub ready_name : Bool → List ℕ
@@ -81,12 +81,12 @@ abbrev pub note_line : List ℕ → List ℕ
 note_line note = note ++ codes "\n"
 
 -- what a report tells of a station
-abbrev pub report_text : ReportedStation → Report → List ℕ
+abbrev pub report_text : ReportedStation → StationReport → List ℕ
 report_text station Status = status_line station
 report_text station (Cells cell) = cells_line station.screen.cells cell
 report_text station (Text span) = span_line station.screen.cells span
 report_text station (Note note) = note_line note
 
 -- this is what a report tells of a station
-abbrev pub IsReportText : ReportedStation → Report → List ℕ → Type 0
+abbrev pub IsReportText : ReportedStation → StationReport → List ℕ → Type 0
 IsReportText station report text = text ≡ report_text station report

@@ -8,7 +8,7 @@ use ws_screen::{Attribute, Shown};
 use ws_text::{Character, Output, Text, texts};
 
 /// What shows a character.
-pub trait Showing {
+pub trait ShowsCharacter {
     // The character.
     ghost shows: { Self → ℕ };
 
@@ -18,7 +18,7 @@ pub trait Showing {
 }
 
 // A cell of a screen.
-impl Showing for Shown {
+impl ShowsCharacter for Shown {
     ghost shows = { λ s. s.character };
 
     fn character(&self) -> char {
@@ -27,7 +27,7 @@ impl Showing for Shown {
 }
 
 // A byte where nothing hides it.
-impl Showing for u8 {
+impl ShowsCharacter for u8 {
     ghost shows = { shown_char };
 
     fn character(&self) -> char {
@@ -36,7 +36,7 @@ impl Showing for u8 {
 }
 
 /// Those up to the last that shows no blank.
-pub fn without_last_blanks<T: Showing>(all: &[T]) -> &[T]
+pub fn without_last_blanks<T: ShowsCharacter>(all: &[T]) -> &[T]
     ensures { result.now ≡ Spec.without_last_blanks T.shows all.now }
 {
     let mut rest = all;
@@ -53,7 +53,7 @@ pub fn without_last_blanks<T: Showing>(all: &[T]) -> &[T]
 #[derive(Clone, Copy)]
 pub struct Characters<'a, T>(pub &'a [T]);
 
-impl<T: Showing> Text for Characters<'_, T> {
+impl<T: ShowsCharacter> Text for Characters<'_, T> {
     ghost text = { λ c. Spec.characters_text T.shows c.0.now };
 
     fn put_to<S: Sink>(&self, sink: &mut S, output: Output) -> Output {
@@ -69,7 +69,7 @@ impl<T: Showing> Text for Characters<'_, T> {
 #[derive(Clone, Copy)]
 pub struct AfterBlank<'a, T>(pub &'a [T]);
 
-impl<T: Showing> Text for AfterBlank<'_, T> {
+impl<T: ShowsCharacter> Text for AfterBlank<'_, T> {
     ghost text = { λ a. Spec.after_blank T.shows (Spec.without_last_blanks T.shows a.0.now) };
 
     fn put_to<S: Sink>(&self, sink: &mut S, output: Output) -> Output {

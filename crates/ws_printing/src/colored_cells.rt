@@ -19,8 +19,8 @@ impl Text for ColoredCells<'_> {
         let mut output = output;
         let mut before = None;
         for cell in self.0 {
-            let change = Change(before, cell.attribute);
-            output = texts!(change, Character(cell.character)).put_to(sink, output);
+            let sequence = AttributeSequence(before, cell.attribute);
+            output = texts!(sequence, Character(cell.character)).put_to(sink, output);
             before = Some(cell.attribute);
         }
         "\x1b[0m".put_to(sink, output)
@@ -29,9 +29,9 @@ impl Text for ColoredCells<'_> {
 
 // An attribute's sequence, where the one before is another.
 #[derive(Clone, Copy)]
-struct Change(Option<Attribute>, Attribute);
+struct AttributeSequence(Option<Attribute>, Attribute);
 
-impl Text for Change {
+impl Text for AttributeSequence {
     ghost text = { λ c. Spec.sequence_behind c.0 c.1 };
 
     fn put_to<S: Sink>(&self, sink: &mut S, output: Output) -> Output {

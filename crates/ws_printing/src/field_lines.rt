@@ -15,17 +15,17 @@ pub fn put_field_lines<O: Sink>(out: &mut O, output: Output, screen: &Screen) ->
         × Prints O.writer out.old out.new output result lines }
 {
     let fields = screen.fields();
-    EachAs(fields.as_slice(), OnScreen(screen)).put_to(out, output)
+    EachAs(fields.as_slice(), OfScreen(screen)).put_to(out, output)
 }
 
 // The sense of a field as a line, by the screen that it is of.
 #[derive(Clone, Copy)]
-struct OnScreen<'a>(&'a Screen);
+struct OfScreen<'a>(&'a Screen);
 
-impl TextAs<OnScreen<'_>> for Field {
+impl TextAs<OfScreen<'_>> for Field {
     ghost text_as = { λ on field. Spec.field_line on.0.now.cells field };
 
-    fn put_as<S: Sink>(&self, on: &OnScreen, sink: &mut S, output: Output) -> Output {
+    fn put_as<S: Sink>(&self, on: &OfScreen, sink: &mut S, output: Output) -> Output {
         let mut all = [Shown::default(); CELLS as usize];
         let shown = show_from(on.0, self.start, self.length, &mut all);
         texts!(

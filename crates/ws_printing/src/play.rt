@@ -200,6 +200,8 @@ fn refusal_name(refusal: KeyRefusal) -> &'static str
         KeyRefusal::NoRoom => "NoRoom",
         KeyRefusal::NoReadPending => "NoReadPending",
         KeyRefusal::MandatoryEnter => "MandatoryEnter",
+        KeyRefusal::FieldExitRequired => "FieldExitRequired",
+        KeyRefusal::MandatoryFill => "MandatoryFill",
     }
 }
 

@@ -7,8 +7,8 @@ ghost use Rattle.ws_text.specs.Printing.{Prints};
 
 use crate::characters::{Characters, without_last_blanks};
 use crate::field_lines::show_from;
-use crate::report::{Report, Span};
 use crate::screen_lines::lock_name;
+use crate::station_report::{Span, StationReport};
 use ws_code::{Address, CELLS, COLUMNS, ROWS, Sink};
 use ws_screen::{Field, MAX_FIELDS, Screen, Shown};
 use ws_session::{StationDisplay, StationOn};
@@ -19,17 +19,17 @@ pub fn put_report<D: StationDisplay, O: Sink>(
     out: &mut O,
     output: Output,
     station: &StationOn<D>,
-    report: &Report,
+    report: &StationReport,
 ) -> Output
     ensures { (text : List ℕ)
         × Spec.IsReportText (Spec.reported_station D.does station.now) report.now text
         × Prints O.writer out.old out.new output result text }
 {
     match report {
-        Report::Status => put_status(out, output, station),
-        Report::Cells(cell) => put_cells(out, output, station.screen(), *cell),
-        Report::Text(span) => put_span(out, output, station.screen(), *span),
-        Report::Note(note) => put_note(out, output, note.as_slice()),
+        StationReport::Status => put_status(out, output, station),
+        StationReport::Cells(cell) => put_cells(out, output, station.screen(), *cell),
+        StationReport::Text(span) => put_span(out, output, station.screen(), *span),
+        StationReport::Note(note) => put_note(out, output, note.as_slice()),
     }
 }
 

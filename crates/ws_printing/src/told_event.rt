@@ -17,7 +17,7 @@ pub fn put_told<S: Sink>(sink: &mut S, output: Output, event: &HostEvent) -> Out
 {
     match event {
         HostEvent::Answer(answer) => {
-            let fields = EachAs(answer.fields.as_slice(), Told);
+            let fields = EachAs(answer.fields.as_slice(), ToldField);
             texts!(AnswerLine(answer), fields).put_to(sink, output)
         }
         _ => As(event, Play).put_to(sink, output),
@@ -26,12 +26,12 @@ pub fn put_told<S: Sink>(sink: &mut S, output: Output, event: &HostEvent) -> Out
 
 // The sense of a field as a live host tells it.
 #[derive(Clone, Copy)]
-struct Told;
+struct ToldField;
 
-impl TextAs<Told> for ReadField {
+impl TextAs<ToldField> for ReadField {
     ghost text_as = { λ _. Spec.told_field };
 
-    fn put_as<S: Sink>(&self, _sense: &Told, sink: &mut S, output: Output) -> Output {
+    fn put_as<S: Sink>(&self, _sense: &ToldField, sink: &mut S, output: Output) -> Output {
         let content = self.content.as_slice();
         texts!(
             "  field ",

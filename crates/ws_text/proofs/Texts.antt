@@ -3,7 +3,7 @@
 use Rattle.ws_text.proofs.Common.{◌∙◌, ap, ◌≡◌, arith, refl, sym, [], length, ◌∷◌, List, ℕ, ◌++◌, take, ◌+◌, ◌<◌, codes}
 use Rattle.ws_text.proofs.Common.{false, true, get_or, append_assoc, Bool, append-nil, flat_map, ◌^◌, ◌/◌, ◌%◌}
 use Rattle.ws_text.proofs.Common.{flat_map-append, take_more, encode_upper, upper_digits, Element, element_line, is_put}
-use Rattle.ws_text.proofs.Common.{element_lines, Run, Bytes, Other}
+use Rattle.ws_text.proofs.Common.{element_lines, UnitRun, Bytes, Other}
 use Rattle.ws_record.specs.Grammar.{two_bytes}
 use Rattle.ws_stream.specs.declared.element.Element.TheVariants.{Put}
 pub use Rattle.ws_text.specs.Lined.{lines_behind}
@@ -39,7 +39,7 @@ module _ {S U : Type 0} (is_byte : U → S) (line : S → U → List ℕ) where
   is_byte_last_more before (x ∷ us) u = is_byte_last_more (is_byte x) us u
 
 -- what runs add to those lines: bytes behind a byte go on with that one's line
-abbrev pub runs_behind : {U : Type 0} → (Run U → List ℕ) → Bool → List (Run U) → List ℕ
+abbrev pub runs_behind : {U : Type 0} → (UnitRun U → List ℕ) → Bool → List (UnitRun U) → List ℕ
 runs_behind run_line true (Bytes bytes ∷ runs) = encode_upper bytes ++ flat_map run_line runs
 runs_behind run_line before runs = flat_map run_line runs
 
@@ -49,7 +49,7 @@ pub begins_run : (byte : ℕ) (bytes rest : List ℕ) → encode_upper (byte ∷
 begins_run byte bytes rest = sym (append_assoc (encode_upper (byte ∷ [])) (encode_upper bytes) rest)
     ∙ ap (λ z. z ++ rest) (sym (encode_append upper_digits (byte ∷ []) bytes))
 
-joins : (before : Bool) (e : Element) (runs : List (Run Element))
+joins : (before : Bool) (e : Element) (runs : List (UnitRun Element))
     → element_line before e ++ runs_behind run_line (is_put e) runs ≡ runs_behind run_line before (runs_with e runs)
 joins true (Put byte) [] = refl
 joins true (Put byte) (Bytes bytes ∷ runs) = begins_run byte bytes (flat_map run_line runs)

@@ -10,7 +10,7 @@ use ws_code::{Address, Sink};
 use ws_stream::{Element, FieldStart};
 
 /// Writes the text of an element, without blanks before it and a line's end.
-pub fn put_element<S: Sink>(sink: &mut S, output: Output, element: &Element) -> Output
+pub(crate) fn put_element<S: Sink>(sink: &mut S, output: Output, element: &Element) -> Output
     ensures { Prints S.writer sink.old sink.new output result
         (Shown.element_text element.now) }
 {
@@ -52,7 +52,7 @@ fn put_command<S: Sink>(sink: &mut S, output: Output, name: &str, cc1: u8, cc2: 
 }
 
 /// Writes a name and the cell behind it.
-pub fn put_place<S: Sink>(sink: &mut S, output: Output, name: &str, to: Address) -> Output
+pub(crate) fn put_place<S: Sink>(sink: &mut S, output: Output, name: &str, to: Address) -> Output
     ensures { Prints S.writer sink.old sink.new output result
         (name.now ++ Shown.cell_text to) }
 {
@@ -61,7 +61,7 @@ pub fn put_place<S: Sink>(sink: &mut S, output: Output, name: &str, to: Address)
 }
 
 /// Writes a name, the cell behind it, and bytes.
-pub fn put_fill<S: Sink>(
+pub(crate) fn put_fill<S: Sink>(
     sink: &mut S,
     output: Output,
     name: &str,

@@ -87,7 +87,7 @@ pub fn put_cell<S: Sink>(sink: &mut S, output: Output, cell: Address) -> Output
 }
 
 /// Writes words of 16 bits in upper case hex, a blank behind each.
-pub fn put_words<S: Sink>(sink: &mut S, output: Output, words: &[u16]) -> Output
+pub(crate) fn put_words<S: Sink>(sink: &mut S, output: Output, words: &[u16]) -> Output
     ensures { Prints S.writer sink.old sink.new output result (words_text words.now) }
 {
     let mut output = output;

@@ -14,12 +14,12 @@ use Rattle.ws_live.specs.declared.live.connect_line.StationLine.{StationLine}
 use Rattle.ws_live.specs.declared.live.connect_line.StationLine.TheVariants.{Nothing, Press, Await, Fields, Show, Bad}
 use Rattle.ws_live.specs.declared.live.connect_line.StationLine.TheVariants.{Stroke as StrokeLine}
 use Rattle.ws_live.specs.declared.live.connect_line.StationLine.TheVariants.{Report as ReportLine}
-use Rattle.ws_printing.specs.declared.report.Report.{Report}
-use Rattle.ws_printing.specs.declared.report.Report.TheVariants.{Status, Cells, Text as ShownText, Note}
-use Rattle.ws_printing.specs.declared.report.Span.{Span}
-use Rattle.ws_live.specs.declared.live.stroke.Filling.{Filling}
-use Rattle.ws_live.specs.declared.live.stroke.Stroke.{Stroke}
-use Rattle.ws_live.specs.declared.live.stroke.Stroke.TheVariants.{Cursor, NewLine, EraseEof, Fill}
+use Rattle.ws_printing.specs.declared.station_report.StationReport.{StationReport}
+use Rattle.ws_printing.specs.declared.station_report.StationReport.TheVariants.{Status, Cells, Text as ShownText, Note}
+use Rattle.ws_printing.specs.declared.station_report.Span.{Span}
+use Rattle.ws_live.specs.declared.live.script_stroke.FieldFilling.{FieldFilling}
+use Rattle.ws_live.specs.declared.live.script_stroke.ScriptStroke.{ScriptStroke}
+use Rattle.ws_live.specs.declared.live.script_stroke.ScriptStroke.TheVariants.{Cursor, NewLine, EraseEof, Fill}
 use Rattle.ws_live.specs.declared.live.connect_line.Awaited.{Awaited}
 use Rattle.ws_live.specs.declared.live.connect_line.Awaited.TheVariants.{Turn, Record, Text, At, Quiet}
 
@@ -115,7 +115,7 @@ abbrev pub IsSpanText : List ℕ → Span → Type 0
 IsSpanText words span = (count : List ℕ) × IsPlaced words span.at count × IsCellCount count span.count
 
 -- the lines that print what they ask for
-abbrev pub MeansReport : List ℕ → Report → Type 0
+abbrev pub MeansReport : List ℕ → StationReport → Type 0
 MeansReport line Status = line ≡ codes "status"
 MeansReport line (Cells cell) = (word : List ℕ) × (line ≡ codes "cells " ++ word) × IsRowText word cell
 MeansReport line (ShownText span) = (words : List ℕ) × (line ≡ codes "show " ++ words) × IsSpanText words span
@@ -144,16 +144,16 @@ module _ {Q : Type 0} (w : KeyWords Q) where
     named : (name : List ℕ) → line ≡ codes "key " ++ name → AreNamed name keys → MeansKeys line keys
 
   -- the field of a number, and keys for the characters of a text
-  abbrev pub IsFieldText : List ℕ → List ℕ → Filling Q → Type 0
+  abbrev pub IsFieldText : List ℕ → List ℕ → FieldFilling Q → Type 0
   IsFieldText word text filling = IsFieldNumber word filling.number × AreKeysOf false text filling.keys
 
   -- the same, the text after the number
-  abbrev pub IsFilling : List ℕ → Filling Q → Type 0
+  abbrev pub IsFilling : List ℕ → FieldFilling Q → Type 0
   IsFilling words filling = (word : List ℕ) × (text : List ℕ) × (words ≡ word ++ codes " " ++ text)
       × IsFieldText word text filling
 
   -- the lines that press keys by the screen
-  abbrev pub MeansStroke : List ℕ → Stroke Q → Type 0
+  abbrev pub MeansStroke : List ℕ → ScriptStroke Q → Type 0
   MeansStroke line (Cursor cell) = (words : List ℕ) × (line ≡ codes "cursor " ++ words) × IsCellText words cell
   MeansStroke line NewLine = line ≡ codes "newline"
   MeansStroke line EraseEof = line ≡ codes "erase"

@@ -28,13 +28,13 @@ use Rattle.ws_live.specs.declared.live.connect_line.StationLine.TheVariants.{Not
 use Rattle.ws_live.specs.declared.live.connect_line.StationLine.TheVariants.{Fields, Show, Report, Bad}
 use Rattle.ws_live.specs.declared.live.connect_line.Awaited.{Awaited}
 use Rattle.ws_live.specs.declared.live.connect_line.Awaited.TheVariants.{Turn, Record, Text, At, Quiet}
-use Rattle.ws_printing.specs.declared.report.Report.{Report as AReport}
-use Rattle.ws_printing.specs.declared.report.Report.TheVariants.{Note}
+use Rattle.ws_printing.specs.declared.station_report.StationReport.{StationReport}
+use Rattle.ws_printing.specs.declared.station_report.StationReport.TheVariants.{Note}
 use Rattle.ws_live.specs.live.LiveText.{Account, LineResult, LinesDo, account, bad_outcome, bad_text, line_result}
 use Rattle.ws_printing.specs.Operating.{OperatedOn}
 use Rattle.ws_live.specs.live.Operating.{AttachedDisplay, KeyedDisplay, LiveDisplay, WatchedDisplay}
 use Rattle.ws_live.specs.live.Stroking.{no_field_text, stroke_keys}
-use Rattle.ws_live.specs.live.Waits.{InTime, WatchTimes, WatchedDevices}
+use Rattle.ws_live.specs.live.Watches.{InTime, WatchTimes, WatchedDevices}
 use Rattle.ws_live.specs.declared.live.Closing.{Closing}
 use Rattle.ws_printing.specs.declared.paint.Paint.{Paint}
 use Rattle.ws_live.specs.declared.live.Closing.TheVariants.{Nothing, Done, Declined, Late, Ended, Stopped}
@@ -49,7 +49,7 @@ span_of (Quiet time) = UntilQuiet time
 span_of awaited = Whole
 
 -- how long a line waits that reports: not at all where it only prints a note
-abbrev pub report_waits : AReport → Option WaitSpan
+abbrev pub report_waits : StationReport → Option WaitSpan
 report_waits (Note note) = None
 report_waits report = Some AtOnce
 
@@ -245,7 +245,7 @@ module _ {S K : Type 0} (display : WatchedDisplay S K) where
     pub all : came.text ≡ shown ++ waited_text (rested true ended)
 
   -- a line that reports: a note is printed as it is
-  abbrev pub Reports : LinesDo AReport (WatchedStation × ℕ)
+  abbrev pub Reports : LinesDo StationReport (WatchedStation × ℕ)
   Reports (Note note) from came to = (to ≡ from) × (came.outcome ≡ Ok Done) × (came.text ≡ note_line note)
   Reports report from came to =
       ShowsStation (λ station. IsReportText (reported_station display.at.on.does station) report) from came to

@@ -4,7 +4,7 @@ use Rattle.ws_code.specs.Code.{Rules}
 use Rattle.ws_code.specs.Device.{Devices}
 use Rattle.ws_end.specs.station.Displays.{DisplayOf, OnDisplay, on_display}
 use Rattle.ws_printing.specs.Operating.{OperatedOn}
-use Rattle.ws_live.specs.live.Waits.{WatchTells}
+use Rattle.ws_live.specs.live.Watches.{WatchTells}
 use Rattle.ws_live.specs.script.KeyWords.{KeyWords}
 
 -- a display at which lines are carried out: what a station stands on, what an operator sees of it, and the words for

@@ -17,7 +17,7 @@ use Rattle.ws_end.specs.declared.host_end.host_event.HostEvent.TheVariants.{Answ
 use Rattle.ws_end.specs.declared.host_end.send_fault.SendFault.{SendFault}
 use Rattle.ws_session.specs.declared.world.Event.TheVariants.{SendRefused, HostRefused}
 use Rattle.ws_live.specs.live.LiveText.{LineResult, LinesDo, bad_outcome, bad_text, line_result}
-use Rattle.ws_live.specs.live.Waits.{InTime, WatchTimes, WatchedDevices}
+use Rattle.ws_live.specs.live.Watches.{InTime, WatchTimes, WatchedDevices}
 use Rattle.ws_printing.specs.PlayLines.{event_text}
 use Rattle.ws_printing.specs.ToldLines.{told_text}
 use Rattle.ws_printing.specs.ScreenLines.{IsScreenText}

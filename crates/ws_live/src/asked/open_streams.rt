@@ -15,6 +15,8 @@ pub struct OpenStreams {
 impl OpenStreams {
     /// Whether a command has what it needs: standard output, and where it reads standard input, that too.
     ///
+    /// # Errors
+    ///
     /// `Read` where standard input is to be read and is closed, else `Write` where standard output is closed.
     pub fn suffice(self, reads_input: bool) -> Result<(), RunFault>
         ensures ok { OnOk result (missing self reads_input ≡ None) }

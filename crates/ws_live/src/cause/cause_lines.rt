@@ -23,7 +23,7 @@ pub fn cause_at<'a>(text: &'a [u8], number: u64, vocabulary: Vocabulary) -> Caus
     if !is_indented(line) {
         return cause_of(line, vocabulary, false);
     }
-    let before = Standing {
+    let before = LinesBefore {
         is_inside: false,
         has_command: false,
     };
@@ -50,7 +50,7 @@ pub fn cause_in_block<'a>(
     }
     match (units_of(vocabulary), line_at(inside, number - 1)) {
         (Some(units), Some(unit)) => {
-            let before = Standing {
+            let before = LinesBefore {
                 is_inside: true,
                 has_command: false,
             };
@@ -82,13 +82,18 @@ fn line_at(text: &[u8], number: u64) -> Option<&[u8]>
 
 // What stands before a line: a line to which units belong, and one of these that is a command.
 #[derive(Clone, Copy)]
-struct Standing {
+struct LinesBefore {
     is_inside: bool,
     has_command: bool,
 }
 
 // What stands before the line of this number of a text, behind this.
-fn standing_at(before: Standing, text: &[u8], number: u64, vocabulary: Vocabulary) -> Standing {
+fn standing_at(
+    before: LinesBefore,
+    text: &[u8],
+    number: u64,
+    vocabulary: Vocabulary,
+) -> LinesBefore {
     let mut standing = before;
     let mut rest = text;
     for _ in 1..number {
@@ -102,9 +107,9 @@ fn standing_at(before: Standing, text: &[u8], number: u64, vocabulary: Vocabular
     standing
 }
 
-fn behind_line(standing: Standing, line: &[u8], vocabulary: Vocabulary) -> Standing {
+fn behind_line(standing: LinesBefore, line: &[u8], vocabulary: Vocabulary) -> LinesBefore {
     if is_indented(line) {
-        return Standing {
+        return LinesBefore {
             is_inside: standing.is_inside,
             has_command: standing.has_command || is_command(unit_name(line)),
         };
@@ -112,7 +117,7 @@ fn behind_line(standing: Standing, line: &[u8], vocabulary: Vocabulary) -> Stand
     if is_items(vocabulary) && matches!(line, [] | [b'#', ..]) {
         return standing;
     }
-    Standing {
+    LinesBefore {
         is_inside: has_units(line, vocabulary),
         has_command: false,
     }
@@ -141,7 +146,7 @@ fn behind_place(text: &str) -> &str {
 }
 
 // Whether a unit stands before its record, or before the command that it belongs to.
-fn is_early(standing: Standing, line: &[u8]) -> bool {
+fn is_early(standing: LinesBefore, line: &[u8]) -> bool {
     !standing.is_inside || !standing.has_command && !is_command(unit_name(line))
 }
 

@@ -9,8 +9,8 @@ ghost use Rattle.ws_live.specs.cause.Causes.{EndsWith, IsLeft, IsTrueOf, StandsI
 ghost use Rattle.ws_live.specs.declared.cause.vocabulary.Vocabulary.{Vocabulary as AVocabulary};
 
 use crate::cause::Cause;
-use crate::cause::cause_kinds::Kind;
 use crate::cause::vocabulary::Vocabulary;
+use crate::cause::word_kind::WordKind;
 use crate::script::key_name::aid_named;
 use crate::script::named_key::NamedKey;
 use ws_code::ebcdic;
@@ -42,7 +42,7 @@ fn split_word(text: &str) -> Option<(&str, &str)>
 /// What is wrong with the words behind this one, where something is: they are to be of these kinds.
 pub fn wrong_words<'a>(
     vocabulary: Vocabulary,
-    kinds: &[Kind],
+    kinds: &[WordKind],
     first: &'a str,
     behind: Option<&'a str>,
 ) -> Option<Cause<'a>>
@@ -67,7 +67,7 @@ pub fn wrong_words<'a>(
 // no more words are to be looked at.
 fn wrong_next<'a>(
     vocabulary: Vocabulary,
-    kind: Kind,
+    kind: WordKind,
     last: &'a str,
     rest: Option<&'a str>,
 ) -> Result<(&'a str, Option<&'a str>), Option<Cause<'a>>>
@@ -79,30 +79,30 @@ fn wrong_next<'a>(
         return Err(at_end(kind, last));
     };
     match kind {
-        Kind::End => Ok((last, rest)),
-        Kind::AnyText => Err(None),
-        Kind::SomeText | Kind::Coded => Err(wrong_text(kind, words)),
+        WordKind::End => Ok((last, rest)),
+        WordKind::AnyText => Err(None),
+        WordKind::SomeText | WordKind::Coded => Err(wrong_text(kind, words)),
         _ => word_at(vocabulary, kind, words),
     }
 }
 
 // What is wrong where the line ends behind this word.
-fn at_end<'a>(kind: Kind, last: &'a str) -> Option<Cause<'a>>
+fn at_end<'a>(kind: WordKind, last: &'a str) -> Option<Cause<'a>>
     ensures { IfSome result (λ cause. cause ≡ Cause.Missing last.entry) }
 {
     match kind {
-        Kind::End => None,
+        WordKind::End => None,
         _ => Some(Cause::Missing(last)),
     }
 }
 
 // What is wrong with a text.
-fn wrong_text<'a>(kind: Kind, text: &str) -> Option<Cause<'a>>
+fn wrong_text<'a>(kind: WordKind, text: &str) -> Option<Cause<'a>>
     ensures { (vocabulary : AVocabulary) (line : List ℕ) → EndsWith line (32 ∷ text.now)
         → IfSome result (IsTrueOf vocabulary line) }
 {
     match kind {
-        Kind::Coded => match uncoded(text) {
+        WordKind::Coded => match uncoded(text) {
             Some(character) => Some(Cause::NoByte(character)),
             None => None,
         },
@@ -126,7 +126,7 @@ fn uncoded(text: &str) -> Option<char>
 // The first word of these.
 fn word_at<'a>(
     vocabulary: Vocabulary,
-    kind: Kind,
+    kind: WordKind,
     words: &'a str,
 ) -> Result<(&'a str, Option<&'a str>), Option<Cause<'a>>>
     ensures { (line : List ℕ) → EndsWith line (32 ∷ words.now)
@@ -190,18 +190,18 @@ fn left_over<'a>(rest: Option<&'a str>) -> Option<Cause<'a>>
 }
 
 // What is wrong with a word that is to be of this kind.
-fn wrong_word<'a>(vocabulary: Vocabulary, kind: Kind, word: &'a str) -> Option<Cause<'a>>
+fn wrong_word<'a>(vocabulary: Vocabulary, kind: WordKind, word: &'a str) -> Option<Cause<'a>>
     ensures { (line : List ℕ) → StandsIn line word.now → IfSome result (IsTrueOf vocabulary line) }
 {
     match kind {
-        Kind::Number(least, most) => wrong_number(word, least, most),
-        Kind::Opcode => wrong_opcode(word, true),
-        Kind::AnyOpcode => wrong_opcode(word, false),
-        Kind::Digits(digits) => wrong_digits(word, digits),
-        Kind::Hex => wrong_hex(word),
-        Kind::Key if !is_key(vocabulary, word) => Some(Cause::UnknownKey(word)),
-        Kind::Unknown => Some(Cause::Unexpected(word)),
-        Kind::OpcodeWord if word != "opcode" => Some(Cause::Unexpected(word)),
+        WordKind::Number(least, most) => wrong_number(word, least, most),
+        WordKind::Opcode => wrong_opcode(word, true),
+        WordKind::AnyOpcode => wrong_opcode(word, false),
+        WordKind::Digits(digits) => wrong_digits(word, digits),
+        WordKind::Hex => wrong_hex(word),
+        WordKind::Key if !is_key(vocabulary, word) => Some(Cause::UnknownKey(word)),
+        WordKind::Unknown => Some(Cause::Unexpected(word)),
+        WordKind::OpcodeWord if word != "opcode" => Some(Cause::Unexpected(word)),
         _ => None,
     }
 }

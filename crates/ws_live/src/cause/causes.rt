@@ -7,9 +7,9 @@ ghost use Rattle.ws_live.specs.declared.cause.vocabulary.Vocabulary.{Vocabulary 
 ghost use Rattle.ws_text.specs.Names.{look_up};
 
 use crate::cause::Cause;
-use crate::cause::cause_kinds::kinds_of;
 use crate::cause::cause_words::{first_word, has_tab, wrong_words};
 use crate::cause::vocabulary::{Vocabulary, shape_of};
+use crate::cause::word_kind::kinds_of;
 use std::str;
 
 /// Why this line of this kind, which is bad, is bad. A unit is early where it stands before the record or the command

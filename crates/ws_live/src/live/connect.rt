@@ -4,7 +4,7 @@ ghost use Rattle.ws_end.specs.declared.end_step.Applied.{Applied};
 ghost use Rattle.ws_live.specs.live.ConnectText as Spec;
 ghost use Rattle.ws_live.specs.live.LiveText.{line_result, stops};
 ghost use Rattle.ws_live.specs.live.Operating.{keyed, live_display, watched};
-ghost use Rattle.ws_live.specs.live.Waits.{HasBegun, HasBegunIf, watched_devices};
+ghost use Rattle.ws_live.specs.live.Watches.{HasBegun, HasBegunIf, watched_devices};
 ghost use Rattle.ws_live.specs.declared.live.watch.WaitSpan.TheVariants.{AtOnce};
 ghost use Rattle.ws_text.specs.Printing.{Prints};
 ghost use Rattle.ws_code.specs.Device.{on_devices};
@@ -16,8 +16,8 @@ use crate::live::{Carried, Closing, LiveMove, put_bad};
 use crate::script::named_key::NamedKey;
 use ws_code::{Fault, Sink, Source};
 use ws_printing::{
-    OperatedDisplay, Paint, Report, begins_at, put_display, put_event, put_field_lines, put_note,
-    put_report, shows,
+    OperatedDisplay, Paint, StationReport, begins_at, put_display, put_event, put_field_lines,
+    put_note, put_report, shows,
 };
 use ws_session::{Attached, Event, StationOn};
 use ws_text::Output;
@@ -89,7 +89,7 @@ fn put_what<D: OperatedDisplay, S: Source, K: Sink, W: Watch<S>, O: Sink>(
     attached: &mut Attached<StationOn<D>, S, K>,
     ahead: &mut u64,
     watch: &mut W,
-    report: &Report,
+    report: &StationReport,
     out: &mut O,
     output: Output,
 ) -> Carried
@@ -105,7 +105,7 @@ fn put_what<D: OperatedDisplay, S: Source, K: Sink, W: Watch<S>, O: Sink>(
         stops closing ≡ false → attached.new.broken ≡ false) }
 {
     match report {
-        Report::Note(note) => Carried {
+        StationReport::Note(note) => Carried {
             output: put_note(out, output, note.as_slice()),
             outcome: Ok(Closing::Done),
         },

@@ -7,7 +7,7 @@ ghost use Rattle.ws_live.specs.script.ScriptFaults.{IsLineFault, IsNoComment, ha
 
 use crate::live::live_line::LiveLine;
 use crate::live::report_words::{read_note, read_placed, read_row, read_span};
-use crate::live::stroke::Stroke;
+use crate::live::script_stroke::ScriptStroke;
 use crate::live::stroke_words::{read_cell, read_filling};
 use crate::live::wire_words::read_milliseconds;
 use crate::script::ScriptFault;
@@ -18,7 +18,7 @@ use crate::script::script_move::split_word;
 use std::alloc::Global;
 use std::str;
 use ws_code::{Address, List};
-use ws_printing::Report;
+use ws_printing::StationReport;
 
 /// A line of a script for a station at a host, whose display has keys of this type.
 #[derive(Drop)]
@@ -28,7 +28,7 @@ pub enum StationLine<Q> {
     /// The keys are pressed one after another.
     Press(List<Q>),
     /// Keys are pressed by the screen, up to the first that isn't taken.
-    Stroke(Stroke<Q>),
+    Stroke(ScriptStroke<Q>),
     /// The station takes what the host sends, until this holds.
     Await(Awaited),
     /// The fields are printed.
@@ -36,7 +36,7 @@ pub enum StationLine<Q> {
     /// The screen is printed.
     Show,
     /// What this asks for is printed.
-    Report(Report),
+    Report(StationReport),
     /// A line that is bad for this cause, which is told.
     Bad(String),
 }
@@ -112,11 +112,11 @@ fn read_word<Q: NamedKey>(word: &str) -> Result<StationLine<Q>, LineFault>
 {
     match word {
         "await" => Ok(StationLine::Await(Awaited::Turn)),
-        "erase" => Ok(StationLine::Stroke(Stroke::EraseEof)),
-        "newline" => Ok(StationLine::Stroke(Stroke::NewLine)),
+        "erase" => Ok(StationLine::Stroke(ScriptStroke::EraseEof)),
+        "newline" => Ok(StationLine::Stroke(ScriptStroke::NewLine)),
         "fields" => Ok(StationLine::Fields),
         "show" => Ok(StationLine::Show),
-        "status" => Ok(StationLine::Report(Report::Status)),
+        "status" => Ok(StationLine::Report(StationReport::Status)),
         _ => Err(LineFault::Bad),
     }
 }
@@ -140,11 +140,11 @@ fn read_command<Q: NamedKey>(
         "insert" => Ok(StationLine::Press(typed_keys(alloc, words, true)?)),
         "key" => Ok(StationLine::Press(named_key(alloc, words)?)),
         "await" => Ok(StationLine::Await(read_awaited(alloc, words)?)),
-        "cursor" => Ok(StationLine::Stroke(Stroke::Cursor(read_cell(words)?))),
-        "field" => Ok(StationLine::Stroke(Stroke::Fill(read_filling(alloc, words)?))),
-        "cells" => Ok(StationLine::Report(Report::Cells(read_row(words)?))),
-        "show" => Ok(StationLine::Report(Report::Text(read_span(words)?))),
-        "note" => Ok(StationLine::Report(Report::Note(read_note(alloc, words)?))),
+        "cursor" => Ok(StationLine::Stroke(ScriptStroke::Cursor(read_cell(words)?))),
+        "field" => Ok(StationLine::Stroke(ScriptStroke::Fill(read_filling(alloc, words)?))),
+        "cells" => Ok(StationLine::Report(StationReport::Cells(read_row(words)?))),
+        "show" => Ok(StationLine::Report(StationReport::Text(read_span(words)?))),
+        "note" => Ok(StationLine::Report(StationReport::Note(read_note(alloc, words)?))),
         _ => Err(LineFault::Bad),
     }
 }

@@ -24,6 +24,8 @@ pub trait LiveLine: Drop {
 
     /// Reads a line, without its line end, with the text of the lines that belong to it.
     ///
+    /// # Errors
+    ///
     /// `Line` where they are no such lines of a script, with the number of the bad one, which is 1 for the line itself.
     /// `Memory` where a growth was refused: the line and those that belong to it are good; or none belongs to it, and
     /// what was read of it is good.
@@ -37,6 +39,8 @@ pub trait LiveLine: Drop {
 }
 
 /// The lines of a script, in order.
+///
+/// # Errors
 ///
 /// `Line` where a line is bad, with the number of the first one. `Memory` where a growth was refused; what was read of
 /// the text is good.

@@ -8,7 +8,7 @@ ghost use Rattle.ws_live.specs.live.Stroking.{keys_behind, stroke_keys};
 ghost use Rattle.ws_text.specs.Printing.{Prints};
 ghost use Rattle.ws_code.specs.Device.{on_devices};
 
-use crate::live::stroke::Stroke;
+use crate::live::script_stroke::ScriptStroke;
 use crate::live::{Carried, Closing};
 use crate::script::named_key::NamedKey;
 use ws_code::{Sink, Source};
@@ -18,7 +18,7 @@ use ws_session::{Acted, Attached, KeyFault, StationDisplay, StationOn};
 use ws_text::{Output, put_text};
 
 /// Presses a key, and prints why it is refused.
-pub fn press_key<D: StationDisplay, S: Source, K: Sink, O: Sink>(
+pub(crate) fn press_key<D: StationDisplay, S: Source, K: Sink, O: Sink>(
     attached: &mut Attached<StationOn<D>, S, K>,
     key: D::Key,
     out: &mut O,
@@ -80,9 +80,9 @@ fn put_entered<O: Sink>(out: &mut O, output: Output, entered: Option<char>) -> O
 }
 
 /// Presses the keys of a stroke one after another, up to the first that isn't taken.
-pub fn press_stroke<D: StationDisplay, S: Source, K: Sink, O: Sink>(
+pub(crate) fn press_stroke<D: StationDisplay, S: Source, K: Sink, O: Sink>(
     attached: &mut Attached<StationOn<D>, S, K>,
-    stroke: &Stroke<D::Key>,
+    stroke: &ScriptStroke<D::Key>,
     out: &mut O,
     output: Output,
 ) -> Carried
@@ -112,7 +112,7 @@ where
 // Presses the keys that stand behind the first of a stroke.
 fn press_behind<D: StationDisplay, S: Source, K: Sink, O: Sink>(
     attached: &mut Attached<StationOn<D>, S, K>,
-    stroke: &Stroke<D::Key>,
+    stroke: &ScriptStroke<D::Key>,
     out: &mut O,
     output: Output,
 ) -> Carried
@@ -126,7 +126,7 @@ where
     ensures works { IfOk result.outcome (λ closing. attached.new.broken ≡ false) }
 {
     match stroke {
-        Stroke::Fill(filling) => press_until(attached, filling.keys.as_slice(), out, output),
+        ScriptStroke::Fill(filling) => press_until(attached, filling.keys.as_slice(), out, output),
         _ => Carried {
             output,
             outcome: Ok(Closing::Done),

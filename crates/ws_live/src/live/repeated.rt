@@ -2,7 +2,7 @@
 ghost use Rattle.std.specs.Prelude.{◌≡◌, [], false, IfOk};
 ghost use Rattle.ws_live.specs.live.CarryingOn as Spec;
 ghost use Rattle.ws_live.specs.live.LiveText.{line_printing, stops};
-ghost use Rattle.ws_live.specs.live.Waits.{InTime};
+ghost use Rattle.ws_live.specs.live.Watches.{InTime};
 ghost use Rattle.ws_text.specs.Printed.{IsPrinted};
 
 use crate::live::watch::Watch;
@@ -16,8 +16,10 @@ use ws_text::Output;
 /// true where it then closes otherwise, and false where a byte is refused. With a line that awaits what is next told it
 /// answers a station on, behind a script.
 ///
-/// `Write` where the sink or the connection failed, `Read` where a read failed, though not for want of time, or
-/// 4,294,967,296 things were told; `Memory` where a growth was refused.
+/// # Errors
+///
+/// The first fault of the line, as at `carry_lines`; `Write` where it has none and the sink failed; `Read` where
+/// 4,294,967,296 things were told.
 pub fn carry_on<E, S, K, L: LiveMove<E, S, K>, W: Watch<S>, O: Sink>(
     attached: &mut Attached<E, S, K>,
     ahead: &mut u64,

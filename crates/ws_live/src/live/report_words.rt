@@ -12,6 +12,10 @@ use ws_printing::Span;
 use ws_text::read_number;
 
 /// The first cell of the row of this number.
+///
+/// # Errors
+///
+/// `Bad` where the word isn't a row from 1 to 24, in 1 to 9 decimal digits.
 pub fn read_row(word: &str) -> Result<Address, LineFault>
     ensures row { IfOk result (Spec.IsRowText word.now) }
     ensures fault { IfErr result (IsLineFault (Spec.IsRowText word.now) ⊥) }
@@ -24,6 +28,11 @@ pub fn read_row(word: &str) -> Result<Address, LineFault>
 }
 
 /// A cell by its row and column, and how many cells from it on.
+///
+/// # Errors
+///
+/// `Bad` where the words, with one blank between them, aren't a row from 1 to 24, a column from 1 to 80 and a count
+/// from 1 to 1,920, each in 1 to 9 decimal digits.
 pub fn read_span(words: &str) -> Result<Span, LineFault>
     ensures span { IfOk result (Spec.IsSpanText words.now) }
     ensures fault { IfErr result (IsLineFault (Spec.IsSpanText words.now) ⊥) }
@@ -49,6 +58,11 @@ fn read_counted(at: Address, word: &str) -> Result<Span, LineFault>
 }
 
 /// A cell by its row and column, and what stands behind them and a blank.
+///
+/// # Errors
+///
+/// `Bad` where the words don't begin with a row from 1 to 24 and a column from 1 to 80, each in 1 to 9 decimal digits
+/// and with one blank behind it.
 pub fn read_placed(words: &str) -> Result<(Address, &str), LineFault>
     ensures placed { IfOk result (λ placed. Spec.IsPlaced words.now placed.0 placed.1.now) }
     ensures fault { IfErr result (λ fault. (fault ≡ LineFault.Bad)
@@ -77,6 +91,10 @@ fn read_behind_row<'a>(row: &str, words: &'a str) -> Result<(Address, &'a str), 
 }
 
 /// The bytes of a note.
+///
+/// # Errors
+///
+/// `Memory` where a growth was refused.
 pub fn read_note(alloc: Global, text: &str) -> Result<List<u8>, LineFault>
     ensures note { IfOk result (λ note. note ≡ text.now) }
     ensures fault { IfErr result (λ fault. fault ≡ LineFault.Memory) }

@@ -3,7 +3,7 @@ ghost use Rattle.std.specs.Prelude.{◌≡◌, [], false, List, ℕ, IfOk};
 ghost use Rattle.ws_live.specs.live.ServeText as Spec;
 ghost use Rattle.ws_live.specs.live.CarryingOn.{carrying_on};
 ghost use Rattle.ws_live.specs.live.LiveText.{line_result, stops};
-ghost use Rattle.ws_live.specs.live.Waits.{watched_devices};
+ghost use Rattle.ws_live.specs.live.Watches.{watched_devices};
 ghost use Rattle.ws_live.specs.declared.live.serve_line.HostLine.TheVariants.{Await};
 ghost use Rattle.ws_text.specs.Printed.{IsPrinted};
 ghost use Rattle.ws_text.specs.Printing.{Prints};
@@ -148,8 +148,11 @@ fn is_awaited(awaited: &AnswerAwaited, event: &HostEvent) -> bool
 /// Answers a station on, and prints what the host end tells, until the station closes the connection, a wait for the
 /// next thing is over, or a byte is refused: true where none is.
 ///
-/// `Write` where the sink or the connection failed, `Read` where a read failed, though not for want of time, or
-/// 4,294,967,296 things were told; `Memory` where a growth was refused.
+/// # Errors
+///
+/// `Write` where the sink or the connection failed; `Read` where a read failed, though not for want of time, or
+/// 4,294,967,296 reads told nothing, or as many things were told; `Memory` where a growth was refused; `Failed` where
+/// the end was shut before.
 pub fn answer_on<S: Source, K: Sink, W: Watch<S>, O: Sink>(
     attached: &mut Attached<HostEnd, S, K>,
     ahead: &mut u64,

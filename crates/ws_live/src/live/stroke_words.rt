@@ -2,10 +2,10 @@
 ghost use Rattle.std.specs.Prelude.{IfOk, IfErr};
 ghost use Rattle.ws_live.specs.live.ConnectLines as Spec;
 ghost use Rattle.ws_live.specs.script.ScriptFaults.{IsLineFault};
-ghost use Rattle.ws_live.specs.declared.live.stroke.Filling.{Filling as AFilling};
+ghost use Rattle.ws_live.specs.declared.live.script_stroke.FieldFilling.{FieldFilling as AFilling};
 ghost use Rattle.ws_text.specs.Words.{IsCell, IsSmall};
 
-use crate::live::stroke::Filling;
+use crate::live::script_stroke::FieldFilling;
 use crate::script::key_line::typed_keys;
 use crate::script::named_key::NamedKey;
 use crate::script::script_line::LineFault;
@@ -16,6 +16,10 @@ use ws_screen::MAX_FIELDS;
 use ws_text::read_number;
 
 /// The cell of a row and a column, with a blank between them.
+///
+/// # Errors
+///
+/// `Bad` where the words aren't a row from 1 to 24, one blank and a column from 1 to 80, each in 1 to 9 decimal digits.
 pub fn read_cell(words: &str) -> Result<Address, LineFault>
     ensures cell { IfOk result (Spec.IsCellText words.now) }
     ensures fault { IfErr result (IsLineFault (Spec.IsCellText words.now) ⊥) }
@@ -27,6 +31,10 @@ pub fn read_cell(words: &str) -> Result<Address, LineFault>
 }
 
 /// The cell of this row and this column.
+///
+/// # Errors
+///
+/// `Bad` where the one word isn't a row from 1 to 24, or the other one a column from 1 to 80, in 1 to 9 decimal digits.
 pub fn read_place(row: &str, column: &str) -> Result<Address, LineFault>
     ensures cell { IfOk result (IsCell row.now column.now) }
     ensures fault { IfErr result (IsLineFault (IsCell row.now column.now) ⊥) }
@@ -40,6 +48,10 @@ pub fn read_place(row: &str, column: &str) -> Result<Address, LineFault>
 }
 
 /// The byte that a word writes as a number.
+///
+/// # Errors
+///
+/// `Bad` where the word isn't a number from 0 to 255, in 1 to 9 decimal digits.
 pub fn read_small(word: &str) -> Result<u8, LineFault>
     ensures ok { IfOk result (IsSmall word.now) }
     ensures fault { IfErr result (IsLineFault (IsSmall word.now) ⊥) }
@@ -51,7 +63,12 @@ pub fn read_small(word: &str) -> Result<u8, LineFault>
 }
 
 /// The number of a field, and the keys of the text behind it.
-pub fn read_filling<Q: NamedKey>(alloc: Global, words: &str) -> Result<Filling<Q>, LineFault>
+///
+/// # Errors
+///
+/// `Bad` where the words don't begin with a number from 1 to 256, in 1 to 9 decimal digits, and a blank. `Memory` where
+/// they do, and a growth was refused.
+pub fn read_filling<Q: NamedKey>(alloc: Global, words: &str) -> Result<FieldFilling<Q>, LineFault>
     ensures filling { IfOk result (Spec.IsFilling Q.words words.now) }
     ensures fault { IfErr result (IsLineFault (Spec.IsFilling Q.words words.now)
         ((filling : AFilling Q) × Spec.IsFilling Q.words words.now filling)) }
@@ -63,14 +80,18 @@ pub fn read_filling<Q: NamedKey>(alloc: Global, words: &str) -> Result<Filling<Q
 }
 
 // The field of this number, and the keys of a text.
-fn read_field<Q: NamedKey>(alloc: Global, word: &str, text: &str) -> Result<Filling<Q>, LineFault>
+fn read_field<Q: NamedKey>(
+    alloc: Global,
+    word: &str,
+    text: &str,
+) -> Result<FieldFilling<Q>, LineFault>
     ensures filling { IfOk result (Spec.IsFieldText Q.words word.now text.now) }
     ensures fault { IfErr result (IsLineFault (Spec.IsFieldText Q.words word.now text.now)
         ((filling : AFilling Q) × Spec.IsFieldText Q.words word.now text.now filling)) }
 {
     let number = read_field_number(word)?;
     let keys = typed_keys(alloc, text, false)?;
-    Ok(Filling { number, keys })
+    Ok(FieldFilling { number, keys })
 }
 
 // The number of a field that a screen may have.

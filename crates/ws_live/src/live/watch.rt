@@ -1,6 +1,6 @@
 //! What tells the time of the waits of a session.
 ghost use Rattle.std.specs.Prelude.{◌≡◌};
-ghost use Rattle.ws_live.specs.live.Waits.{HasBegun, WatchTells, WatchTimes};
+ghost use Rattle.ws_live.specs.live.Watches.{HasBegun, WatchTells, WatchTimes};
 
 /// How long a wait lasts.
 #[derive(Clone, Copy)]

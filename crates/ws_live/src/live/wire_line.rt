@@ -21,6 +21,8 @@ pub enum WireLine {
 
 /// Carries such a line out: how it closes.
 ///
+/// # Errors
+///
 /// `Write` where a write failed, or took no byte: a proper prefix of the bytes went out.
 pub fn carry_wire<E, S, K: Sink, W: Watch<S>>(
     attached: &mut Attached<E, S, K>,

@@ -19,6 +19,12 @@ use ws_stream::{Commands, Element};
 use ws_text::{TextFault, read_items, read_number};
 
 /// A line that works on the connection itself.
+///
+/// # Errors
+///
+/// `Bad` where the line is none of these: `close`; `pause` and a time that `read_milliseconds` takes; `raw` and the hex
+/// of a byte or more; `telnet` and a command's words, as items are printed (RFC 854, 855). `Memory` where a growth was
+/// refused: the line is such a `telnet`, or a `raw` whose hex may be bad.
 pub fn read_wire(alloc: Global, line: &str) -> Result<WireLine, LineFault>
     ensures line { IfOk result (Spec.MeansWire line.now) }
     ensures fault { IfErr result (IsLineFault (Spec.MeansWire line.now)
@@ -78,6 +84,10 @@ fn behind_telnet(line: &str) -> Option<&str>
 }
 
 /// A time in milliseconds, up to an hour.
+///
+/// # Errors
+///
+/// `Bad` where the word isn't a number from 1 to 3,600,000, in 1 to 9 decimal digits.
 pub fn read_milliseconds(word: &str) -> Result<u32, LineFault>
     ensures time { IfOk result (IsMilliseconds word.now) }
     ensures fault { IfErr result (IsLineFault (IsMilliseconds word.now) ⊥) }

@@ -9,6 +9,10 @@ use std::alloc::Global;
 use ws_code::List;
 
 /// A key for each character of a text.
+///
+/// # Errors
+///
+/// `Memory` where a growth was refused.
 pub fn typed_keys<Q: NamedKey>(
     alloc: Global,
     text: &str,
@@ -25,6 +29,10 @@ pub fn typed_keys<Q: NamedKey>(
 }
 
 /// The key of this name.
+///
+/// # Errors
+///
+/// `Bad` where the display has no key of this name. `Memory` where it has one, and a growth was refused.
 pub fn named_key<Q: NamedKey>(alloc: Global, name: &str) -> Result<List<Q>, LineFault>
     ensures keys { IfOk result (Spec.AreNamed Q.words name.now) }
     ensures fault { IfErr result (IsLineFault (Spec.AreNamed Q.words name.now)

@@ -7,7 +7,7 @@ use ws_code::Aid;
 use ws_keys::Key;
 
 /// The key that has this name in a script, where one has.
-pub fn key_named(name: &str) -> Option<Key>
+pub(crate) fn key_named(name: &str) -> Option<Key>
     ensures { result ≡ Spec.key_named name.now }
 {
     if let Some(key) = plain_key(name) {

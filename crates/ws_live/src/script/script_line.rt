@@ -21,6 +21,11 @@ pub enum LineFault {
 }
 
 /// Adds a line's moves.
+///
+/// # Errors
+///
+/// `Bad` where the line isn't UTF-8, or is no line of a script of both ends. `Memory` where a growth was refused: it is
+/// one, or a `send` that is good up to the blank before its body.
 pub fn read_line(alloc: Global, line: &[u8], moves: &mut Vec<Move>) -> Result<(), LineFault>
     ensures ok { OnOk result ((given : Seq AMove) × Spec.IsScriptLine line.now given
         × (moves.new.items ≡ moves.old.items ++ given)) }
@@ -88,6 +93,10 @@ fn read_command(
 }
 
 /// Adds an item to a list.
+///
+/// # Errors
+///
+/// `Memory` where the growth was refused.
 pub fn add<T: Drop>(items: &mut Vec<T>, item: T) -> Result<(), LineFault>
     ensures ok { OnOk result (items.new.items ≡ items.old.items ++ item ∷ []) }
     ensures fault { IfErr result (λ fault. fault ≡ LineFault.Memory) }

@@ -25,6 +25,13 @@ pub fn split_word(text: &str) -> Option<(&str, &str)>
 }
 
 /// The one move of a command with words behind its blank.
+///
+/// # Errors
+///
+/// `Bad` where command and words are none of these: `send` and an opcode that `read_opcode` takes, alone or with a
+/// blank and the hex of elements behind it (SC30-3533, commands and orders); `down` or `up` and `all` or a number of 1
+/// to 9 decimal digits; `key` and the name of a key. `Memory` where a growth was refused: they are a `send` that is
+/// good up to the blank before its body.
 pub fn read_move(alloc: Global, command: &str, words: &str) -> Result<Move, LineFault>
     requires { has_no_blank command.now ≡ true }
     ensures ok { IfOk result (Spec.IsMove (command.now ++ codes " " ++ words.now)) }
@@ -63,6 +70,11 @@ fn read_send(alloc: Global, words: &str) -> Result<Move, LineFault>
 }
 
 /// An opcode in decimal; that of Cancel Invite is none.
+///
+/// # Errors
+///
+/// `Bad` where the word isn't the number of an opcode in 1 to 9 decimal digits, or is that of Cancel Invite (RFC 1205,
+/// section 3).
 pub fn read_opcode(word: &str) -> Result<Opcode, LineFault>
     ensures ok { IfOk result (Spec.IsSendOpcode word.now) }
     ensures fault { IfErr result (IsLineFault (Spec.IsSendOpcode word.now) ⊥) }

@@ -6,7 +6,7 @@ use Rattle.ws_text.specs.declared.output.Output.{Output}
 use Rattle.ws_text.proofs.Prints.{prints_both, whole_out}
 use Rattle.ws_live.specs.declared.live.Closing.{Closing}
 use Rattle.ws_live.specs.live.LiveText.{closing_text, WithClosing, line_result}
-use Rattle.ws_live.specs.live.Waits.{InTime}
+use Rattle.ws_live.specs.live.Watches.{InTime}
 use Rattle.ws_live.proofs.LiveRuns.{line_out, line_cut, line_failed}
 use Rattle.ws_live.proofs.live.carry_line.Goals as goal
 

@@ -1,7 +1,7 @@
 use Rattle.std.proofs.Common.{◌≡◌, ℕ, List, [], take, false}
 use Rattle.ws_code.specs.Device.{WentOut}
 use Rattle.ws_live.specs.live.LiveText.{HaveRun, WithClosing, account}
-use Rattle.ws_live.specs.live.Waits.{InTime}
+use Rattle.ws_live.specs.live.Watches.{InTime}
 use Rattle.ws_live.proofs.live.carry_lines.Given as goal
 
 -- the lines so far, of which none stopped the session

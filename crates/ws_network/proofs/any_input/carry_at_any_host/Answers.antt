@@ -3,7 +3,7 @@ use Rattle.std.proofs.Common.{◌≡◌, ◌&&◌, Bool, sym, ap, ◌∙◌}
 use Rattle.ws_code.specs.Device.{on_devices}
 use Rattle.ws_any_host.specs.declared.any_line.AnyLine.TheVariants.{Await}
 use Rattle.ws_any_host.specs.AnyText.{AnyRunsInTime}
-use Rattle.ws_live.specs.live.Waits.{watched_devices}
+use Rattle.ws_live.specs.live.Watches.{watched_devices}
 use Rattle.ws_network.proofs.SessionPrinted.{goes_on_badly, goes_on_well, session_fails, session_stops}
 use Rattle.ws_network.proofs.any_input.carry_at_any_host.Goals as goal
 use Rattle.ws_network.proofs.any_input.carry_at_any_host.Goals.{then-ran-2, else-ran-2}

@@ -3,7 +3,7 @@ use Rattle.std.proofs.Common.{◌≡◌, ◌&&◌, Bool, sym, ap, ◌∙◌}
 use Rattle.ws_code.specs.Device.{on_devices}
 use Rattle.ws_live.specs.declared.live.serve_line.HostLine.TheVariants.{Await}
 use Rattle.ws_live.specs.live.ServeText.{HostRunsInTime}
-use Rattle.ws_live.specs.live.Waits.{watched_devices}
+use Rattle.ws_live.specs.live.Watches.{watched_devices}
 use Rattle.ws_network.proofs.SessionPrinted.{goes_on_badly, goes_on_well, session_fails, session_stops}
 use Rattle.ws_network.proofs.live_input.carry_at_host.Goals as goal
 use Rattle.ws_network.proofs.live_input.carry_at_host.Goals.{then-ran-2, else-ran-2}

@@ -2,7 +2,7 @@ use Rattle.std.specs.Option.{is_some}
 use Rattle.ws_code.specs.Device.{on_devices}
 use Rattle.ws_live.specs.live.ConnectText.{StationRunsInTime}
 use Rattle.ws_live.specs.live.Operating.{live_display}
-use Rattle.ws_live.specs.live.Waits.{watched_devices}
+use Rattle.ws_live.specs.live.Watches.{watched_devices}
 use Rattle.ws_network.specs.SessionPrinting.{session_lines}
 use Rattle.ws_network.proofs.SessionPrinted.{judged_well, judged_badly}
 use Rattle.ws_network.proofs.live_input.carry_at_station.Goals as goal

@@ -4,7 +4,7 @@ use Rattle.ws_code.proofs.DeviceLaws.{went_out_none}
 use Rattle.ws_text.specs.Printed.{IsPrinted}
 use Rattle.ws_live.specs.declared.live.Ran.{Ran}
 use Rattle.ws_live.specs.live.LiveText.{HaveRun, WithClosing, account, line_printing, ran_and, ran_by}
-use Rattle.ws_live.specs.live.Waits.{InTime}
+use Rattle.ws_live.specs.live.Watches.{InTime}
 use Rattle.ws_live.proofs.LiveRuns.{goes_on, ends_here, breaks}
 use Rattle.ws_network.specs.SessionPrinting.{session_lines, session_printing}
 use Rattle.ws_network.proofs.SessionPrinted.{script_ends, script_fails}

@@ -1,6 +1,6 @@
 use Rattle.std.proofs.Common.{refl, true}
 use Rattle.std.proofs.lemmas.Result.{err_from_is_err_and}
-use Rattle.ws_live.specs.live.Waits.{InTime}
+use Rattle.ws_live.specs.live.Watches.{InTime}
 use Rattle.ws_network.specs.SessionPrinting.{session_lines}
 use Rattle.ws_network.proofs.SessionPrinted.{script_ends, script_fails}
 use Rattle.ws_network.proofs.live_input.carry_session.Goals as goal

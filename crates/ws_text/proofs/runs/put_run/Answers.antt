@@ -1,5 +1,5 @@
 use Rattle.ws_text.proofs.Common.{sym}
-use Rattle.ws_text.proofs.OpenRecords.{led_run, bare_run}
+use Rattle.ws_text.proofs.PartialRecords.{led_run, bare_run}
 use Rattle.ws_text.proofs.runs.put_run.Goals as goal
 
 pub returns-in-Some : goal.returns-in-Some

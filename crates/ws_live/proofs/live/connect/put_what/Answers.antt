@@ -3,10 +3,10 @@ use Rattle.std.proofs.Common.{◌++◌, true, refl, sym, ap, ◌∙◌, subst}
 use Rattle.ws_code.specs.Device.{on_devices}
 use Rattle.ws_text.proofs.Prints.{prints_both, prints_same}
 use Rattle.ws_live.specs.declared.live.Closing.TheVariants.{Done}
-use Rattle.ws_printing.specs.declared.report.Report.{Report}
+use Rattle.ws_printing.specs.declared.station_report.StationReport.{StationReport}
 use Rattle.ws_live.specs.declared.live.watch.WaitSpan.{WaitSpan}
 use Rattle.ws_live.specs.live.ConnectText.{Reports, rested, waited_outcome, waited_text}
-use Rattle.ws_live.specs.live.Waits.{HasBegunIf}
+use Rattle.ws_live.specs.live.Watches.{HasBegunIf}
 use Rattle.ws_printing.specs.ReportLines.{IsReportText, note_line, reported_station}
 use Rattle.ws_live.specs.live.LiveText.{line_result}
 use Rattle.ws_live.specs.live.Operating.{watched}
@@ -17,7 +17,7 @@ pub returns-in-Note-clause-runs : goal.returns-in-Note-clause-runs
 returns-in-Note-clause-runs g c =
     let text = note_line c.in-Note.note in (
       text,
-      subst (λ (r : Report). Reports (watched g.D.Commands.Code.rules g.D.StationDisplay.does
+      subst (λ (r : StationReport). Reports (watched g.D.Commands.Code.rules g.D.StationDisplay.does
           (on_devices g.K.Sink.writer g.S.Source.reader) g.W.Watch.tells) r (c.args.attached.now, c.args.ahead.now)
           (line_result (Ok Done) text)
           (c.args.attached.now, c.args.ahead.now)) (sym c.in-Note.is) (refl, refl, refl),

@@ -5,7 +5,7 @@ use Rattle.ws_text.specs.Printed.{IsPrinted}
 use Rattle.ws_printing.specs.declared.paint.Paint.TheVariants.{Plain}
 use Rattle.ws_live.specs.live.CarryingOn.{is_told}
 use Rattle.ws_live.specs.live.LiveText.{line_printing}
-use Rattle.ws_live.specs.live.Waits.{InTime}
+use Rattle.ws_live.specs.live.Watches.{InTime}
 use Rattle.ws_live.proofs.CarryOns.{one_told, none_told, once_fails, too_much_told, told_goes}
 use Rattle.ws_live.proofs.live.repeated.carry_on.Goals as goal
 

@@ -3,7 +3,7 @@ use Rattle.std.proofs.Common.{◌≡◌, ℕ, List, [], true, false}
 use Rattle.ws_code.specs.Device.{WentOut}
 use Rattle.ws_printing.specs.declared.paint.Paint.TheVariants.{Plain}
 use Rattle.ws_live.specs.live.LiveText.{HaveRun, account}
-use Rattle.ws_live.specs.live.Waits.{InTime}
+use Rattle.ws_live.specs.live.Watches.{InTime}
 use Rattle.ws_live.proofs.live.repeated.carry_on.Given as goal
 
 -- so many things were told and printed

@@ -7,7 +7,7 @@ use Rattle.ws_text.proofs.Prints.{whole_out}
 use Rattle.ws_live.specs.declared.live.Closing.{Closing}
 use Rattle.ws_printing.specs.declared.paint.Paint.TheVariants.{Plain}
 use Rattle.ws_live.specs.live.LiveText.{line_result}
-use Rattle.ws_live.specs.live.Waits.{InTime}
+use Rattle.ws_live.specs.live.Watches.{InTime}
 use Rattle.ws_live.proofs.LiveRuns.{line_out, line_cut, line_failed}
 use Rattle.ws_live.proofs.live.repeated.carry_once.Goals as goal
 

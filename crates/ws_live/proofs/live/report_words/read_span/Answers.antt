@@ -1,6 +1,6 @@
 use Rattle.std.proofs.Common.{ℕ, sym, subst}
 use Rattle.std.proofs.lemmas.Result.{IfOk-weaker, IfErr-weaker}
-use Rattle.ws_printing.specs.declared.report.Span.{Span}
+use Rattle.ws_printing.specs.declared.station_report.Span.{Span}
 use Rattle.ws_live.specs.live.ConnectLines.{IsCellCount, IsPlaced, IsSpanText}
 use Rattle.ws_live.specs.script.ScriptFaults.{IsLineFault}
 use Rattle.ws_live.proofs.ReportWords.{no_span_count}

@@ -1,5 +1,5 @@
 use Rattle.std.proofs.lemmas.Result.{IfOk-weaker, IfErr-weaker}
-use Rattle.ws_live.specs.declared.live.stroke.Filling.{Filling}
+use Rattle.ws_live.specs.declared.live.script_stroke.FieldFilling.{FieldFilling}
 use Rattle.ws_live.specs.live.ConnectLines.{IsFieldText, IsFilling}
 use Rattle.ws_live.specs.script.ScriptFaults.{IsLineFault}
 use Rattle.ws_live.proofs.Scripts.{fault_on}
@@ -18,8 +18,8 @@ returns-in-Some-clause-fault g c =
     let word = c.in-Some.word.now in
     let text = c.in-Some.text.now in
     IfErr-weaker c.read_field.result
-    (IsLineFault (IsFieldText w word text) ((f : Filling g.row.Q.Denot) × IsFieldText w word text f))
-    (IsLineFault (IsFilling w words) ((f : Filling g.row.Q.Denot) × IsFilling w words f))
+    (IsLineFault (IsFieldText w word text) ((f : FieldFilling g.row.Q.Denot) × IsFieldText w word text f))
+    (IsLineFault (IsFilling w words) ((f : FieldFilling g.row.Q.Denot) × IsFilling w words f))
     (λ fault h. fault_on (IsFieldText w word text) (IsFilling w words) fault
     (no_field_text w words word text c.in-Some.ensures.0 c.in-Some.ensures.1)
     (λ good. (good.0, (word, text, c.in-Some.ensures.0, good.1))) h) c.read_field.ensures.fault

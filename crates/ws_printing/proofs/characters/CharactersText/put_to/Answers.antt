@@ -11,7 +11,7 @@ loop-one-init g c = prints_none g.S.Sink.writer c.args.sink.now c.args.output
 
 pub loop-one-preserved : goal.loop-one-preserved
 loop-one-preserved g c =
-    let shows = g.T.Showing.shows in
+    let shows = g.T.ShowsCharacter.shows in
     let all = c.args.self.now.0.now in
     let i = c.loop-one.one-index in
     prints_same (ap (λ k. characters_text shows (take i all) ++ encode_utf8 k)
@@ -20,5 +20,5 @@ loop-one-preserved g c =
     (prints_both c.loop-one.invariant c.put_to-output.ensures)
 
 pub returns : goal.returns
-returns g c = prints_same (ap (characters_text g.T.Showing.shows) (take_all _ _ c.loop-one-test.false))
+returns g c = prints_same (ap (characters_text g.T.ShowsCharacter.shows) (take_all _ _ c.loop-one-test.false))
     c.loop-one.invariant

@@ -5,7 +5,7 @@ use Rattle.ws_live.specs.declared.live.connect_line.StationLine.{StationLine}
 use Rattle.ws_live.specs.live.ConnectText.{KeysRun, ShowsStation, StationRuns, rested, waited_outcome, waited_text}
 use Rattle.ws_live.specs.live.LiveText.{line_result}
 use Rattle.ws_live.specs.live.Operating.{keyed, live_display, watched}
-use Rattle.ws_live.specs.live.Waits.{watched_devices}
+use Rattle.ws_live.specs.live.Watches.{watched_devices}
 use Rattle.ws_printing.specs.FieldLines.{AreFieldLines}
 use Rattle.ws_printing.specs.ScreenLines.{IsDisplayText}
 use Rattle.ws_live.proofs.live.connect.StationLineKeyLiveMoveStationOn.carry_out.Goals as goal

@@ -9,7 +9,7 @@ use ws_screen::Screen;
 
 /// Keys that a line of a script presses by the screen at which it stands. Those of a display have this type.
 #[derive(Drop)]
-pub enum Stroke<Q> {
+pub enum ScriptStroke<Q> {
     /// The cursor goes to this cell.
     Cursor(Address),
     /// New Line: the cursor goes to the first cell of a field in a row below (SC30-3533, keyboard functions).
@@ -17,28 +17,28 @@ pub enum Stroke<Q> {
     /// The cells of the field become empty from the cursor on, which stays.
     EraseEof,
     /// A field becomes empty, and keys are pressed from its first cell on.
-    Fill(Filling<Q>),
+    Fill(FieldFilling<Q>),
 }
 
 /// What a field is filled with.
 #[derive(Drop)]
-pub struct Filling<Q> {
+pub struct FieldFilling<Q> {
     /// The number of the field, counted from 1 in the order of their starts.
     pub number: u16,
     /// The keys that are pressed in it.
     pub keys: List<Q>,
 }
 
-impl<Q> Stroke<Q> {
+impl<Q> ScriptStroke<Q> {
     /// The keys of the profile with which it begins at a screen. `None` where that has no field of the number.
     pub fn runs(&self, screen: &Screen) -> Option<KeyRuns>
         ensures { option_map (λ r. r.items) result ≡ Spec.stroke_runs screen.now self.now }
     {
         match self {
-            Stroke::Cursor(cell) => Some(keys_to(screen, *cell)),
-            Stroke::NewLine => Some(new_line_keys(screen)),
-            Stroke::EraseEof => Some(erase_eof_keys(screen)),
-            Stroke::Fill(filling) => field_start_keys(screen, filling.number),
+            ScriptStroke::Cursor(cell) => Some(keys_to(screen, *cell)),
+            ScriptStroke::NewLine => Some(new_line_keys(screen)),
+            ScriptStroke::EraseEof => Some(erase_eof_keys(screen)),
+            ScriptStroke::Fill(filling) => field_start_keys(screen, filling.number),
         }
     }
 }

@@ -5,7 +5,7 @@ use ws_printing::Paint;
 
 /// A live session that a command line asks for.
 #[derive(Clone, Copy, Debug, PartialEq, Eq)]
-pub enum Live<'a> {
+pub enum SessionAsked<'a> {
     Connect(ConnectAsked<'a>),
     Serve(ServeAsked<'a>),
 }

@@ -4,7 +4,7 @@ use ws_code::{Address, List};
 
 /// What a line of a script prints beside fields and screens.
 #[derive(Drop)]
-pub enum Report {
+pub enum StationReport {
     /// The station's state.
     Status,
     /// What the cells of a row hold, and the attributes under which they show: of the row in which this cell stands.
