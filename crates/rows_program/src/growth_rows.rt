@@ -8,7 +8,7 @@ use ws_any_host::{AnyEvent, AnyHost};
 use ws_code::{List, Reason, VecSink};
 use ws_keys::{HostFault, split_answer};
 use ws_live::{RunFault, Sender};
-use ws_program::{Asked, answer};
+use ws_program::{InputAsked, answer};
 use ws_record::{Opcode, Record};
 use ws_session::{Refusal, SendFault};
 
@@ -38,7 +38,7 @@ fn split_within_memory(rt: HostRuntime) {
 #[test]
 fn made_within_memory(rt: HostRuntime) {
     let mut sink = VecSink::new(rt.alloc());
-    let asked = Asked::Make {
+    let asked = InputAsked::Make {
         file: None,
         from: Sender::Host,
         raw: false,

@@ -7,7 +7,7 @@ use ws_code::{FailingSink, Fault, List, Reason, VecSink};
 use ws_keys::KeyRefusal;
 use ws_live::{Paint, play_to};
 use ws_nego::TerminalType;
-use ws_program::{Asked, answer, status};
+use ws_program::{InputAsked, answer, status};
 use ws_session::{Event, HostEnd, KeyFault, Report, SendFault, Station};
 
 /// A script, whether the screen is asked for, and what is written.
@@ -173,8 +173,8 @@ cancelled
 ];
 
 // What is asked of a play without a file.
-fn asked(screen: bool, tcp: bool) -> Asked<'static> {
-    Asked::Play {
+fn asked(screen: bool, tcp: bool) -> InputAsked<'static> {
+    InputAsked::Play {
         file: None,
         screen,
         tcp,

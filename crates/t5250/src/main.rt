@@ -7,35 +7,56 @@
 //! output was closed when it began, that is the last fault of all, but for a connection: none is opened then.
 #![tactic(auto)]
 
+ghost use Rattle.std.specs.Prelude.{◌≡◌, []};
+
+mod standard_output;
 mod standard_streams;
 
+use crate::standard_output::StandardOutput;
 use crate::standard_streams::StandardStreams;
 use std::io;
+use std::io::ErrorKind;
 use std::process::ExitCode;
-use ws_code::WriteSink;
+use ws_code::Sink;
 use ws_live::{BufferedSink, RunFault, ToldFault};
 use ws_program::{CommandFault, run, status};
 
 // Does what the command line asks for, with no standard stream's descriptor free as long as it runs: true where all was
 // accepted.
-fn run_filled(rt: &HostRuntime) -> Result<bool, CommandFault> {
+fn run_filled<S: Sink>(rt: &HostRuntime, sink: &mut BufferedSink<S>) -> Result<bool, CommandFault>
+    requires empty { sink.old.held ≡ [] }
+{
     let streams = StandardStreams::new(rt)?;
-    let mut sink = BufferedSink::new(WriteSink::new(io::writer(rt)));
-    run(rt, streams.open, &mut sink)
+    run(rt, streams.open, sink)
 }
 
 // Tells of a fault in its line, of a wrong command line in the text of `clap`, both on standard error. Help
-// that was asked for goes to standard output, and is no fault.
-fn tell(rt: &HostRuntime, fault: CommandFault) -> Result<bool, CommandFault> {
+// that was asked for goes to standard output, and is no fault. Where nobody reads standard output any more nothing is
+// said of that, but by the commands whose every fault has its line.
+fn tell(rt: &HostRuntime, fault: CommandFault, is_unread: bool) -> Result<bool, CommandFault> {
     match fault {
         CommandFault::Words(words) => match words.print(rt) {
             Ok(()) if !words.use_stderr() => Ok(true),
-            Err(_) if !words.use_stderr() => tell_told(rt, ToldFault::Run(RunFault::Write)),
+            Err(error) if !words.use_stderr() => {
+                unwritten(rt, error.kind() == ErrorKind::BrokenPipe)
+            }
             _ => Err(CommandFault::Words(words)),
         },
         CommandFault::Run(fault) => tell_told(rt, ToldFault::Run(fault)),
         CommandFault::Told(fault) => tell_told(rt, fault),
+        CommandFault::OfFile(fault) => {
+            let _ = eprintln!(rt; "{fault}");
+            Err(CommandFault::OfFile(fault))
+        }
+        CommandFault::Unwritten => unwritten(rt, is_unread),
     }
+}
+
+fn unwritten(rt: &HostRuntime, is_unread: bool) -> Result<bool, CommandFault> {
+    if is_unread {
+        return Err(CommandFault::Unwritten);
+    }
+    tell_told(rt, ToldFault::Run(RunFault::Write))
 }
 
 fn tell_told(rt: &HostRuntime, fault: ToldFault) -> Result<bool, CommandFault> {
@@ -44,9 +65,10 @@ fn tell_told(rt: &HostRuntime, fault: ToldFault) -> Result<bool, CommandFault> {
 }
 
 fn main(rt: HostRuntime) -> ExitCode {
-    let outcome = match run_filled(&rt) {
+    let mut sink = BufferedSink::new(StandardOutput::new(io::writer(&rt)));
+    let outcome = match run_filled(&rt, &mut sink) {
         Ok(accepted) => Ok(accepted),
-        Err(fault) => tell(&rt, fault),
+        Err(fault) => tell(&rt, fault, sink.into_inner().is_unread()),
     };
     ExitCode::from(status(&outcome))
 }

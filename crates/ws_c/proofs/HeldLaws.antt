@@ -1,6 +1,6 @@
 -- An end that C holds at a push of bytes: what has gone out, and what waits
 
-use Rattle.std.specs.Prelude.{◌==◌, ◌&&◌, is_some, min}
+use Rattle.std.specs.Prelude.{◌==◌, min}
 use Rattle.std.proofs.Common.{◌≡◌, ◌≢◌, ℕ, ◌+◌, ◌-◌, ◌<◌, ◌≤◌, inl, inr, List, [], ◌∷◌, ◌++◌, length, take, drop}
 use Rattle.std.proofs.Common.{◌⊎◌, refl, Bool, true, false, Option, Some, None, IsSome, sym, ap, ◌∙◌, subst, arith, length-append}
 use Rattle.std.proofs.Common.{append_assoc}
@@ -8,8 +8,8 @@ use Rattle.std.proofs.lemmas.Bool.{cases_lt}
 use Rattle.std.proofs.lemmas.List.{append-nil, drop_all, length-drop, nil_from_length}
 use borrow.Author.Tests.{eqb-true, eqb-false}
 use Rattle.ws_end.specs.driver.Driven.{AreSilent, AtDriver, Driven, Driving}
-use Rattle.ws_c.specs.Calls.{Crossed, crossed, holds_front}
-use Rattle.ws_c.specs.Held.{OnHost}
+use Rattle.ws_c.specs.Calls.{Crossed, HasStatus, crossed, holds_front, status_number}
+use Rattle.ws_c.specs.Held.{Boxed, OnHost}
 use Rattle.ws_c.specs.HeldEnds.{HandsOut, filling, waiting}
 use Rattle.ws_c.specs.Pushes.{BringsAtMost, FrontTaken, HasToldAlone, IsPushEnd, IsPush, first_bytes, nothing_pushed}
 use Rattle.ws_c.specs.Pushes.{pushed_told}
@@ -24,10 +24,20 @@ use Rattle.ws_c.specs.declared.told.TheConstants.{REPLY_ROOM}
 use Rattle.ws_c.proofs.FeedLaws.{brings_at_most, takes_none}
 
 -- a call has done this with the host's end that a handle holds
-pub on_host : (held now : Option Machine) (old new : HeldHost) (does : HeldHost → HeldHost → Type 0)
-    (otherwise : Type 0) → held ≡ Some (Host old) → now ≡ Some (Host new) → does old new
-    → OnHost held now does otherwise
-on_host held now old new does otherwise is put done = rw is (new, put, done)
+pub on_host : {held now : Option Machine} {machine at : Machine} {old new : Boxed HeldHost} {given : HeldHost}
+    (does : HeldHost → HeldHost → Type 0) (otherwise : Type 0) → held ≡ Some machine → at ≡ machine → at ≡ Host old
+    → given ≡ old.value → now ≡ Some (Host new) → does given new.value → OnHost held now does otherwise
+on_host {new = new} does otherwise some read is same put done =
+    rw (some ∙ ap Some (sym read ∙ is)) (new, put, subst (λ (host : HeldHost). does host new.value) same done)
+
+-- the same, where C is given this status
+pub host_status : {number : ℕ} {held now : Option Machine} {machine at : Machine} {old new : Boxed HeldHost}
+    {given : HeldHost} (does : Status → HeldHost → HeldHost → Type 0) (otherwise : Status → Type 0) (status : Status)
+    → number ≡ status_number status → held ≡ Some machine → at ≡ machine → at ≡ Host old → given ≡ old.value
+    → now ≡ Some (Host new) → does status given new.value
+    → HasStatus number (λ s. OnHost held now (does s) (otherwise s))
+host_status does otherwise status told some read is same put done =
+    (status, told, on_host (does status) (otherwise status) some read is same put done)
 
 -- whether something waits, by the length of what does
 pub nothing_waits : (rest l : List ℕ) → rest ≡ l → (length rest == 0) ≡ true → l ≡ []

@@ -2,7 +2,11 @@ mod FeedLaws
 mod FieldIndex
 mod FieldsWithin
 mod HeldLaws
+mod NameLaws
+mod PieceLaws
 mod PushLaws
+mod ShortText
+mod Steps
 mod StrokeLaws
 mod Values
 mod WireLaws

@@ -7,6 +7,7 @@ use Rattle.std.specs.Str.{encode_utf8_all}
 use Rattle.ws_code.specs.Reason.{number_of as reason_number}
 use Rattle.ws_code.specs.declared.reason.Reason.{Reason}
 use Rattle.ws_nego.specs.Station.{station_allows_records}
+use Rattle.ws_code.specs.declared.code_page.CodePage.{CodePage}
 use Rattle.ws_screen.specs.Lines.{row_chars}
 use Rattle.ws_screen.specs.ScreenParts.{ScreenParts, holds}
 use Rattle.ws_screen.specs.declared.field.Field.{Field}
@@ -21,6 +22,7 @@ use Rattle.ws_end.specs.declared.station.key_fault.KeyFault.TheVariants.{Failed 
 use Rattle.ws_end.specs.declared.station.key_fault.KeyFault.TheVariants.{Key as Refuses}
 use Rattle.ws_keys.specs.declared.answer.Answer.{Answer}
 use Rattle.ws_c.specs.Keys.{refusal_number}
+use Rattle.ws_c.specs.Pages.{row_chars_on}
 use Rattle.ws_c.specs.declared.field_told.FieldTold.{FieldTold}
 use Rattle.ws_c.specs.declared.state_told.StateTold.{StateTold}
 use Rattle.ws_c.specs.declared.state_told.TheConstants.{NO_FIELD}
@@ -171,6 +173,9 @@ state_of_screen screen beside = record {
   records = beside.records;
   refused_place = place_refused beside.refused;
   alarms = beside.alarms;
+  refused_records = 0;
+  record_place = 0;
+  names_refused = 0;
   field_count = length screen.fields;
   cursor_field = field_index screen.fields screen.cursor;
   cursor_row = screen.cursor / 80 + 1;
@@ -182,6 +187,8 @@ state_of_screen screen beside = record {
   is_message_lit = screen.message;
   is_blinking = screen.blink;
   error_row = beside.error_row;
+  record_reason = 0;
+  is_full = false;
 }
 
 -- what is told of a station but for its cells and fields
@@ -196,6 +203,9 @@ no_state = record {
   records = 0;
   refused_place = 0;
   alarms = 0;
+  refused_records = 0;
+  record_place = 0;
+  names_refused = 0;
   field_count = 0;
   cursor_field = 0;
   cursor_row = 0;
@@ -207,11 +217,14 @@ no_state = record {
   is_message_lit = false;
   is_blinking = false;
   error_row = 0;
+  record_reason = 0;
+  is_full = false;
 }
 
--- what a row shows, in UTF-8
-abbrev pub row_text : ScreenParts → ℕ → List ℕ
-row_text screen row = encode_utf8_all (row_chars screen.cells row)
+-- what a row shows, in UTF-8, on a page if there is one
+abbrev pub row_text : Option CodePage → ScreenParts → ℕ → List ℕ
+row_text None screen row = encode_utf8_all (row_chars screen.cells row)
+row_text (Some page) screen row = encode_utf8_all (row_chars_on page screen.cells row)
 
 -- what is told of a field: its start, its length and its format word
 abbrev pub field_told : Field → FieldTold

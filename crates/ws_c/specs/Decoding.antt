@@ -32,16 +32,9 @@ use Rattle.ws_c.specs.declared.status.Status.TheVariants.{Done, Refused, Failed,
 use Rattle.ws_c.specs.declared.status.Status.TheVariants.{Truncated}
 use Rattle.ws_c.specs.declared.decoder.StepTold.{StepTold}
 use Rattle.ws_c.specs.declared.decoder.TheConstants.{UNIT_ROOM}
-use Rattle.ws_c.specs.Calls.{Crossed, TellsOnly, holds_front}
+use Rattle.ws_c.specs.Calls.{Crossed, holds_front}
+use Rattle.ws_c.specs.Held.{Boxed}
 use Rattle.ws_c.specs.Pushes.{TakesAll}
-
--- what a new decoder of the profile's streams crosses as: it is made, or the handle stays as it is
-abbrev pub IsDecoderNew : Option Machine → Option Machine → Status → Type 0
-IsDecoderNew (Some held) now status = (status ≡ InUse) × (now ≡ Some held)
-IsDecoderNew None now Done = (decoder : Watching Place) × (now ≡ Some (Decoder decoder))
-    × Leads element_rules decoder [] [] no_record
-IsDecoderNew None now NoMemory = now ≡ None
-IsDecoderNew None now status = ⊥
 
 -- what is told of a step: so many bytes were taken, this kind is complete, and nothing else
 abbrev pub plain_step : ℕ → ℕ → StepTold
@@ -95,6 +88,14 @@ IsEndTold (Err (IsTruncatedAt at)) status place = (status ≡ Truncated) × (pla
 IsEndTold (Err fault) status place = (status ≡ Failed) × (place ≡ 0)
 
 module _ {P U : Type 0} (rules : Rules P U) where
+  -- what a new decoder crosses as: it is made, or the handle stays as it is
+  abbrev pub IsNewDecoder : (Boxed (Watching P) → Machine) → Option Machine → Option Machine → Status → Type 0
+  IsNewDecoder in_handle (Some held) now status = (status ≡ InUse) × (now ≡ Some held)
+  IsNewDecoder in_handle None now Done = (decoder : Boxed (Watching P)) × (now ≡ Some (in_handle decoder))
+      × Leads rules decoder.value [] [] no_record
+  IsNewDecoder in_handle None now NoMemory = now ≡ None
+  IsNewDecoder in_handle None now status = ⊥
+
   -- a decoder at a byte
   pub record DecoderPushedOn (old new : Watching P) (byte : ℕ) (step : Step U) : Type 0 where
     pub pushed : (bytes : List ℕ) (items : List (Item U)) (so_far : RecordSoFar U)
@@ -172,6 +173,10 @@ module _ {P U : Type 0} (rules : Rules P U) (put_by : U → Option ℕ) where
         → (step : Step U) × DecoderPushedOn rules before new (slice_index bytes front) step
         × (tells_something put_by step ≡ true) × IsStepToldOn rules cells step front call
 
+-- what a new decoder of the profile's streams crosses as
+abbrev pub IsDecoderNew : Option Machine → Option Machine → Status → Type 0
+IsDecoderNew = IsNewDecoder element_rules Decoder
+
 -- what a push of bytes into a decoder of the profile's streams crosses as
 abbrev pub IsDecode : List ℕ → Crossed StepTold → Watching Place → Watching Place → Type 0
 IsDecode = IsDecodeOn element_rules byte_put
@@ -188,10 +193,6 @@ IsExtendedDecode = IsDecodeOn extended_rules extended_byte_put
 abbrev pub IsExtendedStreamEnd : Status → ℕ → Watching ExtendedPlace → Watching ExtendedPlace → Type 0
 IsExtendedStreamEnd = IsEndOfOn extended_rules
 
--- what a new decoder of live hosts' streams crosses as: it is made, or the handle stays as it is
+-- what a new decoder of live hosts' streams crosses as
 abbrev pub IsExtendedDecoderNew : Option Machine → Option Machine → Status → Type 0
-IsExtendedDecoderNew (Some held) now status = (status ≡ InUse) × (now ≡ Some held)
-IsExtendedDecoderNew None now Done = (decoder : Watching ExtendedPlace) × (now ≡ Some (ExtendedDecoder decoder))
-    × Leads extended_rules decoder [] [] no_record
-IsExtendedDecoderNew None now NoMemory = now ≡ None
-IsExtendedDecoderNew None now status = ⊥
+IsExtendedDecoderNew = IsNewDecoder extended_rules ExtendedDecoder

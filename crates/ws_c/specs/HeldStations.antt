@@ -18,8 +18,9 @@ use Rattle.ws_end.specs.station.Stations.{ReachedOn, PartsOn, station_driving}
 use Rattle.ws_end.specs.declared.station.key_fault.KeyFault.{KeyFault}
 use Rattle.ws_c.specs.Calls.{Crossed, IsKeyTold, StationKeyedOn, TellsOnly, beside_screen, row_number, state_of_screen}
 use Rattle.ws_c.specs.Calls.{told_length}
-use Rattle.ws_c.specs.Held.{OnStations}
+use Rattle.ws_c.specs.Held.{Boxed, OnStations}
 use Rattle.ws_c.specs.HeldEnds.{HeldOn, waiting}
+use Rattle.ws_c.specs.LiveStations.{IsLivePress}
 use Rattle.ws_c.specs.Keys.{IsKeyFrom}
 use Rattle.ws_c.specs.Pushes.{IsPush}
 use Rattle.ws_c.specs.declared.key_kind.TheConstants.{RESET_KIND}
@@ -37,11 +38,11 @@ module _ (kind : OnDisplay) where
   waiting_on = waiting (station_driving kind)
 
   -- what a new station of the kind crosses as: it is made for the terminal of the name, or the handle stays as it is
-  abbrev pub IsNew : (HeldOn kind → Machine) → List ℕ → Option Machine → Option Machine → Status → Type 0
+  abbrev pub IsNew : (Boxed (HeldOn kind) → Machine) → List ℕ → Option Machine → Option Machine → Status → Type 0
   IsNew in_handle name (Some held) now status = (status ≡ InUse) × (now ≡ Some held)
-  IsNew in_handle name None now Done = (terminal : TerminalType) × (held : HeldOn kind)
+  IsNew in_handle name None now Done = (terminal : TerminalType) × (held : Boxed (HeldOn kind))
       × (terminal_named name ≡ Some terminal) × (now ≡ Some (in_handle held))
-      × ReachedOn kind held.end [] [] (new_state_on kind.does terminal) × (waiting_on held ≡ [])
+      × ReachedOn kind held.value.end [] [] (new_state_on kind.does terminal) × (waiting_on held.value ≡ [])
   IsNew in_handle name None now BadArgument = (terminal_named name ≡ None) × (now ≡ None)
   IsNew in_handle name None now NoMemory = (terminal : TerminalType) × (terminal_named name ≡ Some terminal)
       × (now ≡ None)
@@ -91,11 +92,11 @@ abbrev pub status_without : ExtendedKey → Status
 status_without Reset = BadArgument
 status_without (Profile key) = NothingHeld
 
--- what a key crosses as, where there is one, at the station of either kind that a handle holds
+-- what a key crosses as, where there is one, at the station of any kind that a handle holds
 abbrev pub IsPressFrom : Option ExtendedKey → Option Machine → Option Machine → Crossed Told → Type 0
 IsPressFrom None held now call = (now ≡ held) × TellsOnly call BadArgument (told_length 0)
 IsPressFrom (Some key) held now call = OnStations held now (IsProfilePress key call) (IsPress on_extended key call)
-    (TellsOnly call (status_without key) (told_length 0))
+    (IsLivePress key call) (TellsOnly call (status_without key) (told_length 0))
 
 -- what is told of a station as live hosts use it but for its cells and fields, with the row on which an error stands
 abbrev pub extended_state_told : PartsOn DisplayParts ExtendedPlace → StateTold

@@ -23,6 +23,7 @@ use Rattle.ws_c.specs.declared.status.Status.TheVariants.{Done, NoMemory, InUse}
 use Rattle.ws_c.specs.declared.told.Told.{Told}
 use Rattle.ws_c.specs.declared.told.PushedTold.{PushedTold}
 use Rattle.ws_c.specs.Calls.{Crossed, GivesBytes, TellsOnly, crossed, told_length}
+use Rattle.ws_c.specs.Held.{Boxed}
 use Rattle.ws_c.specs.HeldEnds.{waiting}
 use Rattle.ws_c.specs.Pushes.{IsPush}
 
@@ -39,7 +40,8 @@ pub record IsNewHost (host : HeldHost) : Type 0 where
 
 -- what a new host's end crosses as, by the status, where the handle holds nothing
 abbrev pub IsHostMade : Option Machine → Crossed Told → Status → Type 0
-IsHostMade now call Done = (host : HeldHost) × (now ≡ Some (Host host)) × IsNewHost host × GivesBytes call opening_bytes
+IsHostMade now call Done = (host : Boxed HeldHost) × (now ≡ Some (Host host)) × IsNewHost host.value
+    × GivesBytes call opening_bytes
 IsHostMade now call NoMemory = (now ≡ None) × TellsOnly call NoMemory (told_length 0)
 IsHostMade now call status = ⊥
 

@@ -9,7 +9,7 @@ use Rattle.ws_keys.specs.declared.key.Key.TheVariants.{FieldExit, FieldMinus, Du
 use Rattle.ws_keys.specs.declared.key.Key.TheVariants.{SystemRequest}
 use Rattle.ws_keys.specs.declared.key.KeyRefusal.{KeyRefusal}
 use Rattle.ws_keys.specs.declared.key.KeyRefusal.TheVariants.{Locked, Protected, WrongCharacter, DupNotAllowed, NoRoom}
-use Rattle.ws_keys.specs.declared.key.KeyRefusal.TheVariants.{NoReadPending, MandatoryEnter}
+use Rattle.ws_keys.specs.declared.key.KeyRefusal.TheVariants.{NoReadPending, MandatoryEnter, FieldExitRequired, MandatoryFill}
 use Rattle.ws_c.specs.declared.key_kind.KeyKind.{KeyKind}
 use Rattle.ws_c.specs.declared.key_kind.KeyKind.TheVariants.{Char as CharKind, Insert as InsertKind, Left as LeftKind}
 use Rattle.ws_c.specs.declared.key_kind.KeyKind.TheVariants.{Right as RightKind, Up as UpKind, Down as DownKind}
@@ -82,3 +82,5 @@ refusal_number DupNotAllowed = 4
 refusal_number NoRoom = 5
 refusal_number NoReadPending = 6
 refusal_number MandatoryEnter = 7
+refusal_number FieldExitRequired = 8
+refusal_number MandatoryFill = 9

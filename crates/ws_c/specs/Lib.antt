@@ -9,8 +9,12 @@ pub mod HeldStations
 pub mod HostScreens
 pub mod Hosts
 pub mod Keys
+pub mod LiveEnds
+pub mod LiveParts
+pub mod LiveStations
 pub mod Looks
 pub mod Owned
+pub mod Pages
 pub mod Pushes
 pub mod Reasons
 pub mod Sends

@@ -3,7 +3,6 @@
 use Rattle.std.specs.Prelude.{◌≡◌, ℕ, true, List, [], Option, Some, None, IfSome, IfNone, SomeIff}
 use Rattle.ws_code.specs.Address.{IsRowAndColumn, place_of}
 use Rattle.ws_code.specs.DataByte.{IsData}
-use Rattle.ws_code.specs.FormatWord.{IsFfw}
 use Rattle.ws_stream.specs.Elements.{spelling}
 use Rattle.ws_stream.specs.FieldOrder.{FieldOrder, IsFieldOrder, is_attribute}
 use Rattle.ws_stream.specs.Parts.{IsEraseList, IsSoh}

@@ -36,6 +36,7 @@ impl PutsBytes for ExtendedCommands {
                 Commands::byte_put(element)
             }
             ExtendedElement::RestoreScreen
+            | ExtendedElement::Roll(_)
             | ExtendedElement::WriteError
             | ExtendedElement::Asks(_) => None,
         }

@@ -8,7 +8,7 @@ ghost use Rattle.ws_c.specs.Decoding.{DecoderFinishedOn, DecoderPushedOn, Decode
 
 use crate::buffer::put_behind;
 use crate::byte_put::PutsBytes;
-use crate::held::{on_decoders, on_two};
+use crate::held::{given, on_decoders, on_held};
 use crate::{Handle, Machine, Status};
 use arrayvec::ArrayVec;
 use std::alloc::Global;
@@ -17,7 +17,7 @@ use ws_record::{Head, Live, Step};
 use ws_telnet::{IAC, Token, spell};
 
 /// How many bytes the longest spelling of an element or of a Telnet command has.
-pub const UNIT_ROOM: usize = 133;
+const UNIT_ROOM: usize = 133;
 
 /// What bytes complete.
 #[repr(C)]
@@ -85,11 +85,8 @@ fn make_decoder(alloc: Global, handle: &mut Handle) -> Status
         handle.put(held);
         return Status::InUse;
     }
-    match Box::new(alloc, Machine::Decoder(Live::new())) {
-        Ok(held) => {
-            handle.put(held);
-            Status::Done
-        }
+    match Box::new(alloc, Live::new()) {
+        Ok(decoder) => handle.hold(alloc, Machine::Decoder(decoder)),
         Err(_) => Status::NoMemory,
     }
 }
@@ -113,11 +110,8 @@ fn make_extended_decoder(alloc: Global, handle: &mut Handle) -> Status
         handle.put(held);
         return Status::InUse;
     }
-    match Box::new(alloc, Machine::ExtendedDecoder(Live::new())) {
-        Ok(held) => {
-            handle.put(held);
-            Status::Done
-        }
+    match Box::new(alloc, Live::new()) {
+        Ok(decoder) => handle.hold(alloc, Machine::ExtendedDecoder(decoder)),
         Err(_) => Status::NoMemory,
     }
 }
@@ -141,9 +135,7 @@ pub extern "C" fn ws_c_decoder_free(alloc: Global, handle: &mut Handle)
     if let Some(owned) = handle.take(alloc) {
         match &*owned {
             Machine::Decoder(_) | Machine::ExtendedDecoder(_) => drop(owned),
-            Machine::Station(_) | Machine::ExtendedStation(_) | Machine::Host(_) => {
-                handle.put(owned)
-            }
+            _ => handle.put(owned),
         }
     }
 }
@@ -327,8 +319,7 @@ pub extern "C" fn ws_c_decoder_push(
     on_decoders!(
         alloc,
         handle,
-        |decoder| push_all(decoder, bytes, buffer, told),
-        number
+        |decoder| push_all(decoder, bytes, buffer, told)
     )
 }
 
@@ -368,10 +359,5 @@ pub extern "C" fn ws_c_decoder_finish(alloc: Global, handle: &mut Handle, place:
         (HoldsNone status (place.new ≡ 0))) }
 {
     *place = 0;
-    on_decoders!(
-        alloc,
-        handle,
-        |decoder| finish_decoder(decoder, place),
-        number
-    )
+    on_decoders!(alloc, handle, |decoder| finish_decoder(decoder, place))
 }

@@ -1,9 +1,10 @@
 //! What C holds of a machine.
 ghost use Rattle.std.specs.Prelude.{◌≡◌, Some, None, is_some, IfSome, IfNone};
+ghost use Rattle.ws_c.specs.Held.{IsHeld};
 
-use crate::Machine;
 use crate::loose::Loose;
 use crate::owned::Owned;
+use crate::{Machine, Status};
 use std::alloc::Global;
 use std::mem::replace;
 
@@ -20,7 +21,7 @@ pub struct Handle {
 
 impl Handle {
     /// A handle that holds nothing.
-    pub fn empty(alloc: Global) -> Self
+    pub(crate) fn empty(alloc: Global) -> Self
         ensures { result.owned.value ≡ None }
     {
         let owned = Owned::empty(alloc);
@@ -31,7 +32,7 @@ impl Handle {
     }
 
     /// Takes out what it holds.
-    pub fn take(&mut self, alloc: Global) -> Option<Box<Machine, Global>>
+    pub(crate) fn take(&mut self, alloc: Global) -> Option<Box<Machine, Global>>
         ensures some { IfSome result (λ held. self.old.owned.value ≡ Some held.value) }
         ensures none { IfNone result (self.old.owned.value ≡ None) }
         ensures after { self.new.owned.value ≡ None }
@@ -46,7 +47,7 @@ impl Handle {
     }
 
     /// Holds this from now on. What it held before is forgotten, so it is to hold nothing.
-    pub fn put(&mut self, held: Box<Machine, Global>)
+    pub(crate) fn put(&mut self, held: Box<Machine, Global>)
         ensures { self.new.owned.value ≡ Some held.value }
     {
         let owned = Owned::of(Loose::of(held));
@@ -54,5 +55,19 @@ impl Handle {
             owned,
             is_open: true,
         };
+    }
+
+    /// Holds this in a box from now on, where there is memory for one. It is to hold nothing before.
+    pub(crate) fn hold(&mut self, alloc: Global, machine: Machine) -> Status
+        requires { self.old.owned.value ≡ None }
+        ensures { IsHeld machine self.new.owned.value result }
+    {
+        match Box::new(alloc, machine) {
+            Ok(held) => {
+                self.put(held);
+                Status::Done
+            }
+            Err(_) => Status::NoMemory,
+        }
     }
 }

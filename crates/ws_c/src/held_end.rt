@@ -9,7 +9,7 @@ use ws_session::{Driver, Reacts};
 
 /// An end of a session, and what it wrote last.
 #[derive(Drop)]
-pub struct HeldEnd<E, P> {
+pub(crate) struct HeldEnd<E, P> {
     pub end: E,
     /// What it wrote last.
     pub reply: P,

@@ -6,7 +6,7 @@ ghost use Rattle.ws_c.specs.Hosts.{IsHostNew, IsHostPush, IsNewHost, answer_afte
 ghost use Rattle.ws_c.specs.Pushes.{nothing_pushed};
 
 use crate::buffer::put_front;
-use crate::held::on_host;
+use crate::held::{given, on_held, on_host};
 use crate::held_end::holding;
 use crate::push::push_all;
 use crate::{Handle, HeldEnd, Machine, PushedTold, REPLY_ROOM, Status, Told};
@@ -17,7 +17,7 @@ use ws_session::{HostAnswer, HostEnd, HostEvent};
 
 /// A host's end, with what C fetches by calls of their own.
 #[derive(Drop)]
-pub struct HeldHost {
+pub(crate) struct HeldHost {
     pub held: HeldEnd<HostEnd, Reply>,
     /// The bytes of the record that was sent last; none before the first.
     pub sent: List<u8>,
@@ -64,13 +64,15 @@ fn make_host(alloc: Global, handle: &mut Handle, buffer: &mut [u8], told: &mut T
         return Status::InUse;
     }
     let (host, opening) = opened_host(alloc);
-    match Box::new(alloc, Machine::Host(host)) {
-        Ok(held) => {
-            handle.put(held);
+    let Ok(held) = Box::new(alloc, host) else {
+        return Status::NoMemory;
+    };
+    match handle.hold(alloc, Machine::Host(held)) {
+        Status::Done => {
             *told = Told::length(put_front(buffer, opening.as_slice()));
             Status::Done
         }
-        Err(_) => Status::NoMemory,
+        status => status,
     }
 }
 
@@ -107,10 +109,7 @@ pub extern "C" fn ws_c_host_free(alloc: Global, handle: &mut Handle)
     if let Some(owned) = handle.take(alloc) {
         match &*owned {
             Machine::Host(_) => drop(owned),
-            Machine::Station(_)
-            | Machine::ExtendedStation(_)
-            | Machine::Decoder(_)
-            | Machine::ExtendedDecoder(_) => handle.put(owned),
+            _ => handle.put(owned),
         }
     }
 }

@@ -5,7 +5,7 @@ ghost use Rattle.ws_c.specs.Held.{HoldsNone, OnHost};
 ghost use Rattle.ws_c.specs.Answers.{IsAnswerTold, IsContentTold, IsFieldRead, no_answer, no_read_field};
 
 use crate::buffer::put_front;
-use crate::held::on_host;
+use crate::held::{given, on_held, on_host};
 use crate::{Handle, Machine, Status};
 use std::alloc::Global;
 use ws_session::{HostAnswer, ReadField};

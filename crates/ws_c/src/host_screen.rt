@@ -5,7 +5,7 @@ ghost use Rattle.ws_c.specs.Cells.{AreRowNumbers, cells_in, rows_told};
 ghost use Rattle.ws_c.specs.Held.{HoldsNone, OnHost};
 ghost use Rattle.ws_c.specs.HostScreens.{host_state_told};
 
-use crate::held::on_host;
+use crate::held::{given, on_held, on_host};
 use crate::station_cells::tell_rows;
 use crate::station_screen::{state_with, tell_field};
 use crate::{CellTold, FieldTold, Handle, Machine, StateTold, Status};

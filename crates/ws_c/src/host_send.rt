@@ -11,7 +11,7 @@ ghost use Rattle.ws_c.specs.Held.{HoldsNone, OnHost};
 ghost use Rattle.ws_c.specs.Sends.{HostCancelled, HostSent, IsCancel, IsCancelTold, IsFetched, IsOpcodeFrom, IsReadFrom, IsSend, IsSendFaultTold, IsSendFrom, IsSendGiven, IsSentTold};
 
 use crate::buffer::{fetch_bytes, put_front};
-use crate::held::on_host;
+use crate::held::{given, on_held, on_host};
 use crate::{Handle, HeldHost, Machine, Status, Told};
 use std::alloc::Global;
 use ws_code::{ByteList, List};

@@ -1,17 +1,18 @@
 //! Keys as C gives them.
 ghost use Rattle.std.specs.Prelude.{◌≡◌, IfSome, IfNone};
 ghost use Rattle.ws_c.specs.declared.key_kind.KeyKind.{KeyKind as AKind};
+ghost use Rattle.ws_keys.specs.declared.key.KeyRefusal.{KeyRefusal as ARefusal};
 ghost use Rattle.ws_c.specs.Keys.{IsKeyOf, kind_number, refusal_number as status_number};
 
 use ws_code::Aid;
 use ws_keys::{Key, KeyRefusal};
 
 /// The number of Reset, behind those of the profile's keys.
-pub const RESET_KIND: u32 = 18;
+pub(crate) const RESET_KIND: u32 = 18;
 
 /// A key without its character or its attention identification.
 #[derive(Clone, Copy)]
-pub enum KeyKind {
+pub(crate) enum KeyKind {
     Char,
     Insert,
     Left,
@@ -96,6 +97,25 @@ fn attention_key(value: u32) -> Option<Key>
     Some(Key::Aid(Aid::from_byte(value as u8)?))
 }
 
+/// The refusal of a key of this number, where there is one.
+pub(crate) fn refusal_from(number: u8) -> Option<KeyRefusal>
+    ensures some { IfSome result (λ refusal. status_number refusal ≡ number) }
+    ensures none { IfNone result ((refusal : ARefusal) → status_number refusal ≡ number → ⊥) }
+{
+    match number {
+        1 => Some(KeyRefusal::Locked),
+        2 => Some(KeyRefusal::Protected),
+        3 => Some(KeyRefusal::WrongCharacter),
+        4 => Some(KeyRefusal::DupNotAllowed),
+        5 => Some(KeyRefusal::NoRoom),
+        6 => Some(KeyRefusal::NoReadPending),
+        7 => Some(KeyRefusal::MandatoryEnter),
+        8 => Some(KeyRefusal::FieldExitRequired),
+        9 => Some(KeyRefusal::MandatoryFill),
+        _ => None,
+    }
+}
+
 /// The number of a key's refusal.
 pub(crate) fn refusal_number(refusal: KeyRefusal) -> u8
     ensures { result ≡ status_number refusal }
@@ -108,5 +128,7 @@ pub(crate) fn refusal_number(refusal: KeyRefusal) -> u8
         KeyRefusal::NoRoom => 5,
         KeyRefusal::NoReadPending => 6,
         KeyRefusal::MandatoryEnter => 7,
+        KeyRefusal::FieldExitRequired => 8,
+        KeyRefusal::MandatoryFill => 9,
     }
 }

@@ -6,7 +6,7 @@ use std::alloc::Allocator;
 use std::marker::Model;
 
 /// A box as its pointer and its allocator.
-pub struct Loose<T, A: Allocator> {
+pub(crate) struct Loose<T, A: Allocator> {
     pub ptr: *mut T,
     pub alloc: A,
     pub ghost value: { T },
@@ -18,7 +18,7 @@ impl<T, A: Allocator> Model for Loose<T, A> {
 
 impl<T, A: Allocator> Loose<T, A> {
     /// Takes the box apart.
-    pub fn of(b: Box<T, A>) -> Loose<T, A>
+    pub(crate) fn of(b: Box<T, A>) -> Loose<T, A>
     where
         T: Drop,
         ensures { result.value ≡ b.value }
@@ -28,7 +28,7 @@ impl<T, A: Allocator> Loose<T, A> {
     }
 
     /// The box again.
-    pub fn into_box(self) -> Box<T, A>
+    pub(crate) fn into_box(self) -> Box<T, A>
         ensures { result.value ≡ self.value }
     {
         let Loose { ptr, alloc } = self;

@@ -25,7 +25,7 @@ impl Model for Owned {
 
 impl Owned {
     /// The pointer of a box that was taken apart.
-    pub fn of(loose: Loose<Machine, Global>) -> Self
+    pub(crate) fn of(loose: Loose<Machine, Global>) -> Self
         ensures { result.value ≡ Some loose.value }
     {
         let Loose { ptr, alloc } = loose;
@@ -34,7 +34,7 @@ impl Owned {
     }
 
     /// The box taken apart again.
-    pub fn into_loose(self) -> Loose<Machine, Global>
+    pub(crate) fn into_loose(self) -> Loose<Machine, Global>
         requires { IsSome self.value }
         ensures { Some result.value ≡ self.value }
     {
@@ -44,7 +44,7 @@ impl Owned {
     }
 
     /// The pointer of nothing.
-    pub fn empty(alloc: Global) -> Self
+    pub(crate) fn empty(alloc: Global) -> Self
         ensures { result.value ≡ None }
     {
         let at = std::ptr::null_mut();

@@ -9,8 +9,8 @@ use crate::held_end::{hand_out, keep_nothing, rest};
 use crate::{HeldEnd, PushedTold, REPLY_ROOM, Status};
 use ws_session::{Driver, EndFed, Reacts, Refusal};
 
-// The status of a refusal, and what is told of it beside the counts.
-fn tell_push_refusal(refusal: Refusal, told: &mut PushedTold) -> Status
+/// The status of a refusal, and what is told of it beside the counts.
+pub(crate) fn tell_push_refusal(refusal: Refusal, told: &mut PushedTold) -> Status
     requires { told.old ≡ pushed_told told.old.taken told.old.replied }
     ensures taken { told.new.taken ≡ told.old.taken }
     ensures replied { told.new.replied ≡ told.old.replied }

@@ -14,7 +14,7 @@ use ws_stream::{Commands, Element, EraseList, FieldStart, SohBytes};
 
 /// An element without its operands.
 #[derive(Clone, Copy)]
-pub enum ElementKind {
+enum ElementKind {
     ClearUnit,
     ClearFormat,
     Write,

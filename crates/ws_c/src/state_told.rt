@@ -3,7 +3,7 @@ ghost use Rattle.std.specs.Prelude.{◌≡◌};
 ghost use Rattle.ws_c.specs.Calls.{no_state as nothing_told};
 
 /// In place of a field's index, where there is no field.
-pub const NO_FIELD: u16 = 0xffff;
+pub(crate) const NO_FIELD: u16 = 0xffff;
 
 /// What of a station is no cell and no field.
 #[repr(C)]
@@ -15,6 +15,12 @@ pub struct StateTold {
     pub refused_place: u64,
     /// How many alarms the host has sounded.
     pub alarms: u64,
+    /// How many records were refused, and answered by a negative response.
+    pub refused_records: u64,
+    /// Which of its own bytes the last of them was refused at, counted from 0; 0 where none was refused.
+    pub record_place: u64,
+    /// How often the host has refused the device's name.
+    pub names_refused: u64,
     /// At most 256.
     pub field_count: u16,
     /// The index of the field that holds the cursor, or `NO_FIELD`.
@@ -34,6 +40,10 @@ pub struct StateTold {
     pub is_blinking: bool,
     /// The row on which an error of the host's stands, 1 to 24; 0 where none does.
     pub error_row: u8,
+    /// The number of the reason for which the last record was refused; 0 where none was.
+    pub record_reason: u8,
+    /// Whether the field that holds the cursor takes no further character before a key leaves it.
+    pub is_full: bool,
 }
 
 impl StateTold {
@@ -45,6 +55,9 @@ impl StateTold {
             records: 0,
             refused_place: 0,
             alarms: 0,
+            refused_records: 0,
+            record_place: 0,
+            names_refused: 0,
             field_count: 0,
             cursor_field: 0,
             cursor_row: 0,
@@ -56,6 +69,8 @@ impl StateTold {
             is_message_lit: false,
             is_blinking: false,
             error_row: 0,
+            record_reason: 0,
+            is_full: false,
         }
     }
 }

@@ -1,19 +1,22 @@
 //! Display stations: what C makes, frees and pushes bytes into.
 ghost use Rattle.std.specs.Prelude.{◌≡◌, ◌≤◌, ◌<◌, length};
+ghost use Rattle.ws_end.specs.station.Displays.{on_display as on};
 ghost use Rattle.ws_extended_station.specs.ExtendedDisplays.{on_extended};
 ghost use Rattle.ws_c.specs.Calls.{HasStatus, TellsOnly, crossed, status_number};
 ghost use Rattle.ws_c.specs.Held.{IsStationFreed, OnStations};
 ghost use Rattle.ws_c.specs.HeldStations.{IsBriefPush, IsExtendedNew, IsStationNew, IsStationPush};
+ghost use Rattle.ws_c.specs.LiveStations.{IsLivePush};
 ghost use Rattle.ws_c.specs.Pushes.{nothing_pushed};
 
-use crate::held::{on_stations, on_two};
+use crate::held::{given, on_held, on_stations};
 use crate::held_end::holding;
+use crate::live_end::push_pieces;
 use crate::push::push_all;
 use crate::{Handle, HeldEnd, Machine, PushedTold, REPLY_ROOM, Status};
 use std::alloc::Global;
 use ws_extended_station::{ExtendedReply, ExtendedStation};
 use ws_nego::TerminalType;
-use ws_session::{Reply, Station};
+use ws_session::{Reply, Station, StationDisplay, StationOn};
 
 // Makes a station of the terminal, unless the handle holds something.
 fn make_station(alloc: Global, handle: &mut Handle, name: &[u8]) -> Status
@@ -26,11 +29,8 @@ fn make_station(alloc: Global, handle: &mut Handle, name: &[u8]) -> Status
     let Some(terminal) = TerminalType::from_name(name) else {
         return Status::BadArgument;
     };
-    match Box::new(alloc, Machine::Station(holding(Station::new(terminal)))) {
-        Ok(held) => {
-            handle.put(held);
-            Status::Done
-        }
+    match Box::new(alloc, holding(Station::new(terminal))) {
+        Ok(held) => handle.hold(alloc, Machine::Station(held)),
         Err(_) => Status::NoMemory,
     }
 }
@@ -58,14 +58,8 @@ fn make_extended(alloc: Global, handle: &mut Handle, name: &[u8]) -> Status
     let Some(terminal) = TerminalType::from_name(name) else {
         return Status::BadArgument;
     };
-    match Box::new(
-        alloc,
-        Machine::ExtendedStation(holding(ExtendedStation::new(terminal))),
-    ) {
-        Ok(held) => {
-            handle.put(held);
-            Status::Done
-        }
+    match Box::new(alloc, holding(ExtendedStation::new(terminal))) {
+        Ok(held) => handle.hold(alloc, Machine::ExtendedStation(held)),
         Err(_) => Status::NoMemory,
     }
 }
@@ -86,12 +80,26 @@ pub extern "C" fn ws_c_station_free(alloc: Global, handle: &mut Handle)
 {
     if let Some(owned) = handle.take(alloc) {
         match &*owned {
-            Machine::Station(_) | Machine::ExtendedStation(_) => drop(owned),
-            Machine::Decoder(_) | Machine::ExtendedDecoder(_) | Machine::Host(_) => {
-                handle.put(owned)
+            Machine::Station(_) | Machine::ExtendedStation(_) | Machine::LiveStation(_) => {
+                drop(owned)
             }
+            _ => handle.put(owned),
         }
     }
+}
+
+// Pushes bytes into a station of either kind.
+fn push_held<D: StationDisplay>(
+    held: &mut HeldEnd<StationOn<D>, D::Reply>,
+    bytes: &[u8],
+    buffer: &mut [u8],
+    told: &mut PushedTold,
+) -> Status
+    requires { told.old ≡ nothing_pushed }
+    ensures { IsStationPush (on D.Commands.rules D.does) bytes.now
+        (crossed buffer.old buffer.new result told.new) held.old held.new }
+{
+    push_all(held, bytes, buffer, told, false).0
 }
 
 // Pushes bytes into a station of the profile, whose replies are short: none waits.
@@ -105,23 +113,9 @@ fn push_station(
     ensures { IsBriefPush bytes.now
         (crossed buffer.old buffer.new result told.new) held.old held.new }
 {
-    let (status, _) = push_all(held, bytes, buffer, told, false);
+    let status = push_held(held, bytes, buffer, told);
     let _brief = held.reply.as_slice();
     status
-}
-
-// Pushes bytes into a station as live hosts use it.
-fn push_extended(
-    held: &mut HeldEnd<ExtendedStation, ExtendedReply>,
-    bytes: &[u8],
-    buffer: &mut [u8],
-    told: &mut PushedTold,
-) -> Status
-    requires { told.old ≡ nothing_pushed }
-    ensures { IsStationPush on_extended bytes.now
-        (crossed buffer.old buffer.new result told.new) held.old held.new }
-{
-    push_all(held, bytes, buffer, told, false).0
 }
 
 /// Pushes bytes into a station, one after another: `buffer` gets what the station writes, and `told` how many bytes were
@@ -144,7 +138,7 @@ pub extern "C" fn ws_c_station_push(
     ensures pushed { REPLY_ROOM ≤ length buffer.old → HasStatus result (λ status.
         let call = crossed buffer.old buffer.new status told.new in
         OnStations handle.old.owned.value handle.new.owned.value (IsBriefPush bytes.now call)
-        (IsStationPush on_extended bytes.now call)
+        (IsStationPush on_extended bytes.now call) (IsLivePush bytes.now call)
         (TellsOnly call Status.NothingHeld nothing_pushed)) }
 {
     *told = PushedTold::nothing();
@@ -155,7 +149,8 @@ pub extern "C" fn ws_c_station_push(
         alloc,
         handle,
         |station| push_station(station, bytes, buffer, told),
-        |held| push_extended(held, bytes, buffer, told),
+        |held| push_held(held, bytes, buffer, told),
+        |live| push_pieces(live, bytes, buffer, told),
         number
     )
 }

@@ -5,12 +5,14 @@ ghost use Rattle.ws_code.specs.declared.address.TheConstants.{CELLS as ALL_CELLS
 ghost use Rattle.ws_c.specs.Calls.{HasStatus, status_number};
 ghost use Rattle.ws_c.specs.Cells.{AreRowNumbers, cell_told as told_of, cells_in, rows_told};
 ghost use Rattle.ws_c.specs.Held.{HoldsNone, OnScreen};
+ghost use Rattle.ws_c.specs.Pages.{cells_on};
 
 use crate::cell_fields::{fields_behind, index_at, passed};
-use crate::held::{on_screen, on_stations, on_two};
+use crate::held::{given, on_held, on_screen, on_stations};
+use crate::page_text::to_page;
 use crate::{Handle, Machine, Status};
 use std::alloc::Global;
-use ws_code::{Address, COLUMNS};
+use ws_code::{Address, COLUMNS, CodePage};
 use ws_screen::{Screen, Shown};
 
 /// A cell of a screen.
@@ -42,8 +44,8 @@ fn tell_cell(cell: &mut CellTold, field: u16, byte: u8, shown: Shown)
     cell.attribute = shown.attribute.byte();
 }
 
-// The cell at a place of the screen.
-fn address(place: usize) -> Address
+/// The cell at a place of the screen.
+pub(crate) fn address(place: usize) -> Address
     requires { place < ALL_CELLS }
     ensures { result ≡ place }
 {
@@ -78,6 +80,28 @@ fn tell_cells(screen: &Screen, first: usize, cells: &mut [CellTold])
     }
 }
 
+/// Tells the cells of rows, on a page or as the screen has them.
+pub(crate) fn tell_rows_on(
+    screen: &Screen,
+    page: Option<CodePage>,
+    first_row: u8,
+    last_row: u8,
+    cells: &mut [CellTold],
+) -> Status
+    requires rows { AreRowNumbers first_row last_row }
+    requires room { cells_in first_row last_row ≤ length cells.old }
+    ensures status { result ≡ Status.Done }
+    ensures cells { cells.new ≡ cells_on page (rows_told screen.now first_row last_row)
+        ++ drop (cells_in first_row last_row) cells.old }
+{
+    let status = tell_rows(screen, first_row, last_row, cells);
+    let count = (last_row as usize + 1 - first_row as usize) * COLUMNS as usize;
+    if let Some(page) = page {
+        to_page(page, &mut cells[..count]);
+    }
+    status
+}
+
 /// Tells the cells of rows.
 pub(crate) fn tell_rows(
     screen: &Screen,
@@ -98,7 +122,7 @@ pub(crate) fn tell_rows(
 }
 
 /// Tells the cells of rows, 80 of each, in screen order: what each shows and holds, the attribute in force, and its
-/// field.
+/// field. A station that has an identity shows the characters of its code page, another those of 037.
 ///
 /// `BadArgument` where the rows aren't 1 to 24 in order, `NoRoom` where there are fewer than 80 cells for each row,
 /// `NothingHeld` where the handle holds no station; no cell is then set.
@@ -113,8 +137,8 @@ pub extern "C" fn ws_c_station_cells(
     ensures cells { AreRowNumbers first_row last_row
         → cells_in first_row last_row ≤ length cells.old → HasStatus result (λ status.
         OnScreen handle.old.owned.value handle.new.owned.value
-        (λ screen. (status ≡ Status.Done)
-        × (cells.new ≡ rows_told screen first_row last_row
+        (λ page screen. (status ≡ Status.Done)
+        × (cells.new ≡ cells_on page (rows_told screen first_row last_row)
         ++ drop (cells_in first_row last_row) cells.old))
         (HoldsNone status (cells.new ≡ cells.old))) }
     ensures off { ¬ AreRowNumbers first_row last_row
@@ -133,7 +157,7 @@ pub extern "C" fn ws_c_station_cells(
     on_screen!(
         alloc,
         handle,
-        |screen| tell_rows(screen, first_row, last_row, cells),
+        |screen, page| tell_rows_on(screen, page, first_row, last_row, cells),
         number
     )
 }

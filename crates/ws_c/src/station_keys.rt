@@ -7,11 +7,13 @@ ghost use Rattle.ws_c.specs.Calls.{HasStatus, IsKeyFaultTold, IsKeyTold, TellsOn
 ghost use Rattle.ws_c.specs.Held.{OnStations};
 ghost use Rattle.ws_c.specs.HeldStations.{IsAnyKeyFrom, IsPress, IsPressFrom, IsProfilePress, status_without};
 ghost use Rattle.ws_c.specs.Keys.{IsKeyFrom, IsKeyOfKind};
+ghost use Rattle.ws_c.specs.LiveStations.{IsLivePress};
 
 use crate::buffer::put_front;
-use crate::held::on_two;
+use crate::held::on_held;
 use crate::held_end::{keep_nothing, rest};
 use crate::key_kind::{KeyKind, RESET_KIND, refusal_number};
+use crate::live_keys::press_live;
 use crate::wire::answer_bytes;
 use crate::{Handle, HeldEnd, Machine, Status, Told};
 use std::alloc::Global;
@@ -150,21 +152,17 @@ fn press(
     requires untold { told.old ≡ told_length 0 }
     ensures { let call = crossed buffer.old buffer.new result told.new in
         OnStations handle.old.owned.value handle.new.owned.value (IsProfilePress key call)
-        (IsPress on_extended key call)
+        (IsPress on_extended key call) (IsLivePress key call)
         (TellsOnly call (status_without key) (told_length 0)) }
 {
     let absent = absent_status(&key);
-    on_two!(
+    on_held!(
         alloc,
         handle,
-        Station(held),
-        press_at_profile(held, key, buffer, told),
-        ExtendedStation(held),
-        press_key(held, key, buffer, told),
-        Decoder,
-        ExtendedDecoder,
-        Host,
-        absent
+        absent,
+        Station(held) => press_at_profile(held, key, buffer, told),
+        ExtendedStation(held) => press_key(held, key, buffer, told),
+        LiveStation(held) => press_live(held, key, buffer, told)
     )
 }
 

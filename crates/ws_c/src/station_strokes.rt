@@ -6,34 +6,35 @@ ghost use Rattle.ws_c.specs.declared.stroke.Stroke.TheVariants as Struck;
 ghost use Rattle.ws_c.specs.Calls.{HasStatus, returned, status_number, told_length};
 ghost use Rattle.ws_c.specs.Held.{HoldsNone, OnStations};
 ghost use Rattle.ws_end.specs.station.Displays.{on_display as on};
-ghost use Rattle.ws_c.specs.Strokes.{AreKeyed, AreStruck, IsExtendedStroke, IsProfileStroke, IsStroke, IsStrokeTold, keyed_among, keys_of_stroke};
+ghost use Rattle.ws_c.specs.Strokes.{AreKeyed, AreStruck, IsExtendedStroke, IsProfileStroke, IsStroke, IsStrokeTold, keys_of_stroke};
+ghost use Rattle.ws_c.specs.LiveStations.{IsLiveStroke};
 
-use crate::held::{on_stations, on_two};
+use crate::held::{given, on_held, on_stations};
 use crate::held_end::{keep_nothing, rest};
+use crate::live_end::{self, forget};
 use crate::station_keys::tell_fault;
-use crate::station_kind::TakesKeys;
+use crate::station_kind::{PressesKeys, TakesKeys};
 use crate::stroke::Stroke;
-use crate::{Handle, HeldEnd, Machine, Status, Told};
+use crate::{Handle, HeldEnd, HeldLive, Machine, Status, Told};
 use std::alloc::Global;
 use ws_code::Address;
 use ws_keys::{Key, KeyRun};
 use ws_session::{KeyFault, StationOn};
 
 // Presses a key of a station, and forgets what it sends: the keys of a stroke send nothing.
-fn press_once<D: TakesKeys>(station: &mut StationOn<D>, key: Key) -> Result<(), KeyFault>
-    ensures { AreKeyed (keyed_among (on D.Commands.rules D.does) D.among) (key ∷ [])
-        station.old station.new result }
+fn press_once<S: PressesKeys>(station: &mut S, key: Key) -> Result<(), KeyFault>
+    ensures { AreKeyed S.presses (key ∷ []) station.old station.new result }
 {
-    match station.key(D::key_of(key)) {
+    match station.press_key(key) {
         Ok(_) => Ok(()),
         Err(fault) => Err(fault),
     }
 }
 
 // Presses a key so often, up to the first time that it is refused.
-fn press_run<D: TakesKeys>(station: &mut StationOn<D>, run: &KeyRun) -> Result<(), KeyFault>
-    ensures { AreKeyed (keyed_among (on D.Commands.rules D.does) D.among)
-        (replicate run.now.times run.now.key) station.old station.new result }
+fn press_run<S: PressesKeys>(station: &mut S, run: &KeyRun) -> Result<(), KeyFault>
+    ensures { AreKeyed S.presses (replicate run.now.times run.now.key)
+        station.old station.new result }
 {
     for _ in 0..run.times {
         press_once(station, run.key)?;
@@ -42,9 +43,8 @@ fn press_run<D: TakesKeys>(station: &mut StationOn<D>, run: &KeyRun) -> Result<(
 }
 
 // Presses keys one after another, up to the first that is refused.
-fn press_all<D: TakesKeys>(station: &mut StationOn<D>, runs: &[KeyRun]) -> Result<(), KeyFault>
-    ensures { AreKeyed (keyed_among (on D.Commands.rules D.does) D.among)
-        (keys_of runs.now) station.old station.new result }
+fn press_all<S: PressesKeys>(station: &mut S, runs: &[KeyRun]) -> Result<(), KeyFault>
+    ensures { AreKeyed S.presses (keys_of runs.now) station.old station.new result }
 {
     for run in runs {
         press_run(station, run)?;
@@ -66,12 +66,11 @@ fn tell_stroke(pressed: Result<(), KeyFault>, told: &mut Told) -> Status
 }
 
 // Presses the keys of a stroke at a station.
-fn press_stroke<D: TakesKeys>(station: &mut StationOn<D>, stroke: Stroke, told: &mut Told) -> Status
-    ensures { AreStruck (keyed_among (on D.Commands.rules D.does) D.among)
-        (keys_of_stroke stroke (D.does.shown station.old.reacts.screen))
+fn press_stroke<S: PressesKeys>(station: &mut S, stroke: Stroke, told: &mut Told) -> Status
+    ensures { AreStruck S.presses (keys_of_stroke stroke (S.shown station.old))
         (returned result told.new) station.old station.new }
 {
-    let keys = stroke.keys(station.screen());
+    let keys = stroke.keys(station.seen());
     let pressed = press_all(station, keys.as_slice());
     tell_stroke(pressed, told)
 }
@@ -94,19 +93,34 @@ fn press_held<D: TakesKeys>(
     Status::NoRoom
 }
 
+// The same at one that no refused record ends.
+fn press_live(held: &mut HeldLive, stroke: Stroke, told: &mut Told) -> Status
+    requires { told.old ≡ told_length 0 }
+    ensures { IsLiveStroke stroke (returned result told.new) held.old held.new }
+{
+    if !live_end::rest(held).is_empty() {
+        return Status::NoRoom;
+    }
+    let status = press_stroke(&mut held.end, stroke, told);
+    forget(held);
+    status
+}
+
 // Presses the keys of a stroke at the station that a handle holds.
 fn press(alloc: Global, handle: &mut Handle, stroke: Stroke, told: &mut Told) -> Status
     requires { told.old ≡ told_length 0 }
     ensures { OnStations handle.old.owned.value handle.new.owned.value
         (IsProfileStroke stroke (returned result told.new))
         (IsExtendedStroke stroke (returned result told.new))
+        (IsLiveStroke stroke (returned result told.new))
         (HoldsNone result (told.new ≡ told_length 0)) }
 {
     on_stations!(
         alloc,
         handle,
         |held| press_held(held, stroke, told),
-        |held| press_held(held, stroke, told)
+        |held| press_held(held, stroke, told),
+        |held| press_live(held, stroke, told)
     )
 }
 
@@ -129,6 +143,7 @@ pub extern "C" fn ws_c_station_move_cursor(
         OnStations handle.old.owned.value handle.new.owned.value
         (IsProfileStroke (Struck.MoveTo (place_of row column)) (returned status told.new))
         (IsExtendedStroke (Struck.MoveTo (place_of row column)) (returned status told.new))
+        (IsLiveStroke (Struck.MoveTo (place_of row column)) (returned status told.new))
         (HoldsNone status (told.new ≡ told_length 0))) }
     ensures off { ¬ IsRowAndColumn row column → (result ≡ status_number Status.BadArgument)
         × (handle.new ≡ handle.old) × (told.new ≡ told_length 0) }
@@ -149,6 +164,7 @@ pub extern "C" fn ws_c_station_new_line(alloc: Global, handle: &mut Handle, told
     ensures { HasStatus result (λ status. OnStations handle.old.owned.value handle.new.owned.value
         (IsProfileStroke Struck.NewLine (returned status told.new))
         (IsExtendedStroke Struck.NewLine (returned status told.new))
+        (IsLiveStroke Struck.NewLine (returned status told.new))
         (HoldsNone status (told.new ≡ told_length 0))) }
 {
     *told = Told::length(0);
@@ -164,6 +180,7 @@ pub extern "C" fn ws_c_station_erase_eof(alloc: Global, handle: &mut Handle, tol
     ensures { HasStatus result (λ status. OnStations handle.old.owned.value handle.new.owned.value
         (IsProfileStroke Struck.EraseEof (returned status told.new))
         (IsExtendedStroke Struck.EraseEof (returned status told.new))
+        (IsLiveStroke Struck.EraseEof (returned status told.new))
         (HoldsNone status (told.new ≡ told_length 0))) }
 {
     *told = Told::length(0);

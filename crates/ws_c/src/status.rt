@@ -4,7 +4,7 @@ ghost use Rattle.ws_c.specs.Calls.{status_number};
 
 /// What a call comes to.
 #[derive(Clone, Copy)]
-pub enum Status {
+pub(crate) enum Status {
     /// The call did what it says.
     Done,
     /// The byte is refused, or the item that it ends.

@@ -8,7 +8,7 @@ use ws_screen::Screen;
 
 /// A stroke that is several keys.
 #[derive(Clone, Copy)]
-pub enum Stroke {
+pub(crate) enum Stroke {
     /// The cursor goes to a cell.
     MoveTo(Address),
     /// The cursor goes to the first field that keys enter and that begins in a row below.

@@ -29,7 +29,7 @@ impl Told {
 }
 
 /// How many bytes a byte brings at most in answer: the terminal's name at a SEND (RFC 1091).
-pub const REPLY_ROOM: usize = 17;
+pub(crate) const REPLY_ROOM: usize = 17;
 
 /// What a push of bytes tells beside its status.
 #[repr(C)]

@@ -1,6 +1,7 @@
 pub mod Buffers
 pub mod CheckLemmas
 pub mod ExtendedRecords
+pub mod Findings
 pub mod FrontItems
 pub mod HexDigits
 pub mod Makings
@@ -11,8 +12,11 @@ pub mod Shows
 pub mod ShowEnds
 pub mod SourceAnswers
 pub mod SourceReads
+pub mod TableLines
+pub mod Tasks
 pub mod ViewLaws
 pub mod RawRuns
 pub mod ReadBack
+pub mod Reasons
 pub mod Recordings
 pub mod WholeItems

@@ -20,8 +20,8 @@ use Rattle.ws_program.specs.StreamText.{show_printing}
 use Rattle.ws_program.specs.StreamBytes.{AreBytesOf}
 use Rattle.ws_program.specs.Streams.{closed_outcome, into_closed}
 use Rattle.ws_program.specs.declared.verdict.Verdict.{Verdict}
-use Rattle.ws_program.specs.declared.words.command_line.Asked.{Asked}
-use Rattle.ws_program.specs.declared.words.command_line.Asked.TheVariants.{Check, Show, Play, Make}
+use Rattle.ws_program.specs.declared.words.command_line.InputAsked.{InputAsked}
+use Rattle.ws_program.specs.declared.words.command_line.InputAsked.TheVariants.{Check, Show, Play, Make}
 use Rattle.ws_program.specs.declared.words.command_line.StreamForm.{StreamForm}
 use Rattle.ws_program.proofs.Buffers.{CanBeCut}
 
@@ -47,7 +47,7 @@ bytes_cut : (form : StreamForm) (printing : List ℕ → Printing Bool Fault) (i
 bytes_cut form printing input cut text outcome h =
     (h.0, h.1, (device.Write, cut h.0 text h.2.0 h.2.1, refl))
 
-pub answer_cut : (asked : Asked) (input : List ℕ) → CanBeCut (answer_action asked input).prints Write
+pub answer_cut : (asked : InputAsked) (input : List ℕ) → CanBeCut (answer_action asked input).prints Write
 answer_cut (Check file form cut sender) input = bytes_cut form
     (λ bytes. check_printing (sender_parts sender).rules bytes) input (check_cut (sender_parts sender).rules)
 answer_cut (Show file form sender paint) input = bytes_cut form

@@ -10,11 +10,12 @@ use Rattle.ws_live.specs.declared.asked.open_streams.OpenStreams.{OpenStreams}
 use Rattle.ws_live.specs.declared.asked.sender.Sender.{Sender}
 use Rattle.ws_printing.specs.Printouts.{printout}
 use Rattle.ws_program.specs.Actions.{IsCarriedOut}
-use Rattle.ws_program.specs.Runs.{HasRunInput, IsFaultOfInput, IsInputUnread}
+use Rattle.ws_program.specs.InputFaults.{IsInputUnread}
+use Rattle.ws_program.specs.Runs.{HasRunInput, IsFaultOfInput}
 use Rattle.ws_program.specs.Streams.{openly}
 use Rattle.ws_program.specs.ToldFaults.{IsToldOf}
-use Rattle.ws_program.specs.declared.words.command_line.Asked.{Asked}
-use Rattle.ws_program.specs.declared.words.command_line.Asked.TheVariants.{Check}
+use Rattle.ws_program.specs.declared.words.command_line.InputAsked.{InputAsked}
+use Rattle.ws_program.specs.declared.words.command_line.InputAsked.TheVariants.{Check}
 use Rattle.ws_program.specs.declared.words.command_line.StreamForm.{StreamForm}
 use Rattle.ws_program.specs.declared.words.command_line.StreamForm.TheVariants.{Raw}
 use Rattle.ws_program.proofs.SourceAnswers.{ended}
@@ -23,7 +24,7 @@ use Rattle.ws_program.proofs.SourceAnswers.{ended}
 
 module _ {S : Type 0} (writer : Writer S) (from to : S) (streams : OpenStreams) where
   -- it can't be read; or this was done with it
-  abbrev pub IsInputDone : Asked → Result Bool RunFault → Type 0
+  abbrev pub IsInputDone : InputAsked → Result Bool RunFault → Type 0
   IsInputDone asked result = IsErrAnd result (λ fault. (to ≡ from) × IsInputUnread fault)
       ⊎ ((input : List ℕ) × IsCarriedOut writer from to (openly streams.output asked input) result)
 
@@ -42,7 +43,7 @@ module _ {S : Type 0} (writer : Writer S) (from to : S) (streams : OpenStreams) 
     raw_run HasFailed HasGiven result (inl h) = rw h.0 (inl (h.1, inl refl))
     raw_run HasFailed HasGiven result (inr h) = inr (h.0, of_file streams.output h.0 result h.2)
 
-    module _ (asked : Asked) (form : StreamForm) (is : asked ≡ Check file form cut sender) (raw : form ≡ Raw) where
+    module _ (asked : InputAsked) (form : StreamForm) (is : asked ≡ Check file form cut sender) (raw : form ≡ Raw) where
       -- what was asked is this check
       same : asked ≡ Check file Raw cut sender
       same = is ∙ ap (λ z. Check file z cut sender) raw
@@ -55,7 +56,7 @@ module _ {S : Type 0} (writer : Writer S) (from to : S) (streams : OpenStreams) 
       pub raw_told : (why : RunFault) → IsInputDone (Check file Raw cut sender) (Err why) → (fault : ToldFault)
           → fault ≡ told.Run why → IsFaultOfInput (printout writer from to) streams asked fault
       raw_told why h fault e =
-          let P : Asked → Type 0 = λ z. IsFaultOfInput (printout writer from to) streams z fault in
+          let P : InputAsked → Type 0 = λ z. IsFaultOfInput (printout writer from to) streams z fault in
           subst P (sym same) (on h)
         where
           on : IsInputDone (Check file Raw cut sender) (Err why)
@@ -64,14 +65,16 @@ module _ {S : Type 0} (writer : Writer S) (from to : S) (streams : OpenStreams) 
           on (inr h) = inr (why, (h.0, h.1, e))
 
   -- of one that was read before
-  pub read_done : (asked : Asked) (input : List ℕ) (outcome : Result Bool RunFault) (result : Result Bool ToldFault)
+  pub read_done : (asked : InputAsked) (input : List ℕ) (outcome : Result Bool RunFault)
+      (result : Result Bool ToldFault)
       → IsCarriedOut writer from to (openly streams.output asked input) outcome
       → IfOk result (λ accepted. outcome ≡ Ok accepted) → IfOk result (HasRunInput
       (printout writer from to) streams asked)
   read_done asked input outcome (Ok accepted) h e = (input, rw e at h)
   read_done asked input outcome (Err fault) h e = tt
 
-  pub read_told : (asked : Asked) (input : List ℕ) (outcome : Result Bool RunFault) (result : Result Bool ToldFault)
+  pub read_told : (asked : InputAsked) (input : List ℕ) (outcome : Result Bool RunFault)
+      (result : Result Bool ToldFault)
       → IsCarriedOut writer from to (openly streams.output asked input) outcome
       → IfErr result (λ fault. IsErrAnd outcome (IsToldOf asked input fault))
       → IfErr result (IsFaultOfInput (printout writer from to) streams asked)

@@ -14,7 +14,7 @@ use Rattle.ws_program.specs.Answering.{sender_parts, of_bytes, run_outcome}
 use Rattle.ws_program.specs.Checking.{check_printing}
 use Rattle.ws_program.specs.SourceChecks.{command_outcome}
 use Rattle.ws_program.specs.Streams.{openly}
-use Rattle.ws_program.specs.declared.words.command_line.Asked.TheVariants.{Check}
+use Rattle.ws_program.specs.declared.words.command_line.InputAsked.TheVariants.{Check}
 use Rattle.ws_program.specs.declared.words.command_line.StreamForm.TheVariants.{Raw}
 use Rattle.ws_program.proofs.Buffers.{unheld, unchanged, printed_flushed, printed_unflushed}
 use Rattle.ws_program.proofs.Printings.{check_cut, bytes_printed, closed_carried}

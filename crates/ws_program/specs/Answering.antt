@@ -31,8 +31,8 @@ use Rattle.ws_program.specs.StreamBytes.{AreBytesOf, IsFormFault}
 use Rattle.ws_program.specs.ExtendedView.{extended_view}
 use Rattle.ws_program.specs.Views.{painted_host_view, answer_view, told_view}
 use Rattle.ws_printing.specs.declared.paint.Paint.{Paint}
-use Rattle.ws_program.specs.declared.words.command_line.Asked.{Asked}
-use Rattle.ws_program.specs.declared.words.command_line.Asked.TheVariants.{Check, Show, Play, Make}
+use Rattle.ws_program.specs.declared.words.command_line.InputAsked.{InputAsked}
+use Rattle.ws_program.specs.declared.words.command_line.InputAsked.TheVariants.{Check, Show, Play, Make}
 use Rattle.ws_live.specs.declared.asked.sender.Sender.{Sender}
 use Rattle.ws_live.specs.declared.asked.sender.Sender.TheVariants.{Host, ExtendedHost, Station, ExtendedStation}
 use Rattle.ws_program.specs.declared.words.command_line.StreamForm.{StreamForm}
@@ -150,7 +150,7 @@ of_bytes form printing input = record {
 }
 
 -- what the program does with its input: with the bytes that it tells, with a script, or with items as text
-abbrev pub answer_action : Asked → List ℕ → Action Bool RunFault
+abbrev pub answer_action : InputAsked → List ℕ → Action Bool RunFault
 answer_action (Check file form cut sender) input =
     of_bytes form (λ bytes. check_printing (sender_parts sender).rules bytes) input
 answer_action (Show file form sender paint) input =

@@ -3,6 +3,8 @@ pub mod Answering
 pub mod CheckLine
 pub mod Checking
 pub mod ExtendedView
+pub mod FileChecks
+pub mod FileFaults
 pub mod HexText
 pub mod InputFaults
 pub mod Recorded
@@ -11,6 +13,7 @@ pub mod SourceChecks
 pub mod StreamBytes
 pub mod StreamText
 pub mod Streams
+pub mod Tables
 pub mod Views
 pub mod Making
 pub mod ToldFaults

@@ -1,66 +1,73 @@
 -- What a run of the program comes to: what it printed, and how it ended.
 
 use Rattle.std.specs.Prelude.{◌≡◌, ℕ, List, Bool, Option, None, Some, Ok, Err, ◌⊎◌}
-use Rattle.std.specs.Option.{is_none}
+use Rattle.std.specs.Option.{is_none, option_map}
 use Rattle.ws_printing.specs.Printouts.{Printout}
 use Rattle.ws_live.specs.declared.asked.fault.RunFault.{RunFault}
 use Rattle.ws_live.specs.declared.asked.fault.RunFault.TheVariants.{Read, Memory}
 use Rattle.ws_live.specs.declared.asked.fault.ToldFault.{ToldFault}
 use Rattle.ws_live.specs.declared.asked.fault.ToldFault.TheVariants as told
-use Rattle.ws_live.specs.declared.asked.live_asked.Live.{Live as ALive}
+use Rattle.ws_live.specs.declared.asked.session_asked.SessionAsked.{SessionAsked}
 use Rattle.ws_live.specs.declared.asked.open_streams.OpenStreams.{OpenStreams}
 use Rattle.ws_live.specs.asked.OpenStreams.{missing}
 use Rattle.ws_network.specs.LiveSessions.{HasRunLive, script_of}
 use Rattle.ws_program.specs.Actions.{IsCarriedOut}
 use Rattle.ws_program.specs.Streams.{openly}
+use Rattle.ws_program.specs.FileChecks.{HasChecked, IsFaultOfChecks}
+use Rattle.ws_program.specs.FileFaults.{IsToldBy, IsToldOfFile}
+use Rattle.ws_program.specs.InputFaults.{IsInputUnread}
+use Rattle.ws_program.specs.Tables.{HasPrinted, IsUnprinted}
 use Rattle.ws_program.specs.ToldFaults.{IsToldOf}
 use Rattle.ws_program.specs.declared.command_fault.CommandFault.{CommandFault}
-use Rattle.ws_program.specs.declared.command_fault.CommandFault.TheVariants.{Words, Run, Told}
-use Rattle.ws_program.specs.declared.words.command_line.Asked.{Asked}
+use Rattle.ws_program.specs.declared.command_fault.CommandFault.TheVariants.{Words, Run, Told, OfFile, Unwritten}
+use Rattle.ws_program.specs.declared.words.command_line.InputAsked.{InputAsked}
 use Rattle.ws_program.specs.declared.words.command_line.Task.{Task}
-use Rattle.ws_program.specs.declared.words.command_line.Task.TheVariants.{Input, Live}
+use Rattle.ws_program.specs.declared.words.command_line.Task.TheVariants.{Input, Files, Print, Live}
 
 -- the words ask for nothing that the program knows, or for help; or a growth was refused
 abbrev pub IsWordsFault : CommandFault → Type 0
 IsWordsFault (Words why) = Unit {0}
 IsWordsFault (Run fault) = fault ≡ Memory
 IsWordsFault (Told fault) = ⊥
-
--- an input can't be read, or a growth was refused in reading it
-abbrev pub IsInputUnread : RunFault → Type 0
-IsInputUnread fault = (fault ≡ Read) ⊎ (fault ≡ Memory)
+IsWordsFault (OfFile fault) = ⊥
+IsWordsFault Unwritten = ⊥
 
 -- what a live session lacks: without a script it reads standard input
-abbrev pub missing_live : OpenStreams → ALive → Option RunFault
+abbrev pub missing_live : OpenStreams → SessionAsked → Option RunFault
 missing_live streams asked = missing streams (is_none (script_of asked))
 
 module _ {S : Type 0} (out : Printout S) (streams : OpenStreams) where
   -- what is asked of an input was done, with the bytes that were read of it
-  abbrev pub HasRunInput : Asked → Bool → Type 0
+  abbrev pub HasRunInput : InputAsked → Bool → Type 0
   HasRunInput asked accepted = (input : List ℕ)
       × IsCarriedOut out.writer out.from out.to (openly streams.output asked input) (Ok accepted)
 
   -- Why what is asked of an input wasn't done. It can't be read, and nothing was written; or this was met with the
   -- bytes that were read of it, and is told with its cause.
-  abbrev pub IsFaultOfInput : Asked → ToldFault → Type 0
+  abbrev pub IsFaultOfInput : InputAsked → ToldFault → Type 0
   IsFaultOfInput asked fault = ((why : RunFault) × (out.to ≡ out.from) × IsInputUnread why × (fault ≡ told.Run why))
       ⊎ ((why : RunFault) × ((input : List ℕ)
       × IsCarriedOut out.writer out.from out.to (openly streams.output asked input) (Err why)
       × IsToldOf asked input fault why))
 
-  -- the task of a command line was done: something of an input, or a live session
+  -- the task of a command line was done: something of an input, checks of files, a table, or a live session
   abbrev pub HasRunTask : Task → Bool → Type 0
   HasRunTask (Input asked) accepted = HasRunInput asked accepted
+  HasRunTask (Files checks) accepted = HasChecked out checks accepted
+  HasRunTask (Print shown) accepted = HasPrinted out streams.output shown accepted
   HasRunTask (Live asked) accepted = (missing_live streams asked ≡ None)
       × HasRunLive out asked accepted
 
   -- why a task wasn't done; where a live session lacks a stream, nothing was written
-  abbrev pub IsFaultOfTask : Task → ToldFault → Type 0
-  IsFaultOfTask (Input asked) fault = IsFaultOfInput asked fault
-  IsFaultOfTask (Live asked) fault = (why : RunFault) → missing_live streams asked ≡ Some why → out.to ≡ out.from
+  abbrev pub IsFaultOfTask : Task → CommandFault → Type 0
+  IsFaultOfTask (Input asked) fault = (met : ToldFault) × IsFaultOfInput asked met
+      × IsToldBy asked met fault
+  IsFaultOfTask (Files checks) fault = IsFaultOfChecks out checks fault
+  IsFaultOfTask (Print shown) fault = IsUnprinted out streams.output shown fault
+  IsFaultOfTask (Live asked) fault = (met : ToldFault)
+      × IsToldOfFile (option_map (λ name. name.now) (script_of asked)) met fault
+      × ((why : RunFault) → missing_live streams asked ≡ Some why → out.to ≡ out.from)
 
   -- why the program didn't do what its words ask for: where the fault is in these, nothing was written
   abbrev pub IsFaultOfRun : CommandFault → Type 0
-  IsFaultOfRun (Words why) = out.to ≡ out.from
-  IsFaultOfRun (Run fault) = (out.to ≡ out.from) × (fault ≡ Memory)
-  IsFaultOfRun (Told fault) = (task : Task) × IsFaultOfTask task fault
+  IsFaultOfRun fault = (IsWordsFault fault × (out.to ≡ out.from)) ⊎ ((task : Task) × IsFaultOfTask task fault)

@@ -10,13 +10,14 @@ use Rattle.ws_record.specs.Refusal.{IsRefused}
 use Rattle.ws_program.specs.Answering.{run_outcome, sender_parts}
 use Rattle.ws_program.specs.Checking.{Counts}
 use Rattle.ws_program.specs.Streams.{closed_outcome}
-use Rattle.ws_program.specs.declared.check.Refusal.{Refusal}
+use Rattle.ws_program.specs.declared.check.RefusedByte.{RefusedByte}
 use Rattle.ws_program.specs.declared.check.Tally.{Tally}
 use Rattle.ws_live.specs.declared.asked.fault.RunFault.{RunFault}
 use Rattle.ws_live.specs.declared.asked.sender.Sender.{Sender}
 
 -- no byte is refused, and the tally is of the bytes' items; or this one is
-abbrev pub IsPieceTaken : {Place U : Type 0} → Rules Place U → Watching Place → Tally → List ℕ → Option Refusal → Type 0
+abbrev pub IsPieceTaken : {Place U : Type 0} → Rules Place U → Watching Place → Tally → List ℕ → Option RefusedByte
+    → Type 0
 IsPieceTaken rules live tally bytes None = Counts rules live tally bytes
 IsPieceTaken rules live tally bytes (Some refusal) = IsRefused rules bytes refusal.place refusal.reason
 

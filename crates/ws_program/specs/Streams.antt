@@ -3,13 +3,13 @@
 use Rattle.std.specs.Prelude.{◌≡◌, ℕ, List, Bool, true, false, Result, Ok, Err}
 use Rattle.ws_program.specs.Actions.{Action}
 use Rattle.ws_program.specs.Answering.{answer_action}
-use Rattle.ws_program.specs.declared.words.command_line.Asked.{Asked}
-use Rattle.ws_program.specs.declared.words.command_line.Asked.TheVariants.{Check, Show, Play, Make}
+use Rattle.ws_program.specs.declared.words.command_line.InputAsked.{InputAsked}
+use Rattle.ws_program.specs.declared.words.command_line.InputAsked.TheVariants.{Check, Show, Play, Make}
 use Rattle.ws_live.specs.declared.asked.fault.RunFault.{RunFault}
 use Rattle.ws_live.specs.declared.asked.fault.RunFault.TheVariants.{Write}
 
 -- what is asked for, without a connection
-abbrev pub in_one_place : Asked → Asked
+abbrev pub in_one_place : InputAsked → InputAsked
 in_one_place (Check file form cut sender) = Check file form cut sender
 in_one_place (Show file form sender paint) = Show file form sender paint
 in_one_place (Play file screen tcp paint) = Play file screen false paint
@@ -33,6 +33,6 @@ into_closed action = record {
 
 -- What the program does with its input, with an output or without. Where it has none it opens no connection, and what
 -- is found in the input and in running comes first.
-abbrev pub openly : Bool → Asked → List ℕ → Action Bool RunFault
+abbrev pub openly : Bool → InputAsked → List ℕ → Action Bool RunFault
 openly true asked input = answer_action asked input
 openly false asked input = into_closed (answer_action (in_one_place asked) input)

@@ -8,10 +8,10 @@ use Rattle.ws_live.specs.declared.asked.fault.RunFault.TheVariants as run
 use Rattle.ws_live.specs.declared.asked.fault.ToldFault.{ToldFault}
 use Rattle.ws_live.specs.declared.asked.fault.ToldFault.TheVariants.{Run}
 use Rattle.ws_live.specs.declared.cause.vocabulary.Vocabulary.TheVariants.{Items}
-use Rattle.ws_program.specs.declared.words.command_line.Asked.{Asked}
-use Rattle.ws_program.specs.declared.words.command_line.Asked.TheVariants.{Make}
+use Rattle.ws_program.specs.declared.words.command_line.InputAsked.{InputAsked}
+use Rattle.ws_program.specs.declared.words.command_line.InputAsked.TheVariants.{Make}
 
 -- a fault of a command with its cause, where items as text have a bad line, and as it is otherwise
-abbrev pub IsToldOf : Asked → List ℕ → ToldFault → RunFault → Type 0
+abbrev pub IsToldOf : InputAsked → List ℕ → ToldFault → RunFault → Type 0
 IsToldOf (Make file sent raw) text told (run.Line number) = IsLineTold (Items sent) (lines text) number told
 IsToldOf asked text told fault = told ≡ Run fault

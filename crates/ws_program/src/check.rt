@@ -34,12 +34,12 @@ impl Tally {
 
 // A byte that is refused.
 #[derive(Clone, Copy)]
-struct Refusal {
+struct RefusedByte {
     place: u64,
     reason: Reason,
 }
 
-impl Refusal {
+impl RefusedByte {
     // What holds of a stream with it.
     fn verdict(self) -> Verdict
         ensures { result ≡ Verdict.Refused self.place self.reason }
@@ -77,7 +77,7 @@ impl<B: Body> Checker<B> {
 
     // Takes a piece: its first byte that is refused, if one is.
     #[inline(always)]
-    fn take(&mut self, piece: &[u8]) -> Option<Refusal>
+    fn take(&mut self, piece: &[u8]) -> Option<RefusedByte>
         requires { (bytes : List ℕ) × Counts B.rules self.old.live self.old.tally bytes
             × (length bytes + length piece.now < 2 ^ 64) }
         ensures { (bytes : List ℕ) → Counts B.rules self.old.live self.old.tally bytes
@@ -89,7 +89,7 @@ impl<B: Body> Checker<B> {
             let Advance { used, news } = self.live.advance(&piece[at..], &mut Nothing);
             at += used;
             if let News::Refused(reason) = news {
-                return Some(Refusal {
+                return Some(RefusedByte {
                     place: self.live.taken() - 1,
                     reason,
                 });
@@ -120,7 +120,11 @@ impl<B: Body> Checker<B> {
 /// Writes whether the bytes are accepted, refused or truncated, in one line: true where they are accepted.
 ///
 /// `cut` is the size of the pieces in which they are read, and doesn't change what is written. No unit of a body is
-/// kept, and no memory is asked for. `Write` is the only fault: the sink failed.
+/// kept, and no memory is asked for.
+///
+/// # Errors
+///
+/// `Write` where the sink failed; no other comes.
 pub fn check_to<B: Body, S: Sink>(
     _alloc: Global,
     bytes: &[u8],
@@ -136,9 +140,12 @@ pub fn check_to<B: Body, S: Sink>(
 /// Writes the line that `check_to` writes of all bytes that the source gives, up to its end or to the piece in which
 /// one is refused: true where they are accepted.
 ///
-/// A read asks for at most `cut` bytes. None of them is kept, and no memory is asked for. `Read` where a read failed,
-/// or 4,294,967,296 reads didn't reach the end; no byte before it is refused, and nothing was written. `Write` where the
-/// sink failed.
+/// A read asks for at most `cut` bytes. None of them is kept, and no memory is asked for.
+///
+/// # Errors
+///
+/// `Read` where a read failed, or 4,294,967,296 reads didn't reach the end; no byte before it is refused, and nothing
+/// was written. `Write` where the sink failed.
 pub fn check_from<B: Body, R: Source, S: Sink>(
     source: &mut R,
     cut: u16,
@@ -157,8 +164,8 @@ pub fn check_from<B: Body, R: Source, S: Sink>(
     verdict.write_to(size, sink)
 }
 
-// What holds of the bytes, read in pieces of a size.
-fn verdict_of<B: Body>(bytes: &[u8], cut: u16) -> Verdict
+/// What holds of the bytes, read in pieces of a size.
+pub(crate) fn verdict_of<B: Body>(bytes: &[u8], cut: u16) -> Verdict
     requires { cut ≢ 0 }
     ensures { IsVerdict B.rules bytes.now result }
 {
@@ -172,8 +179,8 @@ fn verdict_of<B: Body>(bytes: &[u8], cut: u16) -> Verdict
     checker.finish()
 }
 
-// What holds of the bytes that a source gives, and how many it gave. They are read into the slice.
-fn verdict_from<B: Body, R: Source>(
+/// What holds of the bytes that a source gives, and how many it gave. They are read into the slice.
+pub(crate) fn verdict_from<B: Body, R: Source>(
     source: &mut R,
     room: &mut [u8],
 ) -> Result<(Verdict, usize), Fault>

@@ -19,7 +19,7 @@ use ws_record::{Opcode, Record};
 ///
 /// The reason of the second command that asks at once, else the first reason for which an element is refused; the
 /// display is then as it was.
-pub fn apply_extended_record(
+pub(crate) fn apply_extended_record(
     display: &mut ExtendedScreen,
     record_: &Record<ExtendedElement>,
 ) -> Result<(), Reason>

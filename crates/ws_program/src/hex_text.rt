@@ -62,8 +62,9 @@ fn digits_of(alloc: Global, text: &[u8]) -> Result<Vec<u8>, AllocError>
 
 /// The bytes that a hex text gives without its blanks, tabs, CR and LF.
 ///
-/// `NotHex` comes where the rest isn't hex text, before memory is asked for. `Memory` comes where it is, and a growth
-/// was refused.
+/// # Errors
+///
+/// `NotHex` where the rest isn't hex text, before memory is asked for. `Memory` where it is, and a growth was refused.
 pub fn hex_bytes(alloc: Global, text: &[u8]) -> Result<Vec<u8>, TextFault>
     ensures ok { IfOk result (λ bytes. IsHexOf bytes.items text.now) }
     ensures fault { IfErr result (IsHexTextFault text.now) }

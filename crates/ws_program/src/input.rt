@@ -1,11 +1,12 @@
 ghost use Rattle.std.specs.Prelude.{◌≡◌, ◌⊎◌, [], List as Seq, ℕ, IfErr, IsErrAnd};
 ghost use Rattle.ws_program.specs.Actions.{IsCarriedOut};
-ghost use Rattle.ws_program.specs.Runs.{IsInputUnread, IsWordsFault};
+ghost use Rattle.ws_program.specs.InputFaults.{IsInputUnread};
+ghost use Rattle.ws_program.specs.Runs.{IsWordsFault};
 ghost use Rattle.ws_program.specs.Streams.{openly};
 
 use crate::command_fault::CommandFault;
 use crate::source_check::check_source_openly;
-use crate::words::{Asked, StreamForm, no_text};
+use crate::words::{InputAsked, StreamForm, no_text};
 use std::fs::File;
 use std::io::Read;
 use std::num::NonZeroU16;
@@ -15,7 +16,11 @@ use ws_code::{ReadSource, Sink};
 use ws_live::{BufferedSink, OpenStreams, RunFault, Sender};
 
 /// The words of the command line, the program's name first.
-pub fn given_words<R: Env + AllocGlobal>(rt: &R) -> Result<Vec<String>, CommandFault>
+///
+/// # Errors
+///
+/// `Words` where they can't be taken as text, `Run` with `Memory` where a growth was refused.
+pub(crate) fn given_words<R: Env + AllocGlobal>(rt: &R) -> Result<Vec<String>, CommandFault>
     ensures { IfErr result IsWordsFault }
 {
     let words = match env::args(rt) {
@@ -29,7 +34,11 @@ pub fn given_words<R: Env + AllocGlobal>(rt: &R) -> Result<Vec<String>, CommandF
 }
 
 /// The whole of the file, or of standard input where none is named.
-pub fn read_input<R: Files + Input + AllocGlobal>(
+///
+/// # Errors
+///
+/// `Read` where it can't be read, `Memory` where a growth was refused in reading it.
+pub(crate) fn read_input<R: Files + Input + AllocGlobal>(
     rt: &R,
     file: Option<&str>,
 ) -> Result<Vec<u8>, RunFault>
@@ -46,7 +55,11 @@ pub fn read_input<R: Files + Input + AllocGlobal>(
 }
 
 /// Checks the bytes of the file, or of standard input where none is named, while they are read.
-pub fn check_file<R: Files<File = File> + Input, S: Sink>(
+///
+/// # Errors
+///
+/// `Read` or `Memory` where the file can't be opened, and then nothing was written; else as `check_source_openly`.
+pub(crate) fn check_file<R: Files<File = File> + Input, S: Sink>(
     rt: &R,
     file: Option<&str>,
     cut: NonZeroU16,
@@ -58,7 +71,7 @@ pub fn check_file<R: Files<File = File> + Input, S: Sink>(
     // It can't be read; or this is done with the bytes that were read, as with a raw input.
     ensures { IsErrAnd result (λ fault. (sink.new.sink ≡ sink.old.sink) × IsInputUnread fault)
         ⊎ ((input : Seq ℕ) × IsCarriedOut S.writer sink.old.sink sink.new.sink (openly
-        streams.output (Asked.Check file.entry StreamForm.Raw cut from) input) result) }
+        streams.output (InputAsked.Check file.entry StreamForm.Raw cut from) input) result) }
 {
     match file {
         Some(path) => {

@@ -12,9 +12,11 @@ use ws_text::{Output, put};
 /// Writes a stream as hex text: for each item a line, its plain spelling in upper case hex (RFC 1205, section
 /// 3; RFC 854; RFC 885).
 ///
+/// # Errors
+///
 /// `Memory` where a growth was refused, and then nothing was written. `Write` where the sink failed, and then a proper
 /// prefix of the text went out.
-pub fn make_to<B: Body, S: Sink>(
+pub(crate) fn make_to<B: Body, S: Sink>(
     alloc: Global,
     items: &[Item<B::Unit>],
     sink: &mut S,
@@ -32,8 +34,10 @@ pub fn make_to<B: Body, S: Sink>(
 
 /// Writes a stream: with `raw` the bytes of its items' plain spelling, else as `make_to` does.
 ///
-/// `Memory` and `Write` are as there.
-pub fn make_stream_to<B: Body, S: Sink>(
+/// # Errors
+///
+/// As `make_to`.
+pub(crate) fn make_stream_to<B: Body, S: Sink>(
     alloc: Global,
     items: &[Item<B::Unit>],
     raw: bool,

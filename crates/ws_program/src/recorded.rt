@@ -15,6 +15,8 @@ use ws_text::first_line;
 /// What an end sent by the lines of a recording, `MILLISECONDS host|station HEX` for each piece: its pieces, one behind
 /// another. Those of the other end are left out.
 ///
+/// # Errors
+///
 /// `Line` where a line has another form, with the number of the first one. `Memory` where a growth was refused, and no
 /// line has: all lines are read all the same.
 pub fn recorded_bytes(alloc: Global, text: &[u8], end: RecordedEnd) -> Result<Vec<u8>, ScriptFault>
@@ -97,8 +99,8 @@ fn behind_time(rest: &[u8]) -> Option<Piece<'_>>
     })
 }
 
-// How many digits a line begins with.
-fn digit_count(line: &[u8]) -> usize
+/// How many digits a line begins with.
+pub(crate) fn digit_count(line: &[u8]) -> usize
     ensures { result ≡ position_or_len (λ byte. not (is_ascii_digit byte)) line.now }
 {
     for (at, byte) in line.iter().enumerate() {

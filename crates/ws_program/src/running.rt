@@ -1,26 +1,32 @@
 //! What the program does by the words of its command line.
 ghost use Rattle.std.specs.Prelude.{◌≡◌, [], IfOk, IfErr};
 ghost use Rattle.ws_printing.specs.Printouts.{printout};
+ghost use Rattle.ws_network.specs.LiveSessions.{script_of as the_script};
 ghost use Rattle.ws_program.specs.Runs.{HasRunInput, HasRunTask, IsFaultOfInput, IsFaultOfRun, IsFaultOfTask};
 ghost use Rattle.ws_program.specs.declared.words.command_line.Task.{Task as ATask};
 
 use crate::command_fault::CommandFault;
+use crate::file_checks::check_files;
+use crate::file_fault::{told_of, with_file};
 use crate::input::{check_file, given_words, read_input};
 use crate::program::answer_openly;
+use crate::tables::print_table;
 use crate::told::with_cause;
-use crate::words::{Asked, StreamForm, Task, read_words};
+use crate::words::{InputAsked, StreamForm, Task, read_words};
 use std::fs::File;
 use std::net::{Net, TcpListener, TcpStream};
 use std::rt::{Files, Runtime};
 use ws_code::Sink;
-use ws_live::{BufferedSink, OpenStreams, ToldFault};
+use ws_live::{BufferedSink, OpenStreams, SessionAsked, ToldFault};
 use ws_network::run_live;
 
 /// Does what the words of the command line ask for, and writes what is told of it: true where all was accepted, of
 /// which `status` makes the exit status.
 ///
+/// # Errors
+///
 /// `Words` where they ask for nothing that the program knows, or for help, and `Run` where a growth was refused in
-/// reading them; then nothing was written. `Told` as `run_task` has it.
+/// reading them; then nothing was written. Any other as `run_task` has it.
 pub fn run<R, S>(
     rt: &R,
     streams: OpenStreams,
@@ -37,19 +43,22 @@ where
 {
     let words = given_words(rt)?;
     let task = read_words(rt.alloc(), words.as_slice())?;
-    Ok(run_task(rt, task, streams, sink)?)
+    run_task(rt, task, streams, sink)
 }
 
 /// Does this task. All of an input is read first, but for a check of raw bytes, which holds none of them.
 ///
-/// Of an input, `Run` with `Read` or `Memory` where it can't be read, and then nothing was written; else as
-/// `answer_openly` has it, with its cause. Of a live session as `run_live` has it.
-pub fn run_task<R, S>(
+/// # Errors
+///
+/// Of an input, `Read` or `Memory` where it can't be read, and then nothing was written; else as `answer_openly` has it,
+/// with its cause, as `told_of` tells it. Of files as `check_files` has it, of a table as `print_table`, of a live session
+/// as `run_live`, and of its script as `with_file`.
+pub(crate) fn run_task<R, S>(
     rt: &R,
     task: Task<'_>,
     streams: OpenStreams,
     sink: &mut BufferedSink<S>,
-) -> Result<bool, ToldFault>
+) -> Result<bool, CommandFault>
 where
     R: Runtime + AllocGlobal + Files<File = File> + Net<Listener = TcpListener, Stream = TcpStream>,
     S: Sink,
@@ -60,15 +69,33 @@ where
         (printout S.writer sink.old.sink sink.new.sink) streams task.entry) }
 {
     match task {
-        Task::Input(asked) => run_input(rt, asked, streams, sink),
-        Task::Live(asked) => run_live(rt, asked, streams, sink),
+        Task::Input(asked) => {
+            let outcome = run_input(rt, asked, streams, sink);
+            told_of(rt, asked, outcome)
+        }
+        Task::Files(checks) => check_files(rt, &checks, streams, sink),
+        Task::Print(table) => print_table(table, streams.output, sink),
+        Task::Live(asked) => {
+            let outcome = run_live(rt, asked, streams, sink);
+            with_file(rt, script_of(asked), outcome)
+        }
+    }
+}
+
+// The script of a live session.
+fn script_of<'a>(asked: SessionAsked<'a>) -> Option<&'a str>
+    ensures { result ≡ the_script asked.entry }
+{
+    match asked {
+        SessionAsked::Connect(asked) => asked.script,
+        SessionAsked::Serve(asked) => asked.script,
     }
 }
 
 // Does what is asked of an input.
 fn run_input<R, S>(
     rt: &R,
-    asked: Asked<'_>,
+    asked: InputAsked<'_>,
     streams: OpenStreams,
     sink: &mut BufferedSink<S>,
 ) -> Result<bool, ToldFault>
@@ -81,7 +108,7 @@ where
     ensures fault { IfErr result (IsFaultOfInput
         (printout S.writer sink.old.sink sink.new.sink) streams asked.entry) }
 {
-    if let Asked::Check {
+    if let InputAsked::Check {
         file,
         form,
         cut,

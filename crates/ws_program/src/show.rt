@@ -26,6 +26,10 @@ use ws_text::Output;
 ///
 /// A record is written and then applied. Where the stream is accepted, what is written shows its items, as
 /// `ws_text::read_items` reads them back. The rest is said at `show_body_to`.
+///
+/// # Errors
+///
+/// As `show_body_to`.
 pub fn show_to<S: Sink>(alloc: Global, bytes: &[u8], sink: &mut S) -> Result<bool, Fault>
     ensures printed { IsPrinted S.writer sink.old sink.new
         (show_printing (showing element_rules host_view) bytes.now) result }
@@ -45,10 +49,14 @@ pub fn show_to<S: Sink>(alloc: Global, bytes: &[u8], sink: &mut S) -> Result<boo
 ///
 /// Of a host's stream that is the screen that its records make; of a station's nothing. An item is written and then
 /// carried out. Where the stream is refused or ends too early, or an item can't be carried out, the line of a check is
-/// the last. `Memory` where the growth for a unit of the record behind the items was refused, whose lines went out, and
-/// no byte up to that unit's last one is refused; `Write` where the sink failed, and then a proper prefix of the lines. The lines that went out begin all of
-/// them.
-pub fn show_body_to<B: Shown, S: Sink>(
+/// the last.
+///
+/// # Errors
+///
+/// `Memory` where the growth for a unit of the record behind the items was refused, whose lines went out, and no byte
+/// up to that unit's last one is refused; `Write` where the sink failed, and then a proper prefix of the lines went
+/// out. The lines that went out begin all of them.
+pub(crate) fn show_body_to<B: Shown, S: Sink>(
     alloc: Global,
     paint: Paint,
     bytes: &[u8],

@@ -16,7 +16,7 @@ use ws_stream::{AnswerPart, Answers, Commands, Element};
 use ws_text::{Output, put_item, put_text};
 
 /// A body whose items are shown, and carried out one after another.
-pub trait Shown: Body {
+pub(crate) trait Shown: Body {
     /// What the items make.
     type Made: Drop;
 

@@ -5,7 +5,7 @@ ghost use Rattle.ws_program.specs.Answering.{sender_parts};
 ghost use Rattle.ws_program.specs.Checking.{check_printing};
 ghost use Rattle.ws_program.specs.SourceChecks.{HasRefusalBy, GaveEnough, FailedBefore, command_outcome};
 ghost use Rattle.ws_program.specs.Streams.{openly};
-ghost use Rattle.ws_program.specs.declared.words.command_line.Asked.TheVariants.{Check};
+ghost use Rattle.ws_program.specs.declared.words.command_line.InputAsked.TheVariants.{Check};
 ghost use Rattle.ws_program.specs.declared.words.command_line.StreamForm.TheVariants.{Raw};
 ghost use Rattle.ws_text.specs.Printed.{IsPrinted};
 
@@ -19,8 +19,10 @@ use ws_stream::{Answers, Commands};
 /// Writes the line of a check of what the source gives, as those of a sender, and hands on what the buffer before the
 /// sink holds. Standard output may have been closed when the program began.
 ///
-/// `Read` where the source failed, and nothing was written; `Write` where the sink did. Where standard output was closed
-/// `Write` comes where no other fault does.
+/// # Errors
+///
+/// `Read` where the source failed, and nothing was written; `Write` where the sink did. Where standard output was
+/// closed `Write` comes where no other fault does.
 pub fn check_source_openly<R: Source, S: Sink>(
     cut: NonZeroU16,
     from: Sender,

@@ -29,9 +29,15 @@ impl StreamBytes<'_> {
 
 /// The bytes that an input tells in a form.
 ///
+/// # Errors
+///
 /// `NotHex` where it had to be hex text and isn't, `Line` where a line is none of a recording. `Memory` where a growth
 /// was refused, and then it has its form.
-pub fn bytes_of(alloc: Global, form: StreamForm, input: &[u8]) -> Result<StreamBytes<'_>, RunFault>
+pub(crate) fn bytes_of(
+    alloc: Global,
+    form: StreamForm,
+    input: &[u8],
+) -> Result<StreamBytes<'_>, RunFault>
     ensures ok { IfOk result (λ bytes. AreBytesOf form (the_bytes bytes) input.now) }
     ensures fault { IfErr result (IsFormFault form input.now) }
 {

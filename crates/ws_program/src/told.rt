@@ -2,14 +2,18 @@
 ghost use Rattle.std.specs.Prelude.{◌≡◌, Ok, IfOk, IfErr, IsErrAnd};
 ghost use Rattle.ws_program.specs.ToldFaults.{IsToldOf};
 
-use crate::words::Asked;
+use crate::words::InputAsked;
 use std::alloc::Global;
 use ws_live::{RunFault, ToldFault, Vocabulary, bad_line};
 
 /// What a command came to with this input, with its cause where items as text have a bad line.
-pub fn with_cause(
+///
+/// # Errors
+///
+/// As `bad_line` where items as text have a bad line; else `Run` with the fault that it came to.
+pub(crate) fn with_cause(
     alloc: Global,
-    asked: Asked<'_>,
+    asked: InputAsked<'_>,
     text: &[u8],
     outcome: Result<bool, RunFault>,
 ) -> Result<bool, ToldFault>
@@ -22,11 +26,11 @@ pub fn with_cause(
     }
 }
 
-fn told_fault(alloc: Global, asked: Asked<'_>, text: &[u8], fault: RunFault) -> ToldFault
+fn told_fault(alloc: Global, asked: InputAsked<'_>, text: &[u8], fault: RunFault) -> ToldFault
     ensures { IsToldOf asked.entry text.now result fault }
 {
     match (asked, fault) {
-        (Asked::Make { from, .. }, RunFault::Line(number)) => {
+        (InputAsked::Make { from, .. }, RunFault::Line(number)) => {
             bad_line(alloc, text, number, Vocabulary::Items(from))
         }
         _ => ToldFault::Run(fault),

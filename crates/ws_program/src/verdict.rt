@@ -29,7 +29,11 @@ impl Verdict {
 
     /// Writes the line that says it, of a stream of so many bytes: true where they are accepted.
     ///
-    /// It allocates no memory. `Write` is the only fault: the sink failed.
+    /// It allocates no memory.
+    ///
+    /// # Errors
+    ///
+    /// `Write` where the sink failed; no other comes.
     pub fn write_to<S: Sink>(self, size: usize, sink: &mut S) -> Result<bool, Fault>
         ensures printed { IfOk result (λ accepted. (accepted ≡ is_accepted self)
             × WentOut S.writer sink.old sink.new (line_of self size)) }
@@ -43,9 +47,9 @@ impl Verdict {
     }
 }
 
-// The line that says it, of a stream of so many bytes.
+/// The line that says it, of a stream of so many bytes.
 #[derive(Clone, Copy)]
-struct VerdictLine(Verdict, u64);
+pub(crate) struct VerdictLine(pub(crate) Verdict, pub(crate) u64);
 
 impl Text for VerdictLine {
     ghost text = { λ l. line_of l.0 l.1 };
@@ -72,8 +76,12 @@ impl Text for VerdictLine {
     }
 }
 
-/// The verdict that a fault of a receiver is; the fault itself, where it says nothing of the stream.
-pub fn verdict_by_fault(fault: Fault) -> Result<Verdict, Fault>
+/// The verdict that a fault of a receiver is.
+///
+/// # Errors
+///
+/// The fault itself, where it says nothing of the stream: any but `Refused` and `Truncated`.
+pub(crate) fn verdict_by_fault(fault: Fault) -> Result<Verdict, Fault>
     ensures { result ≡ verdict_by fault }
 {
     match fault {

@@ -1,7 +1,10 @@
 //! What the words of the program `t5250` ask for: something of an input, or a live session.
 mod command_line;
 mod command_parts;
+mod host_words;
 mod input_help;
 mod live_command;
+mod table_command;
 
-pub use command_line::{Asked, RecordedEnd, StreamForm, Task, no_text, read_words};
+pub use command_line::{InputAsked, RecordedEnd, StreamForm, Task};
+pub(crate) use command_line::{no_text, read_words};

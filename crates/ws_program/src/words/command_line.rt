@@ -1,26 +1,32 @@
+use crate::file_checks::FileChecks;
+use crate::tables::Table;
 use crate::words::command_parts::{CommandParts, fault, flag, place};
 use crate::words::input_help::{
-    ANSWERS_HELP, CHECK_EXAMPLES, EXTENDED_HELP, HEX_AND_STATUS, ITEMS_HELP, MAKE_EXAMPLES,
-    OF_HELP, PLAY_EXAMPLES, RAW_HELP, RAW_OUT_HELP, SCREEN_HELP, SCRIPT_HELP, SHOW_EXAMPLES,
-    STREAM_HELP, TCP_HELP,
+    ANSWERS_HELP, CHECK_EXAMPLES, EXTENDED_HELP, FILES_HELP, HEX_AND_STATUS, ITEMS_HELP,
+    MAKE_EXAMPLES, OF_HELP, PLAY_EXAMPLES, RAW_HELP, RAW_OUT_HELP, SCREEN_HELP, SCRIPT_HELP,
+    SHOW_EXAMPLES, STREAM_HELP, TCP_HELP,
 };
 use crate::words::live_command::{
     COLOR_HELP, connect_asked, connect_command, paint_asked, serve_asked, serve_command,
 };
-use clap::error::ErrorKind;
+use crate::words::table_command::{keys_command, reasons_asked, reasons_command};
 use clap::{Arg, ArgAction, ArgMatches, Command, value_parser};
 use std::alloc::{AllocError, Global};
 use std::convert::AsStr;
 use std::num::NonZeroU16;
-use ws_live::{Live, Paint, Sender};
+use ws_live::{Paint, Sender, SessionAsked};
 
 /// What a command line asks for.
-#[derive(Clone, Copy, Debug, PartialEq, Eq)]
+#[derive(Debug, Drop)]
 pub enum Task<'a> {
     /// Something of an input that is read first.
-    Input(Asked<'a>),
+    Input(InputAsked<'a>),
+    /// Checks of several files.
+    Files(FileChecks<'a>),
+    /// To print a table.
+    Print(Table),
     /// A live session.
-    Live(Live<'a>),
+    Live(SessionAsked<'a>),
 }
 
 /// Whose lines of a recording are read.
@@ -43,7 +49,7 @@ pub enum StreamForm {
 
 /// What is asked for of an input.
 #[derive(Clone, Copy, Debug, PartialEq, Eq)]
-pub enum Asked<'a> {
+pub enum InputAsked<'a> {
     /// To check the bytes that an input tells in a form, in pieces of `cut` bytes: as a host's commands, or as a
     /// station's answers.
     Check {
@@ -77,14 +83,14 @@ pub enum Asked<'a> {
     },
 }
 
-impl<'a> Asked<'a> {
+impl<'a> InputAsked<'a> {
     /// The file that is to be read; without it, standard input is.
     pub fn file(self) -> Option<&'a str> {
         match self {
-            Asked::Check { file, .. }
-            | Asked::Show { file, .. }
-            | Asked::Play { file, .. }
-            | Asked::Make { file, .. } => file,
+            InputAsked::Check { file, .. }
+            | InputAsked::Show { file, .. }
+            | InputAsked::Play { file, .. }
+            | InputAsked::Make { file, .. } => file,
         }
     }
 }
@@ -96,6 +102,8 @@ fn program<'a>(alloc: Global) -> Result<Command<'a>, AllocError> {
         .below(show_command(alloc))
         .below(play_command(alloc))
         .below(make_command(alloc))
+        .below(reasons_command(alloc))
+        .below(keys_command(alloc))
         .below(connect_command(alloc))
         .below(serve_command(alloc))
         .finish()
@@ -121,7 +129,7 @@ fn check_command<'a>(alloc: Global) -> CommandParts<'a> {
     .word(cut(alloc))
     .word(of(alloc))
     .made_word(raw(alloc))
-    .word(place(alloc, "FILE", STREAM_HELP, false))
+    .word(files(alloc))
 }
 
 fn show_command<'a>(alloc: Global) -> CommandParts<'a> {
@@ -165,6 +173,13 @@ fn make_command<'a>(alloc: Global) -> CommandParts<'a> {
     .word(place(alloc, "FILE", ITEMS_HELP, false))
 }
 
+fn files<'a>(alloc: Global) -> Arg<'a> {
+    Arg::new(alloc, "FILE")
+        .help(FILES_HELP)
+        .num_args(0..)
+        .action(ArgAction::Append)
+}
+
 fn cut<'a>(alloc: Global) -> Arg<'a> {
     Arg::new(alloc, "cut")
         .long("cut")
@@ -192,56 +207,70 @@ fn raw<'a>(alloc: Global) -> Result<Arg<'a>, AllocError> {
 }
 
 /// The fault of words that the program can't even take as text.
-pub fn no_text(alloc: Global) -> Result<clap::Error, clap::Error> {
-    let mut program = program(alloc)?;
-    Ok(fault(&mut program, ErrorKind::InvalidValue, "a word isn't UTF-8"))
+///
+/// # Errors
+///
+/// Of the kind `OutOfMemory` where a growth was refused.
+pub(crate) fn no_text(alloc: Global) -> Result<clap::Error, clap::Error> {
+    program_fault(alloc, "a word isn't UTF-8")
+}
+
+fn program_fault(alloc: Global, why: &str) -> Result<clap::Error, clap::Error> {
+    let program = CommandParts::of(program(alloc)?);
+    Ok(fault(program, "t5250", String::from_str(alloc, why)))
 }
 
 /// What the words ask for, of which the first is the program's name.
 ///
 /// Without `--cut` the bytes are read in the largest pieces.
-pub fn read_words<'a, S: AsStr>(alloc: Global, words: &'a [S]) -> Result<Task<'a>, clap::Error> {
-    let mut program = program(alloc)?;
-    let matches = program.try_get_matches_from_mut(words)?;
-    task_asked(&mut program, &matches)
-}
-
-// What these words ask for.
-fn task_asked<'a>(
-    program: &mut Command<'a>,
-    words: &ArgMatches<'a>,
+///
+/// # Errors
+///
+/// What `clap` tells where they ask for nothing that the program knows, or for help or its version; of the kind
+/// `OutOfMemory` where a growth was refused.
+pub(crate) fn read_words<'a, S: AsStr>(
+    alloc: Global,
+    words: &'a [S],
 ) -> Result<Task<'a>, clap::Error> {
-    let (name, words) = words.subcommand().unwrap_or(("", words));
+    let matches = program(alloc)?.try_get_matches_from(words)?;
+    let (name, words) = matches.subcommand().unwrap_or(("", &matches));
     match name {
-        "connect" => Ok(Task::Live(Live::Connect(connect_asked(program, words)?))),
-        "serve" => Ok(Task::Live(Live::Serve(serve_asked(program, words)?))),
-        _ => match input_asked(name, words) {
-            Some(asked) => Ok(Task::Input(asked)),
-            None => Err(fault(program, ErrorKind::MissingSubcommand, "no subcommand")),
-        },
+        "check" => check_asked(alloc, words),
+        "show" => Ok(Task::Input(show_asked(words))),
+        "play" => Ok(Task::Input(play_asked(words))),
+        "make" => Ok(Task::Input(make_asked(words))),
+        "reasons" => Ok(Task::Print(reasons_asked(alloc, words)?)),
+        "keys" => Ok(Task::Print(Table::Keys)),
+        "connect" => Ok(Task::Live(SessionAsked::Connect(connect_asked(alloc, words)?))),
+        "serve" => Ok(Task::Live(SessionAsked::Serve(serve_asked(alloc, words)?))),
+        _ => Err(program_fault(alloc, "no subcommand")?),
     }
 }
 
-// What the words of this command ask for of an input; nothing where it is none of these.
-fn input_asked<'a>(name: &str, words: &ArgMatches<'a>) -> Option<Asked<'a>> {
-    match name {
-        "check" => Some(check_asked(words)),
-        "show" => Some(show_asked(words)),
-        "play" => Some(play_asked(words)),
-        "make" => Some(make_asked(words)),
-        _ => None,
-    }
-}
-
-fn check_asked<'a>(words: &ArgMatches<'a>) -> Asked<'a> {
+// A check of one file or of standard input, or checks of several files.
+fn check_asked<'a>(alloc: Global, words: &ArgMatches<'a>) -> Result<Task<'a>, clap::Error> {
     // The parser of `--cut` lets no 0 through.
     let cut = words.get_one::<u16>("cut").unwrap_or(u16::MAX);
-    Asked::Check {
-        file: words.get_str("FILE"),
-        form: form_asked(words),
-        cut: NonZeroU16::new(cut).unwrap_or(NonZeroU16::MAX),
-        from: sender_asked(words),
+    let cut = NonZeroU16::new(cut).unwrap_or(NonZeroU16::MAX);
+    let (form, from) = (form_asked(words), sender_asked(words));
+    let named = words.get_strs("FILE").unwrap_or(&[]);
+    if named.len() < 2 {
+        let file = named.first().copied();
+        return Ok(Task::Input(InputAsked::Check {
+            file,
+            form,
+            cut,
+            from,
+        }));
     }
+    let mut files = Vec::new(alloc);
+    files.extend_from_slice(named)?;
+    Ok(Task::Files(FileChecks {
+        files,
+        form,
+        cut,
+        from,
+    }))
 }
 
 // How the input tells the bytes. The parser of `--of` lets no other name through, and none beside `--raw`.
@@ -266,8 +295,8 @@ fn sender_asked(words: &ArgMatches<'_>) -> Sender {
     }
 }
 
-fn show_asked<'a>(words: &ArgMatches<'a>) -> Asked<'a> {
-    Asked::Show {
+fn show_asked<'a>(words: &ArgMatches<'a>) -> InputAsked<'a> {
+    InputAsked::Show {
         file: words.get_str("FILE"),
         form: form_asked(words),
         from: sender_asked(words),
@@ -275,8 +304,8 @@ fn show_asked<'a>(words: &ArgMatches<'a>) -> Asked<'a> {
     }
 }
 
-fn play_asked<'a>(words: &ArgMatches<'a>) -> Asked<'a> {
-    Asked::Play {
+fn play_asked<'a>(words: &ArgMatches<'a>) -> InputAsked<'a> {
+    InputAsked::Play {
         file: words.get_str("SCRIPT"),
         screen: words.get_flag("screen"),
         tcp: words.get_flag("tcp"),
@@ -284,8 +313,8 @@ fn play_asked<'a>(words: &ArgMatches<'a>) -> Asked<'a> {
     }
 }
 
-fn make_asked<'a>(words: &ArgMatches<'a>) -> Asked<'a> {
-    Asked::Make {
+fn make_asked<'a>(words: &ArgMatches<'a>) -> InputAsked<'a> {
+    InputAsked::Make {
         file: words.get_str("FILE"),
         from: sender_asked(words),
         raw: words.get_flag("raw"),

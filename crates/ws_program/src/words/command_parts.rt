@@ -7,21 +7,21 @@ use std::alloc::{AllocError, Global};
 /// Nothing has to be known of a command but that it is one, so these calls promise nothing. What `clap` promises of each
 /// part, and a way out behind each, would make a command of many parts dear to prove.
 #[derive(Drop)]
-pub struct CommandParts<'a>(Result<Command<'a>, AllocError>);
+pub(crate) struct CommandParts<'a>(Result<Command<'a>, AllocError>);
 
 impl<'a> CommandParts<'a> {
     /// A command of this name, with what help says of it, before and behind its words.
-    pub fn new(alloc: Global, name: &'a str, about: &'a str, examples: &'a str) -> Self {
+    pub(crate) fn new(alloc: Global, name: &'a str, about: &'a str, examples: &'a str) -> Self {
         CommandParts::of(Command::new(alloc, name).about(about).after_help(examples))
     }
 
     /// The command as it is.
-    pub fn of(command: Command<'a>) -> Self {
+    pub(crate) fn of(command: Command<'a>) -> Self {
         CommandParts(Ok(command))
     }
 
     /// A flag, an option or a place for a word more.
-    pub fn word(self, word: Arg<'a>) -> Self {
+    pub(crate) fn word(self, word: Arg<'a>) -> Self {
         match self.0 {
             Ok(command) => CommandParts(command.arg(word)),
             Err(lack) => CommandParts(Err(lack)),
@@ -29,7 +29,7 @@ impl<'a> CommandParts<'a> {
     }
 
     /// The same of one for which memory may have been wanting.
-    pub fn made_word(self, word: Result<Arg<'a>, AllocError>) -> Self {
+    pub(crate) fn made_word(self, word: Result<Arg<'a>, AllocError>) -> Self {
         match word {
             Ok(word) => self.word(word),
             Err(lack) => CommandParts(Err(lack)),
@@ -37,7 +37,7 @@ impl<'a> CommandParts<'a> {
     }
 
     /// A command below it more.
-    pub fn below(self, below: CommandParts<'a>) -> Self {
+    pub(crate) fn below(self, below: CommandParts<'a>) -> Self {
         match self.0 {
             Ok(command) => match below.0 {
                 Ok(below) => CommandParts(command.subcommand(below)),
@@ -48,13 +48,17 @@ impl<'a> CommandParts<'a> {
     }
 
     /// The command with all its parts.
-    pub fn finish(self) -> Result<Command<'a>, AllocError> {
+    ///
+    /// # Errors
+    ///
+    /// `AllocError` where memory was wanting for a part.
+    pub(crate) fn finish(self) -> Result<Command<'a>, AllocError> {
         self.0
     }
 }
 
 /// A flag, which is given or not.
-pub fn flag<'a>(alloc: Global, name: &'a str, help: &'a str) -> Arg<'a> {
+pub(crate) fn flag<'a>(alloc: Global, name: &'a str, help: &'a str) -> Arg<'a> {
     Arg::new(alloc, name)
         .long(name)
         .help(help)
@@ -62,17 +66,31 @@ pub fn flag<'a>(alloc: Global, name: &'a str, help: &'a str) -> Arg<'a> {
 }
 
 /// A place for a word, which may be left out unless it is required.
-pub fn place<'a>(alloc: Global, name: &'a str, help: &'a str, is_required: bool) -> Arg<'a> {
+pub(crate) fn place<'a>(alloc: Global, name: &'a str, help: &'a str, is_required: bool) -> Arg<'a> {
     Arg::new(alloc, name)
         .help(help)
         .required(is_required)
         .action(ArgAction::Set)
 }
 
-/// The fault of words that the program can't take.
-pub fn fault(program: &mut Command<'_>, kind: ErrorKind, why: &str) -> clap::Error {
-    match program.error(kind, why) {
+/// The fault of words that a command of this whole name can't take, with its usage. It is of the kind `OutOfMemory` where
+/// a growth was refused, else `InvalidValue`.
+pub(crate) fn fault(
+    command: CommandParts<'_>,
+    name: &str,
+    why: Result<String, AllocError>,
+) -> clap::Error {
+    match made_fault(command, name, why) {
         Ok(fault) => fault,
         Err(lack) => lack.into(),
     }
+}
+
+fn made_fault(
+    command: CommandParts<'_>,
+    name: &str,
+    why: Result<String, AllocError>,
+) -> Result<clap::Error, AllocError> {
+    let mut command = command.finish()?.bin_name(name)?;
+    command.error(ErrorKind::InvalidValue, why?.as_str())
 }

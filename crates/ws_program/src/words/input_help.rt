@@ -1,7 +1,7 @@
 //! What help says of the commands of an input, and of their words.
 
 // What `--help` prints behind the options.
-pub const HEX_AND_STATUS: &str = "\
+pub(crate) const HEX_AND_STATUS: &str = "\
 A stream is read as hex text: two hex digits for each byte, in either case.
 Blanks, tabs and line ends don't count. With --of it is read out of a recording,
 with --raw as the bytes themselves.
@@ -13,11 +13,18 @@ Exit status:
      script line N, memory, cannot write, no connection; or a wrong
      command line";
 
-pub const CHECK_EXAMPLES: &str = "\
+pub(crate) const CHECK_EXAMPLES: &str = "\
 It prints one line, as one of:
   accepted: 1 records, 0 commands, 12 bytes
   refused at 11: reason 30 StructuredField
   truncated at 3
+No record is applied to a screen: reasons 50 to 55, those of the screen, come by
+show alone. `t5250 reasons` says what each means.
+
+Of several files it prints a line each, the file's name first:
+  one.hex: accepted: 1 records, 0 commands, 12 bytes
+The status is 1 where one isn't accepted. The first file that can't be read, or
+has another form, ends it with status 2.
 
 With --of, FILE is a recording, as --record of connect and serve makes it. Of
 its lines `MILLISECONDS host|station HEX` those of that end are the stream, one
@@ -28,6 +35,7 @@ and no further than to the one with a byte that is refused.
 
 Examples:
   t5250 check examples/inquiry.hex
+  t5250 check examples/inquiry.hex examples/sign-on.hex
   t5250 check --of host examples/inquiry.recording
   t5250 check --answers --of station examples/inquiry.recording
   t5250 make --raw examples/inquiry.show | t5250 check --raw
@@ -35,7 +43,7 @@ Examples:
   t5250 check --answers --cut 1 < examples/inquiry-answers.hex
   t5250 check --answers --extended examples/live-station.hex";
 
-pub const SHOW_EXAMPLES: &str = "\
+pub(crate) const SHOW_EXAMPLES: &str = "\
 Each item is printed with the place of its last byte, counted from 0.
 Where the stream isn't accepted, the line of `check` is the last.
 
@@ -59,7 +67,7 @@ Examples:
   t5250 show --answers --extended examples/live-station.hex
   echo 000A12A0000004000001FFEF | t5250 show";
 
-pub const PLAY_EXAMPLES: &str = "\
+pub(crate) const PLAY_EXAMPLES: &str = "\
 A script has a line for each move, and is read before anything is run:
   send K HEX   the host end sends a record of opcode K; HEX may be absent
   cancel       the host end cancels its read
@@ -74,7 +82,7 @@ Examples:
   t5250 play --tcp examples/sign-on.script
   echo settle | t5250 play";
 
-pub const MAKE_EXAMPLES: &str = "\
+pub(crate) const MAKE_EXAMPLES: &str = "\
 A text has the lines that `show` prints, and is read before anything is written:
   record opcode K   a record of opcode K; flags FFFF may stand before opcode
   telnet DO 24      a Telnet command; so too telnet NOP, telnet SB 24 HEX
@@ -101,25 +109,28 @@ Examples:
   t5250 show examples/inquiry.hex | t5250 make";
 
 // What help says of the words of a command.
-pub const ANSWERS_HELP: &str = "Reads what a station sends, and not what a host sends";
+pub(crate) const ANSWERS_HELP: &str = "Reads what a station sends, and not what a host sends";
 
-pub const EXTENDED_HELP: &str =
+pub(crate) const EXTENDED_HELP: &str =
     "Takes also what live hosts send beside the profile, or with --answers what their stations tell";
 
-pub const STREAM_HELP: &str =
+pub(crate) const STREAM_HELP: &str =
     "A hex text, or what --of or --raw says; without it, standard input is read";
 
-pub const OF_HELP: &str = "Reads a recording, and of that what this end has sent";
+pub(crate) const FILES_HELP: &str =
+    "Hex texts, or what --of or --raw says; without one, standard input is read";
 
-pub const RAW_HELP: &str = "Reads the bytes themselves, and no hex text";
+pub(crate) const OF_HELP: &str = "Reads a recording, and of that what this end has sent";
 
-pub const RAW_OUT_HELP: &str = "Prints the bytes themselves, and no hex text";
+pub(crate) const RAW_HELP: &str = "Reads the bytes themselves, and no hex text";
 
-pub const SCREEN_HELP: &str = "Prints the station's screen at the end";
+pub(crate) const RAW_OUT_HELP: &str = "Prints the bytes themselves, and no hex text";
 
-pub const TCP_HELP: &str =
+pub(crate) const SCREEN_HELP: &str = "Prints the station's screen at the end";
+
+pub(crate) const TCP_HELP: &str =
     "Carries the bytes over a TCP connection on 127.0.0.1; what is printed stays the same";
 
-pub const SCRIPT_HELP: &str = "A script; without it, standard input is read";
+pub(crate) const SCRIPT_HELP: &str = "A script; without it, standard input is read";
 
-pub const ITEMS_HELP: &str = "Items as text; without it, standard input is read";
+pub(crate) const ITEMS_HELP: &str = "Items as text; without it, standard input is read";

@@ -1,8 +1,8 @@
 use crate::words::command_parts::{CommandParts, fault, flag, place};
-use clap::error::ErrorKind;
-use clap::{Arg, ArgAction, ArgMatches, Command, value_parser};
+use crate::words::host_words::{address_to_listen, host_and_script};
+use clap::{Arg, ArgAction, ArgMatches, value_parser};
 use std::alloc::{AllocError, Global};
-use ws_live::{ConnectAsked, Paint, ServeAsked, host_and_port, listening_address};
+use ws_live::{ConnectAsked, Paint, ServeAsked};
 use ws_nego::TerminalType;
 
 const CONNECT_EXAMPLES: &str = "\
@@ -105,7 +105,8 @@ Examples:
 
 // What help says of the words of a command.
 /// Of the flag for screens in colour.
-pub const COLOR_HELP: &str = "Prints the rows of a screen in colour, by sequences of ECMA-48";
+pub(crate) const COLOR_HELP: &str =
+    "Prints the rows of a screen in colour, by sequences of ECMA-48";
 
 const STRICT_HELP: &str = "Keeps to the profile, and refuses what live hosts send beside it";
 
@@ -116,6 +117,9 @@ const ANY_HELP: &str = "Takes any terminal name and any record, for tests of emu
 const HOST_HELP: &str =
     "A name or an address; one of IPv6 in brackets before a port, its zone as in fe80::1%eth0; port 23 where none is named";
 
+const PORT_HELP: &str =
+    "The port in a word of its own, of digits; where HOST has one, or in other words, the SCRIPT";
+
 const ADDRESS_HELP: &str =
     "Where it listens: HOST:PORT, with an address of IPv6 in brackets; port 0 takes a free one";
 
@@ -125,7 +129,7 @@ const READY_HELP: &str =
 const SCRIPT_HELP: &str = "A script; without it, standard input is read a line at a time";
 
 /// The commands of live sessions.
-pub fn connect_command<'a>(alloc: Global) -> CommandParts<'a> {
+pub(crate) fn connect_command<'a>(alloc: Global) -> CommandParts<'a> {
     let connect = CommandParts::new(
         alloc,
         "connect",
@@ -136,11 +140,12 @@ pub fn connect_command<'a>(alloc: Global) -> CommandParts<'a> {
     .word(flag(alloc, "strict", STRICT_HELP))
     .word(flag(alloc, "extended", EXTENDED_HELP))
     .word(terminal(alloc))
-    .word(place(alloc, "HOST[:PORT]", HOST_HELP, true));
+    .word(place(alloc, "HOST[:PORT]", HOST_HELP, true))
+    .word(place(alloc, "PORT", PORT_HELP, false));
     with_script(alloc, connect)
 }
 
-pub fn serve_command<'a>(alloc: Global) -> CommandParts<'a> {
+pub(crate) fn serve_command<'a>(alloc: Global) -> CommandParts<'a> {
     let serve = CommandParts::new(
         alloc,
         "serve",
@@ -167,7 +172,7 @@ fn terminal<'a>(alloc: Global) -> Arg<'a> {
 }
 
 /// The paint of screens that these words ask for.
-pub fn paint_asked(words: &ArgMatches<'_>) -> Paint {
+pub(crate) fn paint_asked(words: &ArgMatches<'_>) -> Paint {
     if words.get_flag("color") {
         Paint::Color
     } else {
@@ -214,51 +219,63 @@ fn wait<'a>(alloc: Global) -> Arg<'a> {
 }
 
 /// The session that these words of `connect` ask for.
-pub fn connect_asked<'a>(
-    program: &mut Command<'a>,
+///
+/// # Errors
+///
+/// Of the kind `InvalidValue` where no host is named so, or no terminal has the name; `OutOfMemory` where a growth for
+/// it was refused.
+pub(crate) fn connect_asked<'a>(
+    alloc: Global,
     words: &ArgMatches<'a>,
 ) -> Result<ConnectAsked<'a>, clap::Error> {
-    let Some(host) = host_and_port(words.get_str("HOST[:PORT]").unwrap_or("")) else {
-        return Err(fault(
-            program,
-            ErrorKind::InvalidValue,
-            "no host is named so: HOST, HOST:PORT, [V6]:PORT",
-        ));
-    };
-    let terminal = match words.get_str("terminal") {
-        None => TerminalType::default(),
-        Some(name) => match TerminalType::from_name(name.as_bytes()) {
-            Some(terminal) => terminal,
-            None => return Err(fault(
-                program,
-                ErrorKind::InvalidValue,
-                "no terminal has this name",
-            )),
-        },
+    let first = words.get_str("HOST[:PORT]").unwrap_or("");
+    let (second, third) = (words.get_str("PORT"), words.get_str("SCRIPT"));
+    let (host, script) = match host_and_script(first, second, third) {
+        Ok(named) => named,
+        Err(wrong) => return Err(connect_fault(alloc, wrong.told(alloc))),
     };
     Ok(ConnectAsked {
         host,
-        terminal,
+        terminal: terminal_asked(alloc, words)?,
         wait: seconds(words),
         ready: words.get_flag("ready"),
         paint: paint_asked(words),
         extended: !words.get_flag("strict"),
         record: words.get_str("record"),
-        script: words.get_str("SCRIPT"),
+        script,
     })
 }
 
+fn terminal_asked(alloc: Global, words: &ArgMatches<'_>) -> Result<TerminalType, clap::Error> {
+    let Some(name) = words.get_str("terminal") else {
+        return Ok(TerminalType::default());
+    };
+    match TerminalType::from_name(name.as_bytes()) {
+        Some(terminal) => Ok(terminal),
+        None => {
+            let why = format!(in alloc; "no terminal has the name `{name}`");
+            Err(connect_fault(alloc, why))
+        }
+    }
+}
+
+fn connect_fault(alloc: Global, why: Result<String, AllocError>) -> clap::Error {
+    fault(connect_command(alloc), "t5250 connect", why)
+}
+
 /// The session that these words of `serve` ask for.
-pub fn serve_asked<'a>(
-    program: &mut Command<'a>,
+///
+/// # Errors
+///
+/// Of the kind `InvalidValue` where no address to listen at is named so; `OutOfMemory` where a growth for it was
+/// refused.
+pub(crate) fn serve_asked<'a>(
+    alloc: Global,
     words: &ArgMatches<'a>,
 ) -> Result<ServeAsked<'a>, clap::Error> {
-    let Some(address) = listening_address(words.get_str("ADDRESS").unwrap_or("")) else {
-        return Err(fault(
-            program,
-            ErrorKind::InvalidValue,
-            "no address to listen at: HOST:PORT, [V6]:PORT",
-        ));
+    let address = match address_to_listen(words.get_str("ADDRESS").unwrap_or("")) {
+        Ok(address) => address,
+        Err(wrong) => return Err(fault(serve_command(alloc), "t5250 serve", wrong.told(alloc))),
     };
     Ok(ServeAsked {
         address,

@@ -1,7 +1,6 @@
-use Rattle.std.proofs.Common.{◌≡◌, ℕ, inl, inr, List, [], ◌++◌, length, take, get_or, refl, sym, subst, ap, ◌∙◌, arith, true}
+use Rattle.std.proofs.Common.{◌≡◌, ℕ, inl, inr, List, [], ◌++◌, length, take, get_or, refl, sym, subst, ap, ◌∙◌, arith}
 use Rattle.std.proofs.Common.{length-append}
 use Rattle.std.proofs.lemmas.List.{nil_from_length, take_more}
-use Rattle.ws_c.specs.Calls.{crossed}
 use Rattle.ws_c.specs.Decoding.{DecoderTakesOn, plain_step}
 use Rattle.ws_c.specs.Pushes.{TakesAll}
 use Rattle.ws_c.specs.declared.decoder.StepTold.{StepTold}

@@ -1,11 +1,8 @@
-use Rattle.std.proofs.Common.{◌∙◌, refl, sym, ap, Some}
-use Rattle.ws_c.proofs.HeldLaws.{on_host}
+use Rattle.std.proofs.Common.{refl}
+use Rattle.ws_c.proofs.HeldLaws.{host_status}
 use Rattle.ws_c.proofs.host_answer.ws_c_host_answer_field.Goals as goal
 
 pub returns-in-Host : goal.returns-in-Host
-returns-in-Host c = (
-  c.field_at-status.result,
-  c.number.ensures,
-  on_host _ _ c.in-Host.host _ _ _ (c.in-Some.ensures.some ∙ ap Some (sym c.deref_mut.ensures.value ∙ c.in-Host.is))
-      c.put.ensures (refl, c.field_at-status.ensures),
-)
+returns-in-Host c = host_status _ _ c.field_at-status.result c.number-given.ensures c.in-Some.ensures.some
+    c.deref_mut.ensures.value c.in-Host.is c.deref_mut-host.ensures.value c.put.ensures
+    (refl, c.field_at-status.ensures)

@@ -1,12 +1,10 @@
 use Rattle.std.specs.Prelude.{◌&&◌, is_some}
-use Rattle.std.proofs.Common.{◌≡◌, ℕ, ◌+◌, ◌-◌, ◌≤◌, inl, inr, List, None, true, false, length, drop, refl, sym, subst, ap, ◌∙◌}
+use Rattle.std.proofs.Common.{◌≡◌, ℕ, ◌+◌, inl, inr, List, None, true, false, refl, sym, subst, ap, ◌∙◌}
 use Rattle.std.proofs.Common.{arith}
 use Rattle.std.proofs.lemmas.List.{length-drop}
-use Rattle.ws_end.specs.declared.end_step.EndFed.{EndFed}
 use Rattle.ws_end.specs.driver.Driven.{DriverFeeds, driving}
 use Rattle.ws_c.specs.HeldEnds.{waiting}
 use Rattle.ws_c.specs.Pushes.{HasToldAlone}
-use Rattle.ws_c.specs.declared.held_end.HeldEnd.{HeldEnd}
 use Rattle.ws_c.specs.declared.status.Status.TheVariants.{NoRoom}
 use Rattle.ws_c.specs.declared.told.PushedTold.{PushedTold}
 use Rattle.ws_c.proofs.FeedLaws.{goes_on_untold, refused_fed, silent_before, some_fed, stops_plain, stops_some, stops_told}

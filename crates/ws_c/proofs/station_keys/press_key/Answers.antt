@@ -1,5 +1,4 @@
 use Rattle.std.proofs.Common.{sym, refl, ◌∙◌, subst}
-use Rattle.ws_end.specs.driver.Driven.{Driven}
 use Rattle.ws_end.specs.station.Displays.{on_display}
 use Rattle.ws_end.specs.station.Stations.{StationOf, station_driving}
 use Rattle.ws_c.specs.Calls.{StationKeyedOn}

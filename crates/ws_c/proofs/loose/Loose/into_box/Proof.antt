@@ -1,44 +1,18 @@
 -- `into_box` hands what the parts own to `from_raw`.
-use Rattle.std.specs.Box.Ownership.{box_owns}
+use Rattle.ws_c.proofs.Steps.{box_owns, Bx, D, R, P, B, args, box_ty, word, box_typed, box_out, box_in, token}
+use Rattle.ws_c.proofs.Steps.{Goes-blank, ◌⊑◌, alloc_all, pass_all, free_all, look_at, get, get_in, sets, lands_last}
+use Rattle.ws_c.proofs.Steps.{env, List, [], ◌∷◌, ◌++◌, ◌≡◌, refl, sym, subst, ap, T, no, ftrue, fsep, flft, Item}
+use Rattle.ws_c.proofs.Steps.{at_ret, ‵, raw, ◌⊛◌, some, later, ◌$◌, ◌∵◌, !, qed, by, move, drop, use1, join, split}
+use Rattle.ws_c.proofs.Steps.{split3, pick, rewrite, fsplit, fjoin, feq_i, suffices, await, done, SProp, ent, id⊢}
+use Rattle.ws_c.proofs.Steps.{Logic, inst_fn, Memory, Fun, fact, whole, sub, Ura, RattleType, block_ptr, Routine, stop}
+use Rattle.ws_c.proofs.Steps.{fld, no_more, and_then, of_opd, returns, enter, first, blocks, exec, tables, tables_of}
+use Rattle.ws_c.proofs.Steps.{plain, heard, nothing, only, Fn, Body, place, copy, assign, rv_opd, seq, return}
+use Rattle.ws_c.proofs.Steps.{calls_at_last, Ended, Clauses, triple_of, Triple, Contract, entered, says, Stays}
+use Rattle.ws_c.proofs.Steps.{stay_dropped, walk_of, ends_at, walk_Meets, Val, vptr, has_ty, WT, WpFn, Tables, fm_of}
+use Rattle.ws_c.proofs.Steps.{WpFn-mono}
 use Rattle.std.specs.contracts.boxed.Box.from_raw as Fr
-use Rattle.std.proofs.BoxSteps.Form.{Bx, D, R, P, B, args, box_ty, word, box_typed}
-use Rattle.std.proofs.BoxSteps.Steps.{box_out, box_in}
-use Rattle.std.proofs.alloc.Calls.{token, Goes-blank}
 use Rattle.std.proofs.boxed.Box.from_raw.Met as raw_met
 use Rattle.std.proofs.boxed.Box.from_raw.Symbol as raw_sym
-use contract.BorrowLft.{◌⊑◌}
-use types.ByLocal.{alloc_all, pass_all, free_all, look_at, get, get_in, sets, lands_last, env}
-use mathlib.Core.List.{List, [], ◌∷◌, ◌++◌}
-use mathlib.Core.Path.{◌≡◌, refl, sym, subst, ap}
-use lib.Dec.{T}
-use denote.Exit.{no}
-use base.Fml.{ftrue, fsep, flft}
-use types.Kit.{Item, at_ret, ‵, raw, ◌⊛◌, some, later, ◌$◌, ◌∵◌, !, qed, by, move, drop, use1, join, split, split3}
-use types.Kit.{pick, rewrite, fsplit, fjoin, feq_i, suffices, await, done}
-use base.Logic.{SProp, ent, id⊢}
-use types.Logic.{Logic}
-use mir.MapTy.{inst_fn}
-use prog.Memory.{Memory}
-use contract.Monad.{Fun, fact}
-use types.Part.{whole, sub}
-use seplogic.Ra.Ura.{Ura}
-use denote.RattleType.{RattleType}
-use denote.RawPtr.{block_ptr}
-use prog.Routine.{Routine}
-use types.Run.{stop, fld, no_more, and_then, of_opd, returns, enter, first, blocks, exec}
-use contract.Running.{tables, tables_of}
-use denote.Signature.{plain}
-use denote.Steps.{heard, nothing, only}
-use mir.Syntax.{Fn, Body, place, copy, assign, rv_opd, seq, return}
-use denote.Triple.Call.{calls_at_last}
-use denote.Triple.Clauses.{Ended, Clauses}
-use denote.Triple.Spec.{triple_of}
-use denote.Triple.Statement.{Triple, Contract}
-use denote.Triple.Table.{entered}
-use denote.Triple.Walked.{says, Stays, stay_dropped, walk_of, ends_at, walk_Meets}
-use mir.Val.{Val, vptr, has_ty, WT}
-use prog.Wp.{WpFn, Tables}
-use sound.WpLaws.{fm_of, WpFn-mono}
 use Rattle.ws_c.specs.contracts.loose.Loose as parts
 use Rattle.ws_c.specs.contracts.loose.Loose.into_box as F
 use Rattle.ws_c.specs.contracts.loose.Loose.into_box.Key.{name as #self}

@@ -1,46 +1,19 @@
 -- `of` takes the box apart, and the parts own what it owned.
-use Rattle.std.specs.Box.Ownership.{box_owns}
+use Rattle.ws_c.proofs.Steps.{box_owns, Bx, D, τ, R, P, B, word, box_typed, box_out, box_in, token, handle_tells}
+use Rattle.ws_c.proofs.Steps.{Goes-blank, ◌⊑◌, alloc_all, pass_all, free_all, look_at, get, get_in, sets, lands_as}
+use Rattle.ws_c.proofs.Steps.{List, [], ◌∷◌, ◌++◌, ◌≡◌, refl, sym, subst, ap, ◌∙◌, no, ftrue, fsep, flft, Item, ‵, raw}
+use Rattle.ws_c.proofs.Steps.{◌⊛◌, some, later, ◌$◌, ◌∵◌, !, qed, by, move, drop, use1, join, split, split3, pick}
+use Rattle.ws_c.proofs.Steps.{rewrite, fsplit, fjoin, fpick, feq_l, suffices, await, done, SProp, ent, id⊢, never, fst∗}
+use Rattle.ws_c.proofs.Steps.{Logic, sem, inst_fn, Memory, Fun, fact, bounded, whole, sub, agg, Ura, RattleType, Ptr}
+use Rattle.ws_c.proofs.Steps.{RawPtr, block_ptr, null_ptr, ptr_val, in_a_block, Routine, stop, fld, no_more, and_then}
+use Rattle.ws_c.proofs.Steps.{of_opd, returns, enter, tables, tables_of, plain, heard, nothing, only, Tuple, Fn, Args}
+use Rattle.ws_c.proofs.Steps.{Dict, a_type, dcons, dnil, calls_at, Ended, Clauses, triple_of, Triple, Contract, entered}
+use Rattle.ws_c.proofs.Steps.{says, Stays, stay_dropped, walk_of, ends_at, walk_Meets, Val, vstruct, of_list, WpFn}
+use Rattle.ws_c.proofs.Steps.{Tables, fm_of, WpFn-mono}
 use Rattle.std.specs.contracts.boxed.Box.into_raw_with_allocator as Ra
-use Rattle.std.proofs.BoxSteps.Form.{Bx, D, τ, R, P, B, word, box_typed}
-use Rattle.std.proofs.BoxSteps.Steps.{box_out, box_in}
-use Rattle.std.proofs.alloc.Calls.{token, handle_tells, Goes-blank}
 use Rattle.std.proofs.boxed.Box.into_raw_with_allocator.Met as raw_met
 use Rattle.std.proofs.boxed.Box.into_raw_with_allocator.Symbol as raw_sym
-use contract.BorrowLft.{◌⊑◌}
-use types.ByLocal.{alloc_all, pass_all, free_all, look_at, get, get_in, sets, lands_as}
-use mathlib.Core.List.{List, [], ◌∷◌, ◌++◌}
-use mathlib.Core.Path.{◌≡◌, refl, sym, subst, ap, ◌∙◌}
-use denote.Exit.{no}
-use base.Fml.{ftrue, fsep, flft}
-use types.Kit.{Item, ‵, raw, ◌⊛◌, some, later, ◌$◌, ◌∵◌, !, qed, by, move, drop, use1, join, split, split3, pick}
-use types.Kit.{rewrite, fsplit, fjoin, fpick, feq_l, suffices, await, done}
-use base.Logic.{SProp, ent, id⊢, never, fst∗}
-use types.Logic.{Logic, sem}
-use mir.MapTy.{inst_fn}
-use prog.Memory.{Memory}
-use contract.Monad.{Fun, fact}
-use denote.Param.{bounded}
-use types.Part.{whole, sub, agg}
-use seplogic.Ra.Ura.{Ura}
-use denote.RattleType.{RattleType}
 use mir.Raw.{raw as bare}
-use denote.RawPtr.{Ptr, RawPtr, block_ptr, null_ptr, ptr_val, in_a_block}
-use prog.Routine.{Routine}
-use types.Run.{stop, fld, no_more, and_then, of_opd, returns, enter}
-use contract.Running.{tables, tables_of}
-use denote.Signature.{plain}
-use denote.Steps.{heard, nothing, only}
-use denote.Struct.Tuple.{Tuple}
-use mir.Syntax.{Fn, Args, Dict, a_type, dcons, dnil}
-use denote.Triple.Call.{calls_at}
-use denote.Triple.Clauses.{Ended, Clauses}
-use denote.Triple.Spec.{triple_of}
-use denote.Triple.Statement.{Triple, Contract}
-use denote.Triple.Table.{entered}
-use denote.Triple.Walked.{says, Stays, stay_dropped, walk_of, ends_at, walk_Meets}
-use mir.Val.{Val, vstruct, of_list}
-use prog.Wp.{WpFn, Tables}
-use sound.WpLaws.{fm_of, WpFn-mono}
 use Rattle.ws_c.specs.contracts.loose.Loose as parts
 use Rattle.ws_c.specs.contracts.loose.Loose.of as F
 use Rattle.ws_c.specs.contracts.loose.Loose.of.Key.{name as #self}

@@ -1,25 +1,9 @@
 -- `empty` owns nothing. Assumes `Logic`.
-use Rattle.std.specs.Prelude.{Option, None}
-use Rattle.std.proofs.Common.{◌≡◌, List, [], ◌∷◌, ◌++◌, refl}
-use Rattle.std.proofs.alloc.Calls.{Goes-blank}
-use Rattle.std.proofs.raw_atomic.Walks.{proved_at, leaves}
-use types.ByLocal.{alloc_all, pass_all, free_all, look_at, get, sets, env}
-use base.Fml.{ftrue}
-use types.Kit.{‵, raw, ◌⊛◌, prop, ◌$◌, ◌∵◌, !, qed, by, move, drop, use0, split, regoal, fjoin}
-use base.Logic.{SProp, emp}
-use contract.Monad.{fact, fact_i}
-use types.Part.{agg}
-use denote.RattleType.{owns}
-use denote.RawPtr.{null_ptr}
-use types.Run.{of_opd, lit, no_more, and_then, returns, enter}
-use contract.Running.{tables}
-use denote.Signature.{types_at}
-use denote.Steps.{nothing}
-use mir.Syntax.{Fn}
-use denote.Triple.Entry.{alive}
-use denote.Triple.Walked.{Stays, stay_dropped, walk_of}
-use mir.Val.{Val}
-use prog.Wp.{Env, WpFn}
+use Rattle.ws_c.proofs.Steps.{Option, None, ◌≡◌, List, [], ◌∷◌, ◌++◌, refl, Goes-blank, proved_at, leaves, alloc_all}
+use Rattle.ws_c.proofs.Steps.{pass_all, free_all, look_at, get, sets, env, ftrue, ‵, raw, ◌⊛◌, prop, ◌$◌, ◌∵◌, !, qed}
+use Rattle.ws_c.proofs.Steps.{by, move, drop, use0, split, regoal, fjoin, SProp, emp, fact, fact_i, agg, owns, null_ptr}
+use Rattle.ws_c.proofs.Steps.{of_opd, lit, no_more, and_then, returns, enter, tables, types_at, nothing, Fn, alive}
+use Rattle.ws_c.proofs.Steps.{Stays, stay_dropped, walk_of, Val, Env, WpFn}
 use Rattle.ws_c.specs.contracts.owned.Owned as owned_type
 use Rattle.ws_c.specs.contracts.owned.Owned.empty.{ended, clauses}
 use Rattle.ws_c.specs.contracts.owned.Owned.empty.Key.{name as #self}

@@ -1,27 +1,11 @@
 -- `into_loose` hands what the handle owns to the box. Assumes `Logic`.
-use Rattle.std.specs.Prelude.{Option, Some, None, IsSome}
+use Rattle.ws_c.proofs.Steps.{Option, Some, None, IsSome, ghosts, ◌≡◌, List, [], ◌∷◌, ◌++◌, refl, sym, and_tt}
+use Rattle.ws_c.proofs.Steps.{Goes-blank, proved_at, leaves, alloc_all, pass_all, free_all, look_at, get, get_in, sets}
+use Rattle.ws_c.proofs.Steps.{env, true≢false, ‵, raw, ◌⊛◌, prop, ◌$◌, ◌∵◌, !, qed, by, move, drop, use0, split, regoal}
+use Rattle.ws_c.proofs.Steps.{rewrite, fsplit, fjoin, SProp, emp, fact, fact_i, whole, sub, agg, owns, stop, fld}
+use Rattle.ws_c.proofs.Steps.{of_opd, no_more, and_then, returns, enter, tables, types_at, nothing, heard, Fn, alive}
+use Rattle.ws_c.proofs.Steps.{Stays, stay_dropped, walk_of, Val, Env, WpFn}
 use Rattle.std.specs.contracts.alloc.Global as Heap
-use Rattle.std.specs.contracts.impls.GlobalAllocator.TheImpl.{ghosts}
-use Rattle.std.proofs.Common.{◌≡◌, List, [], ◌∷◌, ◌++◌, refl, sym}
-use Rattle.std.proofs.ResultValues.{and_tt}
-use Rattle.std.proofs.alloc.Calls.{Goes-blank}
-use Rattle.std.proofs.raw_atomic.Walks.{proved_at, leaves}
-use types.ByLocal.{alloc_all, pass_all, free_all, look_at, get, get_in, sets, env}
-use mathlib.Core.Bool.{true≢false}
-use types.Kit.{‵, raw, ◌⊛◌, prop, ◌$◌, ◌∵◌, !, qed, by, move, drop, use0, split, regoal, rewrite, fsplit, fjoin}
-use base.Logic.{SProp, emp}
-use contract.Monad.{fact, fact_i}
-use types.Part.{whole, sub, agg}
-use denote.RattleType.{owns}
-use types.Run.{stop, fld, of_opd, no_more, and_then, returns, enter}
-use contract.Running.{tables}
-use denote.Signature.{types_at}
-use denote.Steps.{nothing, heard}
-use mir.Syntax.{Fn}
-use denote.Triple.Entry.{alive}
-use denote.Triple.Walked.{Stays, stay_dropped, walk_of}
-use mir.Val.{Val}
-use prog.Wp.{Env, WpFn}
 use Rattle.ws_c.specs.Owned.{owned}
 use Rattle.ws_c.specs.contracts.loose.Loose as loose
 use Rattle.ws_c.specs.contracts.machine.Machine as machine

@@ -1,25 +1,9 @@
 -- `of` hands what the box owns to the handle. Assumes `Logic`.
-use Rattle.std.specs.Prelude.{Some}
-use Rattle.std.proofs.Common.{◌≡◌, List, [], ◌∷◌, ◌++◌, refl}
-use Rattle.std.proofs.ResultValues.{and_tt}
-use Rattle.std.proofs.alloc.Calls.{Goes-blank}
-use Rattle.std.proofs.raw_atomic.Walks.{proved_at, leaves}
-use types.ByLocal.{alloc_all, pass_all, free_all, look_at, get, get_in, sets, env}
-use base.Fml.{ftrue}
-use types.Kit.{‵, raw, ◌⊛◌, prop, ◌$◌, ◌∵◌, !, qed, by, move, drop, use0, split, regoal, fsplit, fjoin}
-use base.Logic.{SProp, emp}
-use contract.Monad.{fact, fact_i}
-use types.Part.{whole, sub, agg}
-use denote.RattleType.{owns}
-use types.Run.{stop, fld, of_opd, no_more, and_then, returns, enter}
-use contract.Running.{tables}
-use denote.Signature.{types_at}
-use denote.Steps.{nothing}
-use mir.Syntax.{Fn}
-use denote.Triple.Entry.{alive}
-use denote.Triple.Walked.{Stays, stay_dropped, walk_of}
-use mir.Val.{Val}
-use prog.Wp.{Env, WpFn}
+use Rattle.ws_c.proofs.Steps.{Some, ◌≡◌, List, [], ◌∷◌, ◌++◌, refl, and_tt, Goes-blank, proved_at, leaves, alloc_all}
+use Rattle.ws_c.proofs.Steps.{pass_all, free_all, look_at, get, get_in, sets, env, ftrue, ‵, raw, ◌⊛◌, prop, ◌$◌, ◌∵◌}
+use Rattle.ws_c.proofs.Steps.{ !, qed, by, move, drop, use0, split, regoal, fsplit, fjoin, SProp, emp, fact, fact_i}
+use Rattle.ws_c.proofs.Steps.{whole, sub, agg, owns, stop, fld, of_opd, no_more, and_then, returns, enter, tables}
+use Rattle.ws_c.proofs.Steps.{types_at, nothing, Fn, alive, Stays, stay_dropped, walk_of, Val, Env, WpFn}
 use Rattle.ws_c.specs.contracts.owned.Owned as owned_type
 use Rattle.ws_c.specs.contracts.owned.Owned.of.{ended, clauses}
 use Rattle.ws_c.specs.contracts.owned.Owned.of.Key.{name as #self}

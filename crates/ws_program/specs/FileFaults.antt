@@ -1,0 +1,33 @@
+-- Faults as they are told, with the name of the file that they are about.
+
+use Rattle.std.specs.Prelude.{◌≡◌, ℕ, List, Option, Some, ◌⊎◌, string_bytes}
+use Rattle.std.specs.Option.{option_map}
+use Rattle.ws_live.specs.declared.asked.fault.RunFault.{RunFault}
+use Rattle.ws_live.specs.declared.asked.fault.RunFault.TheVariants as run
+use Rattle.ws_live.specs.declared.asked.fault.ToldFault.{ToldFault}
+use Rattle.ws_live.specs.declared.asked.fault.ToldFault.TheVariants.{Run}
+use Rattle.ws_program.specs.declared.command_fault.CommandFault.{CommandFault}
+use Rattle.ws_program.specs.declared.command_fault.CommandFault.TheVariants.{Told, OfFile, Unwritten}
+use Rattle.ws_program.specs.declared.words.command_line.InputAsked.{InputAsked}
+use Rattle.ws_program.specs.declared.words.command_line.InputAsked.TheVariants.{Make}
+
+-- a fault that was met with a file is told with its name, or by itself; or memory was wanted for the name
+abbrev pub IsOfFile : List ℕ → RunFault → CommandFault → Type 0
+IsOfFile file fault (OfFile told) = (told.fault ≡ fault) × (string_bytes told.file ≡ file)
+IsOfFile file fault (Told told) = (told ≡ Run fault) ⊎ (told ≡ Run run.Memory)
+IsOfFile file fault other = ⊥
+
+-- A fault of a command that reads a file, where it reads one. That the file can't be read is told with its name, or by
+-- itself; or memory was wanted for the name. That the output can't be written has a fault of its own, and any other is
+-- told by itself.
+abbrev pub IsToldOfFile : Option (List ℕ) → ToldFault → CommandFault → Type 0
+IsToldOfFile file met (OfFile told) = (met ≡ Run run.Read) × (told.fault ≡ run.Read)
+    × (file ≡ Some (string_bytes told.file))
+IsToldOfFile file met (Told told) = (told ≡ met) ⊎ ((met ≡ Run run.Read) × (told ≡ Run run.Memory))
+IsToldOfFile file met Unwritten = met ≡ Run run.Write
+IsToldOfFile file met other = ⊥
+
+-- a fault of a command of an input, as it is told: of `make` with its file
+abbrev pub IsToldBy : InputAsked → ToldFault → CommandFault → Type 0
+IsToldBy (Make file sent raw) met fault = IsToldOfFile (option_map (λ name. name.now) file) met fault
+IsToldBy asked met fault = fault ≡ Told met

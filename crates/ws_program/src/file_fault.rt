@@ -1,0 +1,159 @@
+//! Faults with the name of the file that they are about.
+ghost use Rattle.std.specs.Prelude.{◌≡◌, Ok, IfOk, IfErr, IsErrAnd};
+ghost use Rattle.std.specs.Option.{option_map};
+ghost use Rattle.ws_program.specs.FileFaults.{IsOfFile, IsToldBy, IsToldOfFile};
+
+use crate::command_fault::CommandFault;
+use crate::words::InputAsked;
+use std::fs::File;
+use std::io::ErrorKind;
+use std::rt::Files;
+use std::{fmt, fs};
+use thiserror::Error;
+use ws_live::{RunFault, ToldFault};
+
+/// A fault of a file: its line has the file's name, and where that is known why the file can't be read.
+#[derive(Debug, PartialEq, Eq, Drop)]
+pub struct FileFault {
+    pub fault: RunFault,
+    pub file: String,
+    pub why: Option<Unreadable>,
+}
+
+impl fmt::Display for FileFault {
+    fn fmt<W: fmt::Write>(&self, f: &mut fmt::Formatter<W>) -> fmt::Result {
+        write!(f, "{}: {}", self.fault, self.file)?;
+        match self.why {
+            Some(why) => write!(f, ": {why}"),
+            None => Ok(()),
+        }
+    }
+}
+
+/// Why a file can't be read.
+#[derive(Clone, Copy, Debug, PartialEq, Eq, Drop, Error)]
+pub enum Unreadable {
+    #[error("no such file")]
+    Missing,
+    #[error("is a folder")]
+    Folder,
+    #[error("not allowed")]
+    NotAllowed,
+}
+
+/// What a command of an input came to, as it is told.
+///
+/// # Errors
+///
+/// As `with_file` of `make`, and else `Told` with the fault that it came to.
+pub(crate) fn told_of<R: AllocGlobal + Files<File = File>>(
+    rt: &R,
+    asked: InputAsked<'_>,
+    outcome: Result<bool, ToldFault>,
+) -> Result<bool, CommandFault>
+    ensures done { IfOk result (λ accepted. outcome ≡ Ok accepted) }
+    ensures fault { IfErr result
+        (λ fault. IsErrAnd outcome (λ met. IsToldBy asked.entry met fault)) }
+{
+    if let InputAsked::Make { file, .. } = asked {
+        return with_file(rt, file, outcome);
+    }
+    match outcome {
+        Ok(accepted) => Ok(accepted),
+        Err(fault) => Err(CommandFault::Told(fault)),
+    }
+}
+
+/// What a command came to that reads this file: with the file's name where that can't be read, for which it is looked at
+/// again.
+///
+/// # Errors
+///
+/// The fault that it came to, which is `Unwritten` where that is `Write`; `OfFile` where the file can't be read and it
+/// shows why, and then `Told` with `Memory` where a growth was refused for the name.
+pub(crate) fn with_file<R: AllocGlobal + Files<File = File>>(
+    rt: &R,
+    file: Option<&str>,
+    outcome: Result<bool, ToldFault>,
+) -> Result<bool, CommandFault>
+    ensures done { IfOk result (λ accepted. outcome ≡ Ok accepted) }
+    ensures fault { IfErr result (λ fault. IsErrAnd outcome
+        (λ met. IsToldOfFile (option_map (λ name. name.now) file.entry) met fault)) }
+{
+    match outcome {
+        Ok(accepted) => Ok(accepted),
+        Err(ToldFault::Run(RunFault::Read)) => Err(unread(rt, file)),
+        Err(ToldFault::Run(RunFault::Write)) => Err(CommandFault::Unwritten),
+        Err(fault) => Err(CommandFault::Told(fault)),
+    }
+}
+
+// The fault of a command that couldn't read.
+fn unread<R: AllocGlobal + Files<File = File>>(rt: &R, file: Option<&str>) -> CommandFault
+    ensures { IsToldOfFile (option_map (λ name. name.now) file.entry)
+        (ToldFault.Run RunFault.Read) result }
+{
+    let plain = CommandFault::Told(ToldFault::Run(RunFault::Read));
+    let Some(name) = file else {
+        return plain;
+    };
+    match why_unread(rt, name) {
+        Some(why) => named(rt, name, RunFault::Read, Some(why)),
+        None => plain,
+    }
+}
+
+/// A fault that one of several files met, with its name; those that aren't of a file have none.
+pub(crate) fn of_file<R: AllocGlobal + Files<File = File>>(
+    rt: &R,
+    file: &str,
+    fault: RunFault,
+) -> CommandFault
+    ensures { IsOfFile file.now fault result }
+{
+    match fault {
+        RunFault::Memory | RunFault::Write => CommandFault::Told(ToldFault::Run(fault)),
+        RunFault::Read => named(rt, file, fault, why_unread(rt, file)),
+        _ => named(rt, file, fault, None),
+    }
+}
+
+fn named<R: AllocGlobal>(
+    rt: &R,
+    file: &str,
+    fault: RunFault,
+    why: Option<Unreadable>,
+) -> CommandFault
+    ensures { IsOfFile file.now fault result }
+{
+    match String::from_str(rt.alloc(), file) {
+        Ok(file) => CommandFault::OfFile(FileFault { fault, file, why }),
+        Err(_) => CommandFault::Told(ToldFault::Run(RunFault::Memory)),
+    }
+}
+
+// Why this file can't be read, where it shows. Only a plain file is opened: a pipe would wait for its other side.
+fn why_unread<R: Files<File = File>>(rt: &R, name: &str) -> Option<Unreadable> {
+    let about = match fs::metadata(rt, name) {
+        Ok(about) => about,
+        Err(error) => return why_unopened(error.kind()),
+    };
+    if about.is_dir() {
+        return Some(Unreadable::Folder);
+    }
+    if !about.is_file() {
+        return None;
+    }
+    match File::open(rt, name) {
+        Ok(_) => None,
+        Err(error) => why_unopened(error.kind()),
+    }
+}
+
+fn why_unopened(kind: ErrorKind) -> Option<Unreadable> {
+    match kind {
+        ErrorKind::NotFound | ErrorKind::NotADirectory => Some(Unreadable::Missing),
+        ErrorKind::PermissionDenied => Some(Unreadable::NotAllowed),
+        _ => None,
+    }
+}
