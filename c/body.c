@@ -145,14 +145,14 @@ ribbon_status ribbon_body_text(ribbon_body *body, const char *text, size_t size)
         return fails(body, RIBBON_NULL);
     for (size_t at = 0, taken; at < size; at += taken, count++) {
         taken = take_utf8(text + at, size - at, &character);
-        if (taken == 0 || ws_c_to_037(character, &byte) != RIBBON_DONE)
+        if (taken == 0 || ws_c_to_page(37, character, &byte) != RIBBON_DONE)
             return fails(body, RIBBON_BAD_ARGUMENT);
     }
     if (body->room < body->size || body->room - body->size < count)
         return fails(body, RIBBON_NO_ROOM);
     for (size_t at = 0, taken; at < size; at += taken) {
         taken = take_utf8(text + at, size - at, &character);
-        ws_c_to_037(character, &byte);
+        ws_c_to_page(37, character, &byte);
         append(body, &byte, 1);
     }
     return body->status;

@@ -39,11 +39,15 @@ typedef struct {
 
 ribbon_status ws_c_station_new(ribbon_handle *handle, const uint8_t *name, size_t size);
 ribbon_status ws_c_station_new_extended(ribbon_handle *handle, const uint8_t *name, size_t size);
+ribbon_status ws_c_station_new_live(ribbon_handle *handle, const uint8_t *name, size_t size, uint16_t page,
+                                    const uint8_t *device, size_t device_size, const uint8_t *keyboard,
+                                    size_t keyboard_size);
 void ws_c_station_free(ribbon_handle *handle);
 ribbon_status ws_c_station_push(ribbon_handle *handle, const uint8_t *bytes, size_t count, uint8_t *reply, size_t room,
                                 ribbon_pushed *pushed);
 ribbon_status ws_c_station_key(ribbon_handle *handle, uint32_t kind, uint32_t value, uint8_t *answer, size_t room,
                                ribbon_told *told);
+ribbon_status ws_c_station_missing(ribbon_handle *handle, uint8_t refusal, uint16_t *field);
 ribbon_status ws_c_station_move_cursor(ribbon_handle *handle, uint8_t row, uint8_t column, ribbon_told *told);
 ribbon_status ws_c_station_new_line(ribbon_handle *handle, ribbon_told *told);
 ribbon_status ws_c_station_erase_eof(ribbon_handle *handle, ribbon_told *told);
@@ -77,8 +81,8 @@ ribbon_status ws_c_decoder_push(ribbon_handle *handle, const uint8_t *bytes, siz
                                 ribbon_step *step);
 ribbon_status ws_c_decoder_finish(ribbon_handle *handle, uint64_t *place);
 ribbon_status ws_c_attribute_look(uint8_t attribute, bool is_color, ribbon_look *look);
-ribbon_status ws_c_from_037(uint8_t byte, uint32_t *character);
-ribbon_status ws_c_to_037(uint32_t character, uint8_t *byte);
+ribbon_status ws_c_from_page(uint16_t page, uint8_t byte, uint32_t *character);
+ribbon_status ws_c_to_page(uint16_t page, uint32_t character, uint8_t *byte);
 ribbon_status ws_c_reason_text(uint8_t reason, uint8_t *text, size_t room, ribbon_told *told);
 ribbon_status ws_c_spell(const ribbon_element *element, const uint8_t *list, size_t count, uint8_t *spelled, size_t room,
                          ribbon_told *told);

@@ -1,10 +1,11 @@
 #!/usr/bin/env python3
-"""Prints the page of the manual of t5250, or its completions for bash, from what the program's own help says.
+"""Prints the page of the manual of t5250, or its completions for bash.
 
     manual.py page PROGRAM VERSION
     manual.py completions PROGRAM
 
-PROGRAM is t5250. What its help has, `help` and `help COMMAND`, is in both: each command, each argument, each option.
+PROGRAM is t5250. What its help has, `help` and `help COMMAND`, is in both: each command, each argument, each option. The
+page has the chapters of docs/MANUAL.md too.
 """
 import dataclasses
 import pathlib
@@ -13,6 +14,7 @@ import subprocess
 import sys
 
 NAME = "t5250"
+MANUAL = pathlib.Path(__file__).resolve().parent.parent / "docs/MANUAL.md"
 
 
 @dataclasses.dataclass
@@ -134,10 +136,59 @@ def page(program, version):
         yield from entries(help.parts.get("Arguments", []) + help.parts["Options"])
         yield ".PP"
         yield from free_text(help.rest)
+    yield from chapters(MANUAL.read_text(encoding="utf-8"))
     yield ".SH EXIT STATUS"
     yield from free_text(statuses)
     yield ".SH SEE ALSO"
     yield "\\fBterm5250\\fR(1)"
+
+
+# The chapters of docs/MANUAL.md: its heads, paragraphs, lists, tables and literal text.
+
+
+def marked(text):
+    """A paragraph's text: what is in backquotes or between two stars is bold, what is between single ones in italics."""
+    parts = re.split(r"`([^`]+)`", text)
+    for at, part in enumerate(parts):
+        if at % 2:
+            parts[at] = f"\\fB{escaped(part)}\\fR"
+        else:
+            part = re.sub(r"\[([^\]]+)\]\([^)]+\)", r"\1", part)
+            part = re.sub(r"\*\*(.+?)\*\*", r"\\fB\1\\fR", escaped(part))
+            parts[at] = re.sub(r"\*(.+?)\*", r"\\fI\1\\fR", part)
+    return "".join(parts)
+
+
+def row(line):
+    """A row of a table: its first cell heads the others."""
+    head, *cells = (cell.strip() for cell in line.strip("|").split(" | "))
+    return [".TP", marked(head), marked("; ".join(cell for cell in cells if cell))]
+
+
+def chapters(text):
+    is_literal, is_table = False, False
+    lines = text[text.index("\n## ") :].splitlines()
+    for at, line in enumerate(lines):
+        is_table = is_table and line != "" or line in RULES
+        if line == "```":
+            is_literal = not is_literal
+            yield ".nf" if is_literal else ".fi"
+        elif is_literal:
+            yield escaped(line)
+        elif line.startswith("### "):
+            yield f'.SS "{marked(line[4:])}"'
+        elif line.startswith("## "):
+            yield f'.SH "{marked(line[3:].upper())}"'
+        elif line.startswith("- "):
+            yield from (".IP \\(bu 2", marked(line[2:]))
+        elif is_table and line not in RULES:
+            yield from row(line)
+        elif line and not RULES & {line, *lines[at + 1 : at + 2]}:
+            yield from (".PP", marked(line))
+
+
+# The line below the heads of a table.
+RULES = {"---|---", "---|---|---"}
 
 
 # The completions.
@@ -146,7 +197,7 @@ FUNCTION = """\
 # Completions of {name} for bash.
 _{name}() {{
     local current=${{COMP_WORDS[COMP_CWORD]}} before=${{COMP_WORDS[COMP_CWORD - 1]}} command=${{COMP_WORDS[1]}}
-    local options valued places place=0 at
+    local options valued places further place=0 at
     # bash takes the = of --cut=1 and the : of HOST:PORT for words of their own.
     [ "$current" != = ] || current=
     [ "$before" != = ] || before=${{COMP_WORDS[COMP_CWORD - 2]}}
@@ -176,16 +227,25 @@ _{name}() {{
         place=$((place + 1))
     done
     read -r -a places <<<"$places"
-    case ${{places[place]:-}} in
+    case ${{places[place]:-$further}} in
     COMMAND) mapfile -t COMPREPLY < <(compgen -W "{commands}" -- "$current") ;;
-    FILE | SCRIPT) mapfile -t COMPREPLY < <(compgen -f -- "$current") ;;
+    FILE | SCRIPT | PORT) mapfile -t COMPREPLY < <(compgen -f -- "$current") ;;
     esac
 }}
 complete -o filenames -F _{name} {name}"""
 
 
-def case(pattern, options, valued, places):
-    return f'    {pattern}) options="{" ".join(options)}" valued="{" ".join(valued)}" places="{" ".join(places)}" ;;'
+def case(pattern, options, valued, places, further=""):
+    said = {"options": options, "valued": valued, "places": places, "further": [further]}
+    return f"    {pattern}) " + " ".join(f'{name}="{" ".join(words)}"' for name, words in said.items()) + " ;;"
+
+
+def value_of(option):
+    """By which words `compgen` offers an option's value: the names that its text has, or files; None for any other."""
+    names = re.findall(r"IBM-[\w-]+\w", option.text)
+    for listed in re.findall(r"\[possible values: (.*)\]", option.text):
+        names += listed.split(", ")
+    return f'-W "{" ".join(names)}"' if names else "-f" if option.value == "<FILE>" else None
 
 
 def completions(program):
@@ -198,13 +258,14 @@ def completions(program):
         help = read_help(program, name)
         options = [word for found in help.parts["Options"] for word in found.words]
         valued = [word for found in help.parts["Options"] if found.value for word in found.words]
-        # A place is named by its letters alone, as FILE of [FILE].
-        places = [re.match(r"\W*(\w+)", found.words[0])[1] for found in help.parts.get("Arguments", [])]
-        cases.append(case(name, options, valued, places))
+        # A place is named by its letters alone, as FILE of [FILE]. One with points behind it, [FILE]..., goes on.
+        given = [found.words[0] for found in help.parts.get("Arguments", [])]
+        places = [re.match(r"\W*(\w+)", word)[1] for word in given]
+        cases.append(case(name, options, valued, places, places[-1] if given and given[-1].endswith("...") else ""))
         for found in help.parts["Options"]:
-            names = re.findall(r"IBM-[\w-]+\w", found.text)
-            if names:
-                offers = f'mapfile -t COMPREPLY < <(compgen -W "{" ".join(names)}" -- "$current")'
+            offered = value_of(found)
+            if offered:
+                offers = f'mapfile -t COMPREPLY < <(compgen {offered} -- "$current")'
                 values += [f'    "{name} {found.words[-1]}")', f"        {offers}", "        ;;"]
     yield FUNCTION.format(
         name=NAME,

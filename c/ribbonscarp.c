@@ -39,6 +39,28 @@ ribbon_status ribbon_station_new_extended(ribbon_station *station, const char *t
     return status;
 }
 
+/* A name that crosses: none where its pointer is null. */
+static size_t size_of_name(const char *name)
+{
+    return name != NULL ? strlen(name) : 0;
+}
+
+ribbon_status ribbon_station_new_live(ribbon_station *station, const char *terminal, const ribbon_identity *identity)
+{
+    ribbon_identity named = identity != NULL ? *identity : (ribbon_identity){NULL, NULL, 0};
+    if (station == NULL || terminal == NULL)
+        return RIBBON_NULL;
+    if (identity != NULL && named.code_page == 0)
+        named.code_page = 37;
+    ribbon_status status = ws_c_station_new_live(&station->handle, (const uint8_t *)terminal, strlen(terminal),
+                                                 named.code_page, slice((const uint8_t *)named.device),
+                                                 size_of_name(named.device), slice((const uint8_t *)named.keyboard),
+                                                 size_of_name(named.keyboard));
+    if (status == RIBBON_DONE)
+        memset(station->seen, 0, sizeof station->seen);
+    return status;
+}
+
 void ribbon_station_free(ribbon_station *station)
 {
     if (station != NULL)
@@ -61,6 +83,14 @@ ribbon_status ribbon_station_key(ribbon_station *station, uint32_t kind, uint32_
     if (station == NULL || answer == NULL || told == NULL)
         return RIBBON_NULL;
     return ws_c_station_key(&station->handle, kind, value, answer, room, told);
+}
+
+ribbon_status ribbon_station_missing(ribbon_station *station, uint8_t refusal, uint16_t *field)
+{
+    CLEAR(field);
+    if (station == NULL || field == NULL)
+        return RIBBON_NULL;
+    return ws_c_station_missing(&station->handle, refusal, field);
 }
 
 ribbon_status ribbon_station_move_cursor(ribbon_station *station, uint8_t row, uint8_t column, ribbon_told *told)

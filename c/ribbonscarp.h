@@ -2,10 +2,12 @@
  * answer bytes out. A host's end: records out; bytes of a station in, its answers out. And a decoder of host streams,
  * which only tells what they hold.
  *
- * Stations and decoders come in two kinds. Take the extended kind, by ribbon_station_new_extended and
- * ribbon_decoder_new_extended, for a live host, which also saves and restores screens, asks what a screen shows and
- * sends error lines; take the profile's, by ribbon_station_new and ribbon_decoder_new, where all that docs/PROFILE.md
- * leaves out is to be refused. Every other call serves both kinds.
+ * Stations come in three kinds, decoders in two. Take a live station, by ribbon_station_new_live, for an operator at a
+ * live host: no record that it can't take ends it, it says who it is, and it shows the characters of a code page. Take
+ * the extended kind, by ribbon_station_new_extended and ribbon_decoder_new_extended, for the streams of a live host,
+ * which also saves and restores screens, asks what a screen shows and sends error lines; take the profile's, by
+ * ribbon_station_new and ribbon_decoder_new, where all that docs/PROFILE.md leaves out is to be refused. Every other call
+ * serves all kinds.
  *
  * A station at a host:
  *
@@ -94,31 +96,34 @@
  *  - malloc, realloc and free come from one allocator, and align as C asks. No call is made in a signal handler, or in
  *    a forked child of a process with threads.
  *
- * Memory. ribbon_station_new, ribbon_host_new and ribbon_decoder_new, of either kind, ask for 81,536 bytes each; a
- * station and a decoder ask for no more. A host does in ribbon_host_push for what an answer holds, and in
- * ribbon_host_send for the elements that it reads and the record that it keeps.
+ * Memory. Each `new` asks for what its kind takes, in two blocks: a decoder for at most 200 bytes, a host for 3,800, a
+ * station of the profile for 72,792, one of the extended kind for 81,552 and a live one for 81,928. A station and a
+ * decoder ask for no more. A host does in ribbon_host_push for what an answer holds, and in ribbon_host_send for the
+ * elements that it reads and the record that it keeps.
  *
- * Stack, in bytes, as measured on x86-64 (`make bench`): of the profile, and of the extended kind, whose stations are made
- * by ribbon_station_new_extended. All others take less than 1,500.
+ * Stack, in bytes, as measured on x86-64 (`make bench`): with a station of the profile, one of
+ * ribbon_station_new_extended and one of ribbon_station_new_live. All other calls take less than 1,500.
  *
- *     ribbon_station_new          27,300  42,800
- *     ribbon_station_push          4,100  36,700
- *     ribbon_station_key          33,700  33,700
- *     ribbon_station_move_cursor  12,900  12,900
- *     ribbon_station_new_line     12,900  12,900
- *     ribbon_station_erase_eof    13,000  13,000
- *     ribbon_station_cells         3,300   3,300
- *     ribbon_station_changed       8,500   8,500
- *     ribbon_station_field         3,200   3,200
- *     ribbon_station_field_text    7,100   7,100
- *     ribbon_station_state         6,500   6,500
- *     ribbon_host_new             12,500  12,500
- *     ribbon_host_push             7,500   7,500
- *     ribbon_host_send            15,500  15,500
- *     ribbon_host_state            6,500   6,500
- *     ribbon_host_cells            3,300   3,300
- *     ribbon_host_field            3,200   3,200
- *     ribbon_decoder_new           3,800   3,800
+ *     ribbon_station_new          27,400  42,900  234,900
+ *     ribbon_station_push          4,100  36,400   37,100
+ *     ribbon_station_key          33,700  33,700   72,100
+ *     ribbon_station_move_cursor  12,900  12,900   45,900
+ *     ribbon_station_new_line     12,900  12,900   45,900
+ *     ribbon_station_erase_eof    13,000  13,000   46,000
+ *     ribbon_station_cells         3,400   3,400    3,400
+ *     ribbon_station_changed       8,600   8,600    8,600
+ *     ribbon_station_row           2,200   2,200    2,200
+ *     ribbon_station_field         3,200   3,200    3,200
+ *     ribbon_station_field_text   13,300  13,300   13,300
+ *     ribbon_station_state         6,500   6,500    6,500
+ *     ribbon_station_missing           -       -    4,800
+ *     ribbon_host_new             12,400  12,400   12,400
+ *     ribbon_host_push             7,400   7,400    7,400
+ *     ribbon_host_send            15,500  15,500   15,500
+ *     ribbon_host_state            6,500   6,500    6,500
+ *     ribbon_host_cells            3,300   3,300    3,300
+ *     ribbon_host_field            3,200   3,200    3,200
+ *     ribbon_decoder_push          1,600   1,600    1,600
  */
 #ifndef RIBBONSCARP_H
 #define RIBBONSCARP_H
@@ -170,9 +175,10 @@ enum {
     RIBBON_REPLY_ROOM = 17,    /* bytes: the least reply buffer, and to be left of it before each byte; what a host
                                 * writes at first */
     RIBBON_ANSWER_ROOM = 5404, /* bytes: what a key sends */
-    RIBBON_ROW_ROOM = 160,     /* bytes: a row of 80 characters in UTF-8 */
-    RIBBON_FIELD_ROOM = 3838,  /* bytes: the longest field's characters in UTF-8 */
+    RIBBON_ROW_ROOM = 240,     /* bytes: a row of 80 characters in UTF-8 */
+    RIBBON_FIELD_ROOM = 5757,  /* bytes: the longest field's characters in UTF-8 */
     RIBBON_CHARACTER_ROOM = 2, /* bytes: a character of code page 037 in UTF-8 */
+    RIBBON_PAGE_CHARACTER_ROOM = 3, /* bytes: a character of any code page in UTF-8 */
     RIBBON_UNIT_ROOM = 133,    /* bytes: what a decoder gives at one byte, beside cells */
     RIBBON_CANCEL_ROOM = 12,   /* bytes: what a cancel sends */
     RIBBON_ROWS = 24,          /* of a screen */
@@ -199,7 +205,7 @@ enum {
     RIBBON_KEY_AID = 15, /* its byte: RIBBON_AID_... */
     RIBBON_KEY_ATTENTION = 16,
     RIBBON_KEY_SYSTEM_REQUEST = 17,
-    RIBBON_KEY_RESET = 18 /* at a station of the extended kind: an error's row comes back, and keys are taken again */
+    RIBBON_KEY_RESET = 18 /* not at a station of the profile: an error's row comes back, and keys are taken again */
 };
 
 /* Attention identification (SC30-3533, AID codes): the keys that answer a read. */
@@ -245,7 +251,10 @@ enum {
     RIBBON_KEY_DUP_NOT_ALLOWED = 4,   /* the field doesn't take the Dup key */
     RIBBON_KEY_FIELD_HAS_NO_ROOM = 5, /* the last cell of the field isn't empty */
     RIBBON_KEY_NO_READ_PENDING = 6,   /* no read waits for a key */
-    RIBBON_KEY_MANDATORY_ENTER = 7    /* a field that has to be entered wasn't */
+    RIBBON_KEY_MANDATORY_ENTER = 7,   /* a field that has to be entered wasn't */
+    /* At a live station alone: */
+    RIBBON_KEY_FIELD_EXIT_REQUIRED = 8, /* the field is full, and a key such as Field Exit has to leave it */
+    RIBBON_KEY_MANDATORY_FILL = 9       /* a field that has to be filled is partly empty */
 };
 
 /* Why bytes are refused. 1 to 45 are refusals of the grammar, at a byte; 50 to 63 of a whole item, at its last byte. */
@@ -395,11 +404,15 @@ typedef struct {
 /* Of a state or a cell that no field holds. */
 #define RIBBON_NO_FIELD 0xffff
 
-/* What of a station is no cell and no field. */
+/* What of a station is no cell and no field. A record that a live station refuses isn't what `refused_place` tells of. */
 typedef struct {
     uint64_t records;       /* how many records were carried out */
     uint64_t refused_place; /* of the byte that was refused; places count from the first byte that was pushed, 0 */
     uint64_t alarms;        /* how many the host has sounded since the station was made; of a host 0 */
+    /* Of a live station; else 0, as where there is none: */
+    uint64_t refused_records; /* how many records were refused, and answered by a negative response */
+    uint64_t record_place;    /* where the last of them is refused: which of its own bytes, from 0; a doubled FF is one */
+    uint64_t names_refused;   /* how often the host has refused the device's name, as one that is in use */
     uint16_t field_count;   /* at most 256 */
     uint16_t cursor_field;  /* index of the field that holds the cursor, or RIBBON_NO_FIELD */
     uint8_t cursor_row;     /* 1 to 24 */
@@ -411,11 +424,14 @@ typedef struct {
     bool is_message_lit;    /* the message light */
     bool is_blinking;       /* the cursor */
     uint8_t error_row;      /* on which an error of the host's stands, 1 to 24; 0 where none does, and of a host */
+    /* Of a live station; else 0 and false: */
+    uint8_t record_reason;  /* why the last refused record is refused: RIBBON_REASON_... */
+    bool is_full;           /* the field that holds the cursor takes no further character: a key has to leave it */
 } ribbon_state;
 
-/* A cell of a screen. It holds a character of code page 037 (40 to FE), an attribute (20 to 3F), nothing (00), Dup (1C),
- * or another byte that a host has sent and that is no order code (01 to 04, 10 to 15 and 1D); that is shown as a full
- * stop. */
+/* A cell of a screen. It holds a character of the code page (40 to FE), of 037 but at a live station that has another; an
+ * attribute (20 to 3F), nothing (00), Dup (1C), or another byte that a host has sent and that is no order code (01 to 04,
+ * 10 to 15 and 1D); that is shown as a full stop. */
 typedef struct {
     uint32_t character; /* what it shows, as a Unicode scalar value */
     uint16_t field;     /* index of the field that holds it, or RIBBON_NO_FIELD */
@@ -489,6 +505,16 @@ typedef struct {
     bool has_separators; /* lines stand between the columns */
 } ribbon_look;
 
+/* Who a live station says that it is, where a host asks (RFC 4777). Names end with 0, and small letters become
+ * capitals; ribbon_station_new_live keeps none of the pointers. */
+typedef struct {
+    const char *device;   /* its name: 1 to 10 of A to Z, 0 to 9, $, #, @, _ and ., first a letter, $, # or @; NULL or of
+                           * no character where the host is to name it */
+    const char *keyboard; /* its type: three letters and digits, as USB; NULL or of no character for the code page's */
+    uint16_t code_page;   /* of what is typed and shown: 37, 273, 277, 278, 280, 284, 285, 297, 500, 871, 1140 to 1149;
+                           * 0 is 37 */
+} ribbon_identity;
+
 /* The body of a record in the making, in a buffer of the program's. */
 typedef struct {
     uint8_t *bytes;
@@ -552,7 +578,17 @@ RIBBON_API ribbon_status ribbon_text_from_037(const uint8_t *bytes, size_t count
 RIBBON_API ribbon_status ribbon_text_to_037(const char *text, size_t size, uint8_t *bytes, size_t room,
                                             ribbon_told *told);
 
-/* How many bytes a handle has, and each structure that calls set: for languages that can't read this header. A handle of
+/* The same of a code page by its number: 37, 273, 277, 278, 280, 284, 285, 297, 500, 871, 1140 to 1149 (IBM Character
+ * Data Representation Architecture). RIBBON_BAD_ARGUMENT at another number, with `told->place` 0. A text has room at
+ * RIBBON_PAGE_CHARACTER_ROOM bytes for each character. */
+RIBBON_API ribbon_status ribbon_from_page(uint16_t page, uint8_t byte, uint32_t *character);
+RIBBON_API ribbon_status ribbon_to_page(uint16_t page, uint32_t character, uint8_t *byte);
+RIBBON_API ribbon_status ribbon_text_from_page(uint16_t page, const uint8_t *bytes, size_t count, char *text, size_t room,
+                                               ribbon_told *told);
+RIBBON_API ribbon_status ribbon_text_to_page(uint16_t page, const char *text, size_t size, uint8_t *bytes, size_t room,
+                                             ribbon_told *told);
+
+/* How many bytes a handle has, and each structure that calls set or take: for languages that can't read this header. A handle of
  * so many zero bytes, aligned as a pointer is, holds nothing. */
 RIBBON_API size_t ribbon_station_size(void);
 RIBBON_API size_t ribbon_host_size(void);
@@ -564,6 +600,7 @@ RIBBON_API size_t ribbon_event_size(void);
 RIBBON_API size_t ribbon_answer_size(void);
 RIBBON_API size_t ribbon_read_field_size(void);
 RIBBON_API size_t ribbon_state_size(void);
+RIBBON_API size_t ribbon_identity_size(void);
 RIBBON_API size_t ribbon_cell_size(void);
 RIBBON_API size_t ribbon_field_size(void);
 RIBBON_API size_t ribbon_look_size(void);
@@ -591,6 +628,20 @@ RIBBON_API ribbon_status ribbon_station_new(ribbon_station *station, const char 
  * Error Code, Read Screen and two immediate reads. */
 RIBBON_API ribbon_status ribbon_station_new_extended(ribbon_station *station, const char *terminal);
 
+/* Makes a live station, with the outcomes of ribbon_station_new; RIBBON_BAD_ARGUMENT also where the code page, the device
+ * or the keyboard is none. It is of the extended kind, and
+ *  - no refused record ends it: where records are allowed one is answered by a negative response at its IAC EOR, the
+ *    screen is as it was but for keys that were pressed meanwhile, and the push goes on. The state counts such records,
+ *    and tells of the last one;
+ *  - it acts on what a field's format word asks of an operator: field exit required, auto enter, mandatory fill, Field
+ *    Minus in a numeric only field, capitals beyond A to Z, and a blank at a field's end as room for an insert;
+ *  - where `identity` isn't null it answers a host that asks by NEW-ENVIRON (RFC 1572, RFC 4777), the device's name at the
+ *    first time alone: each further time the host refuses the name, and the state counts that. What is typed and shown
+ *    are characters of the identity's code page, and of 037 where `identity` is null.
+ * What ends it is what no record is: Telnet that is none, and a refused record before records are allowed. */
+RIBBON_API ribbon_status ribbon_station_new_live(ribbon_station *station, const char *terminal,
+                                                 const ribbon_identity *identity);
+
 /* Frees a station. Its handle then holds nothing. A null pointer, a handle that holds nothing and one of another kind
  * are left alone. */
 RIBBON_API void ribbon_station_free(ribbon_station *station);
@@ -608,7 +659,10 @@ RIBBON_API void ribbon_station_free(ribbon_station *station);
  * What the station writes goes out in pieces where `reply` has no room for all of it: RIBBON_NO_ROOM then comes with a full
  * buffer, also where all bytes were taken. The next call begins with the rest, also one of no bytes, and takes no byte
  * before all of the rest has gone out. So the bytes that the calls give, one after another, are what the station writes.
- * Only a station of the extended kind writes so much: up to 9,000 bytes at a record. */
+ * Only a station of the extended kind and a live one write so much: up to 9,000 bytes at a record.
+ *
+ * A record that a live station refuses is told by its state: `refused_records` has grown. A program that is to see each of
+ * them looks after each IAC EOR. */
 RIBBON_API ribbon_status ribbon_station_push(ribbon_station *station, const uint8_t *bytes, size_t count,
                                              uint8_t *reply, size_t room, ribbon_pushed *pushed);
 
@@ -641,6 +695,12 @@ RIBBON_API ribbon_status ribbon_station_new_line(ribbon_station *station, ribbon
 /* Erase EOF: the cells from the cursor to the end of its field become 00, and the cursor stays; in a signed numeric field
  * the sign goes too. RIBBON_KEY_REFUSED where the cursor stands in no field that keys enter. */
 RIBBON_API ribbon_status ribbon_station_erase_eof(ribbon_station *station, ribbon_told *told);
+
+/* Tells the index of the first field, by its start, for which a key is refused so, RIBBON_KEY_...: that has to be entered
+ * (RIBBON_KEY_MANDATORY_ENTER) or filled (RIBBON_KEY_MANDATORY_FILL). RIBBON_NO_FIELD at every other refusal.
+ *
+ * RIBBON_BAD_ARGUMENT where no refusal has the number, RIBBON_NOTHING_HELD where the handle holds no live station. */
+RIBBON_API ribbon_status ribbon_station_missing(ribbon_station *station, uint8_t refusal, uint16_t *field);
 
 /* Tells whether records are allowed, what was refused, how many records were carried out, the cursor and its field, the
  * keyboard's lock, the lights, the read that waits for a key, the number of fields, the row of an error, and how many

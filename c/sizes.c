@@ -51,6 +51,11 @@ size_t ribbon_state_size(void)
     return sizeof(ribbon_state);
 }
 
+size_t ribbon_identity_size(void)
+{
+    return sizeof(ribbon_identity);
+}
+
 size_t ribbon_cell_size(void)
 {
     return sizeof(ribbon_cell);

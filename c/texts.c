@@ -68,6 +68,8 @@ const char *ribbon_refusal_text(uint8_t refusal)
         [RIBBON_KEY_FIELD_HAS_NO_ROOM] = "the field is full",
         [RIBBON_KEY_NO_READ_PENDING] = "the host asks for nothing",
         [RIBBON_KEY_MANDATORY_ENTER] = "a field that has to be entered is empty",
+        [RIBBON_KEY_FIELD_EXIT_REQUIRED] = "the field is full, and a key has to leave it",
+        [RIBBON_KEY_MANDATORY_FILL] = "a field that has to be filled is partly empty",
     };
     return refusal < COUNT(texts) ? texts[refusal] : "no such refusal";
 }

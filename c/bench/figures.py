@@ -14,6 +14,8 @@ HEADER = (HERE.parent / "ribbonscarp.h").read_text()
 README = (HERE.parent.parent / "bench/README.md").read_text()
 LEAST = 1500
 """Below it stack needs no figure."""
+KINDS = ("profile", "extended", "live")
+"""The columns of the header's table."""
 
 
 def measured(lines):
@@ -21,7 +23,7 @@ def measured(lines):
     stack, instructions, kind = {}, {}, None
     for line in lines:
         if line.startswith("stack"):
-            kind = "extended" if "extended" in line else "profile"
+            kind = next((named for named in KINDS if named in line), "profile")
         elif line.startswith("instructions"):
             kind = None
         elif found := re.match(r"(\w+)(?:, [\w, ]+?)? +(\d+)(?: |$)", line) if kind else None:
@@ -29,16 +31,14 @@ def measured(lines):
             stack[call] = max(stack.get(call, 0), int(found[2]))
         elif found := re.match(r"(.+?) +([\d.]+)$", line.strip()):
             instructions[found[1]] = float(found[2])
-    stack.pop(("profile", "most"), None)
-    stack.pop(("extended", "most"), None)
-    return stack, instructions
+    return {call: most for call, most in stack.items() if call[1] != "most"}, instructions
 
 
 def told_stack():
-    """The header's table: a call, and its bytes of stack for the one kind and the other."""
-    rows = re.findall(r"^ \*     ribbon_(\w+) +([\d,]+) +([\d,]+)$", HEADER, re.M)
+    """The header's table: a call, and its bytes of stack for each kind that has it."""
+    rows = re.findall(r"^ \*     ribbon_(\w+) +([\d,]+|-) +([\d,]+|-) +([\d,]+)$", HEADER, re.M)
     return {(kind, name): int(figure.replace(",", ""))
-            for name, *figures in rows for kind, figure in zip(("profile", "extended"), figures)}
+            for name, *figures in rows for kind, figure in zip(KINDS, figures) if figure != "-"}
 
 
 def told_instructions():

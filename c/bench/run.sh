@@ -22,6 +22,8 @@ measure() {
     "$folder/stack" || echo "(more than 32,768)"
     echo "stack of the extended kind, in bytes"
     "$folder/stack" extended || echo "(more than 32,768)"
+    echo "stack of the live kind, in bytes"
+    "$folder/stack" live || echo "(more than 32,768)"
     command -v valgrind >/dev/null || { echo "left out: instructions, since valgrind isn't here"; return; }
     echo "instructions"
     echo "a byte pushed, small records  $(instructions push 1 155648)"

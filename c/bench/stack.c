@@ -55,12 +55,16 @@ static uint32_t rows;
 static uint64_t place;
 static ribbon_status status;
 
-static bool is_extended;
+static bool is_extended, is_live;
+static const ribbon_identity identity = {.device = "ANNA1", .code_page = 1141};
+static uint16_t missing;
 static void station_new(void)
 {
-    status = is_extended ? ribbon_station_new_extended(&station, "IBM-5251-11")
-                         : ribbon_station_new(&station, "IBM-5251-11");
+    status = is_live       ? ribbon_station_new_live(&station, "IBM-5251-11", &identity)
+             : is_extended ? ribbon_station_new_extended(&station, "IBM-5251-11")
+                           : ribbon_station_new(&station, "IBM-5251-11");
 }
+static void station_missing(void) { status = ribbon_station_missing(&station, RIBBON_KEY_MANDATORY_FILL, &missing); }
 static void station_push(void) { status = ribbon_station_push(&station, bytes, count, reply, sizeof reply, &pushed); }
 static void station_char(void) { status = ribbon_station_key(&station, RIBBON_KEY_CHAR, 'A', answer, sizeof answer, &told); }
 static void station_enter(void)
@@ -118,7 +122,8 @@ static void carry(const uint8_t *from, size_t size)
 
 int main(int count_of_words, char **words)
 {
-    is_extended = count_of_words > 1 && strcmp(words[1], "extended") == 0;
+    is_live = count_of_words > 1 && strcmp(words[1], "live") == 0;
+    is_extended = is_live || (count_of_words > 1 && strcmp(words[1], "extended") == 0);
     tell("station_new", station_new);
     tell("host_new", host_new);
     tell("decoder_new", decoder_new);
@@ -156,6 +161,13 @@ int main(int count_of_words, char **words)
         tell("station_push, Save", station_push);
         carry((const uint8_t *)"\0\x11\x12\xa0\0\0\x04\0\0\x03\x04\xf3\0\x05\xd9\x70\0\xff\xef", 19);
         tell("station_push, Query", station_push);
+    }
+    if (is_live) {
+        carry((const uint8_t *)"\xff\xfd\x27\xff\xfa\x27\x01\xff\xf0", 9);
+        tell("station_push, NEW-ENVIRON", station_push);
+        carry((const uint8_t *)"\0\x0f\x12\xa0\0\0\x04\0\0\x03\x04\x23\x61\x01\x05\xff\xef", 17);
+        tell("station_push, refused", station_push);
+        tell("station_missing", station_missing);
     }
     tell("station_state", station_state);
     tell("station_cell", station_cell);

@@ -51,10 +51,11 @@ class ReadField(Structure):
 
 class State(Structure):
     _fields_ = [("records", c_uint64), ("refused_place", c_uint64), ("alarms", c_uint64),
+                ("refused_records", c_uint64), ("record_place", c_uint64), ("names_refused", c_uint64),
                 ("field_count", c_uint16), ("cursor_field", c_uint16),
                 ("cursor_row", c_uint8), ("cursor_column", c_uint8), ("pending_read", c_uint8), ("refused_reason", c_uint8),
                 ("is_ready", c_bool), ("is_locked", c_bool), ("is_message_lit", c_bool), ("is_blinking", c_bool),
-                ("error_row", c_uint8)]
+                ("error_row", c_uint8), ("record_reason", c_uint8), ("is_full", c_bool)]
 
 
 class Cell(Structure):

@@ -15,6 +15,8 @@ void *__wrap_realloc(void *block, size_t size);
 static long given = -1;
 static bool for_good;
 static bool was_refused;
+/* How many bytes were asked for. */
+static size_t asked;
 
 static bool is_refused(void)
 {
@@ -32,6 +34,7 @@ static bool is_refused(void)
 
 void *__wrap_malloc(size_t size)
 {
+    asked += size;
     return is_refused() ? NULL : __real_malloc(size);
 }
 
@@ -108,9 +111,46 @@ static bool session(void)
     return is_good;
 }
 
+/* Each `new` with its first block refused, then with its second: it holds nothing, and nothing is lost. With memory it
+ * asks for as much as the header says. */
+static void check_each_new(void)
+{
+    ribbon_station station = RIBBON_STATION_NONE, extended = RIBBON_STATION_NONE, live = RIBBON_STATION_NONE;
+    ribbon_host host = RIBBON_HOST_NONE;
+    ribbon_decoder decoder = RIBBON_DECODER_NONE, live_decoder = RIBBON_DECODER_NONE;
+    ribbon_identity identity = {.device = "ANNA1"};
+    ribbon_told told;
+    uint8_t reply[RIBBON_REPLY_ROOM];
+    static const size_t most[] = {72792, 81552, 3800, 200, 200, 81928};
+    const ribbon_handle *const handles[] = {&station.handle, &extended.handle,     &host.handle,
+                                            &decoder.handle, &live_decoder.handle, &live.handle};
+    for (unsigned kind = 0; kind < 6; kind++)
+        for (long at = 0; at <= 2; at++) {
+            given = at;
+            asked = 0;
+            ribbon_status status = kind == 0   ? ribbon_station_new(&station, "IBM-3179-2")
+                                   : kind == 1 ? ribbon_station_new_extended(&extended, "IBM-3179-2")
+                                   : kind == 2 ? ribbon_host_new(&host, reply, sizeof reply, &told)
+                                   : kind == 3 ? ribbon_decoder_new(&decoder)
+                                   : kind == 4 ? ribbon_decoder_new_extended(&live_decoder)
+                                               : ribbon_station_new_live(&live, "IBM-3179-2", &identity);
+            CHECK(status == (at < 2 ? RIBBON_NO_MEMORY : RIBBON_DONE));
+            CHECK(handles[kind]->is_open == (at == 2));
+            CHECK(asked <= most[kind]);
+        }
+    given = -1;
+    ribbon_station_free(&station);
+    ribbon_station_free(&extended);
+    ribbon_host_free(&host);
+    ribbon_decoder_free(&decoder);
+    ribbon_decoder_free(&live_decoder);
+    ribbon_station_free(&live);
+}
+
 int main(void)
 {
     unsigned places = 0;
+    check_each_new();
     for (int good = 0; good < 2; good++) {
         for_good = good;
         for (long at = 0;; at++) {

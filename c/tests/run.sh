@@ -57,7 +57,7 @@ has() {
 }
 
 # The test programs. Both libraries give the same, and show the names of the interface alone.
-programs=(calls host_calls decoder_calls extended changed sentences code_page format strokes body)
+programs=(calls host_calls decoder_calls extended live changed sentences code_page format strokes body)
 for name in "${programs[@]}"; do
     try "$name.c is built" "$CC" "${warnings[@]}" -g -I "$here" -o "$folder/$name" "$tests/$name.c" \
         "$BUILD/libribbonscarp.a"

@@ -40,6 +40,8 @@ static const sentence refusals[] = {
     {RIBBON_KEY_FIELD_HAS_NO_ROOM, "full"},
     {RIBBON_KEY_NO_READ_PENDING, "asks for nothing"},
     {RIBBON_KEY_MANDATORY_ENTER, "has to be entered"},
+    {RIBBON_KEY_FIELD_EXIT_REQUIRED, "leave it"},
+    {RIBBON_KEY_MANDATORY_FILL, "has to be filled"},
 };
 
 /* The numbers of the reasons, as docs/PROFILE.md has them. */
