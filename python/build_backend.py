@@ -1,17 +1,20 @@
 """Builds the package with Python's own library alone, so that `pip install` needs no network (PEP 517, PEP 660).
 
 The metadata stands in pyproject.toml, the version in ribbonscarp/version.py. Where a shared library stands beside the
-package's files it goes into the wheel, which is then for this platform.
+package's files it goes into the wheel, which is then for this platform; so does a file BUILD, which says how that library
+was built. Files of a wheel have the time SOURCE_DATE_EPOCH, where that is set.
 """
 from __future__ import annotations
 
 import ast
 import base64
 import hashlib
+import os
 import pathlib
 import re
 import sysconfig
 import tarfile
+import time
 import zipfile
 from collections.abc import Iterator
 
@@ -62,7 +65,7 @@ def libraries() -> list[pathlib.Path]:
 
 def package() -> Iterator[tuple[str, bytes]]:
     """The package's files: each path, and what it holds."""
-    for file in [*sorted(PACKAGE.glob("*.py")), PACKAGE / "py.typed", *libraries()]:
+    for file in [*sorted(PACKAGE.glob("*.py")), PACKAGE / "py.typed", *libraries(), *PACKAGE.glob("BUILD")]:
         yield f"{PACKAGE.name}/{file.name}", file.read_bytes()
 
 
@@ -77,9 +80,11 @@ def write_wheel(folder: str, files: list[tuple[str, bytes]]) -> str:
     rows = [f"{path},sha256={digest(data)},{len(data)}\n" for path, data in files]
     files += [(f"{info}/RECORD", "".join([*rows, f"{info}/RECORD,,\n"]).encode())]
     name = f"ribbonscarp-{version()}-{tag()}.whl"
+    # No file of a zip is older than 1980.
+    written = time.gmtime(max(int(os.environ.get("SOURCE_DATE_EPOCH", 0)), 315532800))[:6]
     with zipfile.ZipFile(pathlib.Path(folder) / name, "w", zipfile.ZIP_DEFLATED) as wheel:
         for path, data in files:
-            entry = zipfile.ZipInfo(path)
+            entry = zipfile.ZipInfo(path, written)
             entry.external_attr = 0o644 << 16
             wheel.writestr(entry, data, zipfile.ZIP_DEFLATED)
     return name

@@ -6,13 +6,14 @@
 from .any_host import AnyHost
 from .body import Body
 from .cells import Cell, Color, Style
-from .codes import TERMINALS, Key, KeyRefusal, Opcode, Read, Reason, Status
+from .codes import CODE_PAGES, TERMINALS, Key, KeyRefusal, Opcode, Read, Reason, Status
 from .decoder import Cells, Command, Decoder, Element, Header, RecordEnd, Step
 from .errors import (
     ConnectionEnded,
     FieldNotFound,
     KeyRefused,
     LibraryNotFound,
+    RecordRefused,
     Refused,
     RibbonscarpError,
     SendRefused,
@@ -28,11 +29,12 @@ from .records import Record
 from .recording import Piece, Recording
 from .screen import Screen, State
 from .session import Session, connect
-from .station import Station
+from .station import RefusedRecord, Station
 from .station_end import Sought
 from .version import __version__
 
 __all__ = [
+    "CODE_PAGES",
     "TERMINALS",
     "Answer",
     "AnswerField",
@@ -64,8 +66,10 @@ __all__ = [
     "Reason",
     "Record",
     "RecordEnd",
+    "RecordRefused",
     "Recording",
     "Refused",
+    "RefusedRecord",
     "RibbonscarpError",
     "Screen",
     "SendRefused",

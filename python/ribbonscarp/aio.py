@@ -14,14 +14,14 @@ from .body import Body
 from .codes import Key, Opcode
 from .connection import check_port
 from .end import check_wait
-from .errors import WaitedTooLong
+from .errors import KeyRefused, WaitedTooLong
 from .fields import Field, Which
 from .handle import closed
 from .host import Answer, Event
 from .host_end import HostEnd, make_host
 from .records import Record
 from .screen import Screen
-from .station import Station
+from .station import RefusedRecord, Station
 from .station_end import Sought, StationEnd
 from .tls import Tls, context_of, late_handshake
 
@@ -34,14 +34,18 @@ async def connect(
     terminal: str = "IBM-3179-2",
     wait: float = 30.0,
     strict: bool = False,
+    device: str | None = None,
+    code_page: int = 37,
+    keyboard: str | None = None,
+    raise_refusals: bool = False,
 ) -> Session:
     """A session at a host, as `ribbonscarp.connect` gives one."""
     port, context = check_port(port, tls), context_of(tls)
-    station = Station(terminal, strict=strict)
+    station = Station(terminal, strict=strict, device=device, code_page=code_page, keyboard=keyboard)
     try:
         opening = asyncio.open_connection(host, port, ssl=context, limit=LIMIT)
         streams = await asyncio.wait_for(opening, check_wait(wait))
-        return Session(*streams, station=station, wait=wait)
+        return Session(*streams, station=station, wait=wait, raise_refusals=raise_refusals)
     except BaseException as cause:
         station.close()
         if isinstance(cause, asyncio.TimeoutError) and context is not None:
@@ -77,20 +81,19 @@ class Session(Live):
         *,
         station: Station | None = None,
         wait: float = 30.0,
+        raise_refusals: bool = False,
     ) -> None:
         self.station = Station() if station is None else station
-        self._station_end = StationEnd(self.station)
+        self._station_end = StationEnd(self.station, raise_refusals)
         super().__init__(self._station_end, reader, writer, wait)
 
     def type(self, text: str) -> None:
         """Types characters."""
-        self._check_open()
-        self.station.type(text)
+        self._send(lambda: self.station.type(text))
 
     def insert(self, text: str) -> None:
         """Types characters in insert mode."""
-        self._check_open()
-        self.station.insert(text)
+        self._send(lambda: self.station.insert(text))
 
     async def press(self, key: Key | str) -> None:
         """Presses a key, and sends what it sends."""
@@ -101,8 +104,7 @@ class Session(Live):
 
     def fill(self, which: Which, text: str) -> None:
         """Puts a text into a field in place of what it held."""
-        self._check_open()
-        self.station.fill(which, text)
+        self._send(lambda: self.station.fill(which, text))
 
     def move_cursor(self, row: int, column: int) -> None:
         """Moves the cursor to a cell."""
@@ -118,6 +120,26 @@ class Session(Live):
         """Empties the cells from the cursor to the end of its field."""
         self._check_open()
         self.station.erase_eof()
+
+    @property
+    def refused_records(self) -> list[RefusedRecord]:
+        """The records that were refused, of all that have come so far."""
+        self._check_open()
+        self._take_all()
+        return self.station.refused_records
+
+    @property
+    def names_refused(self) -> int:
+        """How often the host has refused the device's name."""
+        self._check_open()
+        self._take_all()
+        return self.station.names_refused
+
+    @property
+    def missing(self) -> Field | None:
+        """The first field that has to be entered or filled, where the last key was refused for that."""
+        self._check_open()
+        return self.station.missing
 
     @property
     def screen(self) -> Screen:
@@ -162,6 +184,16 @@ class Session(Live):
     ) -> Screen:
         """Until the screen is one that fits."""
         return await self._wait(self._station_end.screen_that(fits, what), wait)
+
+    def _send(self, press: Callable[[], bytes]) -> None:
+        """Presses keys, and sends what they send, also where one of them is refused."""
+        self._check_open()
+        try:
+            sent = press()
+        except KeyRefused as refused:
+            self._write_at_once(refused.sent)
+            raise
+        self._write_at_once(sent)
 
     def _free(self) -> None:
         self.station.close()

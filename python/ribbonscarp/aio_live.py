@@ -139,9 +139,12 @@ class Live:
             self._answer()
 
     def _answer(self) -> None:
-        replies = self._end.replies()
-        if replies and not self._writer.is_closing():
-            self._writer.write(self._end.sends(replies))
+        self._write_at_once(self._end.replies())
+
+    def _write_at_once(self, data: bytes) -> None:
+        """Writes, without a wait for the other side to take it."""
+        if data and not self._writer.is_closing():
+            self._writer.write(self._end.sends(data))
 
     async def _write(self, data: bytes) -> None:
         """Writes all. `ConnectionEnded` where the other side is gone, or doesn't take it in time."""

@@ -84,6 +84,8 @@ class KeyRefusal(IntEnum):
     FIELD_HAS_NO_ROOM = 5
     NO_READ_PENDING = 6
     MANDATORY_ENTER = 7
+    FIELD_EXIT_REQUIRED = 8
+    MANDATORY_FILL = 9
 
 
 class Opcode(IntEnum):
@@ -113,6 +115,9 @@ class Read(IntEnum):
 
 TERMINALS = ("IBM-5251-11", "IBM-5291-1", "IBM-5292-2", "IBM-3196-A1", "IBM-3179-2")
 """The terminal types (RFC 1205, section 2), in the order of their numbers, from 1."""
+
+CODE_PAGES = (37, 273, 277, 278, 280, 284, 285, 297, 500, 871, *range(1140, 1150))
+"""The code pages of a station, by their numbers."""
 
 CHARACTER, INSERTED_CHARACTER, AID = 1, 2, 15
 """Kinds of key that take a value: a character, or the byte of an attention key."""

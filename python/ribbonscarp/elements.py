@@ -14,6 +14,7 @@ _COMMANDS = {
     0x11: "WRITE",
     0x12: "RESTORE-SCREEN",
     0x21: "WRITE-ERROR",
+    0x23: "ROLL",
     0x40: "CLEAR-UNIT",
     0x42: "READ-INPUT",
     0x50: "CLEAR-FORMAT",
@@ -36,10 +37,12 @@ def name_of(spelling: bytes) -> str:
 
 
 def operands_of(spelling: bytes) -> Operands:
-    """The operands of the element that the bytes spell; none of a command without control characters."""
+    """The operands of the element that the bytes spell; none of a command that is two bytes long or a query."""
     name = name_of(spelling)
     if name in _CONTROLLED:
         return {"cc1": spelling[2], "cc2": spelling[3]}
+    if name == "ROLL":
+        return {"control": spelling[2], "top": spelling[3], "bottom": spelling[4]}
     if spelling[0] == _ESCAPE:
         return {}
     if name == "SOH":

@@ -56,6 +56,9 @@ class End(ABC):
     def push(self, data: bytes) -> bytes:
         """Takes a piece, and gives what is written in answer. `Refused` at a byte that can't stand there."""
 
+    def check(self) -> None:
+        """Raises what was taken, and is to be told."""
+
     @property
     def screen(self) -> Screen | None:
         """What a station shows."""
@@ -81,7 +84,8 @@ class End(ABC):
             self._come += data
 
     def take(self) -> bool:
-        """Takes what has come up to the end of the next record; whether there was anything. `Refused` as `push`."""
+        """Takes what has come up to the end of the next record; whether there was anything. `Refused` as `push`, and what
+        `check` raises."""
         if not self._come or self.refused is not None:
             return False
         piece = self._next_piece()
@@ -98,6 +102,7 @@ class End(ABC):
         is_whole = begin.endswith(b"\xff\xef")
         self._record_begin = b"" if is_whole else begin[-AROUND:]
         self._is_inside = not is_whole and (self._is_inside or COMMAND.sub(b"", piece) != b"")
+        self.check()
         return True
 
     def replies(self) -> bytes:

@@ -62,6 +62,18 @@ class Refused(RibbonscarpError):
         return text + _shown(self.screen)
 
 
+class RecordRefused(RibbonscarpError):
+    """A record of the host is refused, and was answered by a negative response; the session goes on. Raised where a test
+    of a host asks for it. `place` says which of the record's own bytes is refused, from 0, a doubled FF as one."""
+
+    def __init__(self, reason: Reason, place: int, text: str, screen: Screen | None = None) -> None:
+        super().__init__(f"a record is refused at its byte {place}: {text}{_shown(screen)}")
+        self.reason = reason
+        self.place = place
+        self.text = text
+        self.screen = screen
+
+
 class Truncated(RibbonscarpError):
     """A stream ends inside a command or a record, behind `length` bytes."""
 
@@ -79,7 +91,8 @@ class SendRefused(RibbonscarpError):
 
 
 class KeyRefused(RibbonscarpError):
-    """The keyboard or the field refuses `key`, a `Key` or a character. The cursor stood at `place`, and stays there."""
+    """The keyboard or the field refuses `key`, a `Key` or a character. The cursor stood at `place`, and stays there. What
+    keys of the same call had sent before is in `sent`."""
 
     def __init__(self, refusal: KeyRefusal, key: Key | str, place: tuple[int, int], text: str) -> None:
         name = key.name if isinstance(key, Key) else repr(key)
@@ -87,6 +100,7 @@ class KeyRefused(RibbonscarpError):
         self.refusal = refusal
         self.key = key
         self.place = place
+        self.sent = b""
 
 
 class FieldNotFound(RibbonscarpError, LookupError):

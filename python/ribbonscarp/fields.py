@@ -30,7 +30,7 @@ class Shift(IntEnum):
 
 @dataclass(frozen=True, repr=False)
 class Field:
-    """An input field: its first cell, its format word, what it held in code page 037, and what is shown of that without
+    """An input field: its first cell, its format word, what it held in the code page, and what is shown of that without
     the blanks at its end.
 
     `captions` is what its row shows before it and, where that is dots, colons, dashes and arrows alone, what the row above

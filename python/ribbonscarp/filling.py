@@ -5,6 +5,7 @@ from collections.abc import Iterator
 
 from .codes import Key, KeyRefusal
 from .fields import Field, Shift
+from .library import has_byte
 
 _DIGITS = "0123456789"
 _TAKEN = {
@@ -16,10 +17,9 @@ _TAKEN = {
 """The characters of the fields that don't take all (SC30-3533, Start of Field order)."""
 
 
-def takes(shift: Shift, character: str) -> bool:
-    """Whether a field takes a character: one of code page 037 that its shift allows."""
-    has_byte = 0x20 <= ord(character) <= 0x7E or 0xA0 <= ord(character) <= 0xFF
-    return has_byte and (shift not in _TAKEN or character in _TAKEN[shift])
+def takes(shift: Shift, character: str, page: int = 37) -> bool:
+    """Whether a field takes a character: one of the code page that its shift allows."""
+    return has_byte(page, character) and (shift not in _TAKEN or character in _TAKEN[shift])
 
 
 def is_negative(field: Field, text: str) -> bool:
@@ -42,11 +42,11 @@ def room_of(field: Field) -> int:
     return field.length - 1 if field.shift is Shift.SIGNED_NUMERIC else field.length
 
 
-def refusal_of(field: Field, typed: str) -> tuple[KeyRefusal, int] | None:
-    """Why a field doesn't take characters, and at which of them; `None` where it takes all."""
+def refusal_of(field: Field, typed: str, page: int = 37) -> tuple[KeyRefusal, int] | None:
+    """Why a field doesn't take characters of a code page, and at which of them; `None` where it takes all."""
     if field.is_bypass:
         return KeyRefusal.PROTECTED, 0
-    wrong = (at for at, character in enumerate(typed) if not takes(field.shift, character))
+    wrong = (at for at, character in enumerate(typed) if not takes(field.shift, character, page))
     return next(((KeyRefusal.WRONG_CHARACTER, at) for at in wrong), None)
 
 

@@ -98,6 +98,9 @@ class StateTold(Structure):
         ("records", c_uint64),
         ("refused_place", c_uint64),
         ("alarms", c_uint64),
+        ("refused_records", c_uint64),
+        ("record_place", c_uint64),
+        ("names_refused", c_uint64),
         ("field_count", c_uint16),
         ("cursor_field", c_uint16),
         ("cursor_row", c_uint8),
@@ -109,7 +112,15 @@ class StateTold(Structure):
         ("is_message_lit", c_bool),
         ("is_blinking", c_bool),
         ("error_row", c_uint8),
+        ("record_reason", c_uint8),
+        ("is_full", c_bool),
     ]
+
+
+class Identity(Structure):
+    """`ribbon_identity`."""
+
+    _fields_ = [("device", c_char_p), ("keyboard", c_char_p), ("code_page", c_uint16)]
 
 
 class CellTold(Structure):
@@ -141,6 +152,7 @@ STRUCTURES: dict[str, type[Structure]] = {
     "answer": AnswerTold,
     "read_field": ReadFieldTold,
     "state": StateTold,
+    "identity": Identity,
     "cell": CellTold,
     "field": FieldTold,
     "body": BodyTold,
@@ -155,8 +167,10 @@ _BODY = POINTER(BodyTold)
 _ARGUMENTS: dict[str, list[Any]] = {
     "station_new": [_STATION, c_char_p],
     "station_new_extended": [_STATION, c_char_p],
+    "station_new_live": [_STATION, c_char_p, POINTER(Identity)],
     "station_push": [_STATION, c_void_p, c_size_t, c_void_p, c_size_t, POINTER(Pushed)],
     "station_key": [_STATION, c_uint32, c_uint32, c_void_p, c_size_t, POINTER(Told)],
+    "station_missing": [_STATION, c_uint8, POINTER(c_uint16)],
     "station_state": [_STATION, POINTER(StateTold)],
     "station_cells": [_STATION, c_uint8, c_uint8, c_void_p, c_size_t],
     "station_changed": [_STATION, POINTER(c_uint32)],
@@ -164,6 +178,7 @@ _ARGUMENTS: dict[str, list[Any]] = {
     "station_new_line": [_STATION, POINTER(Told)],
     "station_erase_eof": [_STATION, POINTER(Told)],
     "station_field": [_STATION, c_size_t, POINTER(FieldTold)],
+    "to_page": [c_uint16, c_uint32, POINTER(c_uint8)],
     "host_new": [_HANDLE, c_void_p, c_size_t, POINTER(Told)],
     "host_push": [_HANDLE, c_void_p, c_size_t, c_void_p, c_size_t, POINTER(Pushed), POINTER(EventTold)],
     "host_send": [_HANDLE, c_uint8, c_char_p, c_size_t, POINTER(Told)],
@@ -250,6 +265,11 @@ def library() -> Any:
             return loaded
         faults.append(f"{name} {fault}")
     raise LibraryNotFound(faults)
+
+
+def has_byte(page: int, character: str) -> bool:
+    """Whether a code page has a character."""
+    return int(library().ribbon_to_page(page, ord(character), ctypes.byref(c_uint8()))) == 0
 
 
 def status_text(status: int) -> str:

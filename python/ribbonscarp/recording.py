@@ -15,11 +15,12 @@ StrPath = str | os.PathLike[str]
 
 class Recorder:
     """Writes a recording to a new file, its owner's alone to read. `file` is its name: with a number behind the one that
-    was asked for, where that is there already. It holds what was typed into hidden fields."""
+    was asked for, where that is there already. It holds what was typed into hidden fields. Times count from `begun`, of
+    `time.monotonic`, or else from now."""
 
-    def __init__(self, file: StrPath) -> None:
+    def __init__(self, file: StrPath, begun: float | None = None) -> None:
         name = os.fspath(file)
-        self._begun = time.monotonic()
+        self._begun = time.monotonic() if begun is None else begun
         for self.file in itertools.chain([name], (f"{name}-{number}" for number in range(1, 10000))):
             try:
                 self._out = open(self.file, "x", encoding="ascii", buffering=1, opener=_for_its_owner)

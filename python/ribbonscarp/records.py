@@ -56,11 +56,25 @@ class Record:
 
 
 class Tokens:
-    """Splits a Telnet stream, in any pieces: records, and commands by their bytes."""
+    """Splits a Telnet stream, in any pieces: records, and commands by their bytes.
+
+    `taken` counts the bytes up to the end of what `push` gave last, and of the record since then; `waiting` those of a
+    command that isn't complete.
+    """
 
     def __init__(self) -> None:
         self._come = bytearray()
         self._record = bytearray()
+        self.taken = 0
+
+    @property
+    def waiting(self) -> int:
+        return len(self._come)
+
+    @property
+    def held(self) -> int:
+        """How many bytes it keeps of a record and a command whose ends haven't come."""
+        return len(self._come) + len(self._record)
 
     def push(self, data: bytes) -> Iterator[Record | bytes]:
         """Takes bytes, and gives what is complete with them."""
@@ -69,11 +83,13 @@ class Tokens:
             at = self._come.find(0xFF)
             at = len(self._come) if at < 0 else at
             self._record += self._come[:at]
+            self.taken += at
             del self._come[:at]
             command = COMMAND.match(self._come)
             if command is None:
                 return
             spelling = bytes(command.group())
+            self.taken += len(spelling)
             del self._come[: len(spelling)]
             if spelling == b"\xff\xff":
                 self._record.append(0xFF)

@@ -37,6 +37,8 @@ class State:
     """The row on which an error of the host's stands, until Reset."""
     alarms: int = 0
     """How many alarms the host has sounded since the station was made."""
+    is_full: bool = False
+    """The field that holds the cursor takes no further character before a key such as Field Exit leaves it."""
 
 
 class Screen:

@@ -8,10 +8,11 @@ from typing import TYPE_CHECKING
 
 from .codes import Key
 from .connection import check_port, open_line
+from .errors import KeyRefused
 from .fields import Field, Which
 from .live import Live
 from .screen import Screen
-from .station import Station
+from .station import RefusedRecord, Station
 from .station_end import Sought, StationEnd
 
 if TYPE_CHECKING:
@@ -26,19 +27,29 @@ def connect(
     terminal: str = "IBM-3179-2",
     wait: float = 30.0,
     strict: bool = False,
+    device: str | None = None,
+    code_page: int = 37,
+    keyboard: str | None = None,
+    raise_refusals: bool = False,
 ) -> Session:
-    """A session at a host, of a station that takes what live hosts send; a `strict` one keeps to the profile.
+    """A session at a host, of a live station: one that takes what live hosts send, and that no refused record ends. A
+    `strict` one keeps to the profile.
+
+    Where the host asks it is told the `device` name, if there is one, the `keyboard` type and the `code_page`, as
+    `Station` has them. With `raise_refusals`, for tests of hosts, each refused record raises a `RecordRefused` once.
 
     The port is 23, and 992 with `tls`, which is `True` or a context of `ssl`. `wait` is how many seconds connecting may
     take, over all addresses of a name together, and then each wait and each write. Looking the name up has no limit.
 
     `OSError` where the host can't be reached in time, and `ssl.SSLError`, which is one, where its certificate isn't
-    trusted, has expired or is another's; `ValueError` where there is no such terminal type or port.
+    trusted, has expired or is another's; `ValueError` where there is no such terminal type, port, device name, code page or
+    keyboard.
     """
     port = check_port(port, tls)
-    station = Station(terminal, strict=strict)
+    station = Station(terminal, strict=strict, device=device, code_page=code_page, keyboard=keyboard)
     try:
-        return Session(open_line(host, port, wait, tls), station=station, wait=wait)
+        line = open_line(host, port, wait, tls)
+        return Session(line, station=station, wait=wait, raise_refusals=raise_refusals)
     except BaseException:
         station.close()
         raise
@@ -52,20 +63,26 @@ class Session(Live):
     another thread is over.
     """
 
-    def __init__(self, sock: socket.socket, *, station: Station | None = None, wait: float = 30.0) -> None:
+    def __init__(
+        self,
+        sock: socket.socket,
+        *,
+        station: Station | None = None,
+        wait: float = 30.0,
+        raise_refusals: bool = False,
+    ) -> None:
         self.station = Station() if station is None else station
-        self._station_end = StationEnd(self.station)
+        self._station_end = StationEnd(self.station, raise_refusals)
         super().__init__(self._station_end, sock, wait)
 
     def type(self, text: str) -> None:
-        """Types characters. `KeyRefused` at the first that is refused; those before it stand."""
-        with self._in_use():
-            self.station.type(text)
+        """Types characters, and sends what they send, where Enter follows the last of a field. `KeyRefused` at the first
+        that is refused; those before it stand."""
+        self._send(lambda: self.station.type(text))
 
     def insert(self, text: str) -> None:
         """Types characters in insert mode."""
-        with self._in_use():
-            self.station.insert(text)
+        self._send(lambda: self.station.insert(text))
 
     def press(self, key: Key | str) -> None:
         """Presses a key, also by its name as `Key.named` takes it, and sends what it sends. `KeyRefused`, or
@@ -76,8 +93,7 @@ class Session(Live):
     def fill(self, which: Which, text: str) -> None:
         """Puts a text into a field in place of what it held; the field is named as `Screen.field` says. Where an error is
         raised nothing was typed."""
-        with self._in_use():
-            self.station.fill(which, text)
+        self._send(lambda: self.station.fill(which, text))
 
     def move_cursor(self, row: int, column: int) -> None:
         """Moves the cursor to a cell, by the cursor keys."""
@@ -93,6 +109,27 @@ class Session(Live):
         """Empties the cells from the cursor to the end of its field."""
         with self._in_use():
             self.station.erase_eof()
+
+    @property
+    def refused_records(self) -> list[RefusedRecord]:
+        """The records that were refused, of all that have come so far, and answered by a negative response: why, and at
+        which of their own bytes."""
+        with self._in_use():
+            self._take_all()
+            return self.station.refused_records
+
+    @property
+    def names_refused(self) -> int:
+        """How often the host has refused the device's name, as one that is in use."""
+        with self._in_use():
+            self._take_all()
+            return self.station.names_refused
+
+    @property
+    def missing(self) -> Field | None:
+        """The first field that has to be entered or filled, where the last key was refused for that."""
+        with self._in_use():
+            return self.station.missing
 
     @property
     def screen(self) -> Screen:
@@ -140,6 +177,18 @@ class Session(Live):
         """Takes what comes until the screen is one that fits, and gives it; nothing where it does. The text of an error
         calls it `what`."""
         return self._wait(self._station_end.screen_that(fits, what), wait)
+
+    def _send(self, press: Callable[[], bytes]) -> None:
+        """Presses keys, and sends what they send, also where one of them is refused."""
+        with self._in_use():
+            try:
+                sent = press()
+            except KeyRefused as refused:
+                if refused.sent:
+                    self._write(refused.sent)
+                raise
+            if sent:
+                self._write(sent)
 
     def _free(self) -> None:
         self.station.close()

@@ -7,6 +7,8 @@ from collections.abc import Callable
 from typing import TypeAlias
 
 from .end import End, Goal
+from .errors import RecordRefused
+from .library import reason_text
 from .screen import Screen
 from .station import Station
 
@@ -20,12 +22,22 @@ class StationEnd(End):
 
     name, other = "station", "host"
 
-    def __init__(self, station: Station) -> None:
+    def __init__(self, station: Station, raises_refusals: bool = False) -> None:
         super().__init__()
         self.station = station
+        self._raises_refusals = raises_refusals
+        self._seen_refusals = len(station.refused_records)
 
     def push(self, data: bytes) -> bytes:
         return self.station.push(data)
+
+    def check(self) -> None:
+        """`RecordRefused` at a refused record that wasn't told yet, where that is asked for."""
+        refusals = self.station.refused_records[self._seen_refusals :] if self._raises_refusals else []
+        if refusals:
+            self._seen_refusals += 1
+            reason, place = refusals[0]
+            raise RecordRefused(reason, place, reason_text(reason), self.screen)
 
     @property
     def screen(self) -> Screen:

@@ -32,9 +32,9 @@ SIGN_ON = bytes.fromhex(
 PAST_END = bytes.fromhex("04110008 111850 C1C1")
 
 
-def ready_station(*bodies: bytes) -> Station:
+def ready_station(*bodies: bytes, strict: bool = False) -> Station:
     """A station to which records may be sent, and which has taken some."""
-    station = Station()
+    station = Station(strict=strict)
     station.push(ASKED)
     for body in bodies:
         station.push(record(body))

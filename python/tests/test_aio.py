@@ -8,7 +8,7 @@ import time
 import unittest
 
 from ribbonscarp import Body, ConnectionEnded, EventKind, Key, KeyRefused, Opcode, Reason, Refused, StatusError
-from ribbonscarp import WaitedTooLong, aio
+from ribbonscarp import Station, WaitedTooLong, aio
 from support import ASKED, EXAMPLES, FORM, PAST_END, Serve, record, run_connect
 from test_waits import text
 
@@ -19,11 +19,12 @@ class AioTest(unittest.IsolatedAsyncioTestCase):
     async def asyncSetUp(self) -> None:
         asyncio.get_running_loop().slow_callback_duration = 5
 
-    async def begin(self, *pieces: bytes) -> tuple[aio.Session, socket.socket]:
+    async def begin(self, *pieces: bytes, strict: bool = False) -> tuple[aio.Session, socket.socket]:
         """A session over one end of a pair of sockets, and the other end, which has sent some pieces."""
         line, host = socket.socketpair()
         host.sendall(b"".join(pieces))
-        session = aio.Session(*await asyncio.open_connection(sock=line), wait=5)
+        station = Station(strict=strict)
+        session = aio.Session(*await asyncio.open_connection(sock=line), station=station, wait=5)
         self.addCleanup(host.close)
         self.addAsyncCleanup(session.close)
         return session, host
@@ -87,7 +88,7 @@ class AioTest(unittest.IsolatedAsyncioTestCase):
             await session.press("Dup")
 
     async def test_ended(self) -> None:
-        session, host = await self.begin(ASKED, record(FORM), record(PAST_END))
+        session, host = await self.begin(ASKED, record(FORM), record(PAST_END), strict=True)
         for _ in range(2):
             with self.assertRaises(Refused) as caught:
                 await session.wait_text("never")

@@ -88,7 +88,7 @@ class CapturesTest(unittest.TestCase):
             self.assertGreaterEqual(column, 27)
 
     def codes(self, style: Style) -> str:
-        """The SGR codes of a style (ECMA-48), as docs/PROFILE.md has them."""
+        """The SGR codes of a style (ECMA-48), as docs/MANUAL.md has them."""
         color = next(codes for codes, color in COLORS.items() if color is style.color)
         more = ((style.is_reversed, ";7"), (style.is_underscored, ";4"), (style.is_blinking, ";5"))
         return color + "".join(code for is_so, code in more if is_so)

@@ -74,6 +74,13 @@ class DecoderTest(unittest.TestCase):
             ],
         )
 
+    def test_roll(self) -> None:
+        """A Roll has its first byte and its rows."""
+        with Decoder() as decoder:
+            steps = decoder.push(record(bytes.fromhex("0423810305")))
+        told = [(step.name, step.operands) for step in steps if isinstance(step, Element)]
+        self.assertEqual(told, [("ROLL", {"control": 0x81, "top": 3, "bottom": 5})])
+
     def test_cells(self) -> None:
         """A run of cells is one step, in any pieces; an FF begins one of its own."""
         body = bytes.fromhex("04110008 C140C2 FF 20 C3 110101 C4")

@@ -1,4 +1,4 @@
-"""The programs of examples/python, as they stand, and as docs/DRIVING.md quotes them."""
+"""The programs of examples/python, which docs/DRIVING.md links."""
 from __future__ import annotations
 
 import contextlib
@@ -40,13 +40,13 @@ def run(name: str, *words: str, **variables: str) -> subprocess.CompletedProcess
 
 
 class ExamplesTest(unittest.TestCase):
-    def test_quoted(self) -> None:
-        """Each program stands whole in the page but the one that it names, and no other does."""
-        quoted = re.findall(r"^```python\n(.*?)^```$", PAGE, re.M | re.S)
-        programs = [PROGRAMS / name for name in ("scrape.py", "host.py", "test_scrape.py", "farm.py")]
-        self.assertEqual(quoted, [program.read_text(encoding="utf-8") for program in programs])
+    def test_linked(self) -> None:
+        """The page links each program but the one that it only names, and no other."""
+        linked = re.findall(r"\]\(\.\./examples/python/(\w+\.py)\)", PAGE)
+        self.assertEqual(linked, ["scrape.py", "host.py", "test_scrape.py", "farm.py"])
         self.assertIn("`examples/python/check_emulator.py`", PAGE)
-        self.assertEqual(sorted(PROGRAMS.glob("*.py")), sorted([*programs, PROGRAMS / "check_emulator.py"]))
+        programs = sorted(program.name for program in PROGRAMS.glob("*.py"))
+        self.assertEqual(programs, sorted([*linked, "check_emulator.py"]))
 
     def test_scrape(self) -> None:
         last = INQUIRY.rindex("await")
@@ -134,8 +134,7 @@ class PageTest(unittest.TestCase):
             (self.folder / name).symlink_to(TOP / name)
         with socket.create_server(("127.0.0.1", 0)) as server:
             self.page = PAGE.replace("5250", str(server.getsockname()[1]))
-        programs = re.compile(r"^```python\n.*?^```\n", re.M | re.S)
-        self.blocks = re.findall(r"^```\n(.*?)^```$", programs.sub("", self.page), re.M | re.S)
+        self.blocks = re.findall(r"^```\n(.*?)^```$", self.page, re.M | re.S)
 
     def run_block(self, program: str) -> subprocess.CompletedProcess[str]:
         """The block of the page whose last command runs a program."""

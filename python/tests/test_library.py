@@ -40,7 +40,7 @@ class HeaderTest(unittest.TestCase):
         self.assertEqual(constants("OPCODE_"), {k: v for k, v in members(Opcode).items() if k != "CANCEL_INVITE"})
         refusals = {name.removeprefix("IS_"): number for name, number in constants("KEY_").items()}
         named = {"LOCKED", "PROTECTED", "WRONG_CHARACTER", "DUP_NOT_ALLOWED"}
-        named |= {"FIELD_HAS_NO_ROOM", "NO_READ_PENDING", "MANDATORY_ENTER"}
+        named |= {"FIELD_HAS_NO_ROOM", "NO_READ_PENDING", "MANDATORY_ENTER", "FIELD_EXIT_REQUIRED", "MANDATORY_FILL"}
         self.assertEqual({name: refusals[name] for name in named}, members(KeyRefusal))
         statuses = {name: constants("").get(name) for name in members(Status)}
         self.assertEqual(statuses, members(Status))
@@ -56,7 +56,7 @@ class HeaderTest(unittest.TestCase):
 
     def test_names_of_keys(self) -> None:
         """Each name of the program, and those of a PC's keys; in any case, and with blanks, hyphens or underscores."""
-        page = (TOP / "docs/PROFILE.md").read_text(encoding="utf-8")
+        page = (TOP / "docs/MANUAL.md").read_text(encoding="utf-8")
         row = re.search(r"^`key NAME` \| that key: (.*)$", page, re.M)
         assert row is not None
         names = [name for name in re.findall(r"`(\w+)`", row[1]) if name not in ("F1", "F24")]

@@ -73,7 +73,7 @@ class ServeTest(unittest.TestCase):
 class SocketTest(unittest.TestCase):
     """Against a socket."""
 
-    def begin(self, play: Callable[[socket.socket], None], wait: float = 5.0) -> Session:
+    def begin(self, play: Callable[[socket.socket], None], wait: float = 5.0, strict: bool = False) -> Session:
         """A session at a host that plays so, and then closes."""
         server = socket.create_server(("127.0.0.1", 0))
 
@@ -84,7 +84,7 @@ class SocketTest(unittest.TestCase):
                 play(line)
 
         self.host = Beside(accept)
-        session = connect("127.0.0.1", server.getsockname()[1], wait=wait)
+        session = connect("127.0.0.1", server.getsockname()[1], wait=wait, strict=strict)
         self.addCleanup(self.host.finish)
         self.addCleanup(session.close)
         return session
@@ -177,7 +177,7 @@ class SocketTest(unittest.TestCase):
             line.sendall(bad)
             answers.append(read_to_end(line))
 
-        session = self.begin(play)
+        session = self.begin(play, strict=True)
         with self.assertRaises(Refused) as caught:
             session.wait_text("Hi")
         self.assertEqual(caught.exception.reason, Reason.PAST_END)

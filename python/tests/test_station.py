@@ -1,6 +1,7 @@
 """A station in Python: bytes, keys, what they are refused for, and what is seen of it."""
 from __future__ import annotations
 
+import contextlib
 import gc
 import unittest
 import warnings
@@ -62,7 +63,8 @@ class StationTest(unittest.TestCase):
                 self.assertEqual(station.alarms, 0)
                 station.push(record(bytes.fromhex("04110004 04110004 0411200C")))
                 self.assertEqual((station.alarms, station.state.alarms), (3, 3))
-                with self.assertRaises(Refused):
+                ends: contextlib.AbstractContextManager[object] = contextlib.nullcontext()
+                with self.assertRaises(Refused) if strict else ends:
                     station.push(record(bytes.fromhex("04110004") + PAST_END))
                 self.assertEqual(station.alarms, 3)
 
@@ -126,7 +128,7 @@ class StationTest(unittest.TestCase):
 
     def test_refused(self) -> None:
         """The screen is as it was, and what was answered before the byte is there."""
-        with ready_station(FORM) as station:
+        with ready_station(FORM, strict=True) as station:
             before = station.screen
             taken = len(ASKED) + len(record(FORM))
             bad = bytes.fromhex("FFFD27") + record(PAST_END)

@@ -11,7 +11,7 @@ import warnings
 from collections.abc import Callable
 
 from ribbonscarp import ConnectionEnded, Key, KeyRefusal, KeyRefused, Reason, Refused, Session, StatusError, WaitedTooLong
-from ribbonscarp import connect, listen
+from ribbonscarp import Station, connect, listen
 from support import ASKED, FORM, PAST_END, Beside, record
 
 
@@ -23,9 +23,11 @@ def text(word: str) -> bytes:
 class PairTest(unittest.TestCase):
     """A session over one end of a pair of sockets, whose other end the test has."""
 
+    strict = False
+
     def setUp(self) -> None:
         line, self.host = socket.socketpair()
-        self.session = Session(sock=line, wait=5)
+        self.session = Session(sock=line, station=Station(strict=self.strict), wait=5)
         self.addCleanup(self.session.close)
         self.addCleanup(self.host.close)
 
@@ -128,7 +130,11 @@ class GoalsTest(PairTest):
                 self.session.move_cursor(row, column)
 
 
-class EndedTest(PairTest):
+class RefusedTest(PairTest):
+    """A strict station is ended by a record that it refuses."""
+
+    strict = True
+
     def test_refused(self) -> None:
         """Every wait from then on ends at once, and says where, why, and with which bytes."""
         sent = ASKED + record(FORM) + record(PAST_END)
@@ -151,6 +157,8 @@ class EndedTest(PairTest):
         with self.assertRaises(StatusError):
             self.session.press(Key.ENTER)
 
+
+class EndedTest(PairTest):
     def test_closed_host(self) -> None:
         self.send(ASKED, record(FORM))
         self.session.wait_unlocked()
