@@ -29,6 +29,11 @@ size_t ahead_drop(ahead *a)
     return dropped;
 }
 
+action ahead_first(const ahead *a)
+{
+    return a->count > 0 ? a->keys[a->first] : (action){ACTION_NOTHING, 0};
+}
+
 action ahead_last(const ahead *a)
 {
     return a->count > 0 ? a->keys[(a->first + a->count - 1) % AHEAD_ROOM] : (action){ACTION_NOTHING, 0};

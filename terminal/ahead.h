@@ -23,7 +23,8 @@ size_t ahead_drop(ahead *a);
 /* Drops those of the paste that was put last. */
 void ahead_drop_paste(ahead *a);
 
-/* The key that was put last; ACTION_NOTHING where none waits. */
+/* The key that has waited longest, and that was put last; ACTION_NOTHING where none waits. */
+action ahead_first(const ahead *a);
 action ahead_last(const ahead *a);
 
 #endif

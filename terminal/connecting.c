@@ -68,7 +68,7 @@ ribbon_status connecting_station(session *s, const options *asked)
 {
     s->asked = asked;
     return asked->is_strict ? ribbon_station_new(&s->station, asked->terminal)
-                            : ribbon_station_new_extended(&s->station, asked->terminal);
+                            : ribbon_station_new_live(&s->station, asked->terminal, &asked->identity);
 }
 
 bool connecting_begin(session *s)
@@ -90,19 +90,20 @@ static void record_anew(session *s)
         return;
     bool is_whole = recording_end(&s->recording);
     if (!is_whole)
-        session_report(s, "The end of %s couldn't be written.", s->recording.name);
+        session_report(s, "The end of %s couldn't be written.", file_shown(s->recording.name));
     else if (!recording_begin(&s->recording, s->recording.base, &s->kept))
-        session_report(s, "%s can't be written: %s.", s->recording.name, strerror(errno));
+        session_report(s, "%s can't be written: %s.", file_shown(s->recording.name), strerror(errno));
 }
 
 /* Sets back what was of the session that is over. */
 static void forget(session *s)
 {
     again_cancel(&s->again);
-    s->heard_count = s->taken = s->said_count = 0;
+    s->heard_count = s->taken = s->given = s->said_count = 0;
     s->has_rest = s->has_part = s->is_inserting = s->was_lit = s->is_box_open = false;
-    s->scanned = (telnet){.is_in_record = false};
+    s->scanned = s->parted = (telnet){.is_in_record = false};
     s->alarms = 0;
+    s->refusals = (refusals){.records = 0};
     s->status = 0;
     s->note[0] = s->standing[0] = 0;
     s->draws_all = true;

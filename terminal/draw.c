@@ -2,6 +2,7 @@
 
 #include "box.h"
 #include "menu.h"
+#include "sentence.h"
 
 #include <string.h>
 
@@ -71,6 +72,8 @@ status_parts draw_parts(session *s, const ribbon_state *state)
     ribbon_field field;
     status_parts parts = {.turn = turn_words(s, state), .where = s->asked->where};
     parts.note = s->note[0] != 0 ? s->note : s->standing;
+    parts.has_refused = state->refused_records > 0;
+    parts.is_full = state->is_full;
     parts.way = way_words(s, state->error_row != 0);
     parts.is_way_out = s->is_held || s->phase == PHASE_OVER || state->error_row != 0;
     parts.security = !s->asked->tls.is_on ? "" : s->asked->tls.is_unchecked ? " INSECURE" : " TLS";
@@ -83,6 +86,10 @@ status_parts draw_parts(session *s, const ribbon_state *state)
         parts.field_length = field.length;
     parts.row = state->cursor_row;
     parts.column = state->cursor_column;
+    if (parts.note[0] == 0 && s->refusals.is_last) {
+        sentence_record(state->record_reason, status_room(&parts), s->refusals.sentence, sizeof s->refusals.sentence);
+        parts.note = s->refusals.sentence;
+    }
     return parts;
 }
 
@@ -107,7 +114,7 @@ static void draw_too_small(void)
  * session begins, and with a sentence. The host's error is never covered. */
 static bool covers_row(const session *s, const ribbon_state *state)
 {
-    bool is_told = s->note[0] != 0 ? !s->is_aside : s->standing[0] != 0;
+    bool is_told = s->note[0] != 0 ? !s->is_aside : s->standing[0] != 0 || s->refusals.covers;
     bool is_shown = is_told || s->shows_status || session_clock() < s->shown_until;
     return is_shown && state->error_row != SCREEN_ROWS;
 }

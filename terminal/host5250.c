@@ -3,7 +3,7 @@
  *
  *     host5250 [--bad] [PORT]        port 0, which is the default, takes a free one; `listening PORT` is printed first
  *
- * With --bad the form is followed by a command that isn't taken (Roll, reason 33). */
+ * With --bad the form is followed by a command that isn't taken (a Roll from row 0, reason 33). */
 #define _GNU_SOURCE
 #include "ribbonscarp.h"
 
@@ -164,7 +164,7 @@ static uint8_t take_answer(ribbon_host *host, char *came, size_t room)
 static bool react(ribbon_host *host, int line, const ribbon_event *event, unsigned *round, bool is_bad)
 {
     static const uint8_t roll[] = {0x00, 0x0f, 0x12, 0xa0, 0x00, 0x00, 0x04, 0x00, 0x00, 0x03,
-                                   0x04, 0x23, 0x00, 0x01, 0x18, 0xff, 0xef};
+                                   0x04, 0x23, 0x00, 0x00, 0x18, 0xff, 0xef};
     char came[400];
     switch (event->kind) {
     case RIBBON_EVENT_READY:

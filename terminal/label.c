@@ -44,11 +44,20 @@ bool label_of(ribbon_station *station, const ribbon_field *field, char text[LABE
     return true;
 }
 
-bool label_missing(ribbon_station *station, ribbon_field *field)
+/* At a station of the profile, which doesn't tell it (SC30-3533, mandatory enter). */
+static bool is_unentered(ribbon_station *station, ribbon_field *field)
 {
     enum { DECIDING = RIBBON_FORMAT_BYPASS | RIBBON_FORMAT_MANDATORY_ENTER | RIBBON_FORMAT_MODIFIED };
     for (size_t at = 0; ribbon_station_field(station, at, field) == RIBBON_DONE; at++)
         if ((field->format & DECIDING) == RIBBON_FORMAT_MANDATORY_ENTER)
             return true;
     return false;
+}
+
+bool label_missing(ribbon_station *station, uint8_t refusal, ribbon_field *field)
+{
+    uint16_t index;
+    if (ribbon_station_missing(station, refusal, &index) == RIBBON_DONE)
+        return ribbon_station_field(station, index, field) == RIBBON_DONE;
+    return refusal == RIBBON_KEY_MANDATORY_ENTER && is_unentered(station, field);
 }

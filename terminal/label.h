@@ -10,8 +10,8 @@ enum { LABEL_LONGEST = 26, LABEL_ROOM = 4 * LABEL_LONGEST + 1 };
  * two blanks. False where there is none, or a longer one. */
 bool label_of(ribbon_station *station, const ribbon_field *field, char text[LABEL_ROOM]);
 
-/* The first field that has to be entered and wasn't, by which keys are refused (SC30-3533, mandatory enter); false
- * where there is none. */
-bool label_missing(ribbon_station *station, ribbon_field *field);
+/* The first field for which a key is refused so, RIBBON_KEY_...: that has to be entered or filled; false where there is
+ * none. */
+bool label_missing(ribbon_station *station, uint8_t refusal, ribbon_field *field);
 
 #endif

@@ -20,11 +20,12 @@ static void switch_recording(session *s)
 {
     if (s->recording.file != NULL) {
         bool is_whole = recording_end(&s->recording);
-        session_report(s, is_whole ? "Recorded in %s." : "The end of %s couldn't be written.", s->recording.name);
+        session_report(s, is_whole ? "Recorded in %s." : "The end of %s couldn't be written.",
+                       file_shown(s->recording.name));
     } else if (recording_begin(&s->recording, s->asked->record != NULL ? s->asked->record : RECORDING_NAME, &s->kept)) {
-        session_report(s, "Recording in %s. It holds passwords.", s->recording.name);
+        session_report(s, "Recording in %s. It holds passwords.", file_shown(s->recording.name));
     } else {
-        session_report(s, "%s can't be written: %s.", s->recording.name, strerror(errno));
+        session_report(s, "%s can't be written: %s.", file_shown(s->recording.name), strerror(errno));
     }
 }
 
@@ -168,7 +169,7 @@ static void draw_name(size_t at, const char *name)
 }
 
 /* What is typed of a name, and the names that there are. */
-static void draw_question(const session *s)
+static void draw_question(session *s)
 {
     char text[100];
     const char *question = s->asks == ASKS_TO_KEEP ? "Name of the" : "Play which";
@@ -178,15 +179,26 @@ static void draw_question(const session *s)
     put(3, 0, text);
 }
 
-static void draw_words(const session *s)
+/* Why a record was refused last; nothing where none was. */
+static const char *last_refused(session *s, char *text, size_t room)
 {
+    ribbon_state state;
+    text[0] = 0;
+    if (ribbon_station_state(&s->station, &state) == RIBBON_DONE && state.refused_records > 0)
+        (void)snprintf(text, room, "Last refused, %s", ribbon_reason_text(state.record_reason));
+    return text;
+}
+
+static void draw_words(session *s)
+{
+    char refused[120];
     static const char *const signs[] = {
         "F1 to F12     also Esc 1 to =     F13 to F24  with Shift or Esc, also Esc ! to +",
         "Mouse         a click moves the cursor, the wheel is Roll; Shift selects text",
         "Keypad        its + and - are Field Plus and Field Minus",
         "Paste         a line goes into one field, its end to the next, and sends nothing",
         "MW  a message waits   INS  insert mode   REC, MAC  recording   T  keys wait",
-        "TLS  the host's certificate is right   INSECURE  TLS, and nothing is checked",
+        "TLS  certificate right   INSECURE  unchecked   refused  data that weren't taken",
         "field 10  length of the cursor's field   06/053  row and column of the cursor",
     };
     put(1, 0, "q  leave           p  the screen into " SCREEN_NAME "       any other key  back");
@@ -196,8 +208,7 @@ static void draw_words(const session *s)
     put(3, 19, s->phase == PHASE_OVER ? "c  connect again" : "a  play a macro");
     if (!window_has_status())
         put(3, 38, "t  the status line over row 24, or off it");
-    if (s->standing[0] != 0)
-        put(4, 0, s->standing);
+    put(4, 0, s->standing[0] != 0 ? s->standing : last_refused(s, refused, sizeof refused));
     draw_keys(s, 5);
     for (size_t at = 0; at < sizeof signs / sizeof signs[0]; at++)
         put(5 + KEY_ROWS + (int)at, 0, signs[at]);

@@ -16,6 +16,16 @@ static unsigned place_of(uint8_t row, uint8_t column)
     return (row - 1U) * RIBBON_COLUMNS + column - 1U;
 }
 
+static uint8_t row_of(unsigned place)
+{
+    return (uint8_t)(place / RIBBON_COLUMNS + 1);
+}
+
+static uint8_t column_of(unsigned place)
+{
+    return (uint8_t)(place % RIBBON_COLUMNS + 1);
+}
+
 /* What a call of the library answered that presses several keys. */
 static ribbon_status several(ribbon_status status, const ribbon_told *told, uint8_t *refusal)
 {
@@ -70,8 +80,7 @@ static ribbon_status text_length(ribbon_station *station, const ribbon_field *fi
     for (*length = field->length; *length > 0; *length -= 1) {
         unsigned place = first + *length - 1;
         uint8_t byte;
-        status = ribbon_station_cell(station, (uint8_t)(place / RIBBON_COLUMNS + 1),
-                                     (uint8_t)(place % RIBBON_COLUMNS + 1), &byte);
+        status = ribbon_station_cell(station, row_of(place), column_of(place), &byte);
         if (status != RIBBON_DONE || (byte != 0x00 && byte != 0x40))
             break;
     }
@@ -92,15 +101,31 @@ ribbon_status moves_field_end(ribbon_station *station, uint8_t *refusal)
     if (length == field.length)
         length--;
     unsigned place = place_of(field.row, field.column) + length;
-    return moves_to(station, (uint8_t)(place / RIBBON_COLUMNS + 1), (uint8_t)(place % RIBBON_COLUMNS + 1), refusal);
+    return moves_to(station, row_of(place), column_of(place), refusal);
 }
 
-void moves_to_missing(ribbon_station *station)
+/* The place of a field's first empty cell; its first where none is. */
+static unsigned empty_place(ribbon_station *station, const ribbon_field *field)
+{
+    unsigned first = place_of(field->row, field->column);
+    for (unsigned place = first; place < first + field->length; place++) {
+        uint8_t byte = 0;
+        (void)ribbon_station_cell(station, row_of(place), column_of(place), &byte); /* all are on the screen */
+        if (byte == 0x00)
+            return place;
+    }
+    return first;
+}
+
+void moves_to_missing(ribbon_station *station, uint8_t refusal)
 {
     ribbon_field field;
-    uint8_t refusal;
-    if (label_missing(station, &field))
-        (void)moves_to(station, field.row, field.column, &refusal); /* where it is refused the cursor stays */
+    uint8_t refused;
+    if (!label_missing(station, refusal, &field))
+        return;
+    unsigned place = refusal == RIBBON_KEY_MANDATORY_FILL ? empty_place(station, &field)
+                                                          : place_of(field.row, field.column);
+    (void)moves_to(station, row_of(place), column_of(place), &refused); /* where it is refused the cursor stays */
 }
 
 bool moves_has_next(ribbon_station *station)
@@ -125,6 +150,8 @@ ribbon_status moves_backspace(ribbon_station *station, uint8_t *refusal, bool *a
     *at_begin = false;
     if (!has_field(station, &state, &field, &offset) || (field.format & RIBBON_FORMAT_BYPASS) != 0)
         return press(station, RIBBON_KEY_DELETE, refusal); /* It is refused, by the reason of Backspace. */
+    if (state.is_full)
+        return press(station, RIBBON_KEY_DELETE, refusal);
     *at_begin = offset == 0;
     if (*at_begin)
         return RIBBON_DONE;

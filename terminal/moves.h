@@ -21,13 +21,15 @@ ribbon_status moves_field_begin(ribbon_station *station, uint8_t *refusal);
 /* The cursor goes behind the last character of its field, at most to the last cell; it stays where it is in none. */
 ribbon_status moves_field_end(ribbon_station *station, uint8_t *refusal);
 
-/* The cursor goes to the first field that has to be entered and wasn't; it stays where there is none. */
-void moves_to_missing(ribbon_station *station);
+/* The cursor goes into the field for which a key is refused so, RIBBON_KEY_...: to the first cell of one that has to be
+ * entered, to the first empty one of one that has to be filled. It stays where there is none. */
+void moves_to_missing(ribbon_station *station, uint8_t refusal);
 
 /* Whether a field that keys enter begins behind the cursor: Tab goes there, and else to the first one. */
 bool moves_has_next(ribbon_station *station);
 
-/* Backspace: the character before the cursor goes. At a field's first cell nothing is done, and `at_begin` is set. */
+/* Backspace: the character before the cursor goes, in a full field that at the cursor. Else nothing is done at a field's
+ * first cell, and `at_begin` is set. */
 ribbon_status moves_backspace(ribbon_station *station, uint8_t *refusal, bool *at_begin);
 
 #endif

@@ -2,10 +2,9 @@
 #define _GNU_SOURCE
 #include "options.h"
 
-#include "ribbonscarp.h"
-
 #include <getopt.h>
 #include <stdio.h>
+#include <stdlib.h>
 #include <string.h>
 
 static const char usage[] =
@@ -13,6 +12,12 @@ static const char usage[] =
     "       term5250 --list\n"
     "  --terminal NAME     IBM-5251-11, IBM-5291-1, IBM-5292-2, IBM-3196-A1 or\n"
     "                      IBM-3179-2, which is the default\n"
+    "  --device NAME       the display's name: 1 to 10 letters, digits, $ # @ . or _;\n"
+    "                      without it the host names it\n"
+    "  --code-page NUMBER  of what is typed and shown: 37, which is the default, 273,\n"
+    "                      277, 278, 280, 284, 285, 297, 500, 871 or 1140 to 1149\n"
+    "  --keyboard TYPE     what the host is told of the keyboard, in place of the\n"
+    "                      code page's own: three letters and digits, as USB\n"
     "  --record FILE       records what both ends send; FILE-1, FILE-2 .. where FILE\n"
     "                      is there already\n"
     "  --keys FILE         a keys file in place of ~/.config/term5250/keys; tn5250\n"
@@ -48,6 +53,9 @@ typedef enum {
     WORD_VERSION = 0x100,
     WORD_LIST,
     WORD_TERMINAL,
+    WORD_DEVICE,
+    WORD_CODE_PAGE,
+    WORD_KEYBOARD,
     WORD_RECORD,
     WORD_KEYS,
     WORD_TLS,
@@ -65,13 +73,19 @@ typedef enum {
     WORD_NO_MOUSE
 } word;
 
-enum { OWN_WORDS = 3 }; /* the first so many aren't for the hosts file */
+enum {
+    OWN_WORDS = 3, /* the first so many aren't for the hosts file */
+    CODE_PAGE = 37
+};
 
 static const struct option known[] = {
     {"help", no_argument, NULL, WORD_HELP},
     {"version", no_argument, NULL, WORD_VERSION},
     {"list", no_argument, NULL, WORD_LIST},
     {"terminal", required_argument, NULL, WORD_TERMINAL},
+    {"device", required_argument, NULL, WORD_DEVICE},
+    {"code-page", required_argument, NULL, WORD_CODE_PAGE},
+    {"keyboard", required_argument, NULL, WORD_KEYBOARD},
     {"record", required_argument, NULL, WORD_RECORD},
     {"keys", required_argument, NULL, WORD_KEYS},
     {"tls", no_argument, NULL, WORD_TLS},
@@ -140,6 +154,44 @@ static options_result print_hosts(reading *r)
     return hosts_list(stdout, why) ? print(r, "") : complain(r, why);
 }
 
+/* Whether a station takes an identity. Where memory is wanting that is told later. */
+static bool is_taken(const ribbon_identity *identity)
+{
+    ribbon_station station = RIBBON_STATION_NONE;
+    ribbon_status status = ribbon_station_new_live(&station, "IBM-3179-2", identity);
+    ribbon_station_free(&station);
+    return status != RIBBON_BAD_ARGUMENT;
+}
+
+static options_result choose_device(reading *r, const char *value)
+{
+    if (value[0] == 0 || !is_taken(&(ribbon_identity){.device = value}))
+        return refuse(r, "--device is 1 to 10 of A to Z, 0 to 9, $ # @ _ and ., not first 0 to 9, _ or ., and not %s",
+                      value);
+    r->asked->identity.device = value;
+    return OPTIONS_RUN;
+}
+
+static options_result choose_keyboard(reading *r, const char *value)
+{
+    if (value[0] == 0 || !is_taken(&(ribbon_identity){.keyboard = value}))
+        return refuse(r, "--keyboard is three letters and digits, as USB, and not %s", value);
+    r->asked->identity.keyboard = value;
+    return OPTIONS_RUN;
+}
+
+static options_result choose_code_page(reading *r, const char *value)
+{
+    size_t digits = strspn(value, "0123456789");
+    unsigned long number = digits <= 4 && value[digits] == 0 ? strtoul(value, NULL, 10) : 0;
+    ribbon_identity identity = {.code_page = (uint16_t)number};
+    if (number == 0 || !is_taken(&identity))
+        return refuse(r, "--code-page is 37, 273, 277, 278, 280, 284, 285, 297, 500, 871 or 1140 to 1149, and not %s",
+                      value);
+    r->asked->identity.code_page = identity.code_page;
+    return OPTIONS_RUN;
+}
+
 static options_result choose_background(reading *r, const char *value)
 {
     bool is_black = strcmp(value, "black") == 0;
@@ -174,6 +226,9 @@ static options_result take(reading *r, int which, const char *value)
     case WORD_VERSION: return print_version(r);
     case WORD_LIST: return print_hosts(r);
     case WORD_TERMINAL: o->terminal = value; return OPTIONS_RUN;
+    case WORD_DEVICE: return choose_device(r, value);
+    case WORD_CODE_PAGE: return choose_code_page(r, value);
+    case WORD_KEYBOARD: return choose_keyboard(r, value);
     case WORD_RECORD: o->record = value; return OPTIONS_RUN;
     case WORD_KEYS: o->keys = value; return OPTIONS_RUN;
     case WORD_TLS: o->tls.is_on = true; return OPTIONS_RUN;
@@ -252,6 +307,15 @@ static options_result check_tls(reading *r)
     return OPTIONS_RUN;
 }
 
+/* A station of the profile says nothing of itself, and has one code page. */
+static options_result check_strict(reading *r)
+{
+    const ribbon_identity *identity = &r->asked->identity;
+    bool is_named = identity->device != NULL || identity->keyboard != NULL || identity->code_page != CODE_PAGE;
+    return is_named && r->asked->is_strict ? refuse(r, "%s", "--device, --code-page and --keyboard aren't for --strict")
+                                           : OPTIONS_RUN;
+}
+
 static options_result read_all(reading *r, int count, char **words)
 {
     char why[400];
@@ -260,7 +324,7 @@ static options_result read_all(reading *r, int count, char **words)
         return refuse(r, "%s", "it needs a host");
     if (read_words(r, count, words, known) == OPTIONS_END || look_up(r, count, words) == OPTIONS_END)
         return OPTIONS_END;
-    if (check_tls(r) == OPTIONS_END)
+    if (check_tls(r) == OPTIONS_END || check_strict(r) == OPTIONS_END)
         return OPTIONS_END;
     if (address_read(&o->to, o->where, o->tls.is_on ? "992" : "23", why, sizeof why))
         return OPTIONS_RUN;
@@ -272,6 +336,7 @@ options_result options_read(options *o, int count, char **words, int *status)
     static char name[] = "term5250";
     reading r = {.asked = o, .by = name};
     *o = (options){.terminal = "IBM-3179-2", .holds = true, .types_ahead = true, .has_mouse = true, .separators = true};
+    o->identity.code_page = CODE_PAGE;
     if (count > 0)
         words[0] = name;
     options_result result = read_all(&r, count, words);

@@ -4,10 +4,12 @@
 
 #include "address.h"
 #include "hosts.h"
+#include "ribbonscarp.h"
 #include "tls.h"
 
 typedef struct {
     const char *terminal; /* its type's name */
+    ribbon_identity identity; /* what a host is told that asks who the station is */
     const char *record;   /* a file's name, or null */
     const char *keys;     /* the keys file's name, or null */
     const char *where;    /* HOST[:PORT] as written, in the hosts file where that has it by a name */

@@ -27,7 +27,7 @@ bool paste_is_part(action_kind kind)
 
 void paste_start(paste *p)
 {
-    p->is_full = p->is_last = p->is_over = false;
+    p->is_full = p->is_last = p->is_over = p->is_sent = false;
     p->count = p->total = 0;
     p->why[0] = 0;
 }
@@ -35,6 +35,8 @@ void paste_start(paste *p)
 bool paste_takes(paste *p)
 {
     p->total++;
+    if (p->is_sent)
+        paste_stop(p, "Its field has sent the screen.");
     if (p->is_full)
         paste_stop(p, "The field is full.");
     if (p->is_over)
@@ -49,9 +51,14 @@ void paste_went_in(paste *p, bool has_moved_on, bool is_below)
     p->is_last = has_moved_on && !is_below;
 }
 
+void paste_has_sent(paste *p)
+{
+    p->is_sent = true;
+}
+
 bool paste_line_ends(paste *p, bool has_below)
 {
-    bool moves = !p->is_full && !p->is_over && has_below && p->why[0] == 0;
+    bool moves = !p->is_full && !p->is_over && !p->is_sent && has_below && p->why[0] == 0;
     p->is_over = p->is_over || (p->is_full ? p->is_last : !has_below);
     p->is_full = false;
     return moves;

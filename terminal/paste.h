@@ -16,6 +16,7 @@ typedef struct {
     bool is_full; /* the line has filled its field, and the cursor has left it */
     bool is_last; /* to no field below */
     bool is_over; /* the line in the last field has ended */
+    bool is_sent; /* the screen, by the Enter that follows its field's last character (auto enter) */
     size_t count; /* characters that went in */
     size_t total; /* characters of all of it */
     char why[PASTE_WHY_ROOM]; /* a sentence, where it has stopped */
@@ -38,6 +39,9 @@ bool paste_takes(paste *p);
 /* Tells that a character went in; whether the cursor went on to another field by itself, and whether that is further
  * below. */
 void paste_went_in(paste *p, bool has_moved_on, bool is_below);
+
+/* Tells that the screen has gone out with it: the rest isn't for the next one. */
+void paste_has_sent(paste *p);
 
 /* Whether a line's end is to go to the next field, where there is one below the cursor or not: not where the last
  * character has gone there, and from the last field never to the first. */

@@ -51,8 +51,9 @@ static void refuse(session *s, action key, const pressed *p)
 {
     char why[PASTE_WHY_ROOM];
     bool is_refused = p->status == RIBBON_KEY_REFUSED; /* and not a request before a session has begun */
+    const refused_key refused = {key, p->refusal, s->asked->identity.code_page, s->asked->is_strict, &s->keys};
     if (is_refused)
-        sentence_refused(&s->station, &s->keys, key, p->refusal, why, sizeof why);
+        sentence_refused(&s->station, &refused, why, sizeof why);
     else
         (void)snprintf(why, sizeof why, "Nothing can be sent: %s.", ribbon_status_text(p->status));
     if (paste_is_part(key.kind)) {
@@ -60,8 +61,7 @@ static void refuse(session *s, action key, const pressed *p)
     } else if (is_refused) {
         hold(s, why);
         s->is_insert_refused = key.kind == ACTION_INSERTED;
-        if (p->refusal == RIBBON_KEY_MANDATORY_ENTER)
-            moves_to_missing(&s->station);
+        moves_to_missing(&s->station, p->refusal);
     } else {
         session_tell(s, "%s", why);
         s->rings = true;
@@ -84,7 +84,8 @@ static void end_paste(session *s)
     s->is_insert_refused = s->is_inserting;
 }
 
-static void press_part(session *s, action key)
+/* A part of a paste; whether the screen has gone out with it. */
+static bool press_part(session *s, action key)
 {
     pressed p = {0};
     switch (key.kind) {
@@ -95,6 +96,8 @@ static void press_part(session *s, action key)
         p = pressed_key(s, key);
         if (p.status == RIBBON_DONE)
             paste_went_in(&s->paste, p.has_moved_on, p.is_below);
+        if (p.has_sent)
+            paste_has_sent(&s->paste);
         break;
     case ACTION_PASTED_END:
         if (paste_line_ends(&s->paste, moves_has_next(&s->station)))
@@ -104,6 +107,16 @@ static void press_part(session *s, action key)
     }
     if (p.status != RIBBON_DONE)
         refuse(s, key, &p);
+    return p.has_sent;
+}
+
+/* Remembers the key that was sent last; of another one that has sent, the Enter that follows it. */
+static void remember(session *s, action key, bool has_sent)
+{
+    if (key.kind == ACTION_AID)
+        s->sent = key;
+    else if (key.kind != ACTION_ATTENTION && key.kind != ACTION_SYSTEM_REQUEST)
+        s->sent = has_sent ? (action){ACTION_AID, RIBBON_AID_ENTER} : (action){ACTION_NOTHING, 0};
 }
 
 /* A key that isn't held off, or a part of a paste; false where a key was refused. */
@@ -116,15 +129,14 @@ static bool press_does(session *s, action key)
         return false;
     }
     if (paste_is_part(key.kind))
-        press_part(s, key);
+        p.has_sent = press_part(s, key);
     else
         p = pressed_key(s, key);
     if (p.status != RIBBON_DONE) {
         refuse(s, key, &p);
         return false;
     }
-    if (key.kind != ACTION_ATTENTION && key.kind != ACTION_SYSTEM_REQUEST)
-        s->sent = key.kind == ACTION_AID ? key : (action){ACTION_NOTHING, 0};
+    remember(s, key, p.has_sent);
     return true;
 }
 
@@ -144,15 +156,43 @@ static void tell_no_room(session *s, action key)
     session_tell(s, "%s%d keys wait, and no more can.", is_part ? "The paste is dropped: " : "", AHEAD_ROOM);
 }
 
+static void tell_impatient(session *s)
+{
+    session_tell(s, "This key again is dropped: the host hasn't answered the first.");
+    s->rings = true;
+}
+
 static void let_wait(session *s, action key)
 {
-    if (is_impatient(s, key))
-        session_tell(s, "This key again is dropped: the host hasn't answered the first.");
-    else if (!ahead_put(&s->ahead, key))
+    if (is_impatient(s, key)) {
+        tell_impatient(s);
+    } else if (!ahead_put(&s->ahead, key)) {
         tell_no_room(s, key);
-    else
+        s->rings = true;
+    }
+}
+
+/* What of a paste comes after it has sent the screen, and enters nothing: it needn't wait for the next one. */
+static bool ends_sent_paste(session *s, action key)
+{
+    bool is_end = key.kind == ACTION_PASTE_ENDS;
+    if (!s->paste.is_sent || !(is_end || key.kind == ACTION_PASTED_END))
+        return false;
+    if (is_end)
+        end_paste(s);
+    return true;
+}
+
+/* An Enter that waits, and that was typed behind a key after which Enter has come by itself. */
+static void drop_impatient(session *s, action last)
+{
+    action next = ahead_first(&s->ahead);
+    for (; last.kind == ACTION_PASTED && ends_sent_paste(s, next); next = ahead_first(&s->ahead))
+        (void)ahead_take(&s->ahead, &next);
+    if (last.kind == ACTION_AID || next.kind != ACTION_AID || !action_is(next, s->sent))
         return;
-    s->rings = true;
+    (void)ahead_take(&s->ahead, &next);
+    tell_impatient(s);
 }
 
 /* Why nothing is taken. */
@@ -188,6 +228,17 @@ static void ring_off(session *s, action key, const turn *now)
                      key.value == RIBBON_AID_HELP ? "Help" : "This key");
     else if (!now->is_over && !now->is_held && !now->has_error)
         session_tell(s, "The host has the keyboard: the key is dropped.");
+}
+
+/* A key for which the keyboard isn't free. */
+static void hold_off(session *s, action key, const turn *now)
+{
+    if (s->ahead.count == 0 && ends_sent_paste(s, key))
+        return;
+    if (s->asked->types_ahead)
+        let_wait(s, key);
+    else
+        ring_off(s, key, now);
 }
 
 /* The station's Reset, which takes the host's error away and sends nothing. */
@@ -255,6 +306,7 @@ static bool press_own(session *s, action key)
 void press_key(session *s, action key)
 {
     s->note[0] = 0;
+    s->refusals.covers = false;
     if (press_own(s, key))
         return;
     s->shown_until = 0;
@@ -262,12 +314,7 @@ void press_key(session *s, action key)
     verdict what = hold_judges(&now, key.kind);
     switch (what) {
     case VERDICT_PRESS: (void)press_does(s, key); break; /* a refusal has been told */
-    case VERDICT_WAIT:
-        if (s->asked->types_ahead)
-            let_wait(s, key);
-        else
-            ring_off(s, key, &now);
-        break;
+    case VERDICT_WAIT: hold_off(s, key, &now); break;
     case VERDICT_RING: ring_off(s, key, &now); break;
     default: reset(s, what); break;
     }
@@ -305,6 +352,7 @@ void press_ahead(session *s)
            && (macros_next(s, &key) || ahead_take(&s->ahead, &key))) {
         if (!press_does(s, key))
             return;
+        drop_impatient(s, key);
         now = press_turn(s);
     }
 }

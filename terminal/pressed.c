@@ -50,10 +50,12 @@ static pressed press_one(session *s, action key)
     p.status = ribbon_station_key(&s->station, station_key_of(key.kind, s->is_inserting), key.value, answer,
                                   sizeof answer, &told);
     p.refusal = told.reason;
-    if (p.status == RIBBON_DONE && told.length > 0 && !session_send(s, answer, told.length))
+    p.has_sent = p.status == RIBBON_DONE && told.length > 0;
+    if (p.has_sent && !session_send(s, answer, told.length))
         session_over(s, 1, "The host doesn't take what is sent."); /* there was room for it */
     if (ribbon_station_state(&s->station, &after) == RIBBON_DONE) {
-        p.has_moved_on = after.cursor_field != before.cursor_field || cursor_of(&after) != cursor_of(&before) + 1;
+        p.has_moved_on = !after.is_full
+                         && (after.cursor_field != before.cursor_field || cursor_of(&after) != cursor_of(&before) + 1);
         p.is_below = cursor_of(&after) > cursor_of(&before);
     }
     return p;

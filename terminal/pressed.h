@@ -9,6 +9,7 @@ typedef struct {
     uint8_t refusal;   /* RIBBON_KEY_IS_...; 0 where it wasn't refused */
     bool has_moved_on; /* the cursor stands elsewhere than one cell further in its field */
     bool is_below;     /* and that is further below */
+    bool has_sent;     /* something, also by the Enter that follows a field's last key (auto enter) */
 } pressed;
 
 /* Whether a key's answer has room, and comes behind all that the station has written; where there is no line yet, the

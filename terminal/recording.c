@@ -4,10 +4,11 @@
 #include <errno.h>
 #include <fcntl.h>
 #include <inttypes.h>
+#include <string.h>
 #include <sys/stat.h>
 #include <unistd.h>
 
-enum { NAMES_TRIED = 10000 };
+enum { NAMES_TRIED = 10000, NAME_SHOWN = 24 };
 
 static bool is_special(const char *name)
 {
@@ -53,6 +54,18 @@ FILE *file_made(const char *name, char *made, size_t room)
         errno = why;
     }
     return file;
+}
+
+const char *file_shown(const char *name)
+{
+    size_t length = strlen(name);
+    if (length <= NAME_SHOWN)
+        return name;
+    const char *end = name + length - NAME_SHOWN;
+    while (((unsigned char)*end & 0xc0) == 0x80) /* inside a character of UTF-8 */
+        end++;
+    const char *part = strchr(end - 1, '/'); /* a folder may begin just there */
+    return part != NULL && part[1] != 0 ? part + 1 : end;
 }
 
 /* Closes the file of a recording that has failed, and keeps errno. */

@@ -19,6 +19,9 @@ typedef struct {
  * no plain file but a pipe or a device, it is written to. `made` gets its name. Null, by errno, where that can't be. */
 FILE *file_made(const char *name, char *made, size_t room);
 
+/* As much of a name's end as a sentence has room for, from a folder or a file on where one begins there. */
+const char *file_shown(const char *name);
+
 /* Begins a recording with what has been kept so far; `name` lasts as long as the recording. False, by errno, where the
  * file can't be made or written; nothing is recorded then. */
 bool recording_begin(recording *r, const char *name, const kept *k);

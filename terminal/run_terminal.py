@@ -1,12 +1,13 @@
 #!/usr/bin/env python3
 """Types into the terminal: `run_terminal.py TERM5250 HOST5250 T5250 [OPTION]..`.
 
-Its parts stand in tests/: what a clerk does, what is shown, faults, connecting, TLS, the hosts file, what live hosts
-send, what hurts at a desk, macros, sizes in tmux, random work. With `--sanitized TERM5250` a terminal that was built
-with sanitizers takes the random work, which is left out without it, and with `--without-tls TERM5250` one that was
-built without TLS says so. With --long it is ten minutes of random keys, pastes, sizes, losses and records, five of
-typing beside a model of it, 120 hosts that send garbage, and 5,000 screens; without, a little of each, and all takes
-about two minutes. With --only the parts whose name has a word. Ends with 'N passed, N failed'.
+Its parts stand in tests/: what a clerk does, what is shown, refused records, faults, connecting, TLS, the hosts file,
+what live hosts send, what hurts at a desk, what fields ask, identities and code pages, macros, sizes in tmux, random
+work. With `--sanitized TERM5250` a terminal that was built with sanitizers takes the random work, which is left out
+without it, and with `--without-tls TERM5250` one that was built without TLS says so. With --long it is ten minutes of
+random keys, pastes, sizes, losses and records, also refused ones, five of typing beside a model of it, 120 hosts that
+send garbage, and 5,000 screens; without, a little of each, and all takes about two minutes. With --only the parts whose
+name has a word. Ends with 'N passed, N failed'.
 """
 import argparse
 import pathlib
@@ -19,13 +20,16 @@ HERE = pathlib.Path(__file__).resolve().parent
 sys.path[:0] = [str(HERE / "tests"), str(HERE.parent / "tests")]
 import connecting
 import desk
+import entry
 import faults
 import hosts
 import hosts_file
+import identity
 import in_tmux
 import live
 import long
 import macros
+import refusals
 import secured
 import shown
 import window
@@ -49,10 +53,11 @@ def parts(words):
     yield from (shown.attributes, shown.grounds, shown.locales, shown.characters, shown.status_line,
                 shown.blinking_without_shapes, shown.at_24_rows, shown.small_windows, shown.function_keys, shown.keypad,
                 shown.editing, shown.keys_files, shown.print_screen)
-    yield from (faults.refused, faults.refused_by_name, faults.recordings, faults.cutting, faults.cut_behind_iac,
-                faults.kept_is_the_last, faults.bad_peers, faults.synch, faults.ipv6, faults.floods,
-                faults.while_connecting, faults.in_the_menu, faults.command_lines, faults.without_a_terminal,
-                faults.unwritable_files)
+    yield from (refusals.refused_record, refusals.in_a_row, refusals.at_24_rows, refusals.by_name,
+                refusals.over_by_bytes)
+    yield from (faults.recordings, faults.cutting, faults.cut_behind_iac, faults.kept_is_the_last, faults.bad_peers,
+                faults.synch, faults.ipv6, faults.floods, faults.while_connecting, faults.in_the_menu,
+                faults.command_lines, faults.without_a_terminal, faults.unwritable_files)
     yield from (connecting.the_box, connecting.again_where_nobody_is, connecting.wrapped, connecting.by_itself,
                 connecting.at_first, connecting.silences)
     yield from (secured.right, secured.refused_certificates, secured.refused_later, secured.own_certificate,
@@ -62,8 +67,11 @@ def parts(words):
     yield from (desk.pastes_too_long, desk.pastes_into_options, desk.pastes_that_wait, desk.enters_too_many,
                 desk.without_type_ahead, desk.missing_fields, desk.numbers, desk.inserting, desk.keys_of_others,
                 desk.wheel, desk.typed_escapes, desk.error_of_the_host)
-    yield from (macros.over_two_screens, macros.never_into_a_hidden_field, macros.stops, macros.over_a_lost_line,
-                macros.keeping)
+    yield from (entry.field_exit_required, entry.mandatory_fill, entry.auto_enter, entry.auto_enter_ahead,
+                entry.auto_enter_pasted, entry.monocase, entry.insert_room)
+    yield from (identity.names_told, identity.names_refused, identity.german, identity.euros, identity.wrong_words)
+    yield from (macros.over_two_screens, macros.over_screens_that_send_themselves, macros.never_into_a_hidden_field,
+                macros.stops, macros.over_a_lost_line, macros.keeping)
     yield in_tmux.sizes
 
     def screens():

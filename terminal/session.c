@@ -78,7 +78,7 @@ static void keep(session *s, bool is_host, const uint8_t *bytes, size_t count)
     bool was_recording = s->recording.file != NULL;
     kept_add(&s->kept, is_host, session_clock() - s->begun, bytes, count, recording_piece, &s->recording);
     if (was_recording && s->recording.file == NULL) {
-        session_report(s, "Nothing more is recorded in %s: %s.", s->recording.name, strerror(errno));
+        session_report(s, "Nothing more is recorded in %s: %s.", file_shown(s->recording.name), strerror(errno));
         s->rings = true;
     }
 }
@@ -118,17 +118,48 @@ static bool has_room(const session *s)
     return line_left(&s->line) >= RIBBON_REPLY_ROOM + RIBBON_ANSWER_ROOM;
 }
 
+/* Where the station has taken what it was given: up to where more is, a record's end or all that has come. */
+static void give_more(session *s)
+{
+    telnet_found found = TELNET_OTHER;
+    if (s->taken == s->given)
+        while (s->given < s->heard_count && found != TELNET_EOR)
+            found = telnet_take(&s->parted, s->heard[s->given++]);
+}
+
+/* Tells that a record was refused, or the device's name. */
+static void tell_refusals(session *s)
+{
+    ribbon_state state;
+    refusals *last = &s->refusals;
+    if (ribbon_station_state(&s->station, &state) != RIBBON_DONE)
+        return;
+    bool is_refused = state.refused_records != last->records, is_named_anew = state.names_refused != last->names;
+    if (is_refused || state.records != last->carried_out)
+        last->is_last = last->covers = is_refused;
+    if (is_refused)
+        s->note[0] = 0;
+    if (is_named_anew && last->names == 0)
+        session_report(s, "The host refused the name %s, and picks another.", s->asked->identity.device);
+    s->rings = s->rings || is_refused || (is_named_anew && last->names == 0);
+    last->records = state.refused_records;
+    last->carried_out = state.records;
+    last->names = state.names_refused;
+}
+
 /* Gives the station more of what the host sent, and the host what the station answers, as much as the line takes. */
 static ribbon_status push_more(session *s, ribbon_pushed *pushed)
 {
     uint8_t reply[PIECE];
     size_t left = line_left(&s->line) - RIBBON_ANSWER_ROOM, room = left < sizeof reply ? left : sizeof reply;
-    ribbon_status status = ribbon_station_push(&s->station, s->heard + s->taken, s->heard_count - s->taken, reply, room,
+    give_more(s);
+    ribbon_status status = ribbon_station_push(&s->station, s->heard + s->taken, s->given - s->taken, reply, room,
                                                pushed);
     s->taken += pushed->taken;
     s->has_part = status == RIBBON_NO_ROOM && pushed->replied == room;
     if (!session_send(s, reply, pushed->replied))
         session_over(s, 1, "The host doesn't take the station's replies.");
+    tell_refusals(s);
     return status;
 }
 
@@ -137,7 +168,8 @@ static bool take(session *s)
 {
     ribbon_pushed pushed;
     ribbon_status status = RIBBON_NO_ROOM;
-    while (status == RIBBON_NO_ROOM && s->phase == PHASE_OPEN) {
+    while (s->phase == PHASE_OPEN
+           && (status == RIBBON_NO_ROOM || (status == RIBBON_DONE && s->taken < s->heard_count))) {
         if (!has_room(s))
             return false;
         status = push_more(s, &pushed);
@@ -174,7 +206,7 @@ static void hear(session *s)
             return;
         if (s->phase != PHASE_OPEN || !has_room(s))
             return;
-        s->taken = 0;
+        s->taken = s->given = 0;
         switch (line_hear(&s->line, s->heard, sizeof s->heard, &s->heard_count)) {
         case LINE_CAME:
             s->silent = 0;

@@ -21,6 +21,16 @@ enum {
     SILENCE = 10000 /* milliseconds: a host that has sent nothing for so long is told */
 };
 
+/* What the host has sent that wasn't taken, as it was looked at last. */
+typedef struct {
+    uint64_t records;       /* how many records were refused */
+    uint64_t carried_out;   /* and how many weren't */
+    uint64_t names;         /* how often the device's name was */
+    bool is_last;           /* the record that came last was refused: a sentence tells it up to the next one, */
+    bool covers;            /* up to the next key also where it covers a row of the screen */
+    char sentence[100];     /* as it is shown */
+} refusals;
+
 typedef struct {
     const options *asked;
     bindings keys;
@@ -36,7 +46,10 @@ typedef struct {
     line line;
     uint8_t heard[KEPT_PIECE]; /* what came last, up to `heard_count`; the station has taken the first `taken` */
     size_t heard_count;
+    size_t given; /* up to there it is given to the station: a record's end, or what has come of one */
+    telnet parted; /* for that */
     size_t taken;
+    refusals refusals;
     bool has_rest; /* of that, or of its answers */
     bool has_part; /* of an answer went out, and perhaps not all of it */
     uint64_t begun; /* the connection, in milliseconds of the system's clock */

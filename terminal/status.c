@@ -4,24 +4,36 @@
 #include <stdlib.h>
 #include <string.h>
 
+enum { SIGNS_ROOM = 48 };
+
 /* The signs that are on, with a blank before each. */
-static void put_signs(const status_parts *parts, char *text, size_t room)
+static void put_signs(const status_parts *parts, char text[SIGNS_ROOM])
 {
-    (void)snprintf(text, room, "%s%s%s%s%s%s", parts->security, parts->is_message_lit ? " MW" : "",
+    (void)snprintf(text, SIGNS_ROOM, "%s%s%s%s%s%s%s", parts->security, parts->is_message_lit ? " MW" : "",
                    parts->is_inserting ? " INS" : "", parts->is_recording ? " REC" : "", parts->is_macro ? " MAC" : "",
-                   parts->waits ? " T" : "");
+                   parts->waits ? " T" : "", parts->has_refused ? " refused" : "");
+}
+
+size_t status_room(const status_parts *parts)
+{
+    char signs[SIGNS_ROOM];
+    put_signs(parts, signs);
+    return STATUS_COLUMNS - 1 - strlen(signs);
 }
 
 /* What stands at the right; the way on, the field's length and the cursor's place only where a long sentence leaves
- * room for them. */
+ * room for them, and the signs unless it is whole without them. */
 static void put_right(const status_parts *parts, size_t left_needs, char *text, size_t room)
 {
-    char signs[30], place[12], way[40], field[24] = "";
-    put_signs(parts, signs, sizeof signs);
+    char signs[SIGNS_ROOM], place[12], way[40], field[24] = "";
+    put_signs(parts, signs);
     (void)snprintf(place, sizeof place, "  %02u/%03u ", parts->row % 100, parts->column % 1000);
     (void)snprintf(way, sizeof way, "  %s", parts->way);
     if (parts->field_length > 0)
-        (void)snprintf(field, sizeof field, "  field %u", parts->field_length);
+        (void)snprintf(field, sizeof field, "  field %u%s", parts->field_length, parts->is_full ? " full" : "");
+    size_t least = left_needs + (parts->is_way_out ? strlen(way) : 0);
+    if (parts->note[0] != 0 && least <= STATUS_COLUMNS && least + strlen(signs) > STATUS_COLUMNS)
+        signs[0] = 0;
     size_t needs = left_needs + strlen(signs), with_way = needs + strlen(way), with_place = needs + strlen(place);
     bool has_way = parts->is_way_out || with_way + strlen(place) <= STATUS_COLUMNS;
     bool has_place = (parts->is_way_out ? with_way + strlen(place) : with_place) <= STATUS_COLUMNS;
@@ -60,8 +72,8 @@ void status_line(const status_parts *parts, wchar_t line[STATUS_COLUMNS + 1])
 
 void status_title(const status_parts *parts, char *text, size_t room)
 {
-    char signs[30];
-    put_signs(parts, signs, sizeof signs);
+    char signs[SIGNS_ROOM];
+    put_signs(parts, signs);
     (void)snprintf(text, room, "%s%s%s%s%s - term5250", parts->where, parts->turn[0] != 0 ? ": " : "", parts->turn,
                    signs[0] != 0 ? ":" : "", signs);
 }

@@ -216,6 +216,19 @@ static int prepare(session *s, const options *asked)
     return signals_begin() ? 0 : complain("signals", strerror(errno));
 }
 
+/* Tells how the session ended; the program's status, by that and by whether all was taken and recorded. */
+static int end(session *s, bool is_recorded)
+{
+    ribbon_state state;
+    bool is_known = ribbon_station_state(&s->station, &state) == RIBBON_DONE;
+    bool is_refused = is_known && state.refused_records > 0;
+    (void)fprintf(stderr, "term5250: %s\n", s->phase == PHASE_OVER ? s->standing : "Left.");
+    if (is_refused)
+        (void)fprintf(stderr, "term5250: Records refused: %llu, the last by reason %s.\n",
+                      (unsigned long long)state.refused_records, ribbon_reason_text(state.record_reason));
+    return s->status == 0 && (is_refused || !is_recorded) ? 1 : s->status;
+}
+
 static int work(session *s, const options *asked)
 {
     window w = {.screen = NULL};
@@ -229,8 +242,7 @@ static int work(session *s, const options *asked)
     bool is_whole = recording_end(&s->recording);
     if (!is_whole)
         (void)complain(s->recording.name, strerror(errno));
-    (void)fprintf(stderr, "term5250: %s\n", s->phase == PHASE_OVER ? s->standing : "Left.");
-    return is_whole || s->status != 0 ? s->status : 1;
+    return end(s, is_whole);
 }
 
 static int run_asked(const options *asked, const char *locale)

@@ -7,7 +7,6 @@ import tempfile
 import time
 
 from certificates import Authority, Front, context_of, has_tls
-from faults import ROLL
 from hosts import Host, field, inputs, plain, text, write
 from peers import swallowed
 from window import Terminal, check
@@ -36,11 +35,10 @@ def the_box():
         t.type("42\x0f")
         t.tells("INS")
         host.again()
-        host.line.sendall(b"\x00\x0c")
-        host.send_raw(bytes(range(1, 200)))
+        host.send_raw(b"\x00\x0c\xff\x01")
         in_box(t, "c connect again s save q leave any other key: the screen")
         in_box(t, "Refused at the host's byte")
-        check(box(t).count("reason") == 1 and ".." not in box(t), "the reason is whole", box(t))
+        in_box(t, "reason 1: no Telnet command has the byte that stands after FF.")
         t.rings("a key that was meant for the session", lambda: t.type("q"))
         time.sleep(QUIET)
         check("Order" in t.window.text(0) and "42" in t.window.text(2), "the screen stays beside it")
@@ -107,9 +105,13 @@ def wrapped():
     line = b"220 mail.example.org ESMTP and a greeting of many words that goes on and on\r\n"
     t = Terminal(f"127.0.0.1:{plain(lambda to: (to.sendall(line), time.sleep(3)))}")
     in_box(t, "This is no 5250 host: it sent `220 mail.example.org ESMTP")
-    rows = [t.window.text(row).strip() for row in range(15, 23)]
-    check(any(row.startswith("This is no 5250 host") for row in rows), "it begins its row", rows)
-    check(all(len(row) <= 68 for row in rows) and any(row.endswith("`.") for row in rows), "its end is there", rows)
+
+    def rows():
+        return [t.window.text(row).strip() for row in range(15, 23)]
+
+    t.until(lambda: any(row.endswith("`.") for row in rows()), "its end is there")
+    check(any(row.startswith("This is no 5250 host") for row in rows()), "it begins its row", rows())
+    check(all(len(row) <= 68 for row in rows()), "within the box", rows())
     t.resize(20, 60)
     t.shows(0, "This window is 60 by 20")
     t.resize(25, 80)
@@ -158,9 +160,9 @@ def at_first():
     t.type("5\r")
     check(inputs(host.answer()) == (0xF1, {(3, 20): "5"}), "and works")
     host.again()
-    host.send(ROLL)
+    host.send_raw(b"\xff\x01")
     in_box(t, "It begins again in")
-    t.until(host.is_ready.is_set, "after a refused record too")
+    t.until(host.is_ready.is_set, "after a refused byte too")
     host.send(NEXT)
     t.shows(1, "Another day")
     t.leave(0, "Left.")

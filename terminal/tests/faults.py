@@ -8,52 +8,11 @@ import threading
 import time
 
 import work
-from hosts import Host, Host5250, READ, field, inputs, plain, text, write
+from hosts import Host, READ, field, inputs, plain, text, write
 from peers import swallowed
 from records import SEND_NAME, record
 from window import Terminal, check
 from work import FORM, at_form, cut, shown_of
-
-# A Roll, which no station here takes.
-ROLL = b"\x04\x23\x00\x01\x18"
-
-
-def refused():
-    """A refused record leaves the screen, and what came can be saved without `--record`."""
-    with tempfile.TemporaryDirectory() as folder:
-        host, t = at_form(folder=folder)
-        t.type("42")
-        t.until(lambda: "42" in t.window.text(2), "typed")
-        t.rings("a refused record", lambda: host.send(ROLL))
-        t.tells("Refused at the host's byte")
-        t.tells("reason 33")
-        check("Order" in t.window.text(0) and "42" in t.window.text(2), "the screen stays")
-        t.rings("a key then", lambda: t.type("7\r"))
-        t.idles("when the session is over")
-        t.type("\x1ds")
-        t.tells("Saved in term5250.rec. It holds passwords.")
-        t.type("\x1dp")
-        t.tells("The screen is in term5250.txt.")
-        t.leave(1, "reason 33")
-        name = os.path.join(folder, "term5250.rec")
-        check(os.stat(name).st_mode & 0o777 == 0o600, "others can't read it")
-        shown = shown_of(name)
-        check("PUT D799898385" in shown and "reason 33" in shown, "t5250 show tells the refusal", shown[-300:])
-        answers = subprocess.run([Terminal.t5250, "check", "--answers"], input=cut(name, "station"), text=True,
-                                 capture_output=True)
-        check(answers.stdout.startswith("accepted"), "the station's side is whole", answers.stdout)
-        host.close()
-
-
-def refused_by_name():
-    host = Host5250("--bad")
-    t = Terminal(f"127.0.0.1:{host.port}")
-    t.shows(0, "Sign On")
-    t.type("\r")
-    t.tells("reason 33")
-    t.shows(0, "Sign On", "the screen stays")
-    t.leave(1, "reason 33")
-    host.stop()
 
 
 def recordings():
@@ -245,10 +204,13 @@ def floods():
     t.type("\x1d")
     t.shows(1, "q  leave", "and so is ^]")
     t.type("x")
-    # Till the line's buffers are full it answers.
-    t.idles("where a host doesn't read", within=30)
-    t.rings("Attention without end", lambda: t.type("\x1ba" * 3000))
+    end, before = time.monotonic() + 60, t.window.bells
+    while t.window.bells == before and time.monotonic() < end:  # Till the line's buffers are full it answers.
+        t.type("\x1ba" * 3000)
+        t.settle()
+    check(t.window.bells > before, "Attention without end rings")
     t.tells("The host doesn't take what is sent: the key wasn't pressed.")
+    t.idles("where a host doesn't read", within=30)
     t.type("34")
     t.tells(" T ")
     t.leave(0, "Left.")

@@ -10,6 +10,8 @@ import time
 from records import ASKED, OPTIONS, record
 
 UNLOCK, READ = b"\x04\x11\x00\x08", b"\x04\x52\x00\x00"
+# A Roll from row 0, which no station takes, and what is told of such a record (SC30-3533, negative responses).
+ROLL, NEGATIVE = b"\x04\x23\x00\x00\x18", (0, 0x8000, bytes.fromhex("10030101"))
 
 
 def write(cc2=0x08):
@@ -21,10 +23,10 @@ def at(row, column):
     return bytes([0x11, row, column])
 
 
-def text(row, column, words, attribute=None):
+def text(row, column, words, attribute=None, page="cp037"):
     """Text, behind an attribute where one is named."""
     front = at(row, column - 1) + bytes([attribute]) if attribute is not None else at(row, column)
-    return front + words.encode("cp037") + (b"\x20" if attribute is not None else b"")
+    return front + words.encode(page) + (b"\x20" if attribute is not None else b"")
 
 
 def field(row, column, length, form=0x4000, attribute=0x24):
@@ -33,15 +35,18 @@ def field(row, column, length, form=0x4000, attribute=0x24):
 
 
 class Host:
-    """A host for one station: `send` sends a record, `answer` gives the next record that comes."""
+    """A host for one station: `send` sends a record, `answer` gives the next record that comes. What it sends `first`
+    is Telnet before all else."""
 
-    def __init__(self, family=socket.AF_INET, where="127.0.0.1", port=0, negotiates=True, reads=True):
+    def __init__(self, family=socket.AF_INET, where="127.0.0.1", port=0, negotiates=True, reads=True, first=b""):
         self.listening = socket.create_server((where, port), family=family)
+        if not reads:  # Little is under way then before the station has to wait.
+            self.listening.setsockopt(socket.SOL_SOCKET, socket.SO_RCVBUF, 4096)
         self.port = self.listening.getsockname()[1]
         self.is_ready = threading.Event()
         self.line = None
         self.window = None  # A terminal whose output is taken while an answer is waited for.
-        self.negotiates, self.reads = negotiates, reads
+        self.negotiates, self.reads, self.first = negotiates, reads, first
         self.again()
 
     def again(self):
@@ -66,7 +71,7 @@ class Host:
         came.put(None)
 
     def negotiate(self):
-        self.line.sendall(ASKED)  # At once, whatever is at the other end.
+        self.line.sendall(self.first + ASKED)  # At once, whatever is at the other end.
         last = OPTIONS[-1][1]
         while last not in self.raw:
             if not (data := self.line.recv(4096)):
@@ -114,7 +119,7 @@ class Host:
             self.line.close()
 
 
-def inputs(answer):
+def inputs(answer, page="cp037"):
     """The key of an answer, and the text of its fields by their place."""
     if answer is None:
         return None, {}
@@ -122,7 +127,7 @@ def inputs(answer):
     while at + 2 < len(body):
         end = body.find(b"\x11", at + 3)  # Row and column may be 11, cells may not.
         end = len(body) if end < 0 else end
-        fields[body[at + 1], body[at + 2]] = body[at + 3 : end].decode("cp037")
+        fields[body[at + 1], body[at + 2]] = body[at + 3 : end].decode(page)
         at = end
     return body[2], fields
 

@@ -1,6 +1,6 @@
 """What live hosts send beside the profile: a query, a screen that is saved and restored, an error, and Reset."""
-from hosts import Host
-from window import Terminal, check
+from hosts import READ, ROLL, field, text, write
+from window import check
 from work import at_form
 
 QUERY, SAVE, CLEAR = b"\x04\xf3\x00\x05\xd9\x70\x00", b"\x04\x02", b"\x04\x40"
@@ -72,12 +72,12 @@ def alarm():
 
 
 def alarm_refused():
-    """A refused record sounds no alarm of its own: the session's end rings, once."""
+    """A refused record sounds no alarm of its own: that it is refused rings, once."""
     host, t = at_form()
     t.settle()
     before = t.window.bells
-    host.send(LOUD + b"\x23\x00\x01\x18")
-    t.tells("Refused at the host's byte")
+    host.send(LOUD + ROLL)
+    t.tells("Host data refused (reason 33")
     t.settle()
     check(t.window.bells == before + 1, "one bell", t.window.bells - before)
     t.leave(1)
@@ -95,10 +95,16 @@ def many_saves():
 
 
 def strict():
-    """Kept to the profile, it refuses a query."""
-    host = Host()
-    t = Terminal("--strict", f"127.0.0.1:{host.port}")
-    check(host.ready(), "the session begins")
+    """Kept to the profile, it takes no more of a field than that, refuses a query, and the session ends."""
+    host, t = at_form("--strict", form=write() + text(3, 2, "Price") + field(3, 20, 6, 0x4308) + field(5, 20, 3, 0x40C0)
+                      + READ)
+    t.rings("Enter where a field is empty", lambda: t.type("\t\r"))
+    t.tells("'Price' has to be filled in.")
+    t.at("03/020")
+    t.rings("Field Minus", lambda: t.type("\x127\x0e"))
+    t.tells("Field Minus is for signed numeric fields alone.")
+    t.type("\x12\tabc")
+    t.at("field 6  03/020")
     host.send(QUERY)
     t.tells("reason 30")
     t.leave(1, "reason 30")

@@ -1,5 +1,5 @@
-"""Random keys, records and losses, and hosts that send garbage, at a terminal with sanitizers: no report, and each time
-the terminal as it was found."""
+"""Random keys, records that are taken and that aren't, and losses, and hosts that send garbage, at a terminal with
+sanitizers: no report, and each time the terminal as it was found."""
 import os
 import pathlib
 import random
@@ -8,7 +8,8 @@ import time
 
 from certificates import Authority, Front, context_of, has_tls
 import typist
-from hosts import Host, READ, field, plain, text, write
+from hosts import Host, READ, ROLL, field, plain, text, write
+from identity import ASKS, SEND
 from records import SEND_NAME, record
 from window import Terminal, check
 
@@ -39,25 +40,43 @@ def form(dice):
     row = dice.randint(2, 5)
     while row < 23:
         shift = dice.choice([0, 1, 2, 3, 5, 7])
-        bits = dice.choice([0, 0, 0x2000, 0x1000, 0x20, 0x05, 0x06, 0x08])
+        bits = dice.choice([0, 0, 0x2000, 0x1000, 0x20, 0x05, 0x06, 0x08, 0x07, 0x40, 0x80, 0xC0, 0x47])
         length = dice.choice([1, 2, 6, 30, 200 if row < 20 else 9])
         body += field(row, dice.randint(2, 50), length, 0x4000 | shift << 8 | bits, dice.randint(0x20, 0x3F))
         row += dice.randint(1, 4) + length // 80
     return body + (READ if dice.random() < 0.9 else b"")
 
 
+def refused(dice):
+    """A record that no station takes: by its body, its header or its length, or spoilt anywhere."""
+    kind = dice.randrange(5)
+    if kind == 0:
+        return record(ROLL)
+    if kind == 1:
+        return record(form(dice) + field(24, 70, 99) + READ)
+    if kind == 2:
+        return record(b"\x04\x99" * 30000)
+    if kind == 3:
+        return record(form(dice), dice.choice([3, 0x55]))[: dice.randint(1, 40)].rstrip(b"\xff") + b"\xff\xef"
+    whole = bytearray(form(dice))
+    whole[dice.randrange(len(whole))] = dice.randrange(255)
+    return record(bytes(whole))
+
+
 def something(dice):
-    """What a host sends next: mostly forms, and seldom what is refused."""
+    """What a host sends next: mostly forms, often what is refused, and seldom what ends the session."""
     kind = dice.random()
     if kind < 0.004:
-        return record(b"\x04\xf3\x00\x05\xd9\x70\x00")
+        return b"\xff\x01"
+    if kind < 0.12:
+        return refused(dice)
     if kind < 0.75:
         return record(form(dice))
     if kind < 0.85:
         return record(b"\x04\x11\x00" + bytes([dice.choice([0x08, 0x01, 0x02, 0x00])]), 2)
     if kind < 0.9:
         return record(b"", dice.choice([11, 12, 10, 1, 2]))
-    command = dice.choice([SEND_NAME, b"\xff\xf1", b"\xff\xf2", b"\xff\xfd\x03", b"\xff\xfb\x01"])
+    command = dice.choice([SEND_NAME, b"\xff\xf1", b"\xff\xf2", b"\xff\xfd\x03", b"\xff\xfb\x01", ASKS, SEND])
     return command * dice.randint(1, 30)
 
 
@@ -100,13 +119,13 @@ def connect_again(dice, host, t, counts):
 
 
 def end_is_right(status, said):
-    """The status is that of the sentence with which it ends."""
-    last = said.rpartition("term5250: ")[2]
-    if last.startswith("Left."):
-        return status == 0
+    """The status is that of the sentence with which it ends, and 1 where a record was refused."""
+    last, _, was_refused = said.partition("term5250: ")[2].partition("term5250: Records refused: ")
     if last.startswith("No connection"):
         return status == 2
-    return status == 1 or (status == 0 and "Refused at" not in last)
+    if was_refused:
+        return status == 1
+    return status == 0 if last.startswith("Left.") else status == 1 or (status == 0 and "Refused at" not in last)
 
 
 def secured(dice, host, folder):
@@ -119,9 +138,10 @@ def secured(dice, host, folder):
 
 
 def one_session(dice, sanitized, seconds, counts, folder):
-    host = Host()
+    host = Host(first=dice.choice([b"", ASKS + SEND, ASKS + SEND * 4]))
     words = dice.choice([[], ["--no-hold"], ["--mono"], ["--separators", "off"], ["--background", "own"],
                          ["--no-mouse"], ["--reconnect"], ["--type-ahead", "off"], ["--keys", "tn5250"]])
+    words = words + dice.choice([[], ["--device", "DSP01"], ["--code-page", "1141"], ["--keyboard", "AB1"]])
     rows, columns = dice.choice(SIZES[:3])
     t = Terminal(*words, *secured(dice, host, folder), rows=rows, columns=columns, program=sanitized,
                  term=dice.choice(["xterm", "screen", "vt100", "linux", "xterm-256color"]), folder=folder,
@@ -137,7 +157,7 @@ def one_session(dice, sanitized, seconds, counts, folder):
                 host.send_raw(something(dice))
                 counts["records"] += 1
         except OSError:
-            connect_again(dice, host, t, counts)  # A refused record closes the line.
+            connect_again(dice, host, t, counts)  # A refused byte closes the line.
         if dice.random() < 0.004:
             connect_again(dice, host, t, counts)
         if dice.random() < 0.03:
@@ -160,6 +180,7 @@ def one_session(dice, sanitized, seconds, counts, folder):
     status = ended_with(t, 30)
     said = t.ended(status)
     check(end_is_right(status, said), "its status", status, said[-200:])
+    counts["refused at last"] += int(said.partition("Records refused: ")[2].partition(",")[0] or 0)
     say_nothing(said, "random keys and records")
     host.close()
     counts["sessions"] += 1
@@ -167,7 +188,7 @@ def one_session(dice, sanitized, seconds, counts, folder):
 
 def random_work(seed, sanitized, seconds):
     dice = random.Random(seed)
-    counts = dict.fromkeys(("sessions", "keys", "records", "sizes", "windows", "connections"), 0)
+    counts = dict.fromkeys(("sessions", "keys", "records", "refused at last", "sizes", "windows", "connections"), 0)
     end = time.monotonic() + seconds
     while time.monotonic() < end:
         with tempfile.TemporaryDirectory() as folder:

@@ -76,6 +76,22 @@ def over_two_screens():
         host.close()
 
 
+def over_screens_that_send_themselves():
+    """After a full field has sent its screen (auto enter), a macro goes on at the next one."""
+    form = write() + field(3, 20, 2, 0x4080) + READ
+    with tempfile.TemporaryDirectory() as folder:
+        put(folder, "three", "text 12345\n")
+        host, t = at_host(form, "03/020", XDG_CONFIG_HOME=folder)
+        play(t, "three")
+        for typed in "12", "34":
+            check(inputs(host.answer()) == (0xF1, {(3, 20): typed}), "a screen is sent", typed)
+            check(host.answer(0.2) is None, "and no more")
+            host.send(form)
+        t.until(lambda: t.window.text(2)[19:] == "5" and "MAC" not in t.status(), "the last has the rest")
+        t.leave()
+        host.close()
+
+
 def never_into_a_hidden_field():
     with tempfile.TemporaryDirectory() as folder:
         host, t = at_host(SIGN_ON, "06/020", XDG_CONFIG_HOME=folder)

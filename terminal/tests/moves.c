@@ -12,6 +12,13 @@ static const uint8_t record[] = {
     0x11, 0x05, 0x4a, 0x1d, 0x40, 0x00, 0x24, 0x00, 0x0a, 0x11, 0x08, 0x09, 0x1d, 0x40, 0x00, 0x24, 0x00, 0x03,
     0x11, 0x14, 0x01, 0xc1, 0xc2, 0xc3, 0xc4, 0xc5, 0xc6, 0x04, 0x52, 0x00, 0x00, 0xff, 0xef};
 
+/* The fields: 3, 20 of three cells, which a key has to leave; 5, 20 of four, which has to be full or empty; 7, 20 of two,
+ * which has to be entered. */
+static const uint8_t entry_record[] = {
+    0x00, 0x2f, 0x12, 0xa0, 0x00, 0x00, 0x04, 0x00, 0x00, 0x03, 0x04, 0x40, 0x04, 0x11, 0x00, 0x08,
+    0x11, 0x03, 0x13, 0x1d, 0x40, 0x40, 0x24, 0x00, 0x03, 0x11, 0x05, 0x13, 0x1d, 0x40, 0x07, 0x24, 0x00, 0x04,
+    0x11, 0x07, 0x13, 0x1d, 0x40, 0x08, 0x24, 0x00, 0x02, 0x04, 0x52, 0x00, 0x00, 0xff, 0xef};
+
 static void push(ribbon_station *station, const uint8_t *bytes, size_t count)
 {
     uint8_t reply[4096];
@@ -22,7 +29,7 @@ static void push(ribbon_station *station, const uint8_t *bytes, size_t count)
 static ribbon_station begin(void)
 {
     ribbon_station station = RIBBON_STATION_NONE;
-    CHECK(ribbon_station_new(&station, "IBM-3179-2") == RIBBON_DONE);
+    CHECK(ribbon_station_new_live(&station, "IBM-3179-2", NULL) == RIBBON_DONE);
     return station;
 }
 
@@ -153,6 +160,37 @@ static void backspace_at_each_place(ribbon_station *station)
     CHECK(is_at(station, 20, 3) && !at_begin);
 }
 
+/* In a full field the cursor stands at the character that was typed last. */
+static void backspace_in_a_full_field(ribbon_station *station)
+{
+    uint8_t refusal;
+    bool at_begin;
+    CHECK(is_at(station, 3, 20));
+    type(station, "abc");
+    CHECK(is_at(station, 3, 22));
+    CHECK(moves_backspace(station, &refusal, &at_begin) == RIBBON_DONE && !at_begin);
+    CHECK(is_at(station, 3, 22) && holds(station, 3, 20, "ab."));
+    CHECK(moves_backspace(station, &refusal, &at_begin) == RIBBON_DONE && !at_begin);
+    CHECK(is_at(station, 3, 21) && holds(station, 3, 20, "a.."));
+}
+
+/* The field that has to be entered comes first cell first, the one that has to be full at its first empty cell. */
+static void the_cursor_goes_to_what_lacks(ribbon_station *station)
+{
+    uint8_t refusal;
+    CHECK(moves_to(station, 5, 20, &refusal) == RIBBON_DONE);
+    moves_to_missing(station, RIBBON_KEY_MANDATORY_FILL);
+    CHECK(is_at(station, 5, 20));
+    type(station, "xy");
+    CHECK(moves_to(station, 1, 1, &refusal) == RIBBON_DONE);
+    moves_to_missing(station, RIBBON_KEY_MANDATORY_FILL);
+    CHECK(is_at(station, 5, 22));
+    moves_to_missing(station, RIBBON_KEY_MANDATORY_ENTER);
+    CHECK(is_at(station, 7, 20));
+    moves_to_missing(station, RIBBON_KEY_IS_PROTECTED);
+    CHECK(is_at(station, 7, 20));
+}
+
 int main(void)
 {
     uint8_t refusal;
@@ -171,6 +209,9 @@ int main(void)
     a_field_is_further_below(&station);
     begin_and_end_of_text(&station);
     backspace_at_each_place(&station);
+    push(&station, entry_record, sizeof entry_record);
+    backspace_in_a_full_field(&station);
+    the_cursor_goes_to_what_lacks(&station);
     ribbon_station_free(&station);
     CHECK(moves_to(&station, 2, 1, &refusal) == RIBBON_NOTHING_HELD && refusal == 0);
     return check_end();

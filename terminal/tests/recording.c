@@ -159,12 +159,30 @@ static void pipes_may_end(const char *folder)
     CHECK(!recording_begin(&r, "/dev/full", &both) && errno == ENOSPC && r.file == NULL);
 }
 
+static void a_name_has_room_in_a_sentence(void)
+{
+    static const char *const names[][2] = {
+        {"term5250.rec-1", "term5250.rec-1"}, {"/tmp/tmpabcdefgh/pipe.24", "/tmp/tmpabcdefgh/pipe.24"},
+        {"/home/clerk/recordings/may/first.rec", "recordings/may/first.rec"},
+        {"a_name_of_a_file_that_is_long.rec", "_a_file_that_is_long.rec"},
+        {"/home/clerk/a_name_of_a_file_that_is_long/", "_of_a_file_that_is_long/"},
+        {"\xc3\xa4\xc3\xa4\xc3\xa4\xc3\xa4\xc3\xa4\xc3\xa4\xc3\xa4\xc3\xa4\xc3\xa4\xc3\xa4\xc3\xa4\xc3\xa4z",
+         "\xc3\xa4\xc3\xa4\xc3\xa4\xc3\xa4\xc3\xa4\xc3\xa4\xc3\xa4\xc3\xa4\xc3\xa4\xc3\xa4\xc3\xa4z"},
+    };
+    for (size_t at = 0; at < sizeof names / sizeof names[0]; at++) {
+        if (strcmp(file_shown(names[at][0]), names[at][1]) != 0)
+            printf("%s is shown as %s\n", names[at][0], file_shown(names[at][0]));
+        CHECK(strcmp(file_shown(names[at][0]), names[at][1]) == 0);
+    }
+}
+
 int main(void)
 {
     char folder[] = "/tmp/recordingXXXXXX", command[60];
     records_have_a_begin();
     pieces_end_with_records();
     the_last_is_kept();
+    a_name_has_room_in_a_sentence();
     CHECK(mkdtemp(folder) != NULL);
     recordings_are_new_files(folder);
     pipes_may_end(folder);

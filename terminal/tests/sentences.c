@@ -1,4 +1,4 @@
-/* Why a key is refused, in the words of the person's field: at a station with a field of each kind. */
+/* Why a key is refused, in the words of the person's field, at a station with a field of each kind; why a record is. */
 #include "../../c/tests/check.h"
 #include "sentence.h"
 
@@ -9,13 +9,16 @@
 static const uint8_t opening[] = {0xff, 0xfd, 0x18, 0xff, 0xfa, 0x18, 0x01, 0xff, 0xf0, 0xff, 0xfd, 0x19,
                                   0xff, 0xfb, 0x19, 0xff, 0xfd, 0x00, 0xff, 0xfb, 0x00};
 
-/* Fields of three cells in rows 2 to 7, column 10, by their shift: alphabetic, alphabetic only, numeric, numeric only,
- * digits only, signed numeric. No read waits for a key. */
+/* Fields of three cells in rows 2 to 10, column 10: by their shift alphabetic, alphabetic only, numeric, numeric only,
+ * digits only, signed numeric; then one with field exit required and two with mandatory fill, of which the first has a
+ * label. No read waits for a key. */
 static const uint8_t record[] = {
-    0x00, 0x46, 0x12, 0xa0, 0x00, 0x00, 0x04, 0x00, 0x00, 0x02, 0x04, 0x40, 0x04, 0x11, 0x00, 0x08,
+    0x00, 0x68, 0x12, 0xa0, 0x00, 0x00, 0x04, 0x00, 0x00, 0x02, 0x04, 0x40, 0x04, 0x11, 0x00, 0x08,
     0x11, 0x02, 0x09, 0x1d, 0x40, 0x00, 0x24, 0x00, 0x03, 0x11, 0x03, 0x09, 0x1d, 0x41, 0x00, 0x24, 0x00, 0x03,
     0x11, 0x04, 0x09, 0x1d, 0x42, 0x00, 0x24, 0x00, 0x03, 0x11, 0x05, 0x09, 0x1d, 0x43, 0x00, 0x24, 0x00, 0x03,
     0x11, 0x06, 0x09, 0x1d, 0x45, 0x00, 0x24, 0x00, 0x03, 0x11, 0x07, 0x09, 0x1d, 0x47, 0x00, 0x24, 0x00, 0x03,
+    0x11, 0x08, 0x09, 0x1d, 0x40, 0x40, 0x24, 0x00, 0x03, 0x11, 0x09, 0x02, 0xc3, 0x96, 0x84, 0x85,
+    0x11, 0x09, 0x09, 0x1d, 0x40, 0x07, 0x24, 0x00, 0x03, 0x11, 0x0a, 0x09, 0x1d, 0x40, 0x07, 0x24, 0x00, 0x03,
     0xff, 0xef};
 
 static bindings bound;
@@ -38,8 +41,13 @@ static const struct {
     {-1, "", RIBBON_KEY_CHAR, {ACTION_PASTED, 'y'}, "The cursor isn't in an input field."},
     {-1, "", RIBBON_KEY_DELETE, {ACTION_DELETE, 0}, "The cursor isn't in an input field."},
     {0, "", RIBBON_KEY_FIELD_MINUS, {ACTION_FIELD_MINUS, 0},
-     "Field Minus is for signed numeric fields alone."},
-    {3, "", RIBBON_KEY_FIELD_MINUS, {ACTION_FIELD_MINUS, 0}, "Field Minus isn't for this field: type the minus."},
+     "Field Minus is for numeric only and signed fields."},
+    {3, "1,", RIBBON_KEY_FIELD_MINUS, {ACTION_FIELD_MINUS, 0}, "Field Minus needs a digit at the number's end."},
+    {6, "abc", RIBBON_KEY_CHAR, {ACTION_CHARACTER, 'd'}, "The field is full: End leaves it."},
+    {6, "abc", RIBBON_KEY_INSERT, {ACTION_PASTED, 'd'}, "The field is full: End leaves it."},
+    {6, "abc", RIBBON_KEY_FIELD_MINUS, {ACTION_FIELD_MINUS, 0}, "Field Minus is for numeric only and signed fields."},
+    {7, "ab", RIBBON_KEY_FIELD_EXIT, {ACTION_FIELD_EXIT, 0}, "'Code' must be full or empty."},
+    {8, "a", RIBBON_KEY_FIELD_EXIT, {ACTION_FIELD_EXIT, 0}, "The field at row 10, column 10 must be full or empty."},
     {0, "abc\t", RIBBON_KEY_INSERT, {ACTION_INSERTED, 'x'}, "No room for 'x': Reset, then type over."},
     {0, "", RIBBON_KEY_DUP, {ACTION_DUP, 0}, "The field doesn't take Dup."},
     {0, "", RIBBON_KEY_AID, {ACTION_AID, RIBBON_AID_ENTER}, "The host asks for nothing."},
@@ -59,7 +67,7 @@ static void check_row(size_t at)
     uint8_t reply[4096], refusal;
     ribbon_pushed pushed;
     char text[200];
-    CHECK(ribbon_station_new(&station, "IBM-3179-2") == RIBBON_DONE);
+    CHECK(ribbon_station_new_live(&station, "IBM-3179-2", NULL) == RIBBON_DONE);
     CHECK(ribbon_station_push(&station, opening, sizeof opening, reply, sizeof reply, &pushed) == RIBBON_DONE);
     CHECK(ribbon_station_push(&station, record, sizeof record, reply, sizeof reply, &pushed) == RIBBON_DONE);
     if (refused[at].field < 0)
@@ -70,12 +78,37 @@ static void check_row(size_t at)
         press(&station, *front == '\t' ? RIBBON_KEY_BACK_TAB : RIBBON_KEY_CHAR, *front == '\t' ? 0 : (uint32_t)*front,
               RIBBON_DONE, &refusal);
     press(&station, refused[at].kind, refused[at].key.value, RIBBON_KEY_REFUSED, &refusal);
-    sentence_refused(&station, &bound, refused[at].key, refusal, text, sizeof text);
+    sentence_refused(&station, &(refused_key){refused[at].key, refusal, 37, false, &bound}, text, sizeof text);
     if (strcmp(text, refused[at].sentence) != 0)
         printf("row %zu: %s\n", at, text);
     CHECK(strcmp(text, refused[at].sentence) == 0);
     CHECK(mbstowcs(NULL, text, 0) <= 53); /* whole beside four signs and Reset in a status line */
     ribbon_station_free(&station);
+}
+
+static void tells_record(uint8_t reason, size_t columns, const char *wanted)
+{
+    char text[200];
+    sentence_record(reason, columns, text, sizeof text);
+    if (strcmp(text, wanted) != 0)
+        printf("reason %u: %s\n", reason, text);
+    CHECK(strcmp(text, wanted) == 0);
+}
+
+/* As long as the signs beside it let it be. */
+static void each_record_has_its_sentence(void)
+{
+    char text[200];
+    tells_record(33, 71, "Host data refused (reason 33: rolling of the screen); the screen stays.");
+    tells_record(33, 70, "Host data refused (reason 33: rolling of the screen).");
+    tells_record(30, 71, "Host data refused (reason 30: structured fields); the screen stays.");
+    tells_record(24, 71, "Host data refused (reason 24: a row or a column is outside the screen).");
+    tells_record(24, 70, "Host data refused (reason 24: see ^]); the screen stays.");
+    tells_record(20, 79, "Host data refused (reason 20: see ^]); the screen stays.");
+    for (unsigned reason = 10; reason <= 55; reason++) {
+        sentence_record((uint8_t)reason, 60, text, sizeof text);
+        CHECK(strlen(text) <= 60);
+    }
 }
 
 int main(void)
@@ -84,5 +117,6 @@ int main(void)
     bindings_begin(&bound);
     for (size_t at = 0; at < sizeof refused / sizeof refused[0]; at++)
         check_row(at);
+    each_record_has_its_sentence();
     return check_end();
 }

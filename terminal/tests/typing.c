@@ -17,9 +17,10 @@ static void keys_wait_in_order(void)
     for (uint32_t at = 0; at < AHEAD_ROOM; at++)
         is_right = is_right && ahead_put(&waiting, (action){ACTION_CHARACTER, at});
     CHECK(is_right && !ahead_put(&waiting, (action){ACTION_CHARACTER, 7}));
+    CHECK(ahead_first(&waiting).value == 0 && ahead_last(&waiting).value == AHEAD_ROOM - 1);
     CHECK(ahead_take(&waiting, &key) && key.value == 0);
     CHECK(ahead_drop(&waiting) == AHEAD_ROOM - 1);
-    CHECK(ahead_drop(&waiting) == 0 && !ahead_take(&waiting, &key));
+    CHECK(ahead_drop(&waiting) == 0 && !ahead_take(&waiting, &key) && ahead_first(&waiting).kind == ACTION_NOTHING);
 }
 
 /* is_over, is_held, has_error, is_locked, waits */
@@ -169,6 +170,23 @@ static void the_first_reason_stays(void)
     CHECK(paste_told(&p, told, sizeof told) && strcmp(told, "1 of 2 pasted. One.") == 0);
 }
 
+/* Where its field has sent the screen nothing of it is for the next one. */
+static void what_has_gone_out_ends_it(void)
+{
+    paste p;
+    char told[400];
+    paste_start(&p);
+    CHECK(paste_takes(&p));
+    paste_went_in(&p, true, true);
+    paste_has_sent(&p);
+    CHECK(!paste_line_ends(&p, true) && !paste_told(&p, told, sizeof told));
+    CHECK(!paste_takes(&p) && !paste_line_ends(&p, true));
+    CHECK(paste_told(&p, told, sizeof told));
+    CHECK(strcmp(told, "1 of 2 pasted. Its field has sent the screen.") == 0);
+    paste_start(&p);
+    CHECK(paste_takes(&p));
+}
+
 static void a_paste_leaves_the_queue_whole(void)
 {
     CHECK(ahead_put(&waiting, (action){ACTION_PASTE_BEGINS, 0}) && ahead_put(&waiting, (action){ACTION_TAB, 0}));
@@ -190,6 +208,7 @@ int main(void)
     pasted_text_sends_nothing();
     a_line_goes_into_one_field();
     the_first_reason_stays();
+    what_has_gone_out_ends_it();
     a_paste_leaves_the_queue_whole();
     return check_end();
 }

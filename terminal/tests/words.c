@@ -63,6 +63,7 @@ static void the_line_is_in_words(void)
     status_parts parts = {.turn = "waiting for the host", .where = "as400:23", .note = "", .way = "^] menu"};
     parts.security = "";
     parts.row = parts.column = 1;
+    CHECK(status_room(&parts) == 79);
     shows(&parts, " waiting for the host  as400:23                                 ^] menu  01/001 ");
     parts.turn = "";
     parts.field_length = 10;
@@ -74,7 +75,9 @@ static void the_line_is_in_words(void)
     shows(&parts, " as400:23                      INSECURE MW INS REC T  ^] menu  field 10  06/053 ");
     parts.is_macro = true;
     shows(&parts, " as400:23                  INSECURE MW INS REC MAC T  ^] menu  field 10  06/053 ");
-    parts.is_macro = false;
+    parts.has_refused = parts.is_full = true;
+    shows(&parts, " as400:23     INSECURE MW INS REC MAC T refused  ^] menu  field 10 full  06/053 ");
+    parts.has_refused = parts.is_full = parts.is_macro = false;
     parts.security = "";
     parts.is_message_lit = parts.is_inserting = parts.is_recording = parts.waits = false;
     parts.note = "This field takes digits only, and not '\xc3\xa9'.";
@@ -87,6 +90,11 @@ static void the_line_is_in_words(void)
     shows(&parts, " A sentence of seventy characters leaves room for the cursor's pl.. T  Reset: ^R");
     parts.note = "One of fifty-nine characters leaves none for it, and is whole.";
     shows(&parts, " One of fifty-nine characters leaves none for it, and is whole.     T  Reset: ^R");
+    parts.has_refused = true;
+    parts.note = "One of sixty-four characters is whole, and no sign stands there.";
+    CHECK(status_room(&parts) == 69);
+    shows(&parts, " One of sixty-four characters is whole, and no sign stands there.      Reset: ^R");
+    parts.has_refused = false;
     parts.note = "One of thirty characters or so";
     shows(&parts, " One of thirty characters or so                  T  Reset: ^R  field 10  06/053 ");
 }
