@@ -1,5 +1,5 @@
 #!/usr/bin/env python3
-"""Checks that docs/CALLING.md quotes the programs of examples/programs, and that what these call is proved.
+"""Checks that docs/CALLING.md links the programs of examples/programs, and that what these call is proved.
 
 Each of their functions and types but `main` stands in crates/rows_session/src/calling.rt, word for word, and no other
 does. Run it from anywhere. With --try it also makes a crate of each program, as the page says, in a copy of the
@@ -19,7 +19,7 @@ PROVED = ROOT / "crates/rows_session/src/calling.rt"
 PROGRAMS = ROOT / "examples/programs"
 # An example has to stand before the programs can run on it.
 INPUT = ROOT / "examples/inquiry.hex"
-QUOTED = re.compile(r"```\n(\w+: [^\n]*)\n```\n\n`examples/programs/(\w+)\.rattle`:\n\n```rust\n(.*?)```", re.S)
+LINKED = re.compile(r"\]\(\.\./examples/programs/(\w+)\.rattle\)")
 
 
 def programs():
@@ -35,13 +35,12 @@ def proof_files(page):
 
 
 def quotes(page):
-    """Whether each program stands in the page, and no other does; so for what is put into files of proofs."""
-    quoted = {name: (row, text) for row, name, text in QUOTED.findall(page)}
-    for name, row, text in programs():
-        is_quoted = quoted.pop(name, None) == (row, text)
-        yield name, None if is_quoted else f"{PAGE.name} doesn't quote {name}.rattle and its row as they stand"
-    for name in [*quoted, *["a program"] * (page.count("```rust") - len(QUOTED.findall(page)))]:
-        yield name, f"{PAGE.name} quotes {name}, which {PROGRAMS.name} hasn't"
+    """Whether the page links each program, once, and no other; and whether it quotes what is put into files of proofs."""
+    linked = LINKED.findall(page)
+    known = [name for name, _, _ in programs()]
+    for name in dict.fromkeys([*known, *linked]):
+        is_right = linked.count(name) == known.count(name)
+        yield name, None if is_right else f"{PAGE.name} links {name}.rattle {linked.count(name)} times"
     for path, text in proof_files(page):
         kept = PROGRAMS / f"{path.split('/')[1]}.invariants.txt"
         is_quoted = kept.exists() and kept.read_text() == text

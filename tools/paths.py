@@ -16,7 +16,7 @@ SOURCE = re.compile(r"[\w./{},-]+\.(?:antt|rt|py|sh|md|h|c|cpp|rs|rattle|script|
 
 def names(text):
     text = re.sub(r"`[^`\n]+`:\n\n```", "```", text)
-    for quoted in re.findall(r"`([^`\n]+)`", text) + re.findall(r"\b(?:docs|tests|bench|examples)/[\w.]+\.\w+", text):
+    for quoted in re.findall(r"`([^`\n]+)`", text) + re.findall(r"\b(?:docs|tests|tools|bench|examples)/[\w.]+\.\w+", text):
         for word in quoted.split():
             if SOURCE.fullmatch(word) and "NAME" not in word:
                 found = re.fullmatch(r"(.*)\{(.*)\}(.*)", word)
