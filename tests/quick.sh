@@ -20,9 +20,9 @@ export -f layout
 export kit
 
 part layout 2 bash -c layout
-part definitions 1 python3 docs/definitions.py
-part paths 1 python3 docs/paths.py
-part callers 1 python3 docs/calling.py
+part definitions 1 python3 tools/definitions.py
+part paths 1 python3 tools/paths.py
+part callers 1 python3 tools/calling.py
 part "the unproved program and C library" 10 make --no-print-directory quick
 if [ -x "$unproved/t5250" ]; then
     part examples 1 examples/run.sh "$unproved/t5250"
@@ -32,6 +32,7 @@ if [ -x "$unproved/t5250" ]; then
 fi
 if [ -e "$unproved/libribbonscarp.so" ]; then
     part run_version.py 1 python3 tests/run_version.py "$unproved/libribbonscarp.so"
+    part run_dist.py 3 python3 tests/run_dist.py "$unproved/t5250" "$unproved/libws_c.a" test_tar test_programs test_wheel
     part run_python.py 4 python3 tests/run_python.py "$unproved/libribbonscarp.so" "$unproved/t5250"
 fi
 part "the crates of tests" 10 python3 tests/try_rows.py $((${QUICK_SECONDS:-240} - SECONDS))

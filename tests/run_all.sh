@@ -26,7 +26,7 @@ fi
 kind=scripts
 # The C library comes first: a live session of the program is compared with one of C programs over it.
 if command -v cc >/dev/null && command -v make >/dev/null; then
-    part "C library" 60 tests/build_c_library.sh
+    part "C library" 60 tools/build_c_library.sh
     part "C interface" 30 make --no-print-directory -C c check
 else
     left_out "the C interface, since cc or make isn't there"
@@ -35,8 +35,8 @@ part examples 10 examples/run.sh
 for script in tests/run_*.py; do
     part "${script##*/}" 20 python3 "$script"
 done
-part definitions 5 python3 docs/definitions.py
-part paths 5 python3 docs/paths.py
-part callers 20 python3 docs/calling.py --try
+part definitions 5 python3 tools/definitions.py
+part paths 5 python3 tools/paths.py
+part callers 20 python3 tools/calling.py --try
 
 sum_up

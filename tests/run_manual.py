@@ -17,7 +17,7 @@ import sys
 
 from counted import PROGRAM, TOP, Test, main
 
-COMMANDS = ["check", "show", "play", "make", "connect", "serve"]
+COMMANDS = ["check", "show", "play", "make", "reasons", "keys", "connect", "serve"]
 
 OFFER = """
 source "$1"
@@ -146,10 +146,14 @@ class TestManual(Test):
         self.count("the commands", COMMANDS == re.findall(r"^  (\w+) ", whole[: whole.index("Options:")], re.M)[:-1])
         self.count("the program's options and lines", page_lacks(whole, everywhere) == [])
         for command in COMMANDS:
-            told = any(re.match(f"t5250 {command} ", line) for line in sections["SYNOPSIS"])
+            told = any(re.match(rf"t5250 {command}\b", line) for line in sections["SYNOPSIS"])
             self.count(f"what {command} is", told)
             lacking = page_lacks(run(PROGRAM, "help", command), sections[f"T5250 {command.upper()}"])
             self.count(f"the options and lines of {command}: {lacking}", lacking == [])
+        chapters = re.findall(r"^## (.*)$", (TOP / "docs/MANUAL.md").read_text(encoding="utf-8"), re.M)
+        heads = [head.upper().replace("'", "\\(aq") for head in chapters]
+        self.count("the chapters of docs/MANUAL.md", heads and {*heads} <= {*sections})
+        self.count("no mark is left in them", not any(re.search(r"`|\*\w", line) for line in everywhere[-200:]))
         if shutil.which("groff") is None:
             self.skipTest("groff isn't here")
         words = ["groff", "-man", "-Tutf8", "-ww", "-z"]
@@ -175,10 +179,16 @@ class TestManual(Test):
         offers("terminals", terminals, "connect", "--terminal", "IBM-31")
         offers("terminals behind =", terminals, "connect", "--terminal", "=", "IBM-31")
         offers("no value of a number", set(), "check", "--cut", "")
+        for command in "check", "show":
+            offers(f"the ends of {command}", {"host", "station"}, command, "--of", "")
+            offers(f"an end of {command}", {"station"}, command, "--of", "=", "st")
         script = f"{self.folder}/a"
-        for said in "play", "check --cut 2", "connect h", "connect h : 23", "serve --wait = 5 h":
+        for command in "connect", "serve":
+            offers(f"a file to record {command}", {f"{script} script"}, command, "--record", script)
+        places = "connect h", "connect h : 23", "connect h 23", "serve --wait = 5 h"
+        for said in "play", "check --cut 2", "check one two", *places:
             offers(f"a file behind {said}", {f"{script} script"}, *said.split(), script)
-        for said in "connect", "serve --any", "play one":
+        for said in "connect", "serve --any", "play one", "reasons", "keys", "connect h 23 one":
             offers(f"no file behind {said}", set(), *said.split(), script)
 
 

@@ -20,6 +20,7 @@ CRATES = [
     "rows_wire",
     "rows_display",
     "rows_session",
+    "rows_entry",
     "rows_lasting",
     "rows_program",
 ]

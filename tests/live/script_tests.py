@@ -75,8 +75,8 @@ class TestScript(Test):
         side.close()
         os.close(descriptor)
         # And as a script.
-        Run(["connect", "127.0.0.1:1", self.folder]).end(2, "", "cannot read\n")
-        Run(["serve", "127.0.0.1:0", self.folder]).end(2, "", "cannot read\n")
+        for command in ["connect", "127.0.0.1:1"], ["serve", "127.0.0.1:0"]:
+            Run([*command, self.folder]).end(2, "", f"cannot read: {self.folder}: is a folder\n")
 
     def test_a_script_whose_name_has_blanks(self):
         for name, number in (" a b ", 1), ("a b", 2), (" a b", 3):
@@ -85,5 +85,6 @@ class TestScript(Test):
         for command in ["connect", "127.0.0.1:1"], ["serve", "127.0.0.1:0"]:
             for name, number in (" a b ", 1), ("a b", 2), (" a b", 3):
                 Run([*command, os.path.join(self.folder, name)]).end(2, "", "script line %d\n" % number)
-            Run([*command, os.path.join(self.folder, "a b ")]).end(2, "", "cannot read\n")
+            name = os.path.join(self.folder, "a b ")
+            Run([*command, name]).end(2, "", f"cannot read: {name}: no such file\n")
             Run([*command, os.fsencode(self.folder) + b"/\xff"]).end(2, "", None)

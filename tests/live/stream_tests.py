@@ -26,7 +26,7 @@ class TestStream(unittest.TestCase):
                     rows = [([], None, "cannot read\n" if 0 in closed else "cannot write\n", {0, 1}),
                             ([], "await\n", "cannot write\n", {1}),
                             ([], "# no line\nnonsense\n", "script line 2\n", {0, 1, 2}),
-                            (["no such file"], None, "cannot read\n", {0, 1, 2})]
+                            (["no such file"], None, "cannot read: no such file: no such file\n", {0, 1, 2})]
                     for words, script, fault, needed in rows:
                         if needed & set(closed):
                             run = Run([*command, "--wait", "1", *words], "await\n", script, closed=closed)

@@ -5,7 +5,7 @@ from counted import Test
 from live.lines import at_host, sending
 from live.program import Run, timed
 from live.screens import SIGN_ON, SIGN_ON_FIELDS
-from peers import swallowed
+from peers import Host, swallowed
 
 
 # Words behind `connect` that ask for nothing: options, no host, no port, no address in brackets.
@@ -23,6 +23,9 @@ WRONG_CONNECTS = [
     ["--strict", "--strict", "127.0.0.1"],
     ["--screen", "127.0.0.1"],
     ["127.0.0.1", "a", "b"],
+    ["127.0.0.1", "99999"],
+    ["127.0.0.1:23", "24", "b"],
+    ["127.0.0.1", "23", "a", "b"],
     [],
 ] + [[word] for word in [
     "", ":23", "127.0.0.1:", "127.0.0.1:99999", "127.0.0.1:65536", "127.0.0.1:+23", "127.0.0.1:-1", "127.0.0.1: 23",
@@ -84,7 +87,14 @@ class TestWords(Test):
         Run(["connect", *words, "127.0.0.1:%d" % port], script="await\n").end(2, "", "no connection: refused\n")
         # Not one of this machine's addresses.
         Run(["serve", "192.0.2.1:0"], "").end(2, "", "no connection: no address of this machine\n")
-        Run(["connect", "127.0.0.1", "no such file"], "").end(2, "", "cannot read\n")
+        fault = "cannot read: no such file: no such file\n"
+        Run(["connect", "127.0.0.1", "no such file"], "").end(2, "", fault)
+
+    def test_a_port_in_a_word_of_its_own(self):
+        for more in {"script": "await\nfields\n"}, {"text": "await\nfields\n"}:
+            host = Host(sending(SIGN_ON), "127.0.0.1")
+            Run(["connect", "--wait", "5", "127.0.0.1", str(host.port)], **more).end(0, SIGN_ON_FIELDS)
+            host.end()
 
     def test_a_time_out_while_connecting(self):
         with swallowed("127.0.0.1") as port:

@@ -112,8 +112,15 @@ class Chance:
         body = self.random.choice([b"\x04\x40", b"\x04\x40", b"", b"\x04\x50"])
         return body + (b"" if self.one_in(9) else self.write()) + (b"" if self.one_in(4) else self.read())
 
+    def roll(self):
+        control = self.random.choice([0, 0x80]) + self.random.choice([0, 1, 1, 2, 5, 31])
+        rows = sorted(self.random.choices(range(1, 25), k=2))
+        if self.one_in(30):
+            return b"\x04\x23" + bytes.fromhex(self.random.choice(["200118", "010018", "010201", "010119"]))
+        return bytes([4, 0x23, control, *rows])
+
     def extended_commands(self):
-        match self.random.randrange(8):
+        match self.random.randrange(9):
             case 0 | 1:
                 asked = bytes.fromhex(self.random.choice(ASKING))
                 return (self.commands() if self.one_in(4) else b"") + asked
@@ -122,6 +129,8 @@ class Chance:
                 return b"\x04\x21" + cursor + self.text() + (self.read() if self.one_in(3) else b"")
             case 4:
                 return b"\x04\x12" + self.commands()
+            case 5:
+                return self.commands() + self.roll() + (self.roll() if self.one_in(3) else b"")
             case _:
                 return self.commands()
 
@@ -176,7 +185,7 @@ class Chance:
 
 
 def words_of(body, chance):
-    """A body's elements as lines, behind two blanks each (docs/PROFILE.md, "Printed lines", "Items as text")."""
+    """A body's elements as lines, behind two blanks each (docs/MANUAL.md, "Printed lines", "Items as text")."""
     items, lines, run = [], [], b""
     reader = extended_elements(items)
     for byte in [None, *body]:
@@ -205,6 +214,8 @@ def line_of(name, *rest):
         word, controls, attribute, length = rest
         words = "".join(f" {one:04X}" for one in [word, *controls] if one is not None)
         return f"SF{words} {attribute:02X} {length}"
+    if name == "ROLL":
+        return f"ROLL {rest[0]:02X} {rest[1]} {rest[2]}"
     if len(rest) == 2:
         return f"{name} {rest[0]:02X} {rest[1]:02X}"
     return name

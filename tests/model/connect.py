@@ -1,4 +1,4 @@
-"""What `t5250 connect` does: what it prints, what it sends, its status, by docs/PROFILE.md, "Live sessions"."""
+"""What `t5250 connect` does: what it prints, what it sends, its status, by docs/MANUAL.md, "Live sessions"."""
 from model import told_at_once
 from model.keys import AIDS, Keys
 from model.keys import Refused as KeyRefused

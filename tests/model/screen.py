@@ -107,7 +107,7 @@ class Screen:
             getattr(self, f"order_{name}")(*rest)
             return
         self.end_write()
-        if name in ("CLEAR-UNIT", "CLEAR-FORMAT", "WRITE", "RESTORE-SCREEN", "WRITE-ERROR"):
+        if name in ("CLEAR-UNIT", "CLEAR-FORMAT", "WRITE", "RESTORE-SCREEN", "ROLL", "WRITE-ERROR"):
             self.uncover()
         if name == "CLEAR-UNIT":
             self.clear()
@@ -116,6 +116,8 @@ class Screen:
         elif name == "WRITE":
             self.first_control(rest[0])
             self.address, self.write = 0, (rest[1], [])
+        elif name == "ROLL":
+            self.roll(*rest)
         elif name == "WRITE-ERROR":
             self.begin_error()
         elif name in READS:
@@ -124,6 +126,15 @@ class Screen:
             self.first_control(rest[0])
             self.second_control(rest[1], False)
             self.pending = name
+
+    def roll(self, control, top, bottom):
+        """Row by row: each gets the cells of another of the rows, where that is one, else keeps its own."""
+        count = control & 0x1F
+        before = list(self.cells)
+        for row in range(top, bottom + 1):
+            source = row - count if control & 0x80 else row + count
+            if top <= source <= bottom:
+                self.cells[row * 80 - 80 : row * 80] = before[source * 80 - 80 : source * 80]
 
     def end_write(self):
         if self.write is None:

@@ -1,4 +1,4 @@
-"""What `t5250 serve` does: what it prints and sends, its status, by docs/PROFILE.md, "A session", "Live sessions"."""
+"""What `t5250 serve` does: what it prints and sends, its status, by docs/PROFILE.md, "A session", and docs/MANUAL.md, "Live sessions"."""
 from records import record
 from model.connect import Over
 from model.options import Host, UnsupportedTerminal

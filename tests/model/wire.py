@@ -232,6 +232,18 @@ def command(code, items, extended):
     if extended and code == 0x12:
         items.append(("RESTORE-SCREEN",))
         return "commands"
+    if extended and code == 0x23:
+        control = yield
+        if control & 0x60:
+            raise Wrong(33)
+        top = yield
+        if not 1 <= top <= 24:
+            raise Wrong(33)
+        bottom = yield
+        if not top <= bottom <= 24:
+            raise Wrong(33)
+        items.append(("ROLL", control, top, bottom))
+        return "commands"
     if extended and code == 0x21:
         items.append(("WRITE-ERROR",))
         return "text"

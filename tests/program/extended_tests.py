@@ -43,12 +43,26 @@ BODIES = [
     ("0412 0440 0411 0000 C1", ""),
     ("0411 0000 C1 0412", ""),
     ("0412 C1", NO_ESCAPE),
+    # Roll: its control byte, and rows 1 to 24, the first at most the last
+    ("0423 010305", ""),
+    ("0423 9F0118", ""),
+    ("0423 000101 0411 0000 C1 0423 811818", ""),
+    ("0421 C1 0423 011818 0402", ""),
+    ("0423 20", ROLL),
+    ("0423 61", ROLL),
+    ("0423 C0", ROLL),
+    ("0423 0100", ROLL),
+    ("0423 0119", ROLL),
+    ("0423 010504", ROLL),
+    ("0423 010100", ROLL),
+    ("0423 010519", ROLL),
+    ("0423 010305 C1", NO_ESCAPE),
+    ("0402 0423", SAVE),
     # what is left out
     ("0420", SIZE),
     ("0403", SAVE),
     ("0413", SAVE),
     ("0422", ERROR_CODE),
-    ("0423", ROLL),
     ("0464", READ),
     ("046C", READ),
     ("04F4", "21 UnknownCommand"),
@@ -86,7 +100,7 @@ ANSWERS = [
 ]
 
 # A record's body that ends too early, and whether a station sends it.
-CUT = [("0412 0411", False), ("04F3 0005 D9", False), (REPLY[:-2], True), (REPLY[:16], True)]
+CUT = [("0412 0411", False), ("04F3 0005 D9", False), ("0423", False), ("0423 0103", False), (REPLY[:-2], True), (REPLY[:16], True)]
 
 # The opcode and body of what a host sends, and its lines.
 LINES = [
@@ -97,6 +111,7 @@ LINES = [
     (3, "0462", ["READ-SCREEN"]),
     (3, "0472", ["READ-IMMEDIATE"]),
     (3, "0483", ["READ-IMMEDIATE-ALTERNATE"]),
+    (3, "0423 010305 0423 9F0118", ["ROLL 01 3 5", "ROLL 9F 1 24"]),
     # text, and then the profile's order and byte of the same words
     (3, "0421 C1 0411 0008 130101 C2", ["WRITE-ERROR", "PUT C1", "WRITE 00 08", "IC 1 1", "PUT C2"]),
 ]
@@ -129,6 +144,17 @@ BAD_LINES = [
     ["QUERY", "PUT C1"],
     ["SAVE-SCREEN", "READ-SCREEN", "WRITE 00 08"],
     ["RESTORE-SCREEN", "TEXT A"],
+    ["ROLL"],
+    ["ROLL 01 3"],
+    ["ROLL 01 3 5 6"],
+    ["ROLL 1 3 5"],
+    ["ROLL 61 3 5"],
+    ["ROLL 01 0 5"],
+    ["ROLL 01 3 25"],
+    ["ROLL 01 3 261"],
+    ["ROLL 01 5 3"],
+    ["ROLL 01 3 5", "PUT C1"],
+    ["SAVE-SCREEN", "ROLL 01 3 5"],
 ]
 BAD_TOLD_LINES = [
     ["QUERY-REPLY 000088003AD9708006"],
@@ -162,6 +188,9 @@ SCREENS = [
     ([FORM, ERROR, "0411 0000"], LOCKED % ("6 53", 1)),
     ([FORM, ERROR, "0411 0000 110101 C1"], " 1 A\n" + LOCKED % ("6 53", 1)),
     ([FORM, ERROR, "0412"], LOCKED % ("6 53", 1)),
+    ([FORM, ERROR, "0423 011818"], LOCKED % ("6 53", 1)),
+    (["0411 0000 110301 C1 110401 C2 0423 010305"], " 3 B\n" + LOCKED % ("1 1", 0)),
+    (["0411 0000 110301 C1 110401 C2", "0423 810305"], " 3 A\n 4 A\n 5 B\n" + LOCKED % ("1 1", 0)),
     ([FORM, ERROR, FORM], "cursor 6 53, unlocked, message off, blink off, fields 1\n"),
     # reads, by the code of their CC1
     ([FORM, ERROR, "0442 6000"], STANDS),
@@ -227,7 +256,7 @@ class TestExtended(Runs):
                 done = run(["make", *side(is_station)], "record opcode 3\n" + indented(lines))
                 told = done.stderr.startswith(f"script line {len(lines) + 1}: ")
                 self.count(f"make of {lines} gave {done.stderr}", told and (done.returncode, done.stdout) == (2, ""))
-        # What the profile leaves out: the seven commands, and bodies.
+        # What the profile leaves out: commands by their names alone, and bodies.
         for _, body, lines in LINES[:7]:
             done = run(["make"], f"record opcode 3\n  {lines[0]}\n")
             wanted = f"script line 2: unknown word `{lines[0]}`\n"

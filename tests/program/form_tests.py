@@ -147,8 +147,9 @@ class TestForm(Runs):
             descriptor = os.open(self.folder, os.O_RDONLY)
             self.expect(f"{words} from a folder", run(words, stdin=descriptor), 2, "", "cannot read\n")
             os.close(descriptor)
-            for file in self.folder, "no such file":
-                self.expect(f"{words} {file}", run([*words, file]), 2, "", "cannot read\n")
+            for file, why in (self.folder, "is a folder"), ("no such file", "no such file"):
+                fault = f"cannot read: {file}: {why}\n" if words[0] == "make" else "cannot read\n"
+                self.expect(f"{words} {file}", run([*words, file]), 2, "", fault)
             done = run(words, preexec_fn=lambda: os.close(0))
             self.expect(f"{words} without standard input", done, 2, "", "cannot read\n")
             with open("/dev/full", "w") as full:

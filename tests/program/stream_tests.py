@@ -63,6 +63,18 @@ class TestStream(Runs):
                 done = run(words, texts.get(words[0], INVITE), stdout=full)
             self.expect(f"{words} into a full device", done, 2, "", "cannot write\n")
 
+    def test_unread_output(self):
+        """The other side of the pipe at standard output is closed: three commands tell it, the others end without a
+        word."""
+        rows = [(["check"], INVITE), (["show"], INVITE), (["play"], BOB), (["make"], HELLO_TEXT)]
+        for words, text in [*rows, (["reasons"], ""), (["keys"], ""), (["--help"], ""), (["--version"], "")]:
+            ends = os.pipe()
+            os.close(ends[0])
+            done = run(words, text, stdout=ends[1])
+            os.close(ends[1])
+            told = words[0] in ("check", "show", "play")
+            self.expect(f"{words} that nobody reads", done, 2, "", "cannot write\n" if told else "")
+
     def test_folder_as_input(self):
         """Standard input can't be read: it is a folder."""
         for words in ["check"], ["show"], ["make"], ["play"]:

@@ -43,7 +43,7 @@ RUNS = [
     (["check", "--", "--answers"], INVITE, 2, "", "cannot read\n"),
     (["show", "no such file"], INVITE, 2, "", "cannot read\n"),
     (["make", "@" + HELLO_TEXT], "nonsense", 0, HELLO_MADE, ""),
-    (["make", "no such file"], HELLO_TEXT, 2, "", "cannot read\n"),
+    (["make", "no such file"], HELLO_TEXT, 2, "", "cannot read: no such file: no such file\n"),
     (["play", "@" + BOB], "settl\n", 0, BOB_LINES, ""),
     (["play", "no such file"], BOB, 2, "", "cannot read\n"),
     # each word of the command line
@@ -111,7 +111,6 @@ RUNS = [
     (["check", "--other"], INVITE, 2, "", None),
     (["check", "--color"], INVITE, 2, "", None),
     (["make", "--color"], HELLO_TEXT, 2, "", None),
-    (["check", "a", "b"], INVITE, 2, "", None),
     (["play", "--cut", "1"], BOB, 2, "", None),
     (["play", "--answers"], BOB, 2, "", None),
     (["play", "a", "b"], BOB, 2, "", None),
