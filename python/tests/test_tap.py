@@ -18,6 +18,7 @@ import threading
 import time
 import unittest
 from collections.abc import Callable
+from unittest import mock
 
 from peers import Host, Side, negotiate_as_host, negotiate_as_station, swallowed
 from ribbonscarp import Recording, connect
@@ -270,6 +271,26 @@ class TapTest(unittest.TestCase):
         with swallowed("127.0.0.1") as port, Tapped(port, self.file, "--wait", "0.3") as tap:
             self.opened(tap).take_end()
         self.assertEqual(tap.warnings, [f"no connection to 127.0.0.1:{port}: no answer within 0.3 seconds"])
+
+    def test_interrupted(self) -> None:
+        """An interrupt that comes at the moment at which the host takes the connection isn't lost."""
+
+        async def interrupt(port: int) -> None:
+            loop = asyncio.get_running_loop()
+            connect = loop.sock_connect
+
+            async def connected(sock: socket.socket, address: object) -> None:
+                await connect(sock, address)
+                serving.cancel()
+
+            with mock.patch.object(loop, "sock_connect", connected), socket.create_server(("127.0.0.1", 0)) as listener:
+                serving = asyncio.ensure_future(Tap("127.0.0.1", port, self.file).serve(listener))
+                with socket.create_connection(listener.getsockname()):
+                    await asyncio.wait({serving}, timeout=10)
+                self.assertTrue(serving.cancelled())
+
+        with socket.create_server(("127.0.0.1", 0)) as host:
+            asyncio.run(interrupt(host.getsockname()[1]))
 
     def test_silent(self) -> None:
         """Nothing is printed and no file made of ends that say nothing; an interrupt ends it, and resets no end."""
