@@ -151,10 +151,11 @@ class Trial:
 
 def try_crate(given: argparse.Namespace, name: str) -> Report:
     trial = Trial(given, name)
-    if trial.edits:
-        trial.try_edits()
-    if trial.twins:
-        trial.try_twins()
+    with trial.crate.kept:
+        if trial.edits:
+            trial.try_edits()
+        if trial.twins:
+            trial.try_twins()
     return trial.report
 
 

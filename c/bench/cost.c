@@ -1,4 +1,5 @@
-/* Work to count the instructions of: `cost WHAT TIMES`, under valgrind (run.sh). */
+/* Work to count the instructions of: `cost WHAT TIMES [KIND]`, under valgrind (run.sh). The kind of the station is
+   `profile` without it, `extended` or `live`. */
 #include "../tests/bytes.h"
 #include "ribbonscarp.h"
 
@@ -49,6 +50,15 @@ static int text(long times)
     return 0;
 }
 
+static ribbon_status new_station(const char *kind)
+{
+    ribbon_identity identity = {.code_page = 37};
+    if (strcmp(kind, "live") == 0)
+        return ribbon_station_new_live(&station, "IBM-3179-2", &identity);
+    return strcmp(kind, "extended") == 0 ? ribbon_station_new_extended(&station, "IBM-3179-2")
+                                         : ribbon_station_new(&station, "IBM-3179-2");
+}
+
 int main(int count, char **words)
 {
     uint8_t reply[256], byte;
@@ -57,7 +67,7 @@ int main(int count, char **words)
     ribbon_field field;
     uint32_t rows;
     long times = count > 2 ? atol(words[2]) : 0;
-    int failed = count < 3 || ribbon_station_new(&station, "IBM-3179-2") != RIBBON_DONE
+    int failed = count < 3 || new_station(count > 3 ? words[3] : "profile") != RIBBON_DONE
                  || ribbon_station_push(&station, opening, sizeof opening, reply, sizeof reply, &pushed) != RIBBON_DONE
                  || ribbon_station_push(&station, form_record, sizeof form_record, reply, sizeof reply, &pushed)
                         != RIBBON_DONE;

@@ -80,6 +80,8 @@ class Crate:
         if missing:
             raise SystemExit(f"{name}: {missing[0]} isn't built: run `rt ci`, or `rt lib` in crates/{missing[0]}, first")
         self.below = below
+        # What the checks of a run share: a function that no edit has changed since is checked once.
+        self.kept = tempfile.TemporaryDirectory(prefix="wrong-bodies-kept-")
 
     def words(self) -> list[str]:
         """The words of `rattle check` for this crate."""
@@ -92,7 +94,7 @@ class Crate:
         if "staticlib" in self.kinds:
             words += ["--crate-type", "staticlib"]
         logic = ["--antt-project", f"{self.kit}/rattle/logic/antt-project.json", "--logic-built", f"{self.kit}/logic_built"]
-        return [*words, *logic, "--jobs", "1", "--progress"]
+        return [*words, *logic, "--incremental", self.kept.name, "--jobs", "1", "--progress"]
 
     def check(self, texts: dict[str, str], changed: dict[str, str], only: set[str]) -> Check:
         """Checks a copy with the changed texts: these functions and modules alone, or all where none is named."""
