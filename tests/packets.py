@@ -1,4 +1,6 @@
 """A TCP connection as the packets that a capture would have of it, and their file."""
+from __future__ import annotations
+
 import socket
 import struct
 
@@ -9,12 +11,12 @@ RAW_IP = 101
 class Session:
     """A TCP connection between a station and a host, as the packets that a capture would have of it."""
 
-    def __init__(self, port=23, station=("10.0.0.2", 50000), host="10.0.0.1"):
+    def __init__(self, port: int = 23, station: tuple[str, int] = ("10.0.0.2", 50000), host: str = "10.0.0.1") -> None:
         self.ends = {"host": (host, port), "station": station}
         self.next = {"host": 4_294_967_290, "station": 1000}
-        self.packets = []
+        self.packets: list[bytes] = []
 
-    def packet(self, side, flags, data=b"", captured=True):
+    def packet(self, side: str, flags: int, data: bytes = b"", captured: bool = True) -> Session:
         other = "station" if side == "host" else "host"
         (source, source_port), (target, target_port) = self.ends[side], self.ends[other]
         ports = struct.pack(">HH", source_port, target_port)
@@ -31,17 +33,17 @@ class Session:
             self.packets.append(whole)
         return self
 
-    def open(self):
+    def open(self) -> Session:
         return self.packet("station", SYN).packet("host", SYN | ACK).packet("station", ACK)
 
-    def host(self, data, captured=True):
+    def host(self, data: bytes, captured: bool = True) -> Session:
         return self.packet("host", PUSH, data, captured)
 
-    def station(self, data, captured=True):
+    def station(self, data: bytes, captured: bool = True) -> Session:
         return self.packet("station", PUSH, data, captured)
 
 
-def write_capture(path, packets):
+def write_capture(path: str, packets: list[bytes]) -> None:
     with open(path, "wb") as file:
         file.write(struct.pack("<IHHiIII", 0xA1B2C3D4, 2, 4, 0, 0, 65535, RAW_IP))
         for second, packet in enumerate(packets):

@@ -279,7 +279,7 @@ class TapTest(unittest.TestCase):
             loop = asyncio.get_running_loop()
             connect = loop.sock_connect
 
-            async def connected(sock: socket.socket, address: object) -> None:
+            async def connected(sock: socket.socket, address: tuple[str, int]) -> None:
                 await connect(sock, address)
                 serving.cancel()
 
