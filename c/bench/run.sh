@@ -8,13 +8,16 @@ trap 'rm -rf "$folder"' EXIT
 for name in stack cost; do
     "$CC" -std=c11 -O2 -Wall -Wextra -Werror -I "$here" -o "$folder/$name" "$here/bench/$name.c" "$BUILD/libribbonscarp.a"
 done
-# Instructions of so many times, without those of none.
+# instructions WHAT TIMES COUNT [KIND]: of one of the COUNT that so many times do, at a station of a kind.
 instructions() {
     local all none
-    all=$(valgrind --tool=callgrind --callgrind-out-file=/dev/null \
-        "$folder/cost" "$1" "$2" 2>&1 | sed -n 's/.*Collected : //p')
-    none=$(valgrind --tool=callgrind --callgrind-out-file=/dev/null "$folder/cost" "$1" 0 2>&1 | sed -n 's/.*Collected : //p')
+    all=$(collected "$1" "$2" "${4:-profile}")
+    none=$(collected "$1" 0 "${4:-profile}")
     awk "BEGIN {printf \"%.1f\n\", ($all - $none) / ($3)}"
+}
+
+collected() {
+    valgrind --tool=callgrind --callgrind-out-file=/dev/null "$folder/cost" "$@" 2>&1 | sed -n 's/.*Collected : //p'
 }
 
 measure() {
@@ -28,6 +31,10 @@ measure() {
     echo "instructions"
     echo "a byte pushed, small records  $(instructions push 1 155648)"
     echo "a byte pushed, text           $(instructions text 100 159800)"
+    for kind in extended live; do
+        echo "a byte, small records, $kind  $(instructions push 1 155648 $kind)"
+        echo "a byte, text, $kind           $(instructions text 100 159800 $kind)"
+    done
     echo "one cell                      $(instructions cell 10000 10000)"
     echo "a cell of 24 rows             $(instructions sheet 100 192000)"
     echo "the state                     $(instructions State 10000 10000)"
