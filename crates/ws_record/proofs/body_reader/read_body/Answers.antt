@@ -1,6 +1,8 @@
 use Rattle.ws_record.proofs.Common.{true, ◌≡◌, ℕ, List, [], ◌++◌, take, drop, refl, sym, ap, ◌∙◌, append_assoc, false}
 use Rattle.ws_record.proofs.Common.{Bool, take-length, append-nil, take-append-drop, Rules, place_after, IsCut, Reading}
 use Rattle.ws_record.proofs.Common.{HasReadValues, one_cut, cut_bad, cut_unit, is_between}
+use Rattle.ws_record.proofs.Common.{Err}
+use Rattle.ws_record.specs.declared.body_reader.BodyFault.TheVariants.{Bad, Memory}
 use Rattle.ws_record.proofs.body_reader.read_body.Goals as goal
 use Rattle.ws_record.proofs.body_reader.read_body.Goals.{then-at-via-then-at, then-at-via-else-at+then-not-may_end}
 
@@ -84,3 +86,6 @@ returns-in-Bad-clause-fault g c = λ body is.
     run.0.before.read.begun run.0.last (drop c.run-run.result.used c.args.bytes.now) cut.0.chain is.whole.chain
     cut.0.more (rw cut.1 at run.1)
     (is.spelled ∙ sym whole ∙ rw (run.0.split, ← cut.0.spelled, append_assoc, append_assoc))
+
+pub returns-in-Bad-clause-memory : goal.returns-in-Bad-clause-memory
+returns-in-Bad-clause-memory g c = λ e. absurd (let f : Err Bad ≡ Err Memory = e in cc)
