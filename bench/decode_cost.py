@@ -13,8 +13,8 @@ names its options. It builds the plain decoder by `rustc -O` into a temporary fo
 - with `--keep` prints instead what `decode_all`, which keeps all items to its end, costs on the four streams beside
   the plain decoder that keeps all of its own,
 - with `--feed` prints instead what `Receiver::feed` costs beside the plain decoder, each over the whole stream, and
-  `Station::feed`, in pieces of 4,096 bytes and with the screen, beside `Receiver::feed`, and `ExtendedStation::feed`
-  beside that.
+  `Station::feed`, in pieces of 4,096 bytes and with the screen, beside `Receiver::feed`, `ExtendedStation::feed`
+  beside that, and `LastingStation::feed` on its display beside that.
 
 For the last two it makes a crate of keep_all.rattle or feed.rattle in a temporary folder, over copies of the crates
 that it needs, with the work that checks kept in them (some gigabytes), and builds it by `rt`, which proves first what
@@ -372,7 +372,8 @@ def cost_by_size(programs, folder, largest, runs, counts):
 
 
 DECODER = ["ws_code", "ws_telnet", "ws_record", "ws_stream"]
-STATION = [*DECODER, "ws_nego", "ws_screen", "ws_keys", "ws_extended", "ws_end", "ws_session", "ws_extended_station"]
+STATION = [*DECODER, "ws_nego", "ws_identity", "ws_screen", "ws_keys", "ws_extended", "ws_end", "ws_session",
+           "ws_extended_station", "ws_lasting"]
 
 
 def build(folder, name, below):
@@ -404,12 +405,14 @@ def compare_kept(programs, folder, size, runs, counts):
 
 
 def compare_fed(feeder, plain, folder, size, runs, counts):
-    """What `Receiver::feed` costs beside the plain decoder, `Station::feed` beside that, and an extended station's."""
+    """What `Receiver::feed` costs beside the plain decoder, and each kind of station beside the one before it."""
     receiver, station, extended = [feeder], [feeder, "station"], [feeder, "extended", "station"]
+    lasting = [feeder, "lasting", *extended[1:]]
     opening = ASKED.hex() + "\n"
     for title, programs, begin in (("Receiver::feed", [receiver, [plain]], ""),
                                    ("Station::feed", [station, receiver], opening),
-                                   ("ExtendedStation::feed", [extended, station], opening)):
+                                   ("ExtendedStation::feed", [extended, station], opening),
+                                   ("LastingStation::feed", [lasting, extended], opening)):
         print_columns(title, counts)
         for name, parts_of in FED.items():
             stream = Stream(folder, parts_of(random.Random(1205)), size, begin)
@@ -428,7 +431,7 @@ def main():
     parser.add_argument("--runs", type=int, default=5, help="how many runs the lowest time is taken of, 5")
     parser.add_argument("--changed", type=int, default=500, help="how many randomly changed streams, 500")
     parser.add_argument("--keep", action="store_true", help="measure decode_all, which keeps all items, in its place")
-    parser.add_argument("--feed", action="store_true", help="measure Receiver::feed and two stations in its place")
+    parser.add_argument("--feed", action="store_true", help="measure Receiver::feed and three stations in its place")
     asked = parser.parse_args()
     with tempfile.TemporaryDirectory() as folder:
         plain = os.path.join(folder, "plain_decoder")
