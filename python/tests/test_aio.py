@@ -24,7 +24,7 @@ class AioTest(unittest.IsolatedAsyncioTestCase):
         line, host = socket.socketpair()
         host.sendall(b"".join(pieces))
         station = Station(strict=strict)
-        session = aio.Session(*await asyncio.open_connection(sock=line), station=station, wait=5)
+        session = aio.Session(*await asyncio.open_connection(sock=line), station=station, wait=60)
         self.addCleanup(host.close)
         self.addAsyncCleanup(session.close)
         return session, host
@@ -32,7 +32,7 @@ class AioTest(unittest.IsolatedAsyncioTestCase):
     async def test_inquiry(self) -> None:
         """Against the program."""
         with Serve(INQUIRY) as serve:
-            async with await aio.connect("127.0.0.1", serve.port, wait=10) as session:
+            async with await aio.connect("127.0.0.1", serve.port, wait=60) as session:
                 await session.wait_text("Sign On")
                 session.fill("User", "QUSER")
                 session.fill("Password", "SECRET")
@@ -47,7 +47,7 @@ class AioTest(unittest.IsolatedAsyncioTestCase):
 
     async def test_host(self) -> None:
         """Against the program, as a station."""
-        async with await aio.listen(wait=10) as listener:
+        async with await aio.listen(wait=60) as listener:
             station = run_connect(listener.port, "await\ntype BOB\nkey F5\nawait record\nawait record\n")
             async with await listener.accept() as host:
                 self.assertEqual(await host.wait_ready(), "IBM-3179-2")
@@ -57,7 +57,7 @@ class AioTest(unittest.IsolatedAsyncioTestCase):
                 await host.send(FORM)
                 await host.cancel()
                 self.assertIs((await host.wait_event()).kind, EventKind.CANCELLED)
-            await asyncio.get_running_loop().run_in_executor(None, station.communicate, None, 20)
+            await asyncio.get_running_loop().run_in_executor(None, station.communicate, None, 120)
         self.assertEqual(station.returncode, 0)
 
     async def test_records(self) -> None:
@@ -108,7 +108,7 @@ class AioTest(unittest.IsolatedAsyncioTestCase):
     async def test_closed(self) -> None:
         """Also while another task waits."""
         session, _ = await self.begin(ASKED)
-        waiting = asyncio.ensure_future(session.wait_text("never", wait=20))
+        waiting = asyncio.ensure_future(session.wait_text("never", wait=60))
         await asyncio.sleep(0.1)
         with self.assertRaisesRegex(RuntimeError, "another task waits at this Session"):
             await session.wait_text("never")
@@ -134,13 +134,13 @@ class AioTest(unittest.IsolatedAsyncioTestCase):
             await session.wait_unlocked(wait=0.1)
         with self.assertRaisesRegex(ValueError, "wait=inf"):
             await session.wait_unlocked(wait=float("inf"))
-        self.assertLess(time.monotonic() - begun, 3)
+        self.assertLess(time.monotonic() - begun, 30)
         with self.assertRaisesRegex(ValueError, "port 99999"):
             await aio.connect("127.0.0.1", 99999)
         with socket.create_server(("127.0.0.1", 0)) as server:
             port = server.getsockname()[1]
         with self.assertRaises(ConnectionRefusedError):
-            await aio.connect("127.0.0.1", port, wait=5)
+            await aio.connect("127.0.0.1", port, wait=60)
 
     async def test_flood(self) -> None:
         """Bytes that don't end neither lengthen a wait nor fill the memory."""
@@ -157,18 +157,19 @@ class AioTest(unittest.IsolatedAsyncioTestCase):
         task = asyncio.ensure_future(flood())
         with self.assertRaises(WaitedTooLong):
             await session.wait_text("Hi", wait=0.3)
-        await asyncio.sleep(0.5)
-        kept = sent
-        await asyncio.sleep(0.3)
-        self.assertEqual(kept, sent)
+        kept = -1
+        while kept != sent:
+            kept = sent
+            self.assertLess(sent, 1 << 26)
+            await asyncio.sleep(0.5)
         task.cancel()
         with contextlib.suppress(asyncio.CancelledError):
             await task
 
     async def test_any(self) -> None:
         """A host for tests, and a Query."""
-        async with await aio.listen(any=True, wait=10) as listener:
-            session = await aio.connect("127.0.0.1", listener.port, wait=10)
+        async with await aio.listen(any=True, wait=60) as listener:
+            session = await aio.connect("127.0.0.1", listener.port, wait=60)
             async with session, await listener.accept() as host:
                 reply = asyncio.ensure_future(self.answer_query(host))
                 await session.wait_text("Hi")
@@ -183,12 +184,12 @@ class AioTest(unittest.IsolatedAsyncioTestCase):
 
     async def test_listener_closes_first(self) -> None:
         """A session that was accepted goes on; one that nobody has accepted is closed."""
-        listener = await aio.listen(wait=10)
-        session = await aio.connect("127.0.0.1", listener.port, wait=10)
-        left = await aio.connect("127.0.0.1", listener.port, wait=10)
+        listener = await aio.listen(wait=60)
+        session = await aio.connect("127.0.0.1", listener.port, wait=60)
+        left = await aio.connect("127.0.0.1", listener.port, wait=60)
         async with session, left, await listener.accept() as host:
             await asyncio.sleep(0.1)
-            await asyncio.wait_for(listener.close(), 5)
+            await asyncio.wait_for(listener.close(), 60)
             with self.assertRaises(ConnectionEnded):
                 await left.wait_text("never")
             waiting = asyncio.ensure_future(session.wait_unlocked())
@@ -197,7 +198,7 @@ class AioTest(unittest.IsolatedAsyncioTestCase):
             await waiting
 
     async def test_listener(self) -> None:
-        listener = await aio.listen(wait=10)
+        listener = await aio.listen(wait=60)
         with self.assertRaisesRegex(WaitedTooLong, "a station hasn't come within 0.1 seconds"):
             await listener.accept(wait=0.1)
         waiting = asyncio.ensure_future(listener.accept())
@@ -212,7 +213,7 @@ class AioTest(unittest.IsolatedAsyncioTestCase):
         """A hundred stations at one host, at once."""
 
         async def station(port: int, name: str) -> str:
-            async with await aio.connect("127.0.0.1", port, wait=20) as session:
+            async with await aio.connect("127.0.0.1", port, wait=60) as session:
                 await session.wait_unlocked()
                 session.fill(1, name)
                 await session.press(Key.ENTER)
@@ -228,7 +229,7 @@ class AioTest(unittest.IsolatedAsyncioTestCase):
                     await session.wait_event()
 
         names = [f"N{number}" for number in range(100)]
-        async with await aio.listen(wait=20) as listener:
+        async with await aio.listen(wait=60) as listener:
             hosts = asyncio.gather(*(host(listener) for _ in names))
             told = await asyncio.gather(*(station(listener.port, name) for name in names))
             await hosts

@@ -36,7 +36,7 @@ SCRIPT = "await text Name\ntype {name}\nkey Enter\nawait record\nawait record\n"
 def run(name: str, *words: str, **variables: str) -> subprocess.CompletedProcess[str]:
     environment = dict(ENVIRONMENT, **variables)
     command = [sys.executable, str(PROGRAMS / name), *words]
-    return subprocess.run(command, env=environment, capture_output=True, text=True, timeout=60, check=False)
+    return subprocess.run(command, env=environment, capture_output=True, text=True, timeout=300, check=False)
 
 
 class ExamplesTest(unittest.TestCase):
@@ -80,7 +80,7 @@ class ExamplesTest(unittest.TestCase):
         with tempfile.NamedTemporaryFile("w") as script:
             script.write(SCRIPT.format(name=name))
             script.flush()
-            return run("check_emulator.py", PROGRAM, "connect", "--wait", "10", "127.0.0.1:{port}", script.name)
+            return run("check_emulator.py", PROGRAM, "connect", "--wait", "60", "127.0.0.1:{port}", script.name)
 
     def test_emulator(self) -> None:
         done = self.emulate("BOB")
@@ -120,7 +120,7 @@ def begun(command: str, folder: pathlib.Path) -> Iterator[None]:
         yield
     finally:
         os.killpg(process.pid, signal.SIGTERM)
-        process.communicate(timeout=20)
+        process.communicate(timeout=120)
 
 
 class PageTest(unittest.TestCase):
@@ -140,7 +140,7 @@ class PageTest(unittest.TestCase):
         """The block of the page whose last command runs a program."""
         [block] = [block for block in self.blocks if program in block.splitlines()[-1]]
         command = ["bash", "-ec", block]
-        return subprocess.run(command, cwd=self.folder, env=ENVIRONMENT, capture_output=True, text=True, timeout=60,
+        return subprocess.run(command, cwd=self.folder, env=ENVIRONMENT, capture_output=True, text=True, timeout=300,
                               check=False)
 
     @unittest.skipUnless(shutil.which("openssl"), "openssl isn't here")
@@ -196,7 +196,7 @@ def test_screen():
             file.write_text(test, encoding="utf-8")
             environment = dict(ENVIRONMENT, PYTHONPATH=f"{TOP / 'python'}:{TOP / 'python/tests'}")
             command = ["pytest", "-q", "-p", "no:cacheprovider", "-p", "ribbonscarp.pytest_plugin", str(file)]
-            done = subprocess.run(command, env=environment, capture_output=True, text=True, timeout=60, check=False)
+            done = subprocess.run(command, env=environment, capture_output=True, text=True, timeout=300, check=False)
         told = [line for line in done.stdout.splitlines() if line.startswith("E ")]
         self.assertRegex(told[0], "assert 'Sign Off' in the screen")
         screen = r"<Screen: cursor 3 26, unlocked, 1 fields\n.* 1 {30}Main Menu\n.* 3  Password>"
