@@ -18,7 +18,7 @@ def expect(got: object, wanted: object, what: str) -> None:
 class Side:
     """A connected socket: what it has sent and heard, and what of that isn't taken yet."""
 
-    def __init__(self, stream: socket.socket, seconds: float = 15) -> None:
+    def __init__(self, stream: socket.socket, seconds: float = 60) -> None:
         self.stream = stream
         self.stream.settimeout(seconds)
         # Each send by itself.
@@ -112,7 +112,9 @@ class Host:
             self.fault = error
 
     def end(self) -> None:
-        self.thread.join(timeout=20)
+        self.thread.join(timeout=120)
         self.listener.close()
+        if self.thread.is_alive():
+            raise AssertionError("the host goes on")
         if self.fault is not None:
             raise AssertionError(f"the host met: {self.fault!r}")
