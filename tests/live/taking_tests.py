@@ -117,8 +117,7 @@ class TestTaking(unittest.TestCase):
         place = len(ASKED + record(SIGN_ON) + record(PRICE) + record(PAST_END)) - 1
         for line, printed in SHOWING:
             connect, host = told_connect(60, record(PRICE) + record(PAST_END))
-            connect.tell(line)
-            connect.tell("show")
+            connect.tell(line + "\nshow")  # At once: the first may end it.
             connect.end(1, printed + "station refused at %d: reason 53 FieldPastEnd\n" % place)
             host.end()
 
