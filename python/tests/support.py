@@ -68,7 +68,7 @@ class Pair:
 
 
 class Serve:
-    """`t5250 serve` of a script, as a `with`: its port, and behind it what it has printed and its status."""
+    """`t5250 serve` of a script, as a `with`: its port, and after it what it has printed and its status."""
 
     def __init__(self, script: str, *words: str) -> None:
         self.script, self.words = script, words

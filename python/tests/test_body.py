@@ -81,13 +81,13 @@ class BodyTest(unittest.TestCase):
             self.assertEqual(bytes(body), b"\x04\x40")
 
     def test_wrong_body_is_told(self) -> None:
-        """By its byte and the reason, also behind bytes FF, which are doubled on the line."""
+        """By its byte and the reason, also after bytes FF, which are doubled on the line."""
         rows = [
             ("C1", "its byte 0, C1, is wrong .20: "),
             ("0440 04110008 111901", "its byte 7, 19, is wrong .24: "),
             ("0440 04110008 110101 0205 50FF FF 04F3", "its byte 15, F3, is wrong .30: "),
             ("04110008 110101", None),
-            ("0440 0411", "it ends inside an element, behind its 4 bytes .44: "),
+            ("0440 0411", "it ends inside an element, after its 4 bytes .44: "),
             ("04F30005D97000", "its byte 1, F3, is wrong .30: "),
         ]
         line, station = socket.socketpair()

@@ -92,7 +92,7 @@ class ExamplesTest(unittest.TestCase):
                 "ok Enter answers the read",
                 "ok the field that was typed into is sent, without its empty cells",
                 "ok no other field is sent",
-                "ok the cursor stands behind what was typed",
+                "ok the cursor stands after what was typed",
                 "ok a read can be cancelled",
             ],
         )

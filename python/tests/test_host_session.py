@@ -162,7 +162,7 @@ class EachOtherTest(unittest.TestCase):
             beside.finish()
 
     def test_told_before_a_refusal(self) -> None:
-        """What came before a refused byte is told behind the refusal."""
+        """What came before a refused byte is told after the refusal."""
         attention = bytes.fromhex("000A12A0000004400000FFEF")
         with listen(wait=60) as listener:
             with socket.create_connection(("127.0.0.1", listener.port)) as line, listener.accept() as host:
