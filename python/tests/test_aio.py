@@ -6,6 +6,7 @@ import contextlib
 import socket
 import time
 import unittest
+from unittest import mock
 
 from ribbonscarp import Body, ConnectionEnded, EventKind, Key, KeyRefused, Opcode, Reason, Refused, StatusError
 from ribbonscarp import Station, WaitedTooLong, aio
@@ -126,6 +127,44 @@ class AioTest(unittest.IsolatedAsyncioTestCase):
             await asyncio.wait_for(session.wait_text("ONE"), 0.1)
         host.sendall(text("ONE"))
         self.assertEqual((await session.wait_text("ONE")).row(1), "ONE")
+
+    async def test_cancelled_as_a_station_comes(self) -> None:
+        """Neither the cancel is lost nor the station."""
+        async with await aio.listen(wait=60) as listener:
+            get = listener._come.get
+
+            async def got() -> aio.HostSession | None:
+                come = await get()
+                accepting.cancel()
+                return come
+
+            with mock.patch.object(listener._come, "get", got):
+                accepting = asyncio.ensure_future(listener.accept())
+                session = await aio.connect("127.0.0.1", listener.port, wait=60)
+                await asyncio.wait({accepting}, timeout=60)
+            self.assertTrue(accepting.cancelled())
+            async with session, await listener.accept() as host:
+                await asyncio.gather(host.wait_ready(), session.wait_for(lambda screen: screen.state.is_ready))
+
+    async def test_cancelled_as_the_host_answers(self) -> None:
+        """The cancel isn't lost, and the connection is closed."""
+        open_connection = asyncio.open_connection
+
+        async def opened(
+            host: str, port: int, *, ssl: None, limit: int
+        ) -> tuple[asyncio.StreamReader, asyncio.StreamWriter]:
+            streams = await open_connection(host, port, ssl=ssl, limit=limit)
+            connecting.cancel()
+            return streams
+
+        with socket.create_server(("127.0.0.1", 0)) as server, mock.patch("asyncio.open_connection", opened):
+            connecting = asyncio.ensure_future(aio.connect("127.0.0.1", server.getsockname()[1], wait=60))
+            await asyncio.wait({connecting}, timeout=60)
+            self.assertTrue(connecting.cancelled())
+            await asyncio.sleep(0)
+            with server.accept()[0] as line:
+                line.settimeout(60)
+                self.assertEqual(await asyncio.to_thread(line.recv, 1), b"")
 
     async def test_times(self) -> None:
         session, host = await self.begin()
