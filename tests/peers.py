@@ -87,6 +87,15 @@ def swallowed(*addresses: str) -> Iterator[int]:
         yield port
 
 
+@contextlib.contextmanager
+def refusing() -> Iterator[int]:
+    """A port at which nobody listens until the test does: no other program is given it meanwhile."""
+    with socket.socket() as bound:
+        bound.setsockopt(socket.SOL_SOCKET, socket.SO_REUSEADDR, 1)
+        bound.bind(("127.0.0.1", 0))
+        yield bound.getsockname()[1]
+
+
 class Host:
     """A listening socket, at which a function plays the host in a thread of its own."""
 

@@ -15,6 +15,7 @@ from ribbonscarp import Host, Station
 TOP = pathlib.Path(__file__).resolve().parents[2]
 sys.path.append(str(TOP / "tests"))
 
+from peers import refusing as refusing  # noqa: E402
 from records import ASKED as ASKED, record as record  # noqa: E402
 
 PROGRAM = os.environ.get("T5250", str(TOP / "crates/t5250/out/t5250"))

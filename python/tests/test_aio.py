@@ -10,7 +10,7 @@ from unittest import mock
 
 from ribbonscarp import Body, ConnectionEnded, EventKind, Key, KeyRefused, Opcode, Reason, Refused, StatusError
 from ribbonscarp import Station, WaitedTooLong, aio
-from support import ASKED, EXAMPLES, FORM, PAST_END, Serve, record, run_connect
+from support import ASKED, EXAMPLES, FORM, PAST_END, Serve, record, refusing, run_connect
 from test_waits import text
 
 INQUIRY = (EXAMPLES / "inquiry.serve").read_text(encoding="utf-8")
@@ -176,9 +176,7 @@ class AioTest(unittest.IsolatedAsyncioTestCase):
         self.assertLess(time.monotonic() - begun, 30)
         with self.assertRaisesRegex(ValueError, "port 99999"):
             await aio.connect("127.0.0.1", 99999)
-        with socket.create_server(("127.0.0.1", 0)) as server:
-            port = server.getsockname()[1]
-        with self.assertRaises(ConnectionRefusedError):
+        with refusing() as port, self.assertRaises(ConnectionRefusedError):
             await aio.connect("127.0.0.1", port, wait=60)
 
     async def test_flood(self) -> None:

@@ -15,7 +15,7 @@ import unittest
 from collections.abc import Iterator
 
 from ribbonscarp import Key
-from support import EXAMPLES, PROGRAM, TOP, Beside, Serve
+from support import EXAMPLES, PROGRAM, TOP, Beside, Serve, refusing
 
 PROGRAMS = EXAMPLES / "python"
 PAGE = (TOP / "docs/DRIVING.md").read_text(encoding="utf-8")
@@ -132,8 +132,9 @@ class PageTest(unittest.TestCase):
         self.folder = pathlib.Path(folder.name)
         for name in ("python", "examples"):
             (self.folder / name).symlink_to(TOP / name)
-        with socket.create_server(("127.0.0.1", 0)) as server:
-            self.page = PAGE.replace("5250", str(server.getsockname()[1]))
+        port = refusing()
+        self.page = PAGE.replace("5250", str(port.__enter__()))
+        self.addCleanup(port.__exit__, None, None, None)
         self.blocks = re.findall(r"^```\n(.*?)^```$", self.page, re.M | re.S)
 
     def run_block(self, program: str) -> subprocess.CompletedProcess[str]:
@@ -163,9 +164,8 @@ class PageTest(unittest.TestCase):
         self.assertEqual((done.stdout, done.stderr), ("100 12.50\n", ""))
 
     def test_farm_fails(self) -> None:
-        with socket.create_server(("127.0.0.1", 0)) as server:
-            port = server.getsockname()[1]
-        done = run("farm.py", "127.0.0.1", str(port), "2", "4711")
+        with refusing() as port:
+            done = run("farm.py", "127.0.0.1", str(port), "2", "4711")
         self.assertRegex(done.stdout, r"^2 .*Connect call failed")
         self.assertEqual(done.returncode, 1)
 

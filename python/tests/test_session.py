@@ -11,7 +11,7 @@ import unittest.mock
 from collections.abc import Callable
 
 from ribbonscarp import ConnectionEnded, Key, KeyRefused, Reason, Refused, Session, WaitedTooLong, connect
-from support import ASKED, EXAMPLES, FORM, PAST_END, Beside, Serve, record
+from support import ASKED, EXAMPLES, FORM, PAST_END, Beside, Serve, record, refusing
 
 INQUIRY = (EXAMPLES / "inquiry.serve").read_text(encoding="utf-8")
 
@@ -239,9 +239,7 @@ class SocketTest(unittest.TestCase):
         self.assertTrue(b"".join(got).endswith(record(bytes.fromhex("063531"))))
 
     def test_nobody(self) -> None:
-        with socket.create_server(("127.0.0.1", 0)) as server:
-            port = server.getsockname()[1]
-        with self.assertRaises(ConnectionRefusedError):
+        with refusing() as port, self.assertRaises(ConnectionRefusedError):
             connect("127.0.0.1", port, wait=60)
 
     def test_addresses_share_the_time(self) -> None:

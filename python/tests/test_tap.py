@@ -20,7 +20,7 @@ import unittest
 from collections.abc import Callable
 from unittest import mock
 
-from peers import Host, Side, negotiate_as_host, negotiate_as_station, swallowed
+from peers import Host, Side, negotiate_as_host, negotiate_as_station, refusing, swallowed
 from ribbonscarp import Recording, connect
 from ribbonscarp.tap import Tap
 from support import ASKED, EXAMPLES, PROGRAM, SIGN_ON, TOP, Serve, record
@@ -257,9 +257,7 @@ class TapTest(unittest.TestCase):
 
     def test_no_host(self) -> None:
         """A host that can't be reached is told, the emulator's connection closed, and the next one tried anew."""
-        with socket.create_server(("127.0.0.1", 0)) as listener:
-            port = listener.getsockname()[1]
-        with Tapped(port, self.file) as tap:
+        with refusing() as port, Tapped(port, self.file) as tap:
             for _ in range(2):
                 side = self.opened(tap)
                 side.take_end()

@@ -8,7 +8,7 @@ import time
 
 from certificates import Authority, Front, context_of, has_tls
 from hosts import Host, field, inputs, plain, says, text, write
-from peers import swallowed
+from peers import refusing, swallowed
 from window import Terminal, check
 from work import FORM, at_form, shown_of
 
@@ -147,12 +147,10 @@ def by_itself():
 
 def at_first():
     """With `--reconnect` a host that isn't there yet is waited for."""
-    free = socket.create_server(("127.0.0.1", 0))
-    port = free.getsockname()[1]
-    free.close()
-    t = Terminal("--reconnect", f"127.0.0.1:{port}")
-    in_box(t, f"No connection to 127.0.0.1:{port}: Connection refused.")
-    host = Host(port=port)
+    with refusing() as port:
+        t = Terminal("--reconnect", f"127.0.0.1:{port}")
+        in_box(t, f"No connection to 127.0.0.1:{port}: Connection refused.")
+        host = Host(port=port)
     host.window = t
     t.until(host.is_ready.is_set, "it connects when the host is there")
     host.send(FORM)

@@ -9,7 +9,7 @@ import time
 
 import work
 from hosts import Host, READ, field, inputs, plain, says, text, write
-from peers import swallowed
+from peers import refusing, swallowed
 from records import SEND_NAME, record
 from window import Terminal, check
 from work import FORM, at_form, cut, shown_of
@@ -270,11 +270,9 @@ def in_the_menu():
 
 
 def command_lines():
-    free = socket.create_server(("127.0.0.1", 0))
-    port = free.getsockname()[1]
-    free.close()
+    with refusing() as port:
+        Terminal(f"127.0.0.1:{port}").ended(2, "No connection", "refused")
     for words, texts, more in (
-        ([f"127.0.0.1:{port}"], ("No connection", "refused"), {}),
         (["host.invalid:23"], ("No connection to host.invalid:23: ",), {}),
         ([], ("term5250 --help has all options.", "it needs a host"), {}),
         (["--wrong"], ("term5250 --help has all options.", "term5250: unrecognized option '--wrong'"), {}),
