@@ -179,7 +179,7 @@ enum {
     RIBBON_FIELD_ROOM = 5757,  /* bytes: the longest field's characters in UTF-8 */
     RIBBON_CHARACTER_ROOM = 2, /* bytes: a character of code page 037 in UTF-8 */
     RIBBON_PAGE_CHARACTER_ROOM = 3, /* bytes: a character of any code page in UTF-8 */
-    RIBBON_UNIT_ROOM = 133,    /* bytes: what a decoder gives at one byte, beside cells */
+    RIBBON_UNIT_ROOM = 133,    /* bytes: what a decoder gives at one byte, but for cells */
     RIBBON_CANCEL_ROOM = 12,   /* bytes: what a cancel sends */
     RIBBON_ROWS = 24,          /* of a screen */
     RIBBON_COLUMNS = 80,       /* of a screen: the cells of a row */
@@ -335,7 +335,7 @@ enum {
     RIBBON_TERMINAL_IBM_3179_2 = 5
 };
 
-/* What a call tells beside its status. */
+/* What a call tells in addition to its status. */
 typedef struct {
     size_t length;  /* how many bytes of the buffer were set */
     uint64_t place; /* where a byte is refused; places count from 0 */
@@ -350,7 +350,7 @@ typedef struct {
     uint8_t reason; /* why: RIBBON_REASON_...; 0 where none is refused */
 } ribbon_pushed;
 
-/* What is complete in a host's stream, beside cells. */
+/* What is complete in a host's stream, but for cells. */
 enum {
     RIBBON_STEP_MORE = 0,    /* nothing */
     RIBBON_STEP_HEADER = 1,  /* a record's header: `flags`, `record_length` and `opcode` are set */
@@ -624,8 +624,8 @@ RIBBON_API size_t ribbon_reply_room(size_t count);
 RIBBON_API ribbon_status ribbon_station_new(ribbon_station *station, const char *terminal);
 
 /* Makes a station of the extended kind, as ribbon_station_new makes one of the profile, with the same outcomes. It
- * carries out what live hosts send beside the profile (SC30-3533, commands): 5250 Query, Save and Restore Screen, Write
- * Error Code, Read Screen and two immediate reads. */
+ * carries out what live hosts send in addition to the profile (SC30-3533, commands): 5250 Query, Save and Restore Screen,
+ * Write Error Code, Roll, Read Screen and two immediate reads. */
 RIBBON_API ribbon_status ribbon_station_new_extended(ribbon_station *station, const char *terminal);
 
 /* Makes a live station, with the outcomes of ribbon_station_new; RIBBON_BAD_ARGUMENT also where the code page, the device
@@ -758,7 +758,7 @@ RIBBON_API ribbon_status ribbon_host_new(ribbon_host *host, uint8_t *opening, si
 RIBBON_API void ribbon_host_free(ribbon_host *host);
 
 /* Takes bytes of a station, one after another, up to the first that tells something, and puts what the host writes into
- * `reply`. `event` says what the last taken byte tells; bytes behind it are left, and are pushed by a further call.
+ * `reply`. `event` says what the last taken byte tells; bytes after it are left, and are pushed by a further call.
  *
  * RIBBON_REFUSED at the first byte after which the bytes begin no stream, or the last byte of an item that the host
  * refuses (reasons 60 to 63): `taken` counts the bytes before it. RIBBON_NO_MEMORY where memory is wanting. Each further
@@ -845,7 +845,7 @@ RIBBON_API ribbon_status ribbon_body_repeat(ribbon_body *body, uint8_t row, uint
 RIBBON_API ribbon_status ribbon_body_erase(ribbon_body *body, uint8_t row, uint8_t column);
 
 /* Start of Field at the address, whose cell gets the attribute: an input field of a format word, RIBBON_FORMAT_... with
- * 0x4000, or an output field. Its cells are the `length` behind that one. */
+ * 0x4000, or an output field. Its cells are the `length` after that one. */
 RIBBON_API ribbon_status ribbon_body_field(ribbon_body *body, uint16_t format, uint8_t attribute, uint16_t length);
 RIBBON_API ribbon_status ribbon_body_output_field(ribbon_body *body, uint8_t attribute, uint16_t length);
 
@@ -859,8 +859,8 @@ RIBBON_API ribbon_status ribbon_body_bytes(ribbon_body *body, const uint8_t *byt
  * RIBBON_NO_MEMORY; the handle then stays as it was. */
 RIBBON_API ribbon_status ribbon_decoder_new(ribbon_decoder *decoder);
 
-/* Makes a decoder of the extended kind, which also tells the elements that live hosts send beside the profile, with the
- * outcomes of ribbon_decoder_new. */
+/* Makes a decoder of the extended kind, which tells the elements that live hosts send in addition to the profile, too,
+ * with the outcomes of ribbon_decoder_new. */
 RIBBON_API ribbon_status ribbon_decoder_new_extended(ribbon_decoder *decoder);
 
 /* Frees a decoder. Its handle then holds nothing. A null pointer, a handle that holds nothing and one of another kind

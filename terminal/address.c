@@ -35,7 +35,7 @@ bool address_read(address *a, const char *text, const char *usual_port, char *wh
     memcpy(a->host, host, length);
     a->host[length] = 0;
     if (port != NULL && (port[0] != ':' || port[1] == 0 || strlen(port + 1) >= sizeof a->port)) {
-        (void)snprintf(why, room, "%s names no port behind its host", text);
+        (void)snprintf(why, room, "%s names no port after its host", text);
         return false;
     }
     (void)snprintf(a->port, sizeof a->port, "%s", port != NULL ? port + 1 : usual_port);

@@ -22,7 +22,7 @@ static const struct {
     {'x', STROKE_KEYPAD_0 + 8}, {'y', STROKE_KEYPAD_9},
 };
 
-/* What terminals send for keys beside what their descriptions say. */
+/* What terminals send for keys in addition to what their descriptions say. */
 static const struct {
     const char *sequence;
     stroke key;
@@ -123,7 +123,7 @@ static void read_coded(input_reader *r, int code, input *i)
 }
 
 /* A character of a sequence that nobody knows. It is told, so that whoever typed its begin by hand hears of it; a
- * letter that was typed behind that is a letter. */
+ * letter that was typed after that is a letter. */
 static void read_sequence(input_reader *r, wchar_t character, input *i)
 {
     bool is_end = r->sequence == SEQUENCE_STRING ? character == '\\' || character == 0x9c : character >= 0x40;

@@ -34,7 +34,7 @@ static const char usage[] =
     "  --type-ahead WHICH  on, which is the default, or off: keys ring while the\n"
     "                      host has the keyboard\n"
     "  --strict            a station of the profile: it refuses what live hosts send\n"
-    "                      beside that, as a 5250 Query\n"
+    "                      in addition to that, as a 5250 Query\n"
     "  --mono              no colours, as with NO_COLOR in the environment\n"
     "  --background WHICH  black, or own: the window's; without it black, unless the\n"
     "                      window says that it is dark\n"

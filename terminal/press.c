@@ -140,7 +140,7 @@ static bool press_does(session *s, action key)
     return true;
 }
 
-/* The same key again behind one that sends would answer a screen that nobody has seen. */
+/* The same key again after one that sends would answer a screen that nobody has seen. */
 static bool is_impatient(const session *s, action key)
 {
     return key.kind == ACTION_AID && action_is(key, s->ahead.count > 0 ? ahead_last(&s->ahead) : s->sent);
@@ -183,7 +183,7 @@ static bool ends_sent_paste(session *s, action key)
     return true;
 }
 
-/* An Enter that waits, and that was typed behind a key after which Enter has come by itself. */
+/* An Enter that waits, and that was typed after a key after which Enter has come by itself. */
 static void drop_impatient(session *s, action last)
 {
     action next = ahead_first(&s->ahead);

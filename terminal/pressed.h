@@ -12,7 +12,7 @@ typedef struct {
     bool has_sent;     /* something, also by the Enter that follows a field's last key (auto enter) */
 } pressed;
 
-/* Whether a key's answer has room, and comes behind all that the station has written; where there is no line yet, the
+/* Whether a key's answer has room, and comes after all that the station has written; where there is no line yet, the
  * station tells by itself that nothing can be sent. */
 bool pressed_can_send(const session *s);
 

@@ -64,7 +64,7 @@ typedef struct {
     recording recording;
     ahead ahead;
     paste paste;
-    action sent;       /* the key that was sent last; ACTION_NOTHING where another was pressed behind it */
+    action sent;       /* the key that was sent last; ACTION_NOTHING where another was pressed after it */
     macro macro;
     char macro_name[MACRO_NAME_ROOM]; /* as it is typed, while the menu asks for one: */
     enum { ASKS_NOTHING, ASKS_TO_KEEP, ASKS_TO_PLAY } asks;
@@ -108,7 +108,7 @@ void session_step(session *s, short ready);
 /* Sends a station's bytes, as soon as the host takes them; false where too many wait already. */
 bool session_send(session *s, const uint8_t *bytes, size_t count);
 
-/* Tells a sentence about the screen, up to the next key or record: behind that it may be true no longer. */
+/* Tells a sentence about the screen, up to the next key or record: after that it may be true no longer. */
 void session_tell(session *s, const char *format, ...) __attribute__((format(printf, 2, 3)));
 
 /* Tells a sentence about what was done, up to the next key. */

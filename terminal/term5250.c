@@ -20,8 +20,8 @@
 enum {
     KEYS_AT_ONCE = 1024,
     DRAWN_EVERY = 40,    /* milliseconds, while more comes */
-    PASTE_SILENCE = 5000,  /* milliseconds, behind which a paste without its end is over */
-    SEQUENCE_SILENCE = 150 /* and behind which a letter isn't one of a key's sequence */
+    PASTE_SILENCE = 5000,  /* milliseconds, after which a paste without its end is over */
+    SEQUENCE_SILENCE = 150 /* and after which a letter isn't one of a key's sequence */
 };
 
 /* ---- Keys ---- */

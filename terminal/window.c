@@ -102,7 +102,7 @@ static void begin_colors(window *w, const options *asked)
         (void)bkgd(' ' | (chtype)COLOR_PAIR(LOOK_GREEN + 1));
 }
 
-/* White is bold, since many windows have no white of its own beside their usual colour. */
+/* White is bold, since many windows have no white of its own in addition to their usual colour. */
 attr_t window_look(const window *w, const look *l, short *pair)
 {
     attr_t shown = A_NORMAL;

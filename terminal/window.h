@@ -42,10 +42,10 @@ bool window_has_status(void);
 /* The attributes of curses for a look, and its colours. */
 attr_t window_look(const window *w, const look *l, short *pair);
 
-/* Shows the cursor as the keyboard is; behind refresh(). */
+/* Shows the cursor as the keyboard is; after refresh(). */
 void window_cursor(window *w, bool is_locked, bool is_inserting, bool is_blinking);
 
-/* Sets the title, where it is another; behind refresh(). */
+/* Sets the title, where it is another; after refresh(). */
 void window_title(window *w, const char *text);
 
 /* Leaves the window as it was found. */

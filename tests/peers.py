@@ -18,7 +18,7 @@ def expect(got: object, wanted: object, what: str) -> None:
 class Side:
     """A connected socket: what it has sent and heard, and what of that isn't taken yet."""
 
-    def __init__(self, stream: socket.socket, seconds: float = 15) -> None:
+    def __init__(self, stream: socket.socket, seconds: float = 60) -> None:
         self.stream = stream
         self.stream.settimeout(seconds)
         # Each send by itself.
@@ -87,6 +87,15 @@ def swallowed(*addresses: str) -> Iterator[int]:
         yield port
 
 
+@contextlib.contextmanager
+def refusing() -> Iterator[int]:
+    """A port at which nobody listens until the test does: no other program is given it meanwhile."""
+    with socket.socket() as bound:
+        bound.setsockopt(socket.SOL_SOCKET, socket.SO_REUSEADDR, 1)
+        bound.bind(("127.0.0.1", 0))
+        yield bound.getsockname()[1]
+
+
 class Host:
     """A listening socket, at which a function plays the host in a thread of its own."""
 
@@ -112,7 +121,9 @@ class Host:
             self.fault = error
 
     def end(self) -> None:
-        self.thread.join(timeout=20)
+        self.thread.join(timeout=120)
         self.listener.close()
+        if self.thread.is_alive():
+            raise AssertionError("the host goes on")
         if self.fault is not None:
             raise AssertionError(f"the host met: {self.fault!r}")

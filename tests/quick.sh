@@ -19,22 +19,22 @@ layout() {
 export -f layout
 export kit
 
-part layout 2 bash -c layout
-part definitions 1 python3 tools/definitions.py
-part paths 1 python3 tools/paths.py
-part callers 1 python3 tools/calling.py
-part "the unproved program and C library" 10 make --no-print-directory quick
+part layout 6 bash -c layout
+part definitions 3 python3 tools/definitions.py
+part paths 3 python3 tools/paths.py
+part callers 3 python3 tools/calling.py
+part "the unproved program and C library" 30 make --no-print-directory quick
 if [ -x "$unproved/t5250" ]; then
-    part examples 1 examples/run.sh "$unproved/t5250"
+    part examples 3 examples/run.sh "$unproved/t5250"
     for name in manual urgent program; do
-        part "run_$name.py" 2 python3 "tests/run_$name.py" "$unproved/t5250"
+        part "run_$name.py" 6 python3 "tests/run_$name.py" "$unproved/t5250"
     done
 fi
 if [ -e "$unproved/libribbonscarp.so" ]; then
-    part run_version.py 1 python3 tests/run_version.py "$unproved/libribbonscarp.so"
-    part run_dist.py 3 python3 tests/run_dist.py "$unproved/t5250" "$unproved/libws_c.a" test_tar test_programs test_wheel
-    part run_python.py 4 python3 tests/run_python.py "$unproved/libribbonscarp.so" "$unproved/t5250"
+    part run_version.py 3 python3 tests/run_version.py "$unproved/libribbonscarp.so"
+    part run_dist.py 10 python3 tests/run_dist.py "$unproved/t5250" "$unproved/libws_c.a" test_tar test_programs test_wheel
+    part run_python.py 15 python3 tests/run_python.py "$unproved/libribbonscarp.so" "$unproved/t5250"
 fi
-part "the crates of tests" 10 python3 tests/try_rows.py $((${QUICK_SECONDS:-240} - SECONDS))
+part "the crates of tests" 30 python3 tests/try_rows.py $((${QUICK_SECONDS:-240} - SECONDS))
 left_out "every proof and every wrong body, what else tests/run_all.sh runs, and the C interface's own tests: .ci/run"
 sum_up

@@ -20,23 +20,23 @@ if [ "${1:-}" = --prove ]; then
         part "$1" "$2" python3 tests/measure.py "$folder/kinds" "${@:3}"
         cat "$folder/kinds" >>"$folder/table"
     }
-    checks "rt ci" 150 env RT_JOBS=$jobs rt ci
-    checks "wrong bodies" 60 python3 tests/wrong_bodies.py --jobs $jobs
+    checks "rt ci" 300 env RT_JOBS=$jobs rt ci
+    checks "wrong bodies" 180 python3 tests/wrong_bodies.py --jobs $jobs
 fi
 kind=scripts
 # The C library comes first: a live session of the program is compared with one of C programs over it.
 if command -v cc >/dev/null && command -v make >/dev/null; then
     part "C library" 60 tools/build_c_library.sh
-    part "C interface" 30 make --no-print-directory -C c check
+    part "C interface" 60 make --no-print-directory -C c check
 else
     left_out "the C interface, since cc or make isn't there"
 fi
-part examples 10 examples/run.sh
+part examples 20 examples/run.sh
 for script in tests/run_*.py; do
-    part "${script##*/}" 20 python3 "$script"
+    part "${script##*/}" 40 python3 "$script"
 done
-part definitions 5 python3 tools/definitions.py
-part paths 5 python3 tools/paths.py
-part callers 20 python3 tools/calling.py --try
+part definitions 10 python3 tools/definitions.py
+part paths 10 python3 tools/paths.py
+part callers 60 python3 tools/calling.py --try
 
 sum_up

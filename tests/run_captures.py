@@ -79,7 +79,7 @@ CAPTURES = {
 @unittest.skipUnless(shutil.which("tshark"), "tshark isn't there")
 class TestCaptures(Test):
     def run_script(self, *words):
-        done = subprocess.run(["bash", SCRIPT, *words], cwd=self.folder, capture_output=True, text=True, timeout=120)
+        done = subprocess.run(["bash", SCRIPT, *words], cwd=self.folder, capture_output=True, text=True, timeout=300)
         return done.returncode, done.stdout, done.stderr
 
     def capture(self, packets):

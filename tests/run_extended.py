@@ -166,7 +166,7 @@ def lines_of_station():
 
 
 def run(words, text):
-    done = subprocess.run([PROGRAM, *words], input=text, capture_output=True, text=True, timeout=60)
+    done = subprocess.run([PROGRAM, *words], input=text, capture_output=True, text=True, timeout=300)
     return done.returncode, done.stdout, done.stderr
 
 
@@ -186,7 +186,7 @@ def compare_lines(station):
 
 def fields_of(capture):
     """Of each packet with a record what tshark names and shows in it, in order."""
-    read = subprocess.run(["tshark", "-r", capture, "-Y", "tn5250", "-T", "pdml"], capture_output=True, timeout=120)
+    read = subprocess.run(["tshark", "-r", capture, "-Y", "tn5250", "-T", "pdml"], capture_output=True, timeout=300)
     packets = []
     for packet in xml.etree.ElementTree.fromstring(read.stdout).iter("packet"):
         found = [field for proto in packet.iter("proto") if proto.get("name") == "tn5250" for field in proto.iter("field")]
@@ -226,7 +226,7 @@ class TestExtended(Test):
             lines.append(Line(side.stream))
             lines[0].play()
         with self.subTest("connect"):
-            at_host(play, ["--wait", "20"], None, 1, PRINTED, script=SCRIPT)
+            at_host(play, ["--wait", "60"], None, 1, PRINTED, script=SCRIPT)
         with self.subTest("check, show and make"):
             compare_lines(lines[0].heard)
         with self.subTest("tshark"):

@@ -52,7 +52,7 @@ def changed(chance, stream):
 
 
 def run(words, stream):
-    done = subprocess.run([PROGRAM, *words], input=stream.hex(), capture_output=True, text=True, timeout=60)
+    done = subprocess.run([PROGRAM, *words], input=stream.hex(), capture_output=True, text=True, timeout=300)
     return done.returncode, done.stdout, done.stderr
 
 

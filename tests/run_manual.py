@@ -92,7 +92,7 @@ class Shell:
     def end(self, process):
         """Its status, and what it tells as a fault."""
         try:
-            _, fault = process.communicate(timeout=30)
+            _, fault = process.communicate(timeout=120)
         except subprocess.TimeoutExpired:
             process.kill()
             return None, "it doesn't end"
@@ -120,9 +120,9 @@ class Shell:
         script = re.search(r"\S+\.(?:connect|serve)\b", line)
         name = script[0].rpartition(".")[0] if script else None
         if command == "connect":
-            other = f"t5250 serve --wait 20{' --any' * ('live-host' in line)} '{at}' {f'{name}.serve' if name else ''}"
+            other = f"t5250 serve --wait 60{' --any' * ('live-host' in line)} '{at}' {f'{name}.serve' if name else ''}"
             return self.both(line, other, at)
-        other = f"t5250 connect --wait 20 {at} {f'{name}.connect' if name else ''}"
+        other = f"t5250 connect --wait 60 {at} {f'{name}.connect' if name else ''}"
         return self.both(other, line.replace(at, f"'{at}'"), at)
 
 

@@ -32,7 +32,8 @@ KINDS = [(ConnectPlan, False), (ServePlan, False), (ConnectPlan, True), (ServePl
 AT_A_TIME = 4
 # More than that need not be told.
 MOST_FAILED = 10
-SECONDS = 60
+# For what a session waits at the most.
+SECONDS = 180
 
 
 class Session:
@@ -160,7 +161,7 @@ def main():
     asked = words()
     Run.program = asked.program
     print(f"--seed {asked.seed}", flush=True)
-    indices, seconds = itertools.count(), asked.seconds or 60
+    indices, seconds = itertools.count(), asked.seconds or 60.0
     if asked.only is not None:
         indices, seconds = [asked.only], float("inf")
     elif asked.sessions is not None:

@@ -49,12 +49,12 @@ def connect(play, words, status, printed):
         negotiate_as_host(side)
         play(side)
         side.read()
-    at_host(play_all, ["--wait", "15", *words], None, status, printed, script="await record\n")
+    at_host(play_all, ["--wait", "60", *words], None, status, printed, script="await record\n")
 
 
 def serve(play, words, status, printed):
     """The same of `serve`, for a station."""
-    run, side = served(None, *words, wait=15, script="await\n")
+    run, side = served(None, *words, wait=60, script="await\n")
     play(side)
     side.close()
     run.end(status, printed)

@@ -97,7 +97,7 @@ class TestWithoutMemory(Test):
         if os.path.exists(self.told):
             os.remove(self.told)
         more = {"LD_PRELOAD": self.library, "REFUSE": which, "REFUSED": self.told}
-        done = subprocess.run(words, input=text, capture_output=True, text=True, timeout=60, env={**os.environ, **more})
+        done = subprocess.run(words, input=text, capture_output=True, text=True, timeout=300, env={**os.environ, **more})
         return done if which == "0" or os.path.exists(self.told) else None
 
     def each(self, words, text="", behind=""):

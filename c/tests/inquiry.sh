@@ -7,9 +7,9 @@ trap 'rm -rf "$folder"' EXIT
 
 # begin_inquiry PROGRAM: t5250 listens, at the port `port`.
 begin_inquiry() {
-    "$1" serve --wait 20 127.0.0.1:0 "$examples/inquiry.serve" >"$folder/served" &
+    "$1" serve --wait 60 127.0.0.1:0 "$examples/inquiry.serve" >"$folder/served" &
     host=$!
-    for _ in $(seq 100); do
+    for _ in $(seq 1200); do
         grep -qs listening "$folder/served" && break
         sleep 0.05
     done

@@ -1,7 +1,7 @@
 #!/usr/bin/env python3
 """Tests an emulator: `check_emulator.py COMMAND..` plays a host, and starts COMMAND with the port in place of {port}.
 
-The emulator is to type BOB into the field behind Name, and to press Enter.
+The emulator is to type BOB into the field after Name, and to press Enter.
 """
 import subprocess
 import sys
@@ -30,7 +30,7 @@ def run(station: HostSession) -> None:
     check(answer.key is Key.ENTER, "Enter answers the read")
     check(name is not None and name.text == "BOB", "the field that was typed into is sent, without its empty cells")
     check(len(answer.fields) == 1, "no other field is sent")
-    check(answer.cursor == (6, 56), "the cursor stands behind what was typed")
+    check(answer.cursor == (6, 56), "the cursor stands after what was typed")
 
     station.send(FORM)
     station.cancel()

@@ -9,7 +9,7 @@ import re
 import ssl
 from collections.abc import Callable
 
-from .aio_live import LIMIT, Live
+from .aio_live import LIMIT, Live, within
 from .body import Body
 from .codes import Key, Opcode
 from .connection import check_port
@@ -44,7 +44,7 @@ async def connect(
     station = Station(terminal, strict=strict, device=device, code_page=code_page, keyboard=keyboard)
     try:
         opening = asyncio.open_connection(host, port, ssl=context, limit=LIMIT)
-        streams = await asyncio.wait_for(opening, check_wait(wait))
+        streams = await within(opening, check_wait(wait), lambda streams: streams[1].close())
         return Session(*streams, station=station, wait=wait, raise_refusals=raise_refusals)
     except BaseException as cause:
         station.close()
@@ -217,7 +217,7 @@ class Listener:
         session = None
         try:
             if not self._is_closed:
-                session = await asyncio.wait_for(self._come.get(), seconds)
+                session = await within(self._come.get(), seconds, self._come.put_nowait)
         except asyncio.TimeoutError:
             raise WaitedTooLong("a station", seconds) from None
         if session is None:

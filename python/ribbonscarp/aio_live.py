@@ -3,7 +3,8 @@ from __future__ import annotations
 
 import asyncio
 import contextlib
-from typing import TypeVar
+from collections.abc import Callable, Coroutine
+from typing import Any, TypeVar
 
 from .connection import FAREWELL, prepare
 from .end import End, Goal, Wait, check_wait
@@ -20,6 +21,32 @@ LIMIT = 16384
 
 TURNS = 4
 """Turns of the loop by which bytes that the system has are here."""
+
+
+async def within(work: Coroutine[Any, Any, T], seconds: float, drop: Callable[[T], object] = lambda result: None) -> T:
+    """What some work comes to within so many seconds, or else `asyncio.TimeoutError`. Where this is cancelled at the moment
+    at which the work ends, `drop` gets what it came to.
+
+    (Before Python 3.12 `asyncio.wait_for` loses such a cancel.)
+    """
+    task = asyncio.ensure_future(work)
+
+    def ended(_: object) -> None:
+        if not task.cancelled() and task.exception() is None:
+            drop(task.result())
+
+    try:
+        await asyncio.wait({task}, timeout=seconds)
+        if not task.done():
+            task.cancel()
+            await asyncio.wait({task})
+    except asyncio.CancelledError:
+        task.cancel()
+        task.add_done_callback(ended)
+        raise
+    if task.cancelled():
+        raise asyncio.TimeoutError
+    return task.result()
 
 
 class Live:
@@ -51,15 +78,15 @@ class Live:
             return
         self._is_closed = True
         self._wake()
-        with contextlib.suppress(OSError, asyncio.TimeoutError):
+        with contextlib.suppress(OSError):
             if self._writer.can_write_eof():
                 self._writer.write_eof()
                 self._room.set()
-                await asyncio.wait_for(asyncio.shield(self._pump), FAREWELL)
+                await asyncio.wait({self._pump}, timeout=FAREWELL)
         self._pump.cancel()
         self._writer.close()
         with contextlib.suppress(OSError, asyncio.TimeoutError):
-            await asyncio.wait_for(self._writer.wait_closed(), FAREWELL)
+            await within(self._writer.wait_closed(), FAREWELL)
         self._end.end_recording()
         self._free()
 
@@ -154,7 +181,7 @@ class Live:
         if self._writer.transport.get_write_buffer_size() == 0:
             return
         try:
-            await asyncio.wait_for(self._writer.drain(), self.wait)
+            await within(self._writer.drain(), self.wait)
         except asyncio.TimeoutError:
             fault = f"the other side hasn't taken what was written within {self.wait:g} seconds"
             raise ConnectionEnded(fault) from None

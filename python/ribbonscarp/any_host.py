@@ -81,9 +81,9 @@ def event_of(record: Record) -> Event:
 
 
 def answer_of(body: bytes) -> Answer | None:
-    """The answer that a body spells: the cursor, a key, and fields behind their addresses; `None` where it is none.
+    """The answer that a body spells: the cursor, a key, and fields after their addresses; `None` where it is none.
 
-    The content of an answer to Read Input Fields stands behind no address, and in the record's body alone.
+    The content of an answer to Read Input Fields stands after no address, and in the record's body alone.
     """
     if len(body) < 3 or not (1 <= body[0] <= 24 and 1 <= body[1] <= 80) or body[2] not in _AIDS:
         return None

@@ -80,11 +80,11 @@ class Body:
         return self._spell("erase", *_cell(row, column))
 
     def attribute(self, attribute: int) -> Body:
-        """An attribute, 20 to 3F, in the next cell: what looks so begins behind it."""
+        """An attribute, 20 to 3F, in the next cell: what looks so begins after it."""
         return self._spell("attribute", _byte(attribute))
 
     def text(self, row: int, column: int, text: str, attribute: int | None = None) -> Body:
-        """A text from a cell on. With an attribute, 20 to 3F, the cell before the text gets it, and the one behind 20."""
+        """A text from a cell on. With an attribute, 20 to 3F, the cell before the text gets it, and the one after 20."""
         if attribute is None:
             return self._add(Body().address(row, column).more(text))
         return self._add(_before(row, column).attribute(attribute).more(text).attribute(0x20))

@@ -17,7 +17,7 @@ from .screen import Screen
 T = TypeVar("T")
 
 AROUND = 32
-"""How many bytes before and behind a refused one are told, at most."""
+"""How many bytes before and after a refused one are told, at most."""
 
 LATE = 0.5
 """For how many seconds a wait goes on with what has come, at most, once its time is over."""

@@ -39,7 +39,7 @@ class Refused(RibbonscarpError):
 
     `place` counts bytes from the first that came, 0. What was written in answer before that byte is in `reply`; what a
     host's end was told before it in `events`, what a decoder found before it in `steps`. Of a live session `before` has
-    the bytes before that byte, from the begin of its record, 32 at most, `after` the byte and those behind it; `screen`
+    the bytes before that byte, from the begin of its record, 32 at most, `after` the byte and those after it; `screen`
     is a station's then.
     """
 
@@ -75,10 +75,10 @@ class RecordRefused(RibbonscarpError):
 
 
 class Truncated(RibbonscarpError):
-    """A stream ends inside a command or a record, behind `length` bytes."""
+    """A stream ends inside a command or a record, after `length` bytes."""
 
     def __init__(self, length: int) -> None:
-        super().__init__(f"the stream ends inside a command or a record, behind {length} bytes")
+        super().__init__(f"the stream ends inside a command or a record, after {length} bytes")
         self.length = length
 
 
@@ -124,7 +124,7 @@ class ConnectionEnded(RibbonscarpError, ConnectionError):
 
 
 def _shown(screen: Screen | None) -> str:
-    """What a screen shows, behind an error's text."""
+    """What a screen shows, after an error's text."""
     if screen is None:
         return ""
     return f"; the screen shows\n{screen}" if str(screen) else "; the screen is empty"

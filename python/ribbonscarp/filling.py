@@ -23,7 +23,7 @@ def takes(shift: Shift, character: str, page: int = 37) -> bool:
 
 
 def is_negative(field: Field, text: str) -> bool:
-    """Whether a text has a minus, before or behind its digits, that Field Minus enters."""
+    """Whether a text has a minus, before or after its digits, that Field Minus enters."""
     return field.shift is Shift.SIGNED_NUMERIC and "-" in (text[:1], text[-1:])
 
 
@@ -62,7 +62,7 @@ def keys_to_fill(field: Field, cursor: tuple[int, int], text: str) -> list[Key |
     empty, and the characters.
 
     Where the field moves its characters to its end, or is signed, Field Exit follows; Field Minus in a signed field
-    where a minus stands before or behind the digits. `ValueError` where the text is too long.
+    where a minus stands before or after the digits. `ValueError` where the text is too long.
     """
     typed = typed_of(field, text)
     first = (field.row, field.column)

@@ -180,6 +180,6 @@ def _fault_of(body: bytes) -> str:
             ends = itertools.accumulate(1 + (byte == 0xFF) for byte in record)
             at = next((at for at, end in enumerate(ends) if end > error.place), len(record)) - HEADER
             if at >= len(body):
-                return f"it ends inside an element, behind its {len(body)} bytes ({error.text})"
+                return f"it ends inside an element, after its {len(body)} bytes ({error.text})"
             return f"its byte {at}, {body[at]:02X}, is wrong ({error.text})"
     return "the body is right, but such a record isn't sent"

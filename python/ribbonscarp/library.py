@@ -213,8 +213,8 @@ def _names() -> list[str]:
     named = os.environ.get(VARIABLE)
     if named:
         return [named]
-    beside = sorted(pathlib.Path(__file__).parent.glob("libribbonscarp.so*"))
-    return [*map(str, beside), f"libribbonscarp.so.{MAJOR}"]
+    here = sorted(pathlib.Path(__file__).parent.glob("libribbonscarp.so*"))
+    return [*map(str, here), f"libribbonscarp.so.{MAJOR}"]
 
 
 def _declare(library: ctypes.CDLL) -> None:

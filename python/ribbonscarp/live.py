@@ -46,7 +46,7 @@ class Live:
 
     def record_to(self, file: StrPath) -> str:
         """Records what crosses the connection from now on, in the form of the program's `--record`, and gives the name of
-        the file: FILE, or with a number behind it where that is there. The file holds what is typed into hidden
+        the file: FILE, or with a number after it where that is there. The file holds what is typed into hidden
         fields."""
         with self._in_use():
             return self._end.record_to(file)

@@ -14,7 +14,7 @@ StrPath = str | os.PathLike[str]
 
 
 class Recorder:
-    """Writes a recording to a new file, its owner's alone to read. `file` is its name: with a number behind the one that
+    """Writes a recording to a new file, its owner's alone to read. `file` is its name: with a number after the one that
     was asked for, where that is there already. It holds what was typed into hidden fields. Times count from `begun`, of
     `time.monotonic`, or else from now."""
 
@@ -27,7 +27,7 @@ class Recorder:
                 return
             except FileExistsError:
                 continue
-        raise FileExistsError(f"{name} is there, and so are all names with a number behind it")
+        raise FileExistsError(f"{name} is there, and so are all names with a number after it")
 
     def write(self, sender: str, data: bytes) -> None:
         """Writes a piece of the `host` or the `station`."""

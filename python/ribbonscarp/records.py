@@ -51,7 +51,7 @@ class Record:
 
     @property
     def body(self) -> bytes:
-        """What stands behind its header."""
+        """What stands after its header."""
         return self.raw[HEADER:]
 
 

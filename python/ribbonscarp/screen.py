@@ -146,7 +146,7 @@ class Screen:
     def field(self, which: Which) -> Field:
         """A field by its number, by the label before it, or by the row and column of one of its cells.
 
-        A label is what stands before a field on its row, behind the field before it; where that is nothing but blanks,
+        A label is what stands before a field on its row, after the field before it; where that is nothing but blanks,
         dots, colons, dashes and arrows, also what stands on the row above, if no field does. It is compared as it stands,
         and then without those. Where no field has it, those are taken whose label ends with it, and else those in whose
         label it stands. Case doesn't count. `FieldNotFound` where there is none, or more than one: it names them.
@@ -187,12 +187,12 @@ class Screen:
         return Field(number, row, column, length, format, content, text, label_of(captions), captions, is_hidden)
 
     def _before(self, number: int, row: int, column: int) -> str:
-        """What the field's row shows before it, behind the field before it."""
+        """What the field's row shows before it, after the field before it."""
         start = 0
         if number > 1:
             other_row, other_column, length, _ = self._fields[number - 2]
-            behind = (other_row - 1) * COLUMNS + other_column - 1 + length - (row - 1) * COLUMNS
-            start = max(behind, 0)
+            after = (other_row - 1) * COLUMNS + other_column - 1 + length - (row - 1) * COLUMNS
+            start = max(after, 0)
         return self.rows[row - 1][start : column - 1]
 
     def _above(self, row: int) -> str:

@@ -154,7 +154,7 @@ class Session(Live):
         return self._wait(self._station_end.unlocked(), wait)
 
     def wait_record(self, wait: float | None = None) -> Screen:
-        """Takes what comes until one record more was carried out, and leaves what is behind that."""
+        """Takes what comes until one record more was carried out, and leaves what comes after that."""
         return self._wait(self._station_end.record(), wait)
 
     def wait_text(

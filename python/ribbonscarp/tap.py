@@ -10,6 +10,7 @@ import sys
 import time
 from typing import TextIO
 
+from .aio_live import within
 from .connection import PIECE, prepare
 from .lines import HostLines, StationLines
 from .recording import Recorder, StrPath
@@ -81,7 +82,8 @@ class Tap:
         for count, (family, kind, protocol, _, address) in zip(range(len(found), 0, -1), found):
             sock = socket.socket(family, kind, protocol)
             try:
-                await _connect(sock, address, max((end - time.monotonic()) / count, 0.001))
+                sock.setblocking(False)
+                await within(loop.sock_connect(sock, address), max((end - time.monotonic()) / count, 0.001))
                 return sock
             except asyncio.TimeoutError:
                 fault = OSError(f"no answer within {self.wait:g} seconds")
@@ -196,23 +198,6 @@ class _Passing:
         before = f"+{time.monotonic() - self._begun:.3f} {sender} "
         if lines:
             self._tap.print("\n".join(line if line.startswith("  ") else before + line for line in lines))
-
-
-async def _connect(sock: socket.socket, address: tuple[object, ...], seconds: float) -> None:
-    """Connects a socket within so many seconds, or else `asyncio.TimeoutError`.
-
-    (Before Python 3.12 `asyncio.wait_for` loses an interrupt that comes as the work ends.)
-    """
-    sock.setblocking(False)
-    connecting = asyncio.ensure_future(asyncio.get_running_loop().sock_connect(sock, address))
-    try:
-        done, _ = await asyncio.wait({connecting}, timeout=seconds)
-    finally:
-        connecting.cancel()
-    if not done:
-        await asyncio.wait({connecting})
-        raise asyncio.TimeoutError
-    connecting.result()
 
 
 def _sent(sink: socket.socket, data: bytes) -> int:

@@ -26,7 +26,7 @@ def late_handshake(host: str, port: int, wait: float) -> TimeoutError:
 
 
 def secured(sock: socket.socket, host: str, port: int, wait: float, tls: Tls) -> socket.socket:
-    """A connection behind its TLS handshake, whose certificate is the host's."""
+    """A connection after its TLS handshake, whose certificate is the host's."""
     context = context_of(tls)
     assert context is not None
     try:

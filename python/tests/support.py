@@ -15,6 +15,7 @@ from ribbonscarp import Host, Station
 TOP = pathlib.Path(__file__).resolve().parents[2]
 sys.path.append(str(TOP / "tests"))
 
+from peers import refusing as refusing  # noqa: E402
 from records import ASKED as ASKED, record as record  # noqa: E402
 
 PROGRAM = os.environ.get("T5250", str(TOP / "crates/t5250/out/t5250"))
@@ -68,7 +69,7 @@ class Pair:
 
 
 class Serve:
-    """`t5250 serve` of a script, as a `with`: its port, and behind it what it has printed and its status."""
+    """`t5250 serve` of a script, as a `with`: its port, and after it what it has printed and its status."""
 
     def __init__(self, script: str, *words: str) -> None:
         self.script, self.words = script, words
@@ -78,7 +79,7 @@ class Serve:
         with tempfile.NamedTemporaryFile("w", suffix=".serve", delete=False) as file:
             file.write(self.script)
         self.file = file.name
-        command = [PROGRAM, "serve", "--wait", "10", *self.words, "127.0.0.1:0", self.file]
+        command = [PROGRAM, "serve", "--wait", "60", *self.words, "127.0.0.1:0", self.file]
         self.process = subprocess.Popen(command, stdout=subprocess.PIPE, text=True)
         assert self.process.stdout is not None
         self.port = int(self.process.stdout.readline().rpartition(":")[2])
@@ -87,14 +88,14 @@ class Serve:
     def __exit__(self, *error: object) -> None:
         if error[0] is not None:
             self.process.kill()
-        self.printed, _ = self.process.communicate(timeout=20)
+        self.printed, _ = self.process.communicate(timeout=120)
         self.status = self.process.returncode
         os.unlink(self.file)
 
 
 def run_connect(port: int, script: str, *words: str) -> subprocess.Popen[str]:
     """`t5250 connect` with a script, begun."""
-    command = [PROGRAM, "connect", "--wait", "10", *words, f"127.0.0.1:{port}"]
+    command = [PROGRAM, "connect", "--wait", "60", *words, f"127.0.0.1:{port}"]
     process = subprocess.Popen(command, stdin=subprocess.PIPE, stdout=subprocess.PIPE, text=True)
     assert process.stdin is not None
     process.stdin.write(script)
@@ -118,4 +119,4 @@ class Beside(Future[None]):
             self.set_exception(error)
 
     def finish(self) -> None:
-        self.result(20)
+        self.result(120)

@@ -6,10 +6,11 @@ import contextlib
 import socket
 import time
 import unittest
+from unittest import mock
 
 from ribbonscarp import Body, ConnectionEnded, EventKind, Key, KeyRefused, Opcode, Reason, Refused, StatusError
 from ribbonscarp import Station, WaitedTooLong, aio
-from support import ASKED, EXAMPLES, FORM, PAST_END, Serve, record, run_connect
+from support import ASKED, EXAMPLES, FORM, PAST_END, Serve, record, refusing, run_connect
 from test_waits import text
 
 INQUIRY = (EXAMPLES / "inquiry.serve").read_text(encoding="utf-8")
@@ -24,7 +25,7 @@ class AioTest(unittest.IsolatedAsyncioTestCase):
         line, host = socket.socketpair()
         host.sendall(b"".join(pieces))
         station = Station(strict=strict)
-        session = aio.Session(*await asyncio.open_connection(sock=line), station=station, wait=5)
+        session = aio.Session(*await asyncio.open_connection(sock=line), station=station, wait=60)
         self.addCleanup(host.close)
         self.addAsyncCleanup(session.close)
         return session, host
@@ -32,7 +33,7 @@ class AioTest(unittest.IsolatedAsyncioTestCase):
     async def test_inquiry(self) -> None:
         """Against the program."""
         with Serve(INQUIRY) as serve:
-            async with await aio.connect("127.0.0.1", serve.port, wait=10) as session:
+            async with await aio.connect("127.0.0.1", serve.port, wait=60) as session:
                 await session.wait_text("Sign On")
                 session.fill("User", "QUSER")
                 session.fill("Password", "SECRET")
@@ -47,7 +48,7 @@ class AioTest(unittest.IsolatedAsyncioTestCase):
 
     async def test_host(self) -> None:
         """Against the program, as a station."""
-        async with await aio.listen(wait=10) as listener:
+        async with await aio.listen(wait=60) as listener:
             station = run_connect(listener.port, "await\ntype BOB\nkey F5\nawait record\nawait record\n")
             async with await listener.accept() as host:
                 self.assertEqual(await host.wait_ready(), "IBM-3179-2")
@@ -57,7 +58,7 @@ class AioTest(unittest.IsolatedAsyncioTestCase):
                 await host.send(FORM)
                 await host.cancel()
                 self.assertIs((await host.wait_event()).kind, EventKind.CANCELLED)
-            await asyncio.get_running_loop().run_in_executor(None, station.communicate, None, 20)
+            await asyncio.get_running_loop().run_in_executor(None, station.communicate, None, 120)
         self.assertEqual(station.returncode, 0)
 
     async def test_records(self) -> None:
@@ -108,7 +109,7 @@ class AioTest(unittest.IsolatedAsyncioTestCase):
     async def test_closed(self) -> None:
         """Also while another task waits."""
         session, _ = await self.begin(ASKED)
-        waiting = asyncio.ensure_future(session.wait_text("never", wait=20))
+        waiting = asyncio.ensure_future(session.wait_text("never", wait=60))
         await asyncio.sleep(0.1)
         with self.assertRaisesRegex(RuntimeError, "another task waits at this Session"):
             await session.wait_text("never")
@@ -127,6 +128,44 @@ class AioTest(unittest.IsolatedAsyncioTestCase):
         host.sendall(text("ONE"))
         self.assertEqual((await session.wait_text("ONE")).row(1), "ONE")
 
+    async def test_cancelled_as_a_station_comes(self) -> None:
+        """Neither the cancel is lost nor the station."""
+        async with await aio.listen(wait=60) as listener:
+            get = listener._come.get
+
+            async def got() -> aio.HostSession | None:
+                come = await get()
+                accepting.cancel()
+                return come
+
+            with mock.patch.object(listener._come, "get", got):
+                accepting = asyncio.ensure_future(listener.accept())
+                session = await aio.connect("127.0.0.1", listener.port, wait=60)
+                await asyncio.wait({accepting}, timeout=60)
+            self.assertTrue(accepting.cancelled())
+            async with session, await listener.accept() as host:
+                await asyncio.gather(host.wait_ready(), session.wait_for(lambda screen: screen.state.is_ready))
+
+    async def test_cancelled_as_the_host_answers(self) -> None:
+        """The cancel isn't lost, and the connection is closed."""
+        open_connection = asyncio.open_connection
+
+        async def opened(
+            host: str, port: int, *, ssl: None, limit: int
+        ) -> tuple[asyncio.StreamReader, asyncio.StreamWriter]:
+            streams = await open_connection(host, port, ssl=ssl, limit=limit)
+            connecting.cancel()
+            return streams
+
+        with socket.create_server(("127.0.0.1", 0)) as server, mock.patch("asyncio.open_connection", opened):
+            connecting = asyncio.ensure_future(aio.connect("127.0.0.1", server.getsockname()[1], wait=60))
+            await asyncio.wait({connecting}, timeout=60)
+            self.assertTrue(connecting.cancelled())
+            await asyncio.sleep(0)
+            with server.accept()[0] as line:
+                line.settimeout(60)
+                self.assertEqual(await asyncio.to_thread(line.recv, 1), b"")
+
     async def test_times(self) -> None:
         session, host = await self.begin()
         begun = time.monotonic()
@@ -134,13 +173,11 @@ class AioTest(unittest.IsolatedAsyncioTestCase):
             await session.wait_unlocked(wait=0.1)
         with self.assertRaisesRegex(ValueError, "wait=inf"):
             await session.wait_unlocked(wait=float("inf"))
-        self.assertLess(time.monotonic() - begun, 3)
+        self.assertLess(time.monotonic() - begun, 30)
         with self.assertRaisesRegex(ValueError, "port 99999"):
             await aio.connect("127.0.0.1", 99999)
-        with socket.create_server(("127.0.0.1", 0)) as server:
-            port = server.getsockname()[1]
-        with self.assertRaises(ConnectionRefusedError):
-            await aio.connect("127.0.0.1", port, wait=5)
+        with refusing() as port, self.assertRaises(ConnectionRefusedError):
+            await aio.connect("127.0.0.1", port, wait=60)
 
     async def test_flood(self) -> None:
         """Bytes that don't end neither lengthen a wait nor fill the memory."""
@@ -157,18 +194,19 @@ class AioTest(unittest.IsolatedAsyncioTestCase):
         task = asyncio.ensure_future(flood())
         with self.assertRaises(WaitedTooLong):
             await session.wait_text("Hi", wait=0.3)
-        await asyncio.sleep(0.5)
-        kept = sent
-        await asyncio.sleep(0.3)
-        self.assertEqual(kept, sent)
+        kept = -1
+        while kept != sent:
+            kept = sent
+            self.assertLess(sent, 1 << 26)
+            await asyncio.sleep(0.5)
         task.cancel()
         with contextlib.suppress(asyncio.CancelledError):
             await task
 
     async def test_any(self) -> None:
         """A host for tests, and a Query."""
-        async with await aio.listen(any=True, wait=10) as listener:
-            session = await aio.connect("127.0.0.1", listener.port, wait=10)
+        async with await aio.listen(any=True, wait=60) as listener:
+            session = await aio.connect("127.0.0.1", listener.port, wait=60)
             async with session, await listener.accept() as host:
                 reply = asyncio.ensure_future(self.answer_query(host))
                 await session.wait_text("Hi")
@@ -183,12 +221,12 @@ class AioTest(unittest.IsolatedAsyncioTestCase):
 
     async def test_listener_closes_first(self) -> None:
         """A session that was accepted goes on; one that nobody has accepted is closed."""
-        listener = await aio.listen(wait=10)
-        session = await aio.connect("127.0.0.1", listener.port, wait=10)
-        left = await aio.connect("127.0.0.1", listener.port, wait=10)
+        listener = await aio.listen(wait=60)
+        session = await aio.connect("127.0.0.1", listener.port, wait=60)
+        left = await aio.connect("127.0.0.1", listener.port, wait=60)
         async with session, left, await listener.accept() as host:
             await asyncio.sleep(0.1)
-            await asyncio.wait_for(listener.close(), 5)
+            await asyncio.wait_for(listener.close(), 60)
             with self.assertRaises(ConnectionEnded):
                 await left.wait_text("never")
             waiting = asyncio.ensure_future(session.wait_unlocked())
@@ -197,7 +235,7 @@ class AioTest(unittest.IsolatedAsyncioTestCase):
             await waiting
 
     async def test_listener(self) -> None:
-        listener = await aio.listen(wait=10)
+        listener = await aio.listen(wait=60)
         with self.assertRaisesRegex(WaitedTooLong, "a station hasn't come within 0.1 seconds"):
             await listener.accept(wait=0.1)
         waiting = asyncio.ensure_future(listener.accept())
@@ -212,7 +250,7 @@ class AioTest(unittest.IsolatedAsyncioTestCase):
         """A hundred stations at one host, at once."""
 
         async def station(port: int, name: str) -> str:
-            async with await aio.connect("127.0.0.1", port, wait=20) as session:
+            async with await aio.connect("127.0.0.1", port, wait=60) as session:
                 await session.wait_unlocked()
                 session.fill(1, name)
                 await session.press(Key.ENTER)
@@ -228,7 +266,7 @@ class AioTest(unittest.IsolatedAsyncioTestCase):
                     await session.wait_event()
 
         names = [f"N{number}" for number in range(100)]
-        async with await aio.listen(wait=20) as listener:
+        async with await aio.listen(wait=60) as listener:
             hosts = asyncio.gather(*(host(listener) for _ in names))
             told = await asyncio.gather(*(station(listener.port, name) for name in names))
             await hosts

@@ -81,17 +81,17 @@ class BodyTest(unittest.TestCase):
             self.assertEqual(bytes(body), b"\x04\x40")
 
     def test_wrong_body_is_told(self) -> None:
-        """By its byte and the reason, also behind bytes FF, which are doubled on the line."""
+        """By its byte and the reason, also after bytes FF, which are doubled on the line."""
         rows = [
             ("C1", "its byte 0, C1, is wrong .20: "),
             ("0440 04110008 111901", "its byte 7, 19, is wrong .24: "),
             ("0440 04110008 110101 0205 50FF FF 04F3", "its byte 15, F3, is wrong .30: "),
             ("04110008 110101", None),
-            ("0440 0411", "it ends inside an element, behind its 4 bytes .44: "),
+            ("0440 0411", "it ends inside an element, after its 4 bytes .44: "),
             ("04F30005D97000", "its byte 1, F3, is wrong .30: "),
         ]
         line, station = socket.socketpair()
-        with HostSession(sock=line, wait=5) as host, Session(sock=station, wait=5) as session:
+        with HostSession(sock=line, wait=60) as host, Session(sock=station, wait=60) as session:
 
             def settle() -> None:
                 session.wait_for(lambda screen: screen.state.is_ready)
@@ -110,7 +110,7 @@ class BodyTest(unittest.TestCase):
 class AnyHostTest(unittest.TestCase):
     def test_query_and_save(self) -> None:
         """A station of the program answers a Query, gives its screen, and takes it back."""
-        with listen(wait=10, any=True) as listener:
+        with listen(wait=60, any=True) as listener:
             script = "await text Name\nawait record\nawait record\nawait text Other\nawait text Name\nawait record\n"
             script += "type BOB\nkey F5\n"
             station = run_connect(listener.port, script, "--terminal", "IBM-5251-11")
@@ -128,13 +128,13 @@ class AnyHostTest(unittest.TestCase):
                 host.send(Body().read())
                 answer = host.wait_answer()
                 self.assertEqual((answer.key, [field.text for field in answer.fields]), (Key.F5, ["BOB"]))
-            printed, _ = station.communicate(timeout=20)
+            printed, _ = station.communicate(timeout=120)
         self.assertEqual((printed, station.returncode), ("", 0))
 
     def test_any_station(self) -> None:
         """Any terminal, and records that a host of the profile refuses; every event has its record."""
         line, station = socket.socketpair()
-        with HostSession(sock=line, wait=5, any=True) as host, station:
+        with HostSession(sock=line, wait=60, any=True) as host, station:
             self.assertEqual(station.recv(100), bytes.fromhex("FFFD18"))
             station.sendall(bytes.fromhex("FFFB18 FFFB27 FFFD03"))
             station.sendall(bytes.fromhex("FFFA1800") + b"IBM-3477-FC" + bytes.fromhex("FFF0 FFFB19FFFD19FFFB00FFFD00"))
@@ -177,7 +177,7 @@ class AnyHostTest(unittest.TestCase):
 
     def test_not_without_any(self) -> None:
         line, station = socket.socketpair()
-        with HostSession(sock=line, wait=5) as host, station:
+        with HostSession(sock=line, wait=60) as host, station:
             calls: list[Callable[[], object]] = [host.wait_record, lambda: host.send_bytes(b"")]
             calls.append(lambda: host.send(FORM, flags=1))
             for call in calls:
@@ -186,8 +186,8 @@ class AnyHostTest(unittest.TestCase):
 
     def test_regression(self) -> None:
         """A station of this package at it: an error, and Reset."""
-        with listen(wait=10, any=True) as listener:
-            with connect("127.0.0.1", listener.port, wait=10) as session, listener.accept() as host:
+        with listen(wait=60, any=True) as listener:
+            with connect("127.0.0.1", listener.port, wait=60) as session, listener.accept() as host:
                 beside = Beside(lambda: self.play(host))
                 session.wait_text("No such item")
                 self.assertEqual(session.screen.state.error_row, 24)

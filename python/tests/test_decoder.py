@@ -44,7 +44,7 @@ class DecoderTest(unittest.TestCase):
             self.assertEqual(decoder.push(b""), [])
 
     def test_names(self) -> None:
-        """Each element of the profile, and those beside it, have the names and operands that their bytes spell."""
+        """Each element of the profile, and those in addition to it, have the names and operands that their bytes spell."""
         body = Body().clear().write(0xA0, 8).header(b"\x80\x18").address(2, 3).cursor(4, 5).move_cursor(6, 7)
         body.repeat(8, 9, "-").erase(10, 11).field(12, 13, 20, ffw=0x4720, attribute=0x27).output(14, 15, 5)
         body.data(bytes.fromhex("1D 4000 8181 24 0003")).clear_format().read(Read.MDT_FIELDS, 1, 2).write_error("No")

@@ -15,7 +15,7 @@ import unittest
 from collections.abc import Iterator
 
 from ribbonscarp import Key
-from support import EXAMPLES, PROGRAM, TOP, Beside, Serve
+from support import EXAMPLES, PROGRAM, TOP, Beside, Serve, refusing
 
 PROGRAMS = EXAMPLES / "python"
 PAGE = (TOP / "docs/DRIVING.md").read_text(encoding="utf-8")
@@ -36,7 +36,7 @@ SCRIPT = "await text Name\ntype {name}\nkey Enter\nawait record\nawait record\n"
 def run(name: str, *words: str, **variables: str) -> subprocess.CompletedProcess[str]:
     environment = dict(ENVIRONMENT, **variables)
     command = [sys.executable, str(PROGRAMS / name), *words]
-    return subprocess.run(command, env=environment, capture_output=True, text=True, timeout=60, check=False)
+    return subprocess.run(command, env=environment, capture_output=True, text=True, timeout=300, check=False)
 
 
 class ExamplesTest(unittest.TestCase):
@@ -80,7 +80,7 @@ class ExamplesTest(unittest.TestCase):
         with tempfile.NamedTemporaryFile("w") as script:
             script.write(SCRIPT.format(name=name))
             script.flush()
-            return run("check_emulator.py", PROGRAM, "connect", "--wait", "10", "127.0.0.1:{port}", script.name)
+            return run("check_emulator.py", PROGRAM, "connect", "--wait", "60", "127.0.0.1:{port}", script.name)
 
     def test_emulator(self) -> None:
         done = self.emulate("BOB")
@@ -92,7 +92,7 @@ class ExamplesTest(unittest.TestCase):
                 "ok Enter answers the read",
                 "ok the field that was typed into is sent, without its empty cells",
                 "ok no other field is sent",
-                "ok the cursor stands behind what was typed",
+                "ok the cursor stands after what was typed",
                 "ok a read can be cancelled",
             ],
         )
@@ -120,7 +120,7 @@ def begun(command: str, folder: pathlib.Path) -> Iterator[None]:
         yield
     finally:
         os.killpg(process.pid, signal.SIGTERM)
-        process.communicate(timeout=20)
+        process.communicate(timeout=120)
 
 
 class PageTest(unittest.TestCase):
@@ -132,15 +132,16 @@ class PageTest(unittest.TestCase):
         self.folder = pathlib.Path(folder.name)
         for name in ("python", "examples"):
             (self.folder / name).symlink_to(TOP / name)
-        with socket.create_server(("127.0.0.1", 0)) as server:
-            self.page = PAGE.replace("5250", str(server.getsockname()[1]))
+        port = refusing()
+        self.page = PAGE.replace("5250", str(port.__enter__()))
+        self.addCleanup(port.__exit__, None, None, None)
         self.blocks = re.findall(r"^```\n(.*?)^```$", self.page, re.M | re.S)
 
     def run_block(self, program: str) -> subprocess.CompletedProcess[str]:
         """The block of the page whose last command runs a program."""
         [block] = [block for block in self.blocks if program in block.splitlines()[-1]]
         command = ["bash", "-ec", block]
-        return subprocess.run(command, cwd=self.folder, env=ENVIRONMENT, capture_output=True, text=True, timeout=60,
+        return subprocess.run(command, cwd=self.folder, env=ENVIRONMENT, capture_output=True, text=True, timeout=300,
                               check=False)
 
     @unittest.skipUnless(shutil.which("openssl"), "openssl isn't here")
@@ -163,9 +164,8 @@ class PageTest(unittest.TestCase):
         self.assertEqual((done.stdout, done.stderr), ("100 12.50\n", ""))
 
     def test_farm_fails(self) -> None:
-        with socket.create_server(("127.0.0.1", 0)) as server:
-            port = server.getsockname()[1]
-        done = run("farm.py", "127.0.0.1", str(port), "2", "4711")
+        with refusing() as port:
+            done = run("farm.py", "127.0.0.1", str(port), "2", "4711")
         self.assertRegex(done.stdout, r"^2 .*Connect call failed")
         self.assertEqual(done.returncode, 1)
 
@@ -196,7 +196,7 @@ def test_screen():
             file.write_text(test, encoding="utf-8")
             environment = dict(ENVIRONMENT, PYTHONPATH=f"{TOP / 'python'}:{TOP / 'python/tests'}")
             command = ["pytest", "-q", "-p", "no:cacheprovider", "-p", "ribbonscarp.pytest_plugin", str(file)]
-            done = subprocess.run(command, env=environment, capture_output=True, text=True, timeout=60, check=False)
+            done = subprocess.run(command, env=environment, capture_output=True, text=True, timeout=300, check=False)
         told = [line for line in done.stdout.splitlines() if line.startswith("E ")]
         self.assertRegex(told[0], "assert 'Sign Off' in the screen")
         screen = r"<Screen: cursor 3 26, unlocked, 1 fields\n.* 1 {30}Main Menu\n.* 3  Password>"

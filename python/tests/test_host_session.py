@@ -17,7 +17,7 @@ class ConnectTest(unittest.TestCase):
     """Against the program."""
 
     def test_answer(self) -> None:
-        with listen(wait=10) as listener:
+        with listen(wait=60) as listener:
             station = run_connect(listener.port, "await\ntype BOB\nkey F5\nawait\nkey Attention\nkey Help\nshow\n")
             with listener.accept() as host:
                 self.assertEqual(host.wait_ready(), "IBM-3179-2")
@@ -32,19 +32,19 @@ class ConnectTest(unittest.TestCase):
                 self.assertIs(host.wait_event().kind, EventKind.ATTENTION)
                 with self.assertRaises(ConnectionEnded):
                     host.wait_event()
-            printed, _ = station.communicate(timeout=20)
+            printed, _ = station.communicate(timeout=120)
         self.assertEqual(station.returncode, 0)
         self.assertEqual(printed, "screen\ncursor 6 53, locked, message off, blink off, fields 1\n")
 
     def test_cancel(self) -> None:
-        with listen(wait=10) as listener:
+        with listen(wait=60) as listener:
             station = run_connect(listener.port, "await record\nawait record\n", "--terminal", "IBM-5251-11")
             with listener.accept() as host:
                 self.assertEqual(host.wait_ready(), "IBM-5251-11")
                 host.send(FORM)
                 host.cancel()
                 self.assertIs(host.wait_event().kind, EventKind.CANCELLED)
-            station.communicate(timeout=20)
+            station.communicate(timeout=120)
         self.assertEqual(station.returncode, 0)
 
 
@@ -55,7 +55,7 @@ class EachOtherTest(unittest.TestCase):
         told: list[str] = []
 
         def work(port: int) -> None:
-            with connect("127.0.0.1", port, wait=10) as session:
+            with connect("127.0.0.1", port, wait=60) as session:
                 for name in ("ONE", "TWO", "THREE"):
                     session.wait_unlocked()
                     session.fill(1, name)
@@ -63,7 +63,7 @@ class EachOtherTest(unittest.TestCase):
                 session.wait_text("Bye")
                 told.append(session.screen.row(24))
 
-        with listen(wait=10) as listener:
+        with listen(wait=60) as listener:
             port = listener.port
             beside = Beside(lambda: work(port))
             with listener.accept() as host:
@@ -84,7 +84,7 @@ class EachOtherTest(unittest.TestCase):
         told: list[str] = []
 
         def work(name: str, port: int) -> None:
-            with connect("127.0.0.1", port, wait=20) as session:
+            with connect("127.0.0.1", port, wait=60) as session:
                 session.wait_unlocked()
                 session.fill(1, name)
                 session.press(Key.ENTER)
@@ -99,7 +99,7 @@ class EachOtherTest(unittest.TestCase):
                 host.wait_event()
 
         names = [f"N{number}" for number in range(50)]
-        with listen(wait=20) as listener:
+        with listen(wait=60) as listener:
             besides = [Beside(functools.partial(work, name, listener.port)) for name in names]
             besides += [Beside(functools.partial(play, listener.accept())) for _ in names]
             for beside in besides:
@@ -110,12 +110,12 @@ class EachOtherTest(unittest.TestCase):
         """One after another at one listener, also at an address of IPv6."""
 
         def work(address: str, port: int) -> None:
-            with connect(address, port, terminal="IBM-5292-2", wait=10) as session:
+            with connect(address, port, terminal="IBM-5292-2", wait=60) as session:
                 session.wait_for(lambda screen: screen.state.is_ready)
 
         for address in ("127.0.0.1", "::1"):
             try:
-                listener = listen(address, wait=10)
+                listener = listen(address, wait=60)
             except OSError:
                 self.assertEqual(address, "::1")  # The machine has none.
                 continue
@@ -127,14 +127,14 @@ class EachOtherTest(unittest.TestCase):
                     beside.finish()
 
     def test_waits(self) -> None:
-        with listen(wait=10) as listener:
+        with listen(wait=60) as listener:
             begun = time.monotonic()
             with self.assertRaisesRegex(WaitedTooLong, "a station hasn't come within 0.1 seconds"):
                 listener.accept(wait=0.1)
             with socket.create_connection(("127.0.0.1", listener.port)) as line, listener.accept() as host:
                 with self.assertRaisesRegex(WaitedTooLong, "a station that is ready hasn't come within 0.1 seconds"):
                     host.wait_ready(wait=0.1)
-                self.assertLess(time.monotonic() - begun, 5)
+                self.assertLess(time.monotonic() - begun, 30)
                 # A terminal that isn't supported.
                 line.sendall(bytes.fromhex("FFFB18 FFFA1800") + b"IBM-3477-FC" + bytes.fromhex("FFF0"))
                 with self.assertRaises(Refused) as caught:
@@ -149,11 +149,11 @@ class EachOtherTest(unittest.TestCase):
 
         def flood(port: int) -> None:
             with socket.create_connection(("127.0.0.1", port)) as line:
-                end = time.monotonic() + 5.0
-                while not is_over.is_set() and time.monotonic() < end:
-                    line.sendall(b"\xff\xf1" * 500000)
+                with contextlib.suppress(OSError):  # The host may close before it has all.
+                    while not is_over.is_set():
+                        line.sendall(b"\xff\xf1" * 500000)
 
-        with listen(wait=10) as listener:
+        with listen(wait=60) as listener:
             beside = Beside(functools.partial(flood, listener.port))
             with listener.accept() as host:
                 with self.assertRaises(WaitedTooLong):  # and not that the station has closed
@@ -162,9 +162,9 @@ class EachOtherTest(unittest.TestCase):
             beside.finish()
 
     def test_told_before_a_refusal(self) -> None:
-        """What came before a refused byte is told behind the refusal."""
+        """What came before a refused byte is told after the refusal."""
         attention = bytes.fromhex("000A12A0000004400000FFEF")
-        with listen(wait=10) as listener:
+        with listen(wait=60) as listener:
             with socket.create_connection(("127.0.0.1", listener.port)) as line, listener.accept() as host:
                 name = bytes.fromhex("FFFA1800") + b"IBM-3179-2" + bytes.fromhex("FFF0")
                 line.sendall(bytes.fromhex("FFFB18") + name + bytes.fromhex("FFFB19FFFD19FFFB00FFFD00") + attention)

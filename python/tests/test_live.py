@@ -43,7 +43,7 @@ class LiveTest(unittest.TestCase):
                 pass
 
         self.host = Host(whole)
-        session = connect("127.0.0.1", self.host.port, wait=10, **how)  # type: ignore[arg-type]
+        session = connect("127.0.0.1", self.host.port, wait=60, **how)  # type: ignore[arg-type]
         self.addCleanup(self.host.end)
         self.addCleanup(session.close)
         return session
@@ -235,7 +235,7 @@ class AioTest(unittest.IsolatedAsyncioTestCase):
         self.addCleanup(host.close)
         host.sendall(ASKED + DO + ROLL + form("4080", "4008"))
         station = Station(device="ANNA1")
-        session = aio.Session(*await asyncio.open_connection(sock=line), station=station, wait=5, raise_refusals=True)
+        session = aio.Session(*await asyncio.open_connection(sock=line), station=station, wait=60, raise_refusals=True)
         self.addAsyncCleanup(session.close)
         with self.assertRaises(RecordRefused):
             await session.wait_unlocked()

@@ -28,7 +28,7 @@ class RecordingTest(unittest.TestCase):
         return done.stdout
 
     def inquire(self, port: int) -> None:
-        with connect("127.0.0.1", port, wait=10) as session:
+        with connect("127.0.0.1", port, wait=60) as session:
             self.assertEqual(session.record_to(self.file), str(self.file))
             session.wait_text("Sign On")
             session.fill("User", "QUSER")
@@ -58,7 +58,7 @@ class RecordingTest(unittest.TestCase):
         self.assertEqual(sum(isinstance(step, Header) for step in recording.steps(strict=True)), 3)
 
     def test_host(self) -> None:
-        with listen(wait=10) as listener:
+        with listen(wait=60) as listener:
             beside = Beside(lambda: self.answer(listener.port))
             with listener.accept() as host:
                 host.wait_ready()
@@ -70,14 +70,14 @@ class RecordingTest(unittest.TestCase):
         self.assertIn("HEAD 6 56 F1", self.show("show", "--answers", "--of", "station"))
 
     def answer(self, port: int) -> None:
-        with connect("127.0.0.1", port, wait=10) as session:
+        with connect("127.0.0.1", port, wait=60) as session:
             session.wait_unlocked()
             session.fill(1, "BOB")
             session.press(Key.ENTER)
 
     def test_aio(self) -> None:
         async def inquire(port: int) -> None:
-            async with await aio.connect("127.0.0.1", port, wait=10) as session:
+            async with await aio.connect("127.0.0.1", port, wait=60) as session:
                 session.record_to(self.file)
                 await session.wait_text("Sign On")
 
@@ -89,7 +89,7 @@ class RecordingTest(unittest.TestCase):
     def test_begins_at_a_record(self) -> None:
         """One that begins while a record is on its way leaves that out."""
         line, host = socket.socketpair()
-        with Session(sock=line, wait=5) as session, host:
+        with Session(sock=line, wait=60) as session, host:
             host.sendall(ASKED + record(FORM)[:-3])
             session.wait_for(lambda screen: screen.state.is_ready)
             session.record_to(self.file)
@@ -102,12 +102,12 @@ class RecordingTest(unittest.TestCase):
     def test_names(self) -> None:
         """No file is replaced."""
         names = []
-        with listen(wait=10) as listener:
+        with listen(wait=60) as listener:
             for _ in range(3):
-                with connect("127.0.0.1", listener.port, wait=10) as session:
+                with connect("127.0.0.1", listener.port, wait=60) as session:
                     names.append(session.record_to(self.file))
         self.assertEqual(names, [str(self.file), f"{self.file}-1", f"{self.file}-2"])
-        with listen(wait=10) as listener, connect("127.0.0.1", listener.port, wait=10) as session:
+        with listen(wait=60) as listener, connect("127.0.0.1", listener.port, wait=60) as session:
             with self.assertRaises(NotADirectoryError):
                 session.record_to(self.file / "none")
 

@@ -81,7 +81,7 @@ class ScreenTest(unittest.TestCase):
                 call()
 
     def test_cells(self) -> None:
-        """An attribute shows a blank and begins behind its cell; a hidden cell shows a blank."""
+        """An attribute shows a blank and begins after its cell; a hidden cell shows a blank."""
         body = WRITE + at(2, 1, "A") + b"\x28" + at(2, 3, "B") + b"\x27" + at(2, 5, "C") + b"\x20"
         screen = screen_of(body + field(4, 2, 3, attribute="24"))
         row = [screen.cell(2, column) for column in range(1, 7)]

@@ -11,14 +11,14 @@ import unittest.mock
 from collections.abc import Callable
 
 from ribbonscarp import ConnectionEnded, Key, KeyRefused, Reason, Refused, Session, WaitedTooLong, connect
-from support import ASKED, EXAMPLES, FORM, PAST_END, Beside, Serve, record
+from support import ASKED, EXAMPLES, FORM, PAST_END, Beside, Serve, record, refusing
 
 INQUIRY = (EXAMPLES / "inquiry.serve").read_text(encoding="utf-8")
 
 
 def read_to_end(line: socket.socket) -> bytes:
     """What a station sends until it closes."""
-    line.settimeout(20)
+    line.settimeout(60)
     got = b""
     while data := line.recv(4096):
         got += data
@@ -30,7 +30,7 @@ class ServeTest(unittest.TestCase):
 
     def test_inquiry(self) -> None:
         with Serve(INQUIRY) as serve:
-            with connect("127.0.0.1", serve.port, wait=10) as session:
+            with connect("127.0.0.1", serve.port, wait=60) as session:
                 session.wait_text("Sign On")
                 session.fill("User", "QUSER")
                 session.fill("Password", "SECRET")
@@ -52,13 +52,13 @@ class ServeTest(unittest.TestCase):
 
     def test_terminal(self) -> None:
         with Serve("await\n") as serve:
-            with connect("localhost", serve.port, terminal="IBM-5291-1", wait=10) as session:
+            with connect("localhost", serve.port, terminal="IBM-5291-1", wait=60) as session:
                 session.wait_for(lambda screen: screen.state.is_ready)
         self.assertEqual(serve.printed, "host ready IBM-5291-1\n")
 
     def test_key_refused(self) -> None:
         with Serve("await\nsend 3 " + FORM.hex() + "\nawait\n") as serve:
-            with connect("127.0.0.1", serve.port, wait=10) as session:
+            with connect("127.0.0.1", serve.port, wait=60) as session:
                 session.wait_unlocked()
                 with self.assertRaises(KeyRefused):
                     session.press(Key.DUP)
@@ -73,7 +73,7 @@ class ServeTest(unittest.TestCase):
 class SocketTest(unittest.TestCase):
     """Against a socket."""
 
-    def begin(self, play: Callable[[socket.socket], None], wait: float = 5.0, strict: bool = False) -> Session:
+    def begin(self, play: Callable[[socket.socket], None], wait: float = 60.0, strict: bool = False) -> Session:
         """A session at a host that plays so, and then closes."""
         server = socket.create_server(("127.0.0.1", 0))
 
@@ -99,7 +99,7 @@ class SocketTest(unittest.TestCase):
             read_to_end(line)
 
         session = self.begin(play)
-        self.assertTrue(has_sent.wait(20))
+        self.assertTrue(has_sent.wait(60))
         return session
 
     def test_late(self) -> None:
@@ -109,7 +109,7 @@ class SocketTest(unittest.TestCase):
 
         def play(line: socket.socket) -> None:
             line.sendall(record(FORM)[:-1])
-            goes_on.wait(20)
+            goes_on.wait(60)
             line.sendall(record(FORM)[-1:])
             read_to_end(line)
 
@@ -130,9 +130,9 @@ class SocketTest(unittest.TestCase):
             is_over = threading.Event()
 
             def play(line: socket.socket, count: int = count, pause: float = pause) -> None:
-                end = time.monotonic() + 5.0
-                while not is_over.wait(pause) and time.monotonic() < end:
-                    line.sendall(b"\xff\xf1" * count)
+                with contextlib.suppress(OSError):  # The session may close before it has all.
+                    while not is_over.wait(pause):
+                        line.sendall(b"\xff\xf1" * count)
 
             session = self.begin(play)
             begun = time.monotonic()
@@ -232,17 +232,15 @@ class SocketTest(unittest.TestCase):
 
         session = self.begin(play)
         session.wait_unlocked()
-        self.assertTrue(has_sent.wait(20))
+        self.assertTrue(has_sent.wait(60))
         session.press(Key.F1)
         session.close()
         self.host.finish()
         self.assertTrue(b"".join(got).endswith(record(bytes.fromhex("063531"))))
 
     def test_nobody(self) -> None:
-        with socket.create_server(("127.0.0.1", 0)) as server:
-            port = server.getsockname()[1]
-        with self.assertRaises(ConnectionRefusedError):
-            connect("127.0.0.1", port, wait=5)
+        with refusing() as port, self.assertRaises(ConnectionRefusedError):
+            connect("127.0.0.1", port, wait=60)
 
     def test_addresses_share_the_time(self) -> None:
         """One that swallows leaves time for the next."""
@@ -257,8 +255,8 @@ class SocketTest(unittest.TestCase):
             addresses = [(socket.AF_INET, socket.SOCK_STREAM, 6, "", ("127.0.0.1", port)) for port in ports]
             with unittest.mock.patch("socket.getaddrinfo", return_value=addresses):
                 begun = time.monotonic()
-                with connect("host", wait=2) as session:
-                    self.assertLess(time.monotonic() - begun, 1.9)
+                with connect("host", wait=8) as session:
+                    self.assertLess(time.monotonic() - begun, 7.5)
                     session.wait_for(lambda screen: screen.state.is_ready)
 
     def test_closed_twice(self) -> None:

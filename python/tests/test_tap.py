@@ -20,13 +20,18 @@ import unittest
 from collections.abc import Callable
 from unittest import mock
 
-from peers import Host, Side, negotiate_as_host, negotiate_as_station, swallowed
+from peers import Host, Side, negotiate_as_host, negotiate_as_station, refusing, swallowed
 from ribbonscarp import Recording, connect
 from ribbonscarp.tap import Tap
 from support import ASKED, EXAMPLES, PROGRAM, SIGN_ON, TOP, Serve, record
 
 INQUIRY = (EXAMPLES / "inquiry.serve").read_text(encoding="utf-8")
 PACKAGE = str(TOP / "python")
+
+
+def setUpModule() -> None:
+    """A shell has what it begins by `&` ignore an interrupt, and a tap would inherit that."""
+    signal.signal(signal.SIGINT, signal.default_int_handler)
 
 
 class Tapped:
@@ -59,9 +64,10 @@ class Tapped:
     def __exit__(self, *error: object) -> None:
         self.process.send_signal(signal.SIGINT)
         try:
-            self.status = self.process.wait(timeout=20)
+            self.status = self.process.wait(timeout=60)
         finally:
             self.process.kill()
+            self.process.wait()
             for reader in self._readers:
                 reader.join()
             for stream in (self.process.stdout, self.process.stderr):
@@ -70,7 +76,8 @@ class Tapped:
 
     def wait(self, end: str, count: int = 1) -> None:
         """Until so many lines have this end."""
-        for _ in range(2000):
+        until = time.monotonic() + 60
+        while time.monotonic() < until:
             if sum(line.endswith(end) for line in [*self.lines, *self.warnings]) >= count:
                 return
             time.sleep(0.01)
@@ -119,7 +126,7 @@ class TapTest(unittest.TestCase):
         """A station of the package, a host of the program: what is printed is what `show` prints of the recording."""
         with Serve(INQUIRY) as serve, Tapped(serve.port, self.file) as tap:
             self.assertEqual(list(self.folder.iterdir()), [])
-            with connect("127.0.0.1", tap.port, wait=10) as session:
+            with connect("127.0.0.1", tap.port, wait=60) as session:
                 session.wait_text("Sign On")
                 session.fill("User", "QUSER")
                 session.press("Enter")
@@ -250,9 +257,7 @@ class TapTest(unittest.TestCase):
 
     def test_no_host(self) -> None:
         """A host that can't be reached is told, the emulator's connection closed, and the next one tried anew."""
-        with socket.create_server(("127.0.0.1", 0)) as listener:
-            port = listener.getsockname()[1]
-        with Tapped(port, self.file) as tap:
+        with refusing() as port, Tapped(port, self.file) as tap:
             for _ in range(2):
                 side = self.opened(tap)
                 side.take_end()
@@ -286,7 +291,7 @@ class TapTest(unittest.TestCase):
             with mock.patch.object(loop, "sock_connect", connected), socket.create_server(("127.0.0.1", 0)) as listener:
                 serving = asyncio.ensure_future(Tap("127.0.0.1", port, self.file).serve(listener))
                 with socket.create_connection(listener.getsockname()):
-                    await asyncio.wait({serving}, timeout=10)
+                    await asyncio.wait({serving}, timeout=60)
                 self.assertTrue(serving.cancelled())
 
         with socket.create_server(("127.0.0.1", 0)) as host:
@@ -303,7 +308,7 @@ class TapTest(unittest.TestCase):
         peer, tap = self.tapped(play)
         with tap:
             side = self.opened(tap)
-            self.assertTrue(told.wait(10))
+            self.assertTrue(told.wait(60))
         side.take_end()
         peer.end()
         self.assertEqual((tap.status, tap.told(), tap.warnings, list(self.folder.iterdir())), (0, [], [], []))
@@ -340,13 +345,18 @@ class TapTest(unittest.TestCase):
 
     def test_one_after_another(self) -> None:
         """The next emulator is served once the one before has gone."""
-        peer, tap = self.tapped(lambda side: side.take_end())
+
+        def play(side: Side) -> None:
+            side.take_end()
+            side.close()
+            with peer.listener.accept()[0] as line:
+                Side(line).take(b"\xff\xf1")
+
+        peer, tap = self.tapped(play)
         with tap:
             first, second = self.opened(tap), self.opened(tap)
             second.send(b"\xff\xf1")
             first.close()
-            peer.end()
-            peer = Host(lambda side: side.take(b"\xff\xf1"), port=peer.port)
             peer.end()
             second.take_end()
             second.close()
@@ -387,7 +397,7 @@ class TapTest(unittest.TestCase):
             process.stdout.close()
             with socket.create_connection(("127.0.0.1", port)) as line:
                 line.sendall(b"\xff\xf1")
-                _, said = process.communicate(timeout=20)
+                _, said = process.communicate(timeout=120)
         self.assertEqual((process.returncode, said), (0, ""))
 
     def test_silence(self) -> None:
@@ -398,13 +408,13 @@ class TapTest(unittest.TestCase):
         async def serve(listener: socket.socket) -> None:
             tap = Tap("127.0.0.1", peer.port, self.file, silence=0.3, out=out, err=err)
             task = asyncio.ensure_future(tap.serve(listener))
-            await asyncio.to_thread(over.wait, 10)
+            await asyncio.to_thread(over.wait, 60)
             task.cancel()
 
         def play(side: Side) -> None:
             side.take(b"\xff\xf1")
             side.take_end()
-            over.wait(10)
+            over.wait(60)
 
         peer = Host(play)
         with socket.create_server(("127.0.0.1", 0)) as listener:

@@ -8,6 +8,7 @@ import socket
 import ssl
 import subprocess
 import tempfile
+import threading
 import time
 import unittest
 import unittest.mock
@@ -61,7 +62,7 @@ class TlsTest(unittest.TestCase):
 
     def serve(self, context: ssl.SSLContext, play: Callable[[HostSession], None] = lambda host: None) -> Listener:
         """A host that plays so to one station, whose TLS may fail."""
-        listener = listen(tls=context, wait=10)
+        listener = listen(tls=context, wait=60)
 
         def accept() -> None:
             try:
@@ -76,6 +77,17 @@ class TlsTest(unittest.TestCase):
         self.addCleanup(beside.finish)
         return listener
 
+    def serve_silence(self) -> tuple[Listener, threading.Event]:
+        """A host that says nothing more once the station is ready, and closes at an event."""
+        over = threading.Event()
+
+        def play(host: HostSession) -> None:
+            over.wait(60)
+
+        listener = self.serve(self.right, play)
+        self.addCleanup(over.set)
+        return listener, over
+
     def test_right(self) -> None:
         """By name and by address; everything that is written comes through, and the end is told."""
         answers: list[str] = []
@@ -88,7 +100,7 @@ class TlsTest(unittest.TestCase):
 
         for name in ("localhost", "127.0.0.1"):
             listener = self.serve(self.right, play)
-            with connect(name, listener.port, tls=self.issuer.trusting(), wait=10) as session:
+            with connect(name, listener.port, tls=self.issuer.trusting(), wait=60) as session:
                 for word in ("ONE", "TWO"):
                     session.wait_unlocked()
                     session.fill(1, word)
@@ -111,13 +123,13 @@ class TlsTest(unittest.TestCase):
         for context, tls, text in cases:
             listener = self.serve(context)
             with self.assertRaisesRegex(ssl.SSLCertVerificationError, text) as caught:
-                connect("localhost", listener.port, tls=tls, wait=10)
+                connect("localhost", listener.port, tls=tls, wait=60)
             self.assertIsInstance(caught.exception, OSError)
             with self.assertRaisesRegex(ssl.SSLCertVerificationError, text):
                 asyncio.run(self.connect_aio(self.serve(context).port, tls))
 
     async def connect_aio(self, port: int, tls: bool | ssl.SSLContext) -> None:
-        await aio.connect("localhost", port, tls=tls, wait=10)
+        await aio.connect("localhost", port, tls=tls, wait=60)
 
     def test_ports(self) -> None:
         """992 with TLS, and 23 without."""
@@ -129,48 +141,50 @@ class TlsTest(unittest.TestCase):
 
     def test_wants(self) -> None:
         """Want of a whole TLS record is a wait: with no time, and where a record comes in pieces."""
-        listener = self.serve(self.right, lambda host: time.sleep(0.5))
-        with connect("localhost", listener.port, tls=self.issuer.trusting(), wait=10) as session:
+        listener, over = self.serve_silence()
+        with connect("localhost", listener.port, tls=self.issuer.trusting(), wait=60) as session:
             with self.assertRaises(WaitedTooLong):
                 session.wait_text("Hi", wait=0)
             with self.assertRaises(WaitedTooLong):
                 session.wait_text("Hi", wait=0.1)
             self.assertFalse(session.has_ended)
             session.wait_for(lambda screen: screen.state.is_ready)
+            over.set()
 
     def test_much_at_once(self) -> None:
         """More than one TLS record and more than one read, with no time at all."""
         body = Body().clear().write().text(1, 1, "A" * 1900)
-        has_sent: list[bool] = []
+        has_sent, over = threading.Event(), threading.Event()
 
         def play(host: HostSession) -> None:
             for _ in range(40):
                 host.send(body, 2)
             host.send(Body().clear().write().text(1, 1, "LAST"), 2)
-            has_sent.append(True)
-            time.sleep(0.3)
+            has_sent.set()
+            over.wait(60)
 
         listener = self.serve(self.right, play)
-        with connect("localhost", listener.port, tls=self.issuer.trusting(), wait=10) as session:
+        self.addCleanup(over.set)
+        with connect("localhost", listener.port, tls=self.issuer.trusting(), wait=60) as session:
             session.wait_for(lambda screen: screen.state.is_ready)
-            while not has_sent:
-                time.sleep(0.01)
-            time.sleep(0.1)
+            self.assertTrue(has_sent.wait(60))
+            time.sleep(0.5)  # It is on its way.
             self.assertEqual(session.wait_text("LAST", wait=0).state.records, 41)
+            over.set()
 
     def test_sockets(self) -> None:
         """A session of each kind over a socket that speaks TLS already."""
         ours, theirs = socket.socketpair()
 
         def play() -> None:
-            with HostSession(sock=self.right.wrap_socket(theirs, server_side=True), wait=10) as host:
+            with HostSession(sock=self.right.wrap_socket(theirs, server_side=True), wait=60) as host:
                 host.wait_ready()
                 host.send(FORM)
                 self.assertEqual(host.wait_answer().fields[0].text, "BOB")
 
         beside = Beside(play)
         line = self.issuer.trusting().wrap_socket(ours, server_hostname="localhost")
-        with Session(sock=line, wait=10) as session:
+        with Session(sock=line, wait=60) as session:
             session.wait_unlocked()
             session.fill(1, "BOB")
             session.press(Key.ENTER)
@@ -194,19 +208,19 @@ class TlsTest(unittest.TestCase):
 
             beside = Beside(play)
             with self.assertRaisesRegex(ssl.SSLError, "(?i)wrong version number|record layer"):
-                connect("localhost", server.getsockname()[1], tls=True, wait=5)
+                connect("localhost", server.getsockname()[1], tls=True, wait=60)
             beside.finish()
 
     def test_tls_is_wanted(self) -> None:
         """A station without TLS at a port for it says that nothing has come."""
         listener = self.serve(self.right)
-        with connect("localhost", listener.port, wait=10) as session:
+        with connect("localhost", listener.port, wait=60) as session:
             with self.assertRaisesRegex(WaitedTooLong, "nothing at all has come from the host, .* or is TLS's"):
                 session.wait_unlocked(wait=0.2)
 
     def test_closed_while_it_waits(self) -> None:
-        listener = self.serve(self.right, lambda host: time.sleep(0.5))
-        session = connect("localhost", listener.port, tls=self.issuer.trusting(), wait=10)
+        listener, over = self.serve_silence()
+        session = connect("localhost", listener.port, tls=self.issuer.trusting(), wait=60)
         told: list[str] = []
 
         def wait() -> None:
@@ -218,19 +232,20 @@ class TlsTest(unittest.TestCase):
         beside = Beside(wait)
         time.sleep(0.2)
         session.close()
+        over.set()
         beside.finish()
         self.assertIn("this Session is closed", told[0])
 
     def test_aio(self) -> None:
         async def station(port: int) -> str:
-            async with await aio.connect("localhost", port, tls=self.issuer.trusting(), wait=10) as session:
+            async with await aio.connect("localhost", port, tls=self.issuer.trusting(), wait=60) as session:
                 await session.wait_unlocked()
                 session.fill(1, "BOB")
                 await session.press("Enter")
                 return (await session.wait_text("Bye")).row(24)
 
         async def both() -> tuple[str, str]:
-            async with await aio.listen(tls=self.right, wait=10) as listener:
+            async with await aio.listen(tls=self.right, wait=60) as listener:
                 task = asyncio.ensure_future(station(listener.port))
                 async with await listener.accept() as host:
                     await host.wait_ready()

@@ -27,7 +27,7 @@ class PairTest(unittest.TestCase):
 
     def setUp(self) -> None:
         line, self.host = socket.socketpair()
-        self.session = Session(sock=line, station=Station(strict=self.strict), wait=5)
+        self.session = Session(sock=line, station=Station(strict=self.strict), wait=60)
         self.addCleanup(self.session.close)
         self.addCleanup(self.host.close)
 
@@ -105,9 +105,9 @@ class GoalsTest(PairTest):
 
         self.send(ASKED)
         beside, begun = Beside(work), time.monotonic()
-        screen = self.session.wait_quiet(0.4)
+        screen = self.session.wait_quiet(3)
         self.assertEqual(screen.row(1), "THREE")
-        self.assertGreaterEqual(time.monotonic() - begun, 0.5)
+        self.assertGreaterEqual(time.monotonic() - begun, 3.1)
         beside.finish()
         with self.assertRaisesRegex(WaitedTooLong, "quiet of 9 seconds"):
             self.session.wait_quiet(9, wait=0.1)
@@ -142,8 +142,8 @@ class RefusedTest(PairTest):
         for _ in range(2):
             begun = time.monotonic()
             with self.assertRaises(Refused) as caught:
-                self.session.wait_text("never", wait=30)
-            self.assertLess(time.monotonic() - begun, 2)
+                self.session.wait_text("never", wait=60)
+            self.assertLess(time.monotonic() - begun, 30)
             error = caught.exception
             self.assertEqual((error.reason, error.place), (Reason.PAST_END, len(sent) - 1))
             self.assertEqual((error.before, error.after), (record(PAST_END)[:-1], b"\xef"))
@@ -167,8 +167,8 @@ class EndedTest(PairTest):
         self.assertTrue(self.session.has_ended)
         begun = time.monotonic()
         with self.assertRaisesRegex(ConnectionEnded, "the text 'never' hasn't come"):
-            self.session.wait_text("never", wait=30)
-        self.assertLess(time.monotonic() - begun, 2)
+            self.session.wait_text("never", wait=60)
+        self.assertLess(time.monotonic() - begun, 30)
         self.assertEqual(len(self.session.screen.fields), 1)
 
 
@@ -200,7 +200,7 @@ class SaidTest(PairTest):
 
         def work() -> None:
             try:
-                self.session.wait_text("never", wait=20)
+                self.session.wait_text("never", wait=60)
             except StatusError as error:
                 told.append(str(error))
 
@@ -208,7 +208,7 @@ class SaidTest(PairTest):
         time.sleep(0.2)
         self.session.close()
         beside.finish()
-        self.assertLess(time.monotonic() - begun, 5)
+        self.assertLess(time.monotonic() - begun, 30)
         self.assertEqual(len(told), 1)
         self.assertIn("this Session is closed", told[0])
 
@@ -240,7 +240,7 @@ class SaidTest(PairTest):
         time.sleep(0.5)
         self.session.close()
         beside.finish()
-        self.assertLess(time.monotonic() - begun, 10)
+        self.assertLess(time.monotonic() - begun, 30)
 
     def test_forgotten(self) -> None:
         """A session that is forgotten is freed."""
@@ -296,7 +296,7 @@ class ListenerTest(unittest.TestCase):
     def test_closed(self) -> None:
         """An `accept` on another thread ends."""
         told: list[str] = []
-        listener = listen(wait=20)
+        listener = listen(wait=60)
 
         def work() -> None:
             try:
@@ -309,6 +309,6 @@ class ListenerTest(unittest.TestCase):
         begun = time.monotonic()
         listener.close()
         beside.finish()
-        self.assertLess(time.monotonic() - begun, 5)
+        self.assertLess(time.monotonic() - begun, 30)
         self.assertEqual(len(told), 1)
         self.assertIn("this Listener is closed", told[0])

@@ -8,8 +8,8 @@ import threading
 import time
 
 import work
-from hosts import Host, READ, field, inputs, plain, text, write
-from peers import swallowed
+from hosts import Host, READ, field, inputs, plain, says, text, write
+from peers import refusing, swallowed
 from records import SEND_NAME, record
 from window import Terminal, check
 from work import FORM, at_form, cut, shown_of
@@ -117,19 +117,12 @@ def kept_is_the_last():
 
 
 def bad_peers():
-    def garbage(line):
-        line.sendall(b"HTTP/1.1 400 Bad Request\r\n\r\n")
-        time.sleep(5)
-
-    t = Terminal(f"127.0.0.1:{plain(garbage)}")
+    garbage = b"HTTP/1.1 400 Bad Request\r\n\r\n"
+    t = Terminal(f"127.0.0.1:{plain(says(garbage))}")
     t.tells("This is no 5250 host: it sent `HTTP/1.1 400 Bad Request")
     t.leave(1, "This is no 5250 host: it sent `HTTP/1.1 400 Bad Request")
-
-    def log_in(line):
-        line.sendall(b"\xff\xfd\x18\xff\xfd\x20\xff\xfb\x03\r\nlogin: ")
-        time.sleep(5)
-
-    t = Terminal(f"127.0.0.1:{plain(log_in)}")
+    log_in = b"\xff\xfd\x18\xff\xfd\x20\xff\xfb\x03\r\nlogin: "
+    t = Terminal(f"127.0.0.1:{plain(says(log_in))}")
     t.tells("This is no 5250 host: it sent `\\x0D\\x0Alogin: `.")
     t.leave(1)
     t = Terminal(f"127.0.0.1:{plain(lambda line: None)}")
@@ -145,7 +138,7 @@ def bad_peers():
         t.ended(2, "No connection")  # It came before the line was there.
     else:
         t.leave(1, "The line is lost: Connection reset")
-    t = Terminal(f"127.0.0.1:{plain(lambda line: time.sleep(20))}")
+    t = Terminal(f"127.0.0.1:{plain(says(b''))}")
     t.tells("the session hasn't begun")
     t.type("a")
     t.tells(" T ")
@@ -198,13 +191,13 @@ def floods():
             pass
 
     threading.Thread(target=send, daemon=True).start()
-    t.settle(0.5)
+    time.sleep(0.5)
     t.type("12")
     t.until(lambda: "12" in t.window.text(2), "keys are taken while a host floods and doesn't read")
     t.type("\x1d")
     t.shows(1, "q  leave", "and so is ^]")
     t.type("x")
-    end, before = time.monotonic() + 60, t.window.bells
+    end, before = time.monotonic() + 120, t.window.bells
     while t.window.bells == before and time.monotonic() < end:  # Till the line's buffers are full it answers.
         t.type("\x1ba" * 3000)
         t.settle()
@@ -268,7 +261,7 @@ def in_the_menu():
     t.idles("in the menu")
     t.close()
     try:
-        status = t.child.wait(5)
+        status = t.child.wait(60)
         check(status in (1, 129), "a window that goes away in the menu ends the program", status)
     except subprocess.TimeoutExpired:
         t.child.kill()
@@ -277,11 +270,9 @@ def in_the_menu():
 
 
 def command_lines():
-    free = socket.create_server(("127.0.0.1", 0))
-    port = free.getsockname()[1]
-    free.close()
+    with refusing() as port:
+        Terminal(f"127.0.0.1:{port}").ended(2, "No connection", "refused")
     for words, texts, more in (
-        ([f"127.0.0.1:{port}"], ("No connection", "refused"), {}),
         (["host.invalid:23"], ("No connection to host.invalid:23: ",), {}),
         ([], ("term5250 --help has all options.", "it needs a host"), {}),
         (["--wrong"], ("term5250 --help has all options.", "term5250: unrecognized option '--wrong'"), {}),

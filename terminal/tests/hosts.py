@@ -59,12 +59,12 @@ class Host:
     def serve(self):
         came = self.came
         try:
-            self.line = self.listening.accept()[0]
-            self.line.setsockopt(socket.IPPROTO_TCP, socket.TCP_NODELAY, 1)
+            line = self.line = self.listening.accept()[0]
+            line.setsockopt(socket.IPPROTO_TCP, socket.TCP_NODELAY, 1)
             if self.negotiates:
                 self.negotiate()
             self.is_ready.set()
-            while self.reads and (data := self.line.recv(65536)):
+            while self.reads and (data := line.recv(65536)):
                 self.take(data)
         except OSError:
             pass
@@ -87,7 +87,7 @@ class Host:
             self.came.put((whole[9], int.from_bytes(whole[7:9], "big"), whole[10:]))
 
     def ready(self):
-        return self.is_ready.wait(10)
+        return self.is_ready.wait(60)
 
     def send(self, body, opcode=3):
         self.line.sendall(record(body, opcode))
@@ -95,7 +95,7 @@ class Host:
     def send_raw(self, data):
         self.line.sendall(data)
 
-    def answer(self, seconds=10):
+    def answer(self, seconds=60):
         """The opcode, flags and body of the next record; None where none comes, or the line is closed."""
         end = time.monotonic() + seconds
         while time.monotonic() < end:
@@ -147,6 +147,15 @@ def plain(serve):
 
     threading.Thread(target=run, daemon=True).start()
     return listening.getsockname()[1]
+
+
+def says(data):
+    """What a server does that sends this, and then nothing until the other end closes."""
+    def serve(line):
+        line.sendall(data)
+        while line.recv(4096):
+            pass
+    return serve
 
 
 class Host5250:

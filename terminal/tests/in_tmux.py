@@ -21,7 +21,7 @@ class Tmux:
         command = " ".join(shlex.quote(word) for word in (Terminal.program, *words))
         around = f"env -u COLORFGBG -u NO_COLOR HOME=/nowhere LC_ALL=C.UTF-8 TERM={term}"
         self.run("new-session", "-d", "-x", str(columns), "-y", str(rows), "-e", f"TERM={term}",
-                 f"{around} {command}; echo status $?; sleep 60")
+                 f"{around} {command}; echo status $?; sleep 600")
         self.run("set-option", "-g", "status", "off")
         self.run("resize-window", "-x", str(columns), "-y", str(rows))
 
@@ -35,7 +35,7 @@ class Tmux:
     def title(self):
         return self.run("display-message", "-p", "#{pane_title}")
 
-    def until(self, fact, what, seconds=10):
+    def until(self, fact, what, seconds=60):
         end = time.monotonic() + seconds
         while time.monotonic() < end:
             if fact(self.rows()):

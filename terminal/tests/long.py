@@ -96,7 +96,7 @@ def same_screen(t, folder):
     """The window shows what the station's screen is, as the menu prints it into a file."""
     at_rest(t)
     t.type("\x1dp")
-    t.until(lambda: "The screen is in" in t.status(), "the screen is printed", 20)
+    t.until(lambda: "The screen is in" in t.status(), "the screen is printed")
     t.settle()
     name = t.status().partition("The screen is in ")[2].partition(". ")[0]
     with open(os.path.join(folder, name), encoding="utf-8") as file:
@@ -111,7 +111,7 @@ def connect_again(dice, host, t, counts):
     host.again()
     host.hang_up()
     at_rest(t)  # A paste or a name would take the keys.
-    end = time.monotonic() + 5
+    end = time.monotonic() + 30
     while not host.is_ready.is_set() and time.monotonic() < end and t.child.poll() is None:
         t.type(dice.choice(["c", "\x1dc", "x", "s"]))
         t.read(0.3)
@@ -177,7 +177,7 @@ def one_session(dice, sanitized, seconds, counts, folder):
         counts["windows"] += 1
     at_rest(t)
     t.type("\x1dq")
-    status = ended_with(t, 30)
+    status = ended_with(t, 60)
     said = t.ended(status)
     check(end_is_right(status, said), "its status", status, said[-200:])
     counts["refused at last"] += int(said.partition("Records refused: ")[2].partition(",")[0] or 0)
@@ -199,7 +199,7 @@ def random_work(seed, sanitized, seconds):
 def typing(seed, sanitized, seconds):
     """Typing beside its model."""
     t = typist.random_typing(seed, sanitized, seconds, time.monotonic, **CAREFUL)
-    say_nothing(t.ended(ended_with(t, 20)), "random typing")
+    say_nothing(t.ended(ended_with(t, 60)), "random typing")
 
 
 def garbage(dice):
@@ -234,9 +234,9 @@ def garbage_hosts(seed, sanitized, count):
             host.send_raw(data)
             t.read(0.2)
             host.close()
-        t.until(lambda: "the session is over" in t.window.title, f"garbage host {number} ends", seconds=20)
+        t.until(lambda: "the session is over" in t.window.title, f"garbage host {number} ends")
         t.type("\x1dq")
-        said = t.ended(ended_with(t, 20))
+        said = t.ended(ended_with(t, 60))
         say_nothing(said, f"garbage host {number}")
 
 

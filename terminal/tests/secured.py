@@ -6,11 +6,10 @@ import struct
 import subprocess
 import tempfile
 import termios
-import time
 
 from certificates import NEW_KEY, Authority, Front, context_of, has_tls
 from connecting import NEXT, QUIET, box, in_box
-from hosts import Host, READ, field, inputs, plain, text, write
+from hosts import Host, READ, field, inputs, plain, says, text, write
 from records import record
 from window import Terminal, check
 from work import FORM
@@ -233,7 +232,7 @@ def broken():
             t.leave(1, sentence)
             front.close()
             host.close()
-        front = Front(context_of(pem), plain(lambda line: (line.sendall(b"login: "), time.sleep(3))))
+        front = Front(context_of(pem), plain(says(b"login: ")))
         t = Terminal("--tls", "--ca", own.file("ca.pem"), f"localhost:{front.port}")
         in_box(t, "This is no 5250 host: it sent `login: `.")
         t.leave(1)
@@ -249,7 +248,7 @@ def no_tls_there():
     t.ended(2, "term5250: What this port speaks isn't TLS.\r\n")
     host.close()
     for said in b"HTTP/1.1 400 Bad Request\r\n\r\n", b"SSH-2.0-OpenSSH_9.2\r\n":
-        port = plain(lambda line, said=said: (line.recv(1000), line.sendall(said), time.sleep(1)))
+        port = plain(lambda line, said=said: (line.recv(1000), says(said)(line)))
         Terminal("--tls", f"127.0.0.1:{port}").ended(2, "What this port speaks isn't TLS.")
     port = plain(lambda line: line.recv(1000))
     Terminal("--tls", f"127.0.0.1:{port}").ended(2, "The host has closed the line while TLS began.")

@@ -172,7 +172,7 @@ def at_24_rows():
     t.shows(23, "^] menu", "24 rows: at first the status line lies over the last one")
     t.shows(23, f"127.0.0.1:{host.port}")
     t.shows(23, "the last row", "24 rows: then the screen whole")
-    check(3 <= time.monotonic() - begun < 9, "behind three seconds", time.monotonic() - begun)
+    check(3 <= time.monotonic() - begun, "after three seconds", time.monotonic() - begun)
     t.idles("then")
     t.type("\x13")
     t.shows(23, "^] menu  field 6  03/020", "^S lays it there")
@@ -276,7 +276,7 @@ def function_keys(terms=("xterm", "screen")):
         host, t = at_form(term=term)
         for key, wanted in keys:
             t.type(key)
-            answer = inputs(host.answer(3))[0]
+            answer = inputs(host.answer())[0]
             check(answer == wanted, f"{key!r} at {term} sends {wanted:02X}", answer)
             host.send(FORM)
             t.until(lambda: "waiting" not in t.status(), "the screen comes again")
@@ -323,8 +323,7 @@ def editing():
         t.at(f"{row:02}/{column:03}")
         t.type("\x7f")
         left = "abcdefghij"[: place - 1] + "j"
-        t.until(lambda: (t.window.text(5)[74:80] + t.window.text(6)[0:4]).strip() == left, f"Backspace at {place}",
-                seconds=3)
+        t.until(lambda: (t.window.text(5)[74:80] + t.window.text(6)[0:4]).strip() == left, f"Backspace at {place}")
     t.rings("Backspace at the field's begin", lambda: t.type("\x01\x7f"))
     t.tells("The field begins here.")
     host.send(b"\x04\x11\x00\x00", 2)

@@ -112,7 +112,7 @@ def one_screen(dice, host, t, number):
         is_held = one_step(dice, t, model)
         t.read(0)
     t.type("\x12\r" if is_held else "\r")
-    return inputs(host.answer(20)), (0xF1, model.answer())
+    return inputs(host.answer()), (0xF1, model.answer())
 
 
 def random_typing(seed, program, seconds, clock, **more):

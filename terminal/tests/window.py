@@ -257,7 +257,7 @@ class Terminal:
             return bool(data)
         return False
 
-    def until(self, fact, what, seconds=10):
+    def until(self, fact, what, seconds=60):
         end = time.monotonic() + seconds
         while time.monotonic() < end:
             if fact():
@@ -301,13 +301,23 @@ class Terminal:
         return check(now <= few, f"it idles {what}", now)
 
     def settle(self, seconds=0.25):
-        while self.read(seconds):
+        """The program writes nothing for so long, and waits for something: on a busy machine it may be late."""
+        end = time.monotonic() + 30
+        while self.read(seconds) or (self.runs() and time.monotonic() < end):
             pass
+
+    def runs(self):
+        """Whether the program has something to do, and doesn't wait."""
+        try:
+            with open(f"/proc/{self.child.pid}/stat") as file:
+                return file.read().rpartition(")")[2].split()[0] in "RD"
+        except OSError:  # It has ended.
+            return False
 
     def type(self, text):
         """Writes it, and reads meanwhile, as a window does: a program may wait for that before it takes more."""
         data = text.encode("utf-8") if isinstance(text, str) else text
-        end = time.monotonic() + 20
+        end = time.monotonic() + 60
         while data:
             if time.monotonic() > end:
                 raise TimeoutError("what is typed isn't taken")
@@ -328,7 +338,7 @@ class Terminal:
         self.type("\x1dq")
         self.ended(status, *texts)
 
-    def ended(self, status, *texts, seconds=10):
+    def ended(self, status, *texts, seconds=60):
         end = time.monotonic() + seconds
         while self.child.poll() is None and time.monotonic() < end:
             self.read(0.05)

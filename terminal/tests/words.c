@@ -20,8 +20,8 @@ static const struct {
 } wrong_addresses[] = {
     {":107333", ":107333 names no host"}, {"h:107333", "port 107333 is out of range: it is 1 to 65535"},
     {"h:0", "port 0 is out of range: it is 1 to 65535"}, {"h:-1", "port -1 is out of range: it is 1 to 65535"},
-    {"h:65536", "port 65536 is out of range: it is 1 to 65535"}, {"h:", "h: names no port behind its host"},
-    {"[::1]:", "[::1]: names no port behind its host"}, {"[::1]x", "[::1]x names no port behind its host"},
+    {"h:65536", "port 65536 is out of range: it is 1 to 65535"}, {"h:", "h: names no port after its host"},
+    {"[::1]:", "[::1]: names no port after its host"}, {"[::1]x", "[::1]x names no port after its host"},
     {"[]:23", "[]:23 names no host"}, {"", " names no host"},
     {"h:99999999999999999999", "port 99999999999999999999 is out of range: it is 1 to 65535"},
 };

@@ -230,7 +230,7 @@ def pastes():
     t.until(lambda: t.window.text(2)[19:21] == "11" and t.window.text(3)[19:21] == "ab", "pasted text waits as keys do")
     t.type("\x1b[200~12")
     t.until(lambda: t.window.text(4)[19:21].strip() == "", "a paste without its end")
-    t.settle(5.5)
+    t.settle(7)
     t.type("\r")
     check(host.answer() is not None, "is over behind a silence")
     t.leave()
@@ -249,7 +249,7 @@ def against_serve():
             server = subprocess.Popen([Terminal.t5250, "serve", "127.0.0.1:0", name], stdout=subprocess.PIPE, text=True)
             address = server.stdout.readline().split()[1]
             screens.append(typed_in_terminal(address) if kind == "term5250" else typed_in_connect(address))
-            server.wait(timeout=30)
+            server.wait(timeout=120)
             server.stdout.close()
         check(screens[0] == screens[1], "the terminal shows what connect shows", screens)
 

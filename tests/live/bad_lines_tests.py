@@ -184,7 +184,7 @@ class TestBadLines(unittest.TestCase):
 
     def test_bad_lines_of_standard_input(self):
         for text, cause in station_rows()[:6]:
-            at_host(negotiate_as_host, ["--wait", "5"], b"\n" + as_bytes(text) + b"\n", 2, "",
+            at_host(negotiate_as_host, ["--wait", "60"], b"\n" + as_bytes(text) + b"\n", 2, "",
                     "script line %d: %s\n" % (1 + number_of(text), cause), host_ends=False)
         for text, cause in host_rows(HOST)[-8:]:
             serve, side = served(b"await\n" + as_bytes(text) + b"\n")
@@ -192,7 +192,7 @@ class TestBadLines(unittest.TestCase):
             side.close()
 
     def test_bad_lines_of_a_driven_station(self):
-        connect, host = settled_connect(Side.take_end, 5)
+        connect, host = settled_connect(Side.take_end, 60)
         for text, cause in station_rows(True):
             expect(told(connect, text), "bad line: %s\nok\n" % cause, repr(text))
         # The session goes on.
@@ -201,7 +201,7 @@ class TestBadLines(unittest.TestCase):
         host.end()
 
     def test_bad_lines_of_a_driven_host(self):
-        serve, side = settled_serve(10)
+        serve, side = settled_serve(60)
         for text, cause in EITHER + host_rows(HOST)[-len(BLOCKS):]:
             text = as_bytes(text)
             if text.startswith(b"send 3\n"):
@@ -214,7 +214,7 @@ class TestBadLines(unittest.TestCase):
         serve.end(1, "")
 
     def test_the_end_of_a_send(self):
-        serve, side = settled_serve(10)
+        serve, side = settled_serve(60)
         # `end` closes it at once, an empty line does, and one that doesn't begin with two blanks.
         for end in ("end", "", "# none"):
             serve.tell("send 3")

@@ -17,15 +17,15 @@ class TestBoth(unittest.TestCase):
         for name, of_host in ("inquiry", []), ("live-host", ["--any"]):
             with self.subTest(name):
                 example = str(TOP / "examples" / name)
-                serve = Run(["serve", "--wait", "10", *of_host, "127.0.0.1:0", example + ".serve"])
-                connect = Run(["connect", "--wait", "10", serve.line().split()[1], example + ".connect"])
+                serve = Run(["serve", "--wait", "60", *of_host, "127.0.0.1:0", example + ".serve"])
+                connect = Run(["connect", "--wait", "60", serve.line().split()[1], example + ".connect"])
                 connect.end(0, pathlib.Path(example + ".connected").read_text())
                 serve.end(0, pathlib.Path(example + ".served").read_text())
 
     def test_both_line_by_line(self):
-        serve = Run(["serve", "--ready", "--wait", "10", "127.0.0.1:0"])
+        serve = Run(["serve", "--ready", "--wait", "60", "127.0.0.1:0"])
         address = serve.line().split()[1]
-        connect = Run(["connect", "--ready", "--terminal", "ibm-5251-11", "--wait", "10", address])
+        connect = Run(["connect", "--ready", "--terminal", "ibm-5251-11", "--wait", "60", address])
         # The station takes what comes only in a line that takes it.
         connect.tell("await")
         expect(serve.asked("await"), "host ready IBM-5251-11\n", "await")

@@ -45,7 +45,7 @@ class TestC(Test):
             side.take_end()
 
         script = "await text Sign On\nawait\ntype QUSER\nkey FieldExit\ntype SECRET\nkey Enter\ntype A\n"
-        at_host(play, ["--wait", "10", "--terminal", "IBM-3179-2"], script, 1, "key refused Locked A\n")
+        at_host(play, ["--wait", "60", "--terminal", "IBM-3179-2"], script, 1, "key refused Locked A\n")
 
     def test_an_emulator_in_c_shows_the_same(self):
         """What `serve` writes makes the screen in c/examples/emulator.c that `connect` shows."""

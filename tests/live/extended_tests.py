@@ -5,7 +5,7 @@ from live.lines import at_host
 from peers import negotiate_as_host
 from records import ASKED, record
 
-WORDS = ["--wait", "5"]
+WORDS = ["--wait", "60"]
 FORM = "044004110008110634" "1D400020000A" "04520000"
 ERROR = "0421130635" "22C5D9D9"
 QUERY = "04F30005D97000"

@@ -78,7 +78,7 @@ class TestHost(unittest.TestCase):
         side.close()
 
     def test_a_station_that_closes_inside_an_answer(self):
-        serve, side = served("await\nsend 3 %s\nawait\nawait\n" % SIGN_ON, wait=5)
+        serve, side = served("await\nsend 3 %s\nawait\nawait\n" % SIGN_ON, wait=60)
         side.take(record(SIGN_ON))
         side.send(record("0634F1")[:9])
         side.stream.shutdown(socket.SHUT_WR)

@@ -44,7 +44,7 @@ def at_host(play, words, text, status, printed, error="", at="127.0.0.1", host_e
     return run
 
 
-def address_of(serve, seconds=20):
+def address_of(serve, seconds=60):
     """Where a `serve` listens, which has begun. It reads its script first."""
     line = serve.line(seconds)
     if not line.startswith("listening "):
@@ -53,11 +53,11 @@ def address_of(serve, seconds=20):
     return host.strip("[]"), int(port)
 
 
-def station_at(serve, seconds=20):
-    return Side(socket.create_connection(address_of(serve, seconds), timeout=15))
+def station_at(serve, seconds=60):
+    return Side(socket.create_connection(address_of(serve, seconds), timeout=60))
 
 
-def served(text, *words, wait=10, script=None, keep_open=False, is_ready=True, at="127.0.0.1:0", **negotiated):
+def served(text, *words, wait=60, script=None, keep_open=False, is_ready=True, at="127.0.0.1:0", **negotiated):
     """A `serve` with some lines or a script, and a station whose records are allowed, or that has its first token."""
     serve = Run(["serve", "--wait", str(wait), *words, at], text, script, keep_open)
     side = station_at(serve)

@@ -51,7 +51,7 @@ class Run:
         self.process.stdin.write((line + "\n").encode())
         self.process.stdin.flush()
 
-    def line(self, seconds=20):
+    def line(self, seconds=60):
         try:
             line = self.lines.get(timeout=seconds)
         except queue.Empty:
@@ -69,7 +69,7 @@ class Run:
             text += got
         return text
 
-    def end(self, status, printed=None, error="", seconds=20):
+    def end(self, status, printed=None, error="", seconds=60):
         """Ends standard input, and looks at the status, at what was printed since, and at standard error.
 
         None stands for anything. What was printed since is the answer, and in `printed`; standard error is in `fault`.

@@ -70,30 +70,30 @@ class TestScreen(unittest.TestCase):
     def test_texts_that_are_awaited(self):
         script = "await\ntype B. \u00fcQ\n" + "".join(line + "\n" for line, _ in AWAITED)
         printed = "ok\nok\n" + "".join("ok\n" if is_met else "ended\nok\n" for _, is_met in AWAITED)
-        at_host(sending(FORM, closes=True), ["--wait", "5", "--ready"], script, 1, printed)
+        at_host(sending(FORM, closes=True), ["--wait", "60", "--ready"], script, 1, printed)
 
     def test_strokes(self):
-        at_host(sending(FORM, answer=record("0638F1" "110635C140C2")), ["--wait", "5"], STROKES, 1, STRUCK)
+        at_host(sending(FORM, answer=record("0638F1" "110635C140C2")), ["--wait", "60"], STROKES, 1, STRUCK)
 
     def test_new_lines(self):
         script = "await\n" + "".join("cursor %d %d\nnewline\nstatus\n" % cell for cell, _ in NEW_LINES)
-        run = at_host(sending(THREE % "40"), ["--wait", "5"], script, 0, None)
+        run = at_host(sending(THREE % "40"), ["--wait", "60"], script, 0, None)
         found = [tuple(map(int, line.split()[3:5])) for line in run.printed.splitlines()]
         expect(found, [to for _, to in NEW_LINES], "where New Line leads")
         # Where keys enter no field it leads to column 1 of the row below.
         for row, below in (1, 2), (24, 1):
-            at_host(sending("04110008" "1103011D6000200004D1D20000" "04520000"), ["--wait", "5"],
+            at_host(sending("04110008" "1103011D6000200004D1D20000" "04520000"), ["--wait", "60"],
                     "await\ncursor %d 5\nnewline\nshow\n" % row, 0,
                     "screen\n 3  JK\ncursor %d 1, unlocked, message off, blink off, fields 1\n" % below)
 
     def test_erased_to_the_end(self):
         for form, typed, column, left in ERASED:
-            at_host(sending(THREE % form), ["--wait", "5"],
+            at_host(sending(THREE % form), ["--wait", "60"],
                     "await\n%s\ncursor 2 %d\nerase\nshow 2 2 4\nshow 3 2 2\n" % (typed, column), 0, "%s\nJK\n" % left)
 
     def test_fields_that_are_emptied(self):
         """A field by its number, unless keys don't enter it, or there is none."""
-        at_host(sending(THREE % "47"), ["--wait", "5"],
+        at_host(sending(THREE % "47"), ["--wait", "60"],
                 "await\ntype 123\nkey FieldMinus\nfield 1 4\nfield 2 X\nfield 3 Y\nfield 4 Z\n"
                 "show 2 2 4\nshow 3 2 2\nshow 4 2 4\n", 1, "key refused Protected\nfield refused NoSuchField\n4\nJK\nY\n")
 
@@ -102,4 +102,4 @@ class TestScreen(unittest.TestCase):
         script = "await\ntype A\u20ac \u03b1\ninsert \u20ac\nfield 1 A\u20acB\nkey Dup\nfields\n"
         wrong = "key refused WrongCharacter %s\n"
         printed = wrong % "\u20ac" + wrong % "\u03b1" + 2 * (wrong % "\u20ac") + "key refused DupNotAllowed\n"
-        at_host(sending(FORM), ["--wait", "5"], script, 1, printed + "field 6 53 10 4800 A\n")
+        at_host(sending(FORM), ["--wait", "60"], script, 1, printed + "field 6 53 10 4800 A\n")

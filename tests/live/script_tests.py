@@ -12,9 +12,9 @@ from records import OPENING, record
 
 class TestScript(Test):
     def test_ready_with_a_script_file(self):
-        at_host(sending(SIGN_ON, answer=record("0636F1" "110635C1")), ["--ready", "--wait", "5"], None, 0,
+        at_host(sending(SIGN_ON, answer=record("0636F1" "110635C1")), ["--ready", "--wait", "60"], None, 0,
                 "ok\n" + SIGN_ON_FIELDS + "ok\nok\nok\n", script="# no line\n\nawait\nfields\ntype A\nkey Enter\n")
-        serve, side = served(None, "--ready", wait=5, script="await\n# no line\nsend 1\n\nawait\n")
+        serve, side = served(None, "--ready", wait=60, script="await\n# no line\nsend 1\n\nawait\n")
         side.take(record(opcode=1))
         side.close()
         serve.end(1, READY + "ok\nok\nended\nok\n")
@@ -34,7 +34,7 @@ class TestScript(Test):
                 (negotiate_as_station, "await\nawait\n", READY + "ended\n"),
                 (bad_station, "await\nawait\n", "host refused at 1: reason 10 LengthBelowHeader\n")]
         for play, text, printed in rows:
-            serve = Run(["serve", "--wait", "1", "127.0.0.1:0"], script=text)
+            serve = Run(["serve", "--wait", "3", "127.0.0.1:0"], script=text)
             side = station_at(serve)
             player = threading.Thread(target=lambda: (play(side), side.close()))
             player.start()
@@ -48,27 +48,27 @@ class TestScript(Test):
                 (sending(SIGN_ON), "await\nawait record\n", "late\n"), (negotiate_as_host, "await\n", "ended\n"),
                 (bad_host, "await\n", "station refused at 1: reason 10 LengthBelowHeader\n")]
         for play, text, printed in rows:
-            at_host(play, ["--wait", "1"], None, 1, printed, script=text)
+            at_host(play, ["--wait", "3"], None, 1, printed, script=text)
 
     def test_lines_that_are_not_utf_8(self):
         rows = [(b"\xff", 1), (b"await\n\xff\nshow\n", 2), (b"# one\n\nawait\ntype \xc3\n", 4),
                 (b"await\nfields\n# \x80", 3)]
         for text, number in rows:
             printed = SIGN_ON_FIELDS if b"fields" in text else ""
-            at_host(sending(SIGN_ON), ["--wait", "5"], text, 2, printed, "script line %d\n" % number, host_ends=False)
+            at_host(sending(SIGN_ON), ["--wait", "60"], text, 2, printed, "script line %d\n" % number, host_ends=False)
             Run(["connect", "127.0.0.1:1"], script=text).end(2, "", "script line %d\n" % number)
         rows = [(b"cancel\n\xff\n", 2), (b"send 1\n# \xff\n", 2), (b"send 3\n  CLEAR-UNIT\n  TEXT \xff\n", 3),
                 (b"send 3\n  CLEAR-UNIT\n\xff\n", 3), (b"send 3\n  CLEAR-UNIT\n\n\xff\n", 4), (b"send 3\n\xff\n", 2)]
         for text, number in rows:
-            serve, side = served(b"await\n" + text, wait=5)
+            serve, side = served(b"await\n" + text, wait=60)
             serve.end(2, None, "script line %d\n" % (number + 1))
             side.close()
             Run(["serve", "127.0.0.1:0"], script=text).end(2, "", "script line %d\n" % number)
 
     def test_a_folder_as_standard_input(self):
         descriptor = os.open(self.folder, os.O_RDONLY)
-        at_host(Side.take_end, ["--wait", "5"], None, 2, "", "cannot read\n", stdin=descriptor)
-        serve = Run(["serve", "--wait", "5", "127.0.0.1:0"], stdin=descriptor)
+        at_host(Side.take_end, ["--wait", "60"], None, 2, "", "cannot read\n", stdin=descriptor)
+        serve = Run(["serve", "--wait", "60", "127.0.0.1:0"], stdin=descriptor)
         side = station_at(serve)
         side.take(OPENING)
         serve.end(2, "", "cannot read\n")

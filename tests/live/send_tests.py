@@ -44,7 +44,7 @@ class TestSend(unittest.TestCase):
             serve.end(0, wanted)
 
     def test_sends_in_words_line_by_line(self):
-        serve, side = settled_serve(10)
+        serve, side = settled_serve(60)
         for line in SIGN_ON_WORDS.splitlines():
             serve.tell(line)
         # An empty line ends the record, and there is one `ok` for both.
@@ -82,7 +82,7 @@ class TestSend(unittest.TestCase):
             side.close()
             serve.end(0, ready)
         for kind in [], ["--strict"]:
-            at_host(sending(LARGEST, opcode=2), ["--wait", "10", *kind], "await record\nshow 1 1 1\n", 0, "A\n")
+            at_host(sending(LARGEST, opcode=2), ["--wait", "60", *kind], "await record\nshow 1 1 1\n", 0, "A\n")
 
     def test_a_record_that_is_too_big(self):
         for kind, ready in KINDS:

@@ -13,9 +13,9 @@ SCRIPT = "await\nsend 3 0440\n"
 
 def begun(count, *words, script=SCRIPT):
     """A `serve` of so many stations, and what connects the next one to it."""
-    serve = Run(["serve", "--sessions", str(count), "--wait", "10", *words, "127.0.0.1:0"], script=script)
+    serve = Run(["serve", "--sessions", str(count), "--wait", "60", *words, "127.0.0.1:0"], script=script)
     address = address_of(serve)
-    return serve, lambda: Side(socket.create_connection(address, timeout=15))
+    return serve, lambda: Side(socket.create_connection(address, timeout=60))
 
 
 def whole(side):

@@ -48,23 +48,23 @@ INQUIRY_PRINTED = SIGN_ON_FIELDS + PRICE_SCREEN + "key refused Locked 5\n"
 
 class TestStation(unittest.TestCase):
     def test_a_script_at_a_host(self):
-        at_host(inquiry_as_host, ["--wait", "10"], None, 1, INQUIRY_PRINTED, script=INQUIRY_SCRIPT)
+        at_host(inquiry_as_host, ["--wait", "60"], None, 1, INQUIRY_PRINTED, script=INQUIRY_SCRIPT)
 
     def test_lines_at_a_host(self):
-        at_host(inquiry_as_host, ["--wait", "10"], INQUIRY_SCRIPT, 1, INQUIRY_PRINTED)
+        at_host(inquiry_as_host, ["--wait", "60"], INQUIRY_SCRIPT, 1, INQUIRY_PRINTED)
 
     def test_keys_by_the_screen(self):
         """Lines whose keys hang on the screen: to a cell, to a field, New Line and Erase EOF, up to one that is refused."""
         play = sending(SIGN_ON, answer=record("0737F1" "110635D8E4E2C5D9" "110735C1C2"))
         script = ("await\nfield 2 SECRET\nfield 1 QUSER\nnewline\ntype ABC\ncursor 7 55\nerase\nkey Enter\n"
                   "field 1 X\nfield 3 X\n")
-        at_host(play, ["--wait", "5"], script, 1, "key refused Locked\nfield refused NoSuchField\n")
+        at_host(play, ["--wait", "60"], script, 1, "key refused Locked\nfield refused NoSuchField\n")
 
     def test_what_a_station_tells(self):
         """A station's state in one line, the text of some cells, a row's bytes with its attributes, and a note."""
         script = "await\nstatus\nfield 1 QUSER\nshow 6 17 45\ncells 24\nnote typed\nstatus\n"
         taken = len(ASKED + record(SIGN_ON))
-        at_host(sending(SIGN_ON), ["--wait", "5"], script, 0, (
+        at_host(sending(SIGN_ON), ["--wait", "60"], script, 0, (
             "status unlocked ready 6 53 field 1 records 1 bytes %d\n"
             "User  . . . . . . . . . . . . .     QUSER\n"
             "cells 24 %s %s\ntyped\n"
@@ -77,41 +77,41 @@ class TestStation(unittest.TestCase):
         shown = "screen\n 1 %s\ncursor 1 1, unlocked, message off, blink off, fields 0\n"
         play = sending("04400411000811010122C8C92040C1")
         colored = "\x1b[0;32m \x1b[0;37;1mHI\x1b[0;32m  A\x1b[0m"
-        at_host(play, ["--wait", "5", "--color"], script, 0, shown % colored)
-        at_host(play, ["--wait", "5"], script, 0, shown % " HI  A")
+        at_host(play, ["--wait", "60", "--color"], script, 0, shown % colored)
+        at_host(play, ["--wait", "60"], script, 0, shown % " HI  A")
 
     def test_a_host_that_sends_single_bytes(self):
-        at_host(lambda side: inquiry_as_host(side, 1), ["--wait", "20"], INQUIRY_SCRIPT, 1, INQUIRY_PRINTED)
+        at_host(lambda side: inquiry_as_host(side, 1), ["--wait", "60"], INQUIRY_SCRIPT, 1, INQUIRY_PRINTED)
 
     def test_names_and_addresses(self):
         for at in "127.0.0.1", "localhost", "[::1]":
             try:
-                at_host(sending(SIGN_ON), ["--wait", "5"], "await\n", 0, "", at=at)
+                at_host(sending(SIGN_ON), ["--wait", "60"], "await\n", 0, "", at=at)
             except OSError:
                 print("left out: a host at %s, since there is no such address" % at)
 
     def test_empty_lines_print_nothing(self):
         text = "\n# a comment\n\r\nawait\r\nkey Tab\n"
-        at_host(sending(SIGN_ON), ["--ready", "--wait", "5"], text, 0, "ok\nok\n")
+        at_host(sending(SIGN_ON), ["--ready", "--wait", "60"], text, 0, "ok\nok\n")
 
     def test_a_refused_record(self):
         place = len(ASKED + record(SIGN_ON) + record(PAST_END)) - 1
-        at_host(sending(SIGN_ON, PAST_END), ["--ready", "--wait", "5"], "await\nawait record\nshow\n", 1,
+        at_host(sending(SIGN_ON, PAST_END), ["--ready", "--wait", "60"], "await\nawait record\nshow\n", 1,
                 "ok\nstation refused at %d: reason 53 FieldPastEnd\n" % place)
 
     def test_garbage_from_a_host(self):
-        at_host(lambda side: side.send(b"HTTP/1.1 400 Bad Request\r\n"), ["--wait", "5"], "await\nshow\n", 1,
+        at_host(lambda side: side.send(b"HTTP/1.1 400 Bad Request\r\n"), ["--wait", "60"], "await\nshow\n", 1,
                 "station refused at 2: reason 11 BadType\n", host_ends=False)
 
     def test_a_query_is_refused(self):
         printed = "station refused at 32: reason 30 StructuredField\n"
-        at_host(sending("04F30005D97000"), ["--strict", "--wait", "5"], "await\n", 1, printed)
+        at_host(sending("04F30005D97000"), ["--strict", "--wait", "60"], "await\n", 1, printed)
 
     def test_a_host_that_closes_inside_a_record(self):
         def play(side):
             negotiate_as_host(side)
             side.send(record(SIGN_ON)[:30])
-        at_host(play, ["--ready", "--wait", "5"], "await\nawait\nshow\n", 1,
+        at_host(play, ["--ready", "--wait", "60"], "await\nawait\nshow\n", 1,
                 "ended\nok\nended\nok\nscreen\ncursor 1 1, locked, message off, blink off, fields 0\nended\nok\n")
 
     def test_a_flood_of_sends(self):
@@ -130,4 +130,4 @@ class TestStation(unittest.TestCase):
                 side.take(answer)
             side.send(record(SIGN_ON))
             side.take_end()
-        at_host(play, ["--wait", "15"], "await\nshow\n", 0, SIGN_ON_SCREEN)
+        at_host(play, ["--wait", "60"], "await\nshow\n", 0, SIGN_ON_SCREEN)

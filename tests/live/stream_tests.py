@@ -40,15 +40,15 @@ class TestStream(unittest.TestCase):
                 return {"closed": closed, "script" if is_script else "text": lines}
 
             def play(side):
-                started.wait(15)
+                started.wait(60)
                 found.extend(streams_of(connect.process, closed))
                 sending(SIGN_ON)(side)
             found, started, host = [], threading.Event(), Host(play)
-            connect = Run(["connect", "--wait", "5", "127.0.0.1:%d" % host.port], **given("await\nfields\n"))
+            connect = Run(["connect", "--wait", "60", "127.0.0.1:%d" % host.port], **given("await\nfields\n"))
             started.set()
             connect.end(0, SIGN_ON_FIELDS)
             host.end()
-            serve = Run(["serve", "--wait", "1", "127.0.0.1:0"], **given("await\n"))
+            serve = Run(["serve", "--wait", "3", "127.0.0.1:0"], **given("await\n"))
             side = station_at(serve)
             found += streams_of(serve.process, closed)
             negotiate_as_station(side)

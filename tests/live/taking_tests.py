@@ -27,7 +27,7 @@ def told_connect(wait, sent, closes=False):
     go, done = threading.Event(), threading.Event()
 
     def play(side):
-        go.wait(15)
+        go.wait(60)
         side.send(sent)
         if closes:
             side.close()
@@ -36,7 +36,7 @@ def told_connect(wait, sent, closes=False):
             side.take_end()
     connect, host = settled_connect(play, wait)
     go.set()
-    done.wait(15)
+    done.wait(60)
     # What was sent is there by then.
     time.sleep(0.1)
     return connect, host
@@ -45,18 +45,16 @@ def told_connect(wait, sent, closes=False):
 class TestTaking(unittest.TestCase):
     def test_lines_that_show_take_what_has_come(self):
         for line, printed in SHOWING:
-            connect, host = told_connect(1, record(PRICE))
+            connect, host = told_connect(2, record(PRICE))
             expect(connect.asked(line), printed, line)
             # The record counts for the next wait for one, and only for that.
-            began = time.monotonic()
             expect(connect.asked("await record"), "", "await record")
-            timed(-1, 0.5, began, "await record")
             expect(connect.asked("await record"), "late\n", "await record")
             connect.end(1, "")
             host.end()
 
     def test_a_status_takes_what_has_come(self):
-        connect, host = told_connect(1, record(PRICE) * 2)
+        connect, host = told_connect(2, record(PRICE) * 2)
         status = connect.asked("status").split()
         expect(status[:9], "status unlocked ready 6 53 field 1 records 3".split(), "status")
         expect(connect.asked("await record"), "", "await record")
@@ -69,7 +67,7 @@ class TestTaking(unittest.TestCase):
         """What a line shows counts for a wait for a record behind it, but not behind a key or another wait."""
         for between, printed in [("", ""), ("note A", ""), ("show 1 1 1", ""), ("# none", ""), ("key Tab", "late\n"),
                                  ("cursor 6 54", "late\n"), ("await", "late\n"), ("await quiet 10", "late\n")]:
-            connect, host = told_connect(1, record(PRICE))
+            connect, host = told_connect(2, record(PRICE))
             connect.asked("show")
             if between in ("", "# none"):
                 connect.tell(between)
@@ -80,7 +78,7 @@ class TestTaking(unittest.TestCase):
             host.end()
 
     def test_a_note_takes_nothing(self):
-        connect, host = told_connect(1, record(PRICE))
+        connect, host = told_connect(2, record(PRICE))
         expect(connect.asked("note A"), "A\n", "note")
         expect(connect.asked("key Tab"), "", "key")
         expect(connect.asked("await record"), "", "await record")
@@ -93,10 +91,10 @@ class TestTaking(unittest.TestCase):
 
         def play(side):
             side.send(whole[:20])
-            go.wait(15)
+            go.wait(60)
             side.send(whole[20:])
             side.take_end()
-        connect, host = settled_connect(play, 5)
+        connect, host = settled_connect(play, 60)
         time.sleep(0.2)
         expect(connect.asked("show"), SIGN_ON_SCREEN, "show")
         go.set()
@@ -108,7 +106,7 @@ class TestTaking(unittest.TestCase):
     def test_a_host_that_has_closed(self):
         """The text first, and behind it that the host has closed, of each such line."""
         for line, printed in SHOWING:
-            connect, host = told_connect(5, record(PRICE), closes=True)
+            connect, host = told_connect(60, record(PRICE), closes=True)
             expect(connect.asked(line), printed + "ended\n", line)
             expect(connect.asked("show"), PRICED_SCREEN + "ended\n", "show")
             expect(connect.asked("note A"), "A\n", "note")
@@ -118,9 +116,8 @@ class TestTaking(unittest.TestCase):
     def test_a_refused_byte_behind_what_is_shown(self):
         place = len(ASKED + record(SIGN_ON) + record(PRICE) + record(PAST_END)) - 1
         for line, printed in SHOWING:
-            connect, host = told_connect(5, record(PRICE) + record(PAST_END))
-            connect.tell(line)
-            connect.tell("show")
+            connect, host = told_connect(60, record(PRICE) + record(PAST_END))
+            connect.tell(line + "\nshow")  # At once: the first may end it.
             connect.end(1, printed + "station refused at %d: reason 53 FieldPastEnd\n" % place)
             host.end()
 
@@ -132,10 +129,10 @@ class TestTaking(unittest.TestCase):
                     time.sleep(0.2)
                     side.send(DOT)
                 side.take_end()
-            connect, host = settled_connect(play, 5)
+            connect, host = settled_connect(play, 60)
             began = time.monotonic()
-            expect(connect.asked("await quiet 500"), "", "await quiet")
-            timed(0.45 + count * 0.2, 1.2 + count * 0.2, began, "await quiet")
+            expect(connect.asked("await quiet 2000"), "", "await quiet")
+            timed(1.95 + count * 0.2, 30, began, "await quiet")
             self.assertIn(" records %d " % (count + 1), connect.asked("status"))
             if shown is not None:
                 expect(connect.asked("show"), shown, "show")
@@ -145,28 +142,28 @@ class TestTaking(unittest.TestCase):
     def test_a_wait_for_quiet_that_never_comes(self):
         over = threading.Event()
         # Of records, and of single bytes.
-        for time_of_quiet in "800", "3600000":
+        for time_of_quiet in "2500", "3600000":
             over.clear()
             host = Host(trickling(DOT, 0.1, over))
-            connect = Run(["connect", "--ready", "--wait", "1", "127.0.0.1:%d" % host.port], "", keep_open=True)
+            connect = Run(["connect", "--ready", "--wait", "3", "127.0.0.1:%d" % host.port], "", keep_open=True)
             began = time.monotonic()
             expect(connect.asked("await quiet " + time_of_quiet), "late\n", "await quiet")
-            timed(0.9, 1.8, began, "await quiet")
+            timed(2.9, 30, began, "await quiet")
             over.set()
             connect.end(1, "")
             host.end()
 
     def test_a_wait_for_quiet_has_the_time_of_a_wait(self):
-        connect, host = settled_connect(Side.take_end, 1)
+        connect, host = settled_connect(Side.take_end, 2)
         began = time.monotonic()
-        expect(connect.asked("await quiet 3000"), "late\n", "await quiet")
-        timed(0.9, 1.8, began, "await quiet")
+        expect(connect.asked("await quiet 30000"), "late\n", "await quiet")
+        timed(1.9, 30, began, "await quiet")
         connect.end(1, "")
         host.end()
 
     def test_a_wait_for_quiet_ends_otherwise(self):
-        text = "await quiet 2000\nnote A\n"
-        at_host(sending(SIGN_ON, closes=True), ["--wait", "5"], text, 1, "ended\nA\n")
+        text = "await quiet 20000\nnote A\n"
+        at_host(sending(SIGN_ON, closes=True), ["--wait", "60"], text, 1, "ended\nA\n")
         place = len(ASKED + record(SIGN_ON) + record(PAST_END)) - 1
         printed = "station refused at %d: reason 53 FieldPastEnd\n" % place
-        at_host(sending(SIGN_ON, PAST_END), ["--wait", "5"], text, 1, printed)
+        at_host(sending(SIGN_ON, PAST_END), ["--wait", "60"], text, 1, printed)

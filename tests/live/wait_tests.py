@@ -20,51 +20,60 @@ class TestWait(unittest.TestCase):
         began = time.monotonic()
         at_host(Side.take_end, ["--ready", "--wait", "1"], "await\nshow\n", 1,
                 "late\nok\nscreen\ncursor 1 1, locked, message off, blink off, fields 0\nok\n")
-        timed(0, 4, began, "the wait")
+        timed(0.9, 30, began, "the wait")
 
     def test_bytes_that_trickle_for_ever(self):
         began = time.monotonic()
         play = trickling(b"\xff\xf1", 0.05, threading.Event())
         at_host(play, ["--wait", "1"], "await\nawait\n", 1, "late\nlate\n")
-        timed(1.9, 5, began, "the waits")
+        timed(1.9, 30, began, "the waits")
 
     def test_a_session_goes_on_behind_a_late_wait(self):
+        go = threading.Event()
+
         def play(side):
             negotiate_as_host(side)
             whole = record(SIGN_ON)
             side.send(whole[:40])
-            time.sleep(1.5)
+            go.wait(60)
             side.send(whole[40:])
             side.take_end()
-        at_host(play, ["--wait", "1"], "await\nawait\nshow\n", 1, "late\n" + SIGN_ON_SCREEN)
+        host = Host(play)
+        connect = Run(["connect", "--ready", "--wait", "2", "127.0.0.1:%d" % host.port], "", keep_open=True)
+        expect(connect.asked("await"), "late\n", "await")
+        go.set()
+        expect(connect.asked("await"), "", "await")
+        expect(connect.asked("show"), SIGN_ON_SCREEN, "show")
+        connect.end(1, "")
+        host.end()
 
     def test_a_silent_station(self):
         serve, side = served("await\nawait\n", "--ready", wait=1, is_ready=False)
         serve.end(1, "late\nok\nlate\nok\n")
         side.close()
         # The wait behind a script is no line.
-        serve, side = served("await\n", wait=1)
+        serve, side = served("await\n", wait=3)
         serve.end(0, READY)
         side.close()
 
     def test_a_station_that_trickles(self):
-        serve, side = served("await\nawait\n", wait=1)
+        serve, side = served("await\nawait\n", wait=2)
         began = time.monotonic()
         with contextlib.suppress(OSError):
-            while time.monotonic() - began < 10:
+            while time.monotonic() - began < 30:
                 side.send(b"\xff\xf1")
                 time.sleep(0.05)
-        timed(1.9, 6, began, "the waits")
+        timed(3.9, 30, began, "the waits")
         serve.end(1, READY + "late\n")
         side.close()
 
     def test_a_wait_of_serve_begins_with_its_line(self):
-        serve, side = settled_serve(1)
-        time.sleep(1.4)
+        serve, side = settled_serve(2)
+        time.sleep(2.2)
         # A write has its own time too.
         expect(serve.asked("send 3 " + SIGN_ON), "", "send")
         side.take(record(SIGN_ON))
-        time.sleep(1.4)
+        time.sleep(2.2)
         serve.tell("await")
         time.sleep(0.4)
         side.send(record("0635F1"))
@@ -77,14 +86,14 @@ class TestWait(unittest.TestCase):
 
         def play(side):
             side.take(record("0635F1"))
-            go.wait(15)
+            go.wait(60)
             time.sleep(0.4)
             side.send(record(PRICE))
             side.take_end()
-        connect, host = settled_connect(play, 1)
-        time.sleep(1.4)
+        connect, host = settled_connect(play, 2)
+        time.sleep(2.2)
         expect(connect.asked("key Enter"), "", "key")
-        time.sleep(1.4)
+        time.sleep(2.2)
         connect.tell("await record")
         go.set()
         expect(connect.line(), "ok\n", "await record")
@@ -96,11 +105,11 @@ class TestWait(unittest.TestCase):
         def play(side):
             negotiate_as_host(side)
             for _ in range(5):
-                time.sleep(0.5)
+                time.sleep(0.7)
                 side.send(DOT)
             side.send(record(SIGN_ON))
             side.take_end()
-        at_host(play, ["--wait", "1"], "await record\n" * 5 + "await\nshow\n", 0, SIGN_ON_SCREEN)
+        at_host(play, ["--wait", "2"], "await record\n" * 5 + "await\nshow\n", 0, SIGN_ON_SCREEN)
 
         # A wait for what no record brings isn't begun anew by each.
         over = threading.Event()
@@ -111,16 +120,16 @@ class TestWait(unittest.TestCase):
             began = time.monotonic()
             connect.tell(line)
             expect(connect.line(), "late\n", line)
-            timed(0.9, 1.8, began, line)
+            timed(0.9, 30, began, line)
             over.set()
             connect.end(1, "")
             host.end()
 
     def test_answers_that_trickle(self):
-        serve, side = settled_serve(1)
+        serve, side = settled_serve(2)
         for _ in range(4):
             serve.tell("await")
-            time.sleep(0.5)
+            time.sleep(0.7)
             side.send(record(opcode=0, flags=0x4000))
             expect(serve.answered(), "attention\n", "await")
         side.close()
@@ -129,24 +138,24 @@ class TestWait(unittest.TestCase):
     def test_one_byte_late_in_a_wait(self):
         def play(side):
             negotiate_as_host(side)
-            time.sleep(0.7)
+            time.sleep(2)
             side.send(record(SIGN_ON)[:1])
             side.take_end()
         for line in "await", "await record":
             host = Host(play)
-            connect = Run(["connect", "--wait", "1", "127.0.0.1:%d" % host.port], "", keep_open=True)
+            connect = Run(["connect", "--wait", "3", "127.0.0.1:%d" % host.port], "", keep_open=True)
             began = time.monotonic()
             connect.tell(line)
             expect(connect.line(), "late\n", line)
-            timed(0.9, 1.5, began, line)
+            timed(2.9, 4.8, began, line)
             connect.end(1, "")
             host.end()
-        serve, side = settled_serve(1)
+        serve, side = settled_serve(3)
         began = time.monotonic()
         serve.tell("await")
-        time.sleep(0.7)
+        time.sleep(2)
         side.send(record(opcode=0, flags=0x4000)[:1])
         expect(serve.line(), "late\n", "await")
-        timed(0.9, 1.5, began, "await")
+        timed(2.9, 4.8, began, "await")
         side.close()
         serve.end(1, None)

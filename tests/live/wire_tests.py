@@ -41,7 +41,7 @@ class TestWire(unittest.TestCase):
             began = time.monotonic()
             serve, side = served("await\npause 700\nraw 01\n", "--ready", *words)
             side.take(b"\x01")
-            timed(0.65, 3, began, "pause")
+            timed(0.65, 30, began, "pause")
             side.close()
             serve.end(0, told + "ok\nok\nok\n")
 
@@ -64,8 +64,8 @@ class TestWire(unittest.TestCase):
     def test_a_host_that_closes_inside_a_record(self):
         text = "await\nraw %s\nclose\n" % record(SIGN_ON)[:40].hex()
         for words, told in KINDS:
-            serve = Run(["serve", "--wait", "10", *words, "127.0.0.1:0"], text)
-            Run(["connect", "--wait", "10", serve.line().split()[1]], "await\n").end(1, "ended\n")
+            serve = Run(["serve", "--wait", "60", *words, "127.0.0.1:0"], text)
+            Run(["connect", "--wait", "60", serve.line().split()[1]], "await\n").end(1, "ended\n")
             serve.end(0, told)
 
     def test_the_end_of_a_block(self):

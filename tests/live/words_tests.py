@@ -50,7 +50,7 @@ WRONG_SERVES = [
 class TestWords(Test):
     def test_wrong_lines(self):
         # At standard input a line before it is carried out.
-        at_host(sending(SIGN_ON), ["--wait", "5"], "await\nfields\nsettle\nshow\n", 2, SIGN_ON_FIELDS,
+        at_host(sending(SIGN_ON), ["--wait", "60"], "await\nfields\nsettle\nshow\n", 2, SIGN_ON_FIELDS,
                 "script line 3\n", host_ends=False)
         words = ["wait", "await ", "await records", "await text", "await text ", "key enter", "key", "send 3 00",
                  "down all", "show x", "fields ", "Show", "type", " await", "cancel", "\ufeffawait"]
@@ -77,10 +77,10 @@ class TestWords(Test):
         gone.bind(("127.0.0.1", 0))
         port = gone.getsockname()[1]
         # It is bound, and nobody listens.
-        Run(["connect", "--wait", "5", "127.0.0.1:%d" % port], "await\n").end(2, "", "no connection: refused\n")
+        Run(["connect", "--wait", "60", "127.0.0.1:%d" % port], "await\n").end(2, "", "no connection: refused\n")
         Run(["serve", "127.0.0.1:%d" % port], "").end(2, "", "no connection: address in use\n")
         gone.close()
-        Run(["connect", "--wait", "5", "no-such-host.invalid"], "await\n").end(2, "", "no connection: unknown name\n")
+        Run(["connect", "--wait", "60", "no-such-host.invalid"], "await\n").end(2, "", "no connection: unknown name\n")
         Run(["serve", "no-such-host.invalid:0"], "").end(2, "", "no connection: unknown name\n")
         # By each option, of which one has a longer number than it needs.
         words = ["--ready", "--color", "--strict", "--extended", "--wait=007", "--terminal=ibm-3196-a1", "--record=" + self.folder + "/it"]
@@ -93,11 +93,11 @@ class TestWords(Test):
     def test_a_port_in_a_word_of_its_own(self):
         for more in {"script": "await\nfields\n"}, {"text": "await\nfields\n"}:
             host = Host(sending(SIGN_ON), "127.0.0.1")
-            Run(["connect", "--wait", "5", "127.0.0.1", str(host.port)], **more).end(0, SIGN_ON_FIELDS)
+            Run(["connect", "--wait", "60", "127.0.0.1", str(host.port)], **more).end(0, SIGN_ON_FIELDS)
             host.end()
 
     def test_a_time_out_while_connecting(self):
         with swallowed("127.0.0.1") as port:
             run = Run(["connect", "--wait", "1", "127.0.0.1:%d" % port], "")
             run.end(2, "", "no connection: late\n")
-        timed(0.9, 5, run.began, "it")
+        timed(0.9, 30, run.began, "it")

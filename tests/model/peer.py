@@ -5,8 +5,8 @@ import threading
 import time
 
 MOST_PIECES, LONGEST_PAUSE = 120, 0.004
-# For what it waits at the most; the program waits for it half a minute.
-SECONDS = 20
+# For what it waits at the most; the program waits for it longer, two minutes.
+SECONDS = 60
 
 
 class Peer:

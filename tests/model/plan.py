@@ -10,7 +10,7 @@ from records import record
 from model.bodies import Chance
 from model.connect import Over
 
-PRESENT, LATE = 30, 2
+PRESENT, LATE = 120, 5
 # How a script comes: as a file, all at once on standard input, or line by line, each behind the `ok` of the one before.
 FORMS = ["file", "lines", "asked"]
 

@@ -104,7 +104,7 @@ SECONDS = 6
 
 def piped(words, data, **more):
     """What a run comes to whose standard input has these bytes; its output as text."""
-    done = subprocess.run([PROGRAM, *words], input=data, capture_output=True, timeout=60, **more)
+    done = subprocess.run([PROGRAM, *words], input=data, capture_output=True, timeout=300, **more)
     return subprocess.CompletedProcess(words, done.returncode, done.stdout.decode(), done.stderr.decode())
 
 
@@ -137,7 +137,7 @@ class TestForm(Runs):
 
     def test_made(self):
         for words, text, status, spelled, err in MADE:
-            done = subprocess.run([PROGRAM, *words], input=text.encode(), capture_output=True, timeout=60)
+            done = subprocess.run([PROGRAM, *words], input=text.encode(), capture_output=True, timeout=300)
             found = subprocess.CompletedProcess(words, done.returncode, done.stdout.hex(), done.stderr.decode())
             self.expect(words, found, status, bytes.fromhex(spelled).hex(), err)
 
@@ -172,7 +172,7 @@ class TestForm(Runs):
             process.stdin.write(end)
             process.stdin.flush()
             memory = most_memory(process)
-            out, err = process.communicate(timeout=60)
+            out, err = process.communicate(timeout=300)
             length = pieces * 64 * len(LONG)
             wanted = {
                 "accepted": (0, f"accepted: {pieces * 64} records, 0 commands, {length} bytes\n"),
@@ -191,5 +191,5 @@ class TestForm(Runs):
         line = process.stdout.readline().decode()
         self.count(f"an open pipe: {line}", line == "refused at 13: reason 10 LengthBelowHeader\n")
         process.stdin.close()
-        self.count("an open pipe", process.wait(timeout=60) == 1)
+        self.count("an open pipe", process.wait(timeout=300) == 1)
         process.stdout.close()

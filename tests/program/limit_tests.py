@@ -43,12 +43,11 @@ class TestLimit(Runs):
             pipes = {"stdin": subprocess.PIPE, "stdout": subprocess.PIPE, "stderr": subprocess.PIPE}
             process = subprocess.Popen([PROGRAM, "play", "--tcp"], text=True, **pipes)
             # While it waits for its script: before that, it needs a descriptor to load the C library.
-            for _ in range(1000):
-                if is_reading(process):
-                    break
+            end = time.monotonic() + 60
+            while not is_reading(process) and time.monotonic() < end:
                 time.sleep(0.01)
             resource.prlimit(process.pid, resource.RLIMIT_NOFILE, (descriptors, descriptors))
-            out, err = process.communicate(BOB, timeout=60)
+            out, err = process.communicate(BOB, timeout=300)
             done = subprocess.CompletedProcess([], process.returncode, out, err)
             self.expect(f"--tcp with {descriptors} descriptors", done, 2, "", "no connection\n")
 

@@ -21,7 +21,7 @@ def is_as(found, wanted):
 
 def run(words, text="", **more):
     pipes = {} if "stdin" in more else {"input": text}
-    more = {"stdout": subprocess.PIPE, "stderr": subprocess.PIPE, "text": True, "timeout": 60, **pipes, **more}
+    more = {"stdout": subprocess.PIPE, "stderr": subprocess.PIPE, "text": True, "timeout": 300, **pipes, **more}
     return subprocess.run([PROGRAM, *words], **more)
 
 

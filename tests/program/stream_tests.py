@@ -113,13 +113,13 @@ class TestStream(Runs):
             # It opens the pipe, and waits for what it reads; its descriptor may come after the pipe's other side.
             with open(path, "w") as file:
                 others = standing(process, range(3, 10))
-                end = time.monotonic() + 10
+                end = time.monotonic() + 60
                 while path not in others and time.monotonic() < end:
                     time.sleep(0.01)
                     others = standing(process, range(3, 10))
                 found = standing(process, closed)
                 file.write(INVITE)
-            process.communicate(timeout=60)
+            process.communicate(timeout=300)
             right = found == ["/dev/null"] * len(closed) and path in others
             self.count(f"without {closed} there stand {found} and {others}", right)
 
@@ -138,6 +138,6 @@ class TestStream(Runs):
         for words, redirected, wanted in rows:
             shell = ["sh", "-c", f'exec "$0" {words} {redirected}', PROGRAM]
             traced = ["strace", "-f", "-qq", "-e", "trace=socket", "-o", path, *shell]
-            subprocess.run(traced, stdin=subprocess.DEVNULL, capture_output=True, timeout=60)
+            subprocess.run(traced, stdin=subprocess.DEVNULL, capture_output=True, timeout=300)
             with open(path) as file:
                 self.count(f"{words} {redirected}: sockets", ("socket(" in file.read()) == wanted)
