@@ -226,7 +226,7 @@ class TestExtended(Test):
             lines.append(Line(side.stream))
             lines[0].play()
         with self.subTest("connect"):
-            at_host(play, ["--wait", "60"], None, 1, PRINTED, script=SCRIPT)
+            at_host(play, ["--wait", "60", "--go-on"], None, 1, PRINTED, script=SCRIPT)
         with self.subTest("check, show and make"):
             compare_lines(lines[0].heard)
         with self.subTest("tshark"):

@@ -86,7 +86,7 @@ class TestSend(unittest.TestCase):
 
     def test_a_record_that_is_too_big(self):
         for kind, ready in KINDS:
-            serve, side = served(None, *kind, script="await\nsend 2 %s40\nsend 2\n" % LARGEST.hex())
+            serve, side = served(None, *kind, "--go-on", script="await\nsend 2 %s40\nsend 2\n" % LARGEST.hex())
             side.take(record(opcode=2))
             side.close()
             serve.end(1, ready + "send refused TooBig\n")

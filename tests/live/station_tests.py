@@ -48,7 +48,7 @@ INQUIRY_PRINTED = SIGN_ON_FIELDS + PRICE_SCREEN + "key refused Locked 5\n"
 
 class TestStation(unittest.TestCase):
     def test_a_script_at_a_host(self):
-        at_host(inquiry_as_host, ["--wait", "60"], None, 1, INQUIRY_PRINTED, script=INQUIRY_SCRIPT)
+        at_host(inquiry_as_host, ["--wait", "60", "--go-on"], None, 1, INQUIRY_PRINTED, script=INQUIRY_SCRIPT)
 
     def test_lines_at_a_host(self):
         at_host(inquiry_as_host, ["--wait", "60"], INQUIRY_SCRIPT, 1, INQUIRY_PRINTED)

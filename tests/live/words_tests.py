@@ -83,7 +83,8 @@ class TestWords(Test):
         Run(["connect", "--wait", "60", "no-such-host.invalid"], "await\n").end(2, "", "no connection: unknown name\n")
         Run(["serve", "no-such-host.invalid:0"], "").end(2, "", "no connection: unknown name\n")
         # By each option, of which one has a longer number than it needs.
-        words = ["--ready", "--color", "--strict", "--extended", "--wait=007", "--terminal=ibm-3196-a1", "--record=" + self.folder + "/it"]
+        words = ["--ready", "--color", "--strict", "--extended", "--stop", "--wait=007", "--terminal=ibm-3196-a1",
+                 "--record=" + self.folder + "/it"]
         Run(["connect", *words, "127.0.0.1:%d" % port], script="await\n").end(2, "", "no connection: refused\n")
         # Not one of this machine's addresses.
         Run(["serve", "192.0.2.1:0"], "").end(2, "", "no connection: no address of this machine\n")

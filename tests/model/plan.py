@@ -32,6 +32,9 @@ class Plan:
         self.is_other = is_other
         self.form = self.random.choice(FORMS)
         self.is_ready = self.form == "asked" or self.chance.one_in(3)
+        # Whether a line that is late, ended or refused ends the session: by a word, or without one in a file.
+        self.after = self.random.choice([["--go-on"], ["--go-on"], ["--stop"], []])
+        self.stops = self.after == ["--stop"] or (not self.after and self.form == "file")
         # Whether a line may wait in vain, once: its time is short then.
         self.is_slow = self.chance.one_in(20)
         self.wait = LATE if self.is_slow else PRESENT
@@ -129,6 +132,7 @@ class Plan:
             self.do(self.model, self.steps[-1])
         except Over:
             self.is_over = True
+        self.is_over = self.is_over or (self.stops and self.model.status == 1)
         if self.looks(line):
             self.looked = len(self.model.sent)
         if is_late:

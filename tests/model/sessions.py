@@ -22,7 +22,7 @@ class ConnectPlan(Plan):
 
     def words(self):
         words = ["connect", "--wait", str(self.wait)] + ["--strict"] * (not self.is_other) + ["--ready"] * self.is_ready
-        words += ["--color"] * self.is_colored
+        words += ["--color"] * self.is_colored + self.after
         return words + (["--terminal", self.terminal] if self.terminal else [])
 
     def tokens(self):
@@ -108,7 +108,7 @@ class ServePlan(Plan):
         return super().do(model, step)
 
     def words(self):
-        return ["serve", "--wait", str(self.wait)] + ["--any"] * self.is_other + ["--ready"] * self.is_ready
+        return ["serve", "--wait", str(self.wait)] + ["--any"] * self.is_other + ["--ready"] * self.is_ready + self.after
 
     def tokens(self):
         options = [told(verb, option) for option in (END_OF_RECORD, BINARY) for verb in (WILL, DO)]

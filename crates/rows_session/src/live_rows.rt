@@ -10,7 +10,8 @@ use std::process::Abort;
 use ws_code::{FailingSource, VecSink};
 use ws_keys::Key;
 use ws_live::{
-    BufferedSink, LiveMove, Paint, StationLine, WaitSpan, Watch, carry_lines, read_lines,
+    AfterUnwell, BufferedSink, LineSettings, LiveMove, Paint, StationLine, WaitSpan, Watch,
+    carry_lines, read_lines,
 };
 use ws_session::{Attached, Station};
 
@@ -50,10 +51,12 @@ struct Came {
     waits: u64,
 }
 
-// Carries out the lines of a script, with `ok`; what they print, and what came of them.
+// Carries out the lines of a script, with `ok`, where this follows one that doesn't go well; what they print, and what
+// came of them.
 fn carried<R: Abort + AllocGlobal, E, S, K, L: LiveMove<E, S, K>>(
     rt: &R,
     attached: &mut Attached<E, S, K>,
+    after: AfterUnwell,
     script: &str,
     printed: &str,
 ) -> Came
@@ -72,8 +75,11 @@ fn carried<R: Abort + AllocGlobal, E, S, K, L: LiveMove<E, S, K>>(
         &mut ahead,
         &mut watch,
         lines.as_slice(),
-        true,
-        Paint::Plain,
+        LineSettings {
+            ready: true,
+            paint: Paint::Plain,
+            after,
+        },
         &mut out,
     );
     same_at(rt, script, out.into_inner().as_slice(), printed.as_bytes());
@@ -99,9 +105,10 @@ fn station_given<'a>(
 }
 
 // Scripts for a station after the opening and a form, what they print, and what came of them: a record is ahead of a
-// wait that shows it, a wait isn't met, a key is refused.
-const STATIONS: [(&str, &str, Came); 4] = [
+// wait that shows it, a wait isn't met, a key is refused; and the last two where such a line is to stop the session.
+const STATIONS: [(AfterUnwell, &str, &str, Came); 6] = [
     (
+        AfterUnwell::GoOn,
         "# none\n\nnote A\n",
         "A\nok\n",
         Came {
@@ -111,6 +118,7 @@ const STATIONS: [(&str, &str, Came); 4] = [
         },
     ),
     (
+        AfterUnwell::GoOn,
         "await record\nfields\n",
         "ok\nfield 6 53 10 4000\nok\n",
         Came {
@@ -120,6 +128,7 @@ const STATIONS: [(&str, &str, Came); 4] = [
         },
     ),
     (
+        AfterUnwell::GoOn,
         "fields\nnote A\nawait record\nawait record\n",
         "field 6 53 10 4000\nok\nA\nok\nok\nlate\nok\n",
         Came {
@@ -129,6 +138,7 @@ const STATIONS: [(&str, &str, Came); 4] = [
         },
     ),
     (
+        AfterUnwell::GoOn,
         "await\ntype A\nawait text A\nkey Dup\n",
         "ok\nok\nok\nkey refused DupNotAllowed\nok\n",
         Came {
@@ -137,15 +147,36 @@ const STATIONS: [(&str, &str, Came); 4] = [
             waits: 2,
         },
     ),
+    (
+        AfterUnwell::Stop,
+        "await record\nawait record\nnote A\n",
+        "ok\nlate\nok\n",
+        Came {
+            all_well: false,
+            is_over: true,
+            waits: 2,
+        },
+    ),
+    (
+        AfterUnwell::Stop,
+        "await\nkey Dup\nkey Enter\n",
+        "ok\nkey refused DupNotAllowed\nok\n",
+        Came {
+            all_well: false,
+            is_over: true,
+            waits: 1,
+        },
+    ),
 ];
 
 #[test]
 fn lines_at_a_station(rt: HostRuntime) {
-    for (script, printed, wanted) in &STATIONS {
+    for (after, script, printed, wanted) in &STATIONS {
         let mut attached = station_given(rt.alloc(), OPENING_AND_BOB);
         let came = carried::<HostRuntime, _, _, _, StationLine<Key>>(
             &rt,
             &mut attached,
+            *after,
             script,
             printed,
         );

@@ -44,9 +44,12 @@ fn tell(rt: &HostRuntime, fault: CommandFault, is_unread: bool) -> Result<bool, 
         },
         CommandFault::Run(fault) => tell_told(rt, ToldFault::Run(fault)),
         CommandFault::Told(fault) => tell_told(rt, fault),
-        CommandFault::OfFile(fault) => {
-            let _ = eprintln!(rt; "{fault}");
-            Err(CommandFault::OfFile(fault))
+        CommandFault::OfFile { fault, file, why } => {
+            let _ = match why {
+                Some(why) => eprintln!(rt; "{fault}: {file}: {why}"),
+                None => eprintln!(rt; "{fault}: {file}"),
+            };
+            Err(CommandFault::OfFile { fault, file, why })
         }
         CommandFault::Unwritten => unwritten(rt, is_unread),
     }

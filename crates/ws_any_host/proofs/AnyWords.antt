@@ -11,15 +11,13 @@ use Rattle.ws_text.specs.Words.{IsHex}
 use Rattle.ws_text.specs.declared.items.TextFault.TheVariants as items
 use Rattle.ws_live.specs.declared.live.wire_line.WireLine.{WireLine}
 use Rattle.ws_live.specs.declared.live.wire_line.WireLine.TheVariants.{Raw, Pause, Close}
-use Rattle.ws_live.specs.declared.script.ScriptFault.{ScriptFault}
-use Rattle.ws_live.specs.declared.script.ScriptFault.TheVariants.{Line, Memory}
+use Rattle.ws_live.specs.declared.script.ScriptFault.TheVariants.{Line}
 use Rattle.ws_live.specs.live.LiveScript.{IsBlockFault}
 use Rattle.ws_live.specs.live.WireLines.{MeansWire}
 use Rattle.ws_live.specs.script.ScriptFaults.{has_no_blank}
 use Rattle.ws_live.proofs.ScriptWords.{blank_inside, split_unique, digits_have_no_blank}
-use Rattle.ws_any_host.specs.AnyLines.{AreExtendedBadAt, IsAnyLineFault, any_language, IsLineBegun, IsOpcode}
-use Rattle.ws_any_host.specs.AnyLines.{IsAnySendBegun, IsSendText, IsWordFault, MeansAnyLine, OpensAnyBlock, SayBytes}
-use Rattle.ws_any_host.specs.AnyLines.{SendsAnyOpcodeAlone}
+use Rattle.ws_any_host.specs.AnyLines.{AreExtendedBadAt, any_language, IsOpcode, IsSendText, IsWordFault}
+use Rattle.ws_any_host.specs.AnyLines.{MeansAnyLine, OpensAnyBlock, SayBytes, SendsAnyOpcodeAlone}
 use Rattle.ws_any_host.specs.declared.any_line.AnyLine.{AnyLine}
 use Rattle.ws_any_host.specs.declared.any_line.AnyLine.TheVariants.{Nothing, Send, Await, AwaitKey, Wire, Bad}
 
@@ -55,7 +53,7 @@ no_wire line (Pause time) m = ap begins_with_s m.1
 no_wire line Close m = ap begins_with_s m
 
 -- a line that sends means nothing else
-sends_only : (line words : List ℕ) → line ≡ codes "send " ++ words → ((r : Record ℕ) → IsSendText words r → ⊥)
+pub sends_only : (line words : List ℕ) → line ≡ codes "send " ++ words → ((r : Record ℕ) → IsSendText words r → ⊥)
     → (read : AnyLine) → MeansAnyLine line read → ⊥
 sends_only line words e none Nothing (inl (inl m)) = false≢true (ap begins_with_s (sym m ∙ e))
 sends_only line words e none Nothing (inl (inr m)) = false≢true (ap begins_with_s (sym m.1 ∙ e))
@@ -67,13 +65,6 @@ sends_only line words e none (AwaitKey aid) m = false≢true (ap begins_with_s (
 sends_only line words e none (Wire wire) m =
     false≢true (sym (no_wire line wire m) ∙ ap begins_with_s e)
 sends_only line words e none (Bad cause) m = m
-
--- the fault of its words is the line's
-pub line_fault : (line words : List ℕ) → line ≡ codes "send " ++ words → (fault : ScriptFault)
-    → IsAnyLineFault (IsSendText words) (IsAnySendBegun words) fault → IsAnyLineFault (MeansAnyLine line)
-    (IsLineBegun line) fault
-line_fault line words e (Line at) f = (f.0, sends_only line words e f.1)
-line_fault line words e Memory f = inl (words, e, f)
 
 -- a line says one opcode
 one_opcode : (line m n : List ℕ) (o p : Opcode) → SendsAnyOpcodeAlone line m o → SendsAnyOpcodeAlone line n p → p ≡ o
@@ -105,11 +96,3 @@ no_words line elements some other = (
   (λ read m. elim m [ inl p ↦ some p.0 | inr p ↦ other (p.1.0, p.1.1, p.1.3) ]),
   inl (refl, inr other),
 )
-
--- the fault of a body in hex is that of the words
-pub hex_fault : (words number hex : List ℕ) → words ≡ (number ++ codes " ") ++ hex → has_no_blank number ≡ true
-    → (opcode : Opcode) → IsOpcode number opcode → (fault : ScriptFault) → IsAnyLineFault (IsHex hex) (Unit {0}) fault
-    → IsAnyLineFault (IsSendText words) (IsAnySendBegun words) fault
-hex_fault words number hex e free opcode is (Line at) f =
-    (f.0, λ r s. (let p = two_words words number hex e free r s in f.1 p.1 p.3))
-hex_fault words number hex e free opcode is Memory f = (number, hex, opcode, e, is)

@@ -17,8 +17,6 @@ use Rattle.ws_live.specs.script.KeyNames.{aid_named}
 use Rattle.ws_live.specs.live.LiveScript.{LineLanguage}
 use Rattle.ws_live.specs.live.ServeLines.{IsIdle}
 use Rattle.ws_live.specs.live.WireLines.{IsWireBegun, MeansWire}
-use Rattle.ws_live.specs.declared.script.ScriptFault.{ScriptFault}
-use Rattle.ws_live.specs.declared.script.ScriptFault.TheVariants.{Line, Memory}
 use Rattle.ws_any_host.specs.declared.any_line.AnyLine.{AnyLine}
 use Rattle.ws_any_host.specs.declared.any_line.AnyLine.TheVariants.{Nothing, Send, Await, AwaitKey, Wire, Bad}
 
@@ -105,12 +103,6 @@ abbrev pub IsBadAnyLineAt : List ℕ → List (List ℕ) → ℕ → Type 0
 IsBadAnyLineAt line elements at = ((at ≡ 1) × ((elements ≡ []) ⊎ (OpensAnyBlock line → ⊥)))
     ⊎ ((number : List ℕ) × (opcode : Opcode) × SendsAnyOpcodeAlone line number opcode
     × AreExtendedBadAt opcode elements at)
-
--- why a line, or its words, isn't read: it is the bad one, and means nothing; or a growth was refused, and it is good
--- up to there
-abbrev pub IsAnyLineFault : {X : Type 0} → (X → Type 0) → Type 0 → ScriptFault → Type 0
-IsAnyLineFault {X} IsRead IsGood (Line at) = (at ≡ 1) × ((x : X) → IsRead x → ⊥)
-IsAnyLineFault IsRead IsGood Memory = IsGood
 
 -- the lines of such scripts
 abbrev pub any_language : LineLanguage AnyLine

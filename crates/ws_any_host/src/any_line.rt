@@ -3,10 +3,9 @@ ghost use Rattle.std.specs.Prelude.{◌≡◌, ◌++◌, [], ◌<◌, ℕ, List 
 ghost use Rattle.ws_code.specs.Code.{spelling_of};
 ghost use Rattle.ws_extended.specs.ExtendedElements.{extended_rules};
 ghost use Rattle.ws_live.specs.live.LiveScript.{IsBlockFault};
-ghost use Rattle.ws_live.specs.script.ScriptFaults.{IsNoComment, has_no_blank};
+ghost use Rattle.ws_live.specs.script.ScriptFaults.{IsLineFault, IsNoComment, has_no_blank};
 ghost use Rattle.ws_text.specs.Words.{IsHex};
 ghost use Rattle.std.specs.Str.Lines.{lines};
-ghost use Rattle.ws_any_host.specs.AnyLines.{IsAnyLine, OpensAnyBlock, any_language};
 ghost use Rattle.ws_any_host.specs.AnyLines as Spec;
 
 use arrayvec::ArrayVec;
@@ -15,7 +14,7 @@ use std::alloc::{AllocError, Global};
 use std::str;
 use ws_code::{Aid, Body, List};
 use ws_extended::{ExtendedCommands, ExtendedElement};
-use ws_live::{LineFault, LiveLine, ScriptFault, WireLine, aid_named, read_wire};
+use ws_live::{LiveLine, ScriptFault, WireLine, aid_named, read_wire};
 use ws_record::{Opcode, Record};
 use ws_text::{TextFault, read_elements, read_number};
 
@@ -37,7 +36,7 @@ pub enum AnyLine {
 }
 
 impl LiveLine for AnyLine {
-    ghost language = { any_language };
+    ghost language = { Spec.any_language };
 
     fn opens(line: &[u8]) -> bool {
         sent_alone(line).is_some()
@@ -104,8 +103,8 @@ fn spelled(alloc: Global, elements: &[ExtendedElement]) -> Result<Vec<u8>, Alloc
 
 // A line that no other belongs to.
 fn read_alone(alloc: Global, line: &[u8]) -> Result<AnyLine, ScriptFault>
-    ensures line { IfOk result (IsAnyLine line.now []) }
-    ensures fault { IfErr result (IsBlockFault any_language line.now []) }
+    ensures line { IfOk result (Spec.IsAnyLine line.now []) }
+    ensures fault { IfErr result (IsBlockFault Spec.any_language line.now []) }
 {
     let Ok(text) = str::from_utf8(line) else {
         return Err(ScriptFault::Line(1));
@@ -116,7 +115,7 @@ fn read_alone(alloc: Global, line: &[u8]) -> Result<AnyLine, ScriptFault>
 // A line as a text.
 fn read_text(alloc: Global, text: &str) -> Result<AnyLine, ScriptFault>
     ensures line { IfOk result (Spec.MeansAnyLine text.now) }
-    ensures fault { IfErr result (Spec.IsAnyLineFault (Spec.MeansAnyLine text.now)
+    ensures fault { IfErr result (IsLineFault (Spec.MeansAnyLine text.now)
         (Spec.IsLineBegun text.now)) }
 {
     if text.is_empty() {
@@ -150,7 +149,7 @@ fn read_word(alloc: Global, line: &str) -> Result<AnyLine, ScriptFault>
     requires no_send { (words : Seq ℕ) → line.now ≡ codes "send " ++ words → ⊥ }
     // What it means, or that it means nothing.
     ensures line { IfOk result (Spec.MeansAnyLine line.now) }
-    ensures fault { IfErr result (Spec.IsAnyLineFault (Spec.MeansAnyLine line.now)
+    ensures fault { IfErr result (IsLineFault (Spec.MeansAnyLine line.now)
         (Spec.IsLineBegun line.now)) }
 {
     if line == "await" {
@@ -164,11 +163,7 @@ fn read_word(alloc: Global, line: &str) -> Result<AnyLine, ScriptFault>
             Some(aid) => Ok(AnyLine::AwaitKey(aid)),
             None => Err(ScriptFault::Line(1)),
         },
-        None => match read_wire(alloc, line) {
-            Ok(wire) => Ok(AnyLine::Wire(wire)),
-            Err(LineFault::Bad) => Err(ScriptFault::Line(1)),
-            Err(LineFault::Memory) => Err(ScriptFault::Memory),
-        },
+        None => Ok(AnyLine::Wire(read_wire(alloc, line)?)),
     }
 }
 
@@ -184,7 +179,7 @@ fn key_words(text: &str) -> Option<&str>
 fn read_sent(alloc: Global, words: &str) -> Result<Record<u8>, ScriptFault>
     ensures record_ { IfOk result (Spec.IsSendText words.now) }
     ensures fault { IfErr result
-        (Spec.IsAnyLineFault (Spec.IsSendText words.now) (Spec.IsAnySendBegun words.now)) }
+        (IsLineFault (Spec.IsSendText words.now) (Spec.IsAnySendBegun words.now)) }
 {
     match split_word(words) {
         None => match read_opcode(words) {
@@ -213,7 +208,7 @@ fn split_word(text: &str) -> Option<(&str, &str)>
 // Bytes in hex, at least one.
 fn read_hex(alloc: Global, hex: &str) -> Result<Vec<u8>, ScriptFault>
     ensures body { IfOk result (λ body. IsHex hex.now body.items) }
-    ensures fault { IfErr result (Spec.IsAnyLineFault (IsHex hex.now) (Unit {0})) }
+    ensures fault { IfErr result (IsLineFault (IsHex hex.now) (Unit {0})) }
 {
     if hex.is_empty() {
         return Err(ScriptFault::Line(1));
@@ -239,7 +234,7 @@ fn read_opcode(word: &str) -> Option<Opcode>
 
 // The opcode of a line that sends a record and says no more of it.
 fn sent_alone(line: &[u8]) -> Option<Opcode>
-    ensures { MatchOption result (OpensAnyBlock line.now → ⊥)
+    ensures { MatchOption result (Spec.OpensAnyBlock line.now → ⊥)
         (λ opcode. (number : Seq ℕ) × Spec.SendsAnyOpcodeAlone line.now number opcode) }
 {
     let Ok(text) = str::from_utf8(line) else {

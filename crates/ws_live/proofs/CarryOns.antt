@@ -9,6 +9,7 @@ use Rattle.ws_code.specs.declared.fault.Fault.{Fault}
 use Rattle.ws_code.specs.declared.fault.Fault.TheVariants as fault
 use Rattle.ws_code.proofs.DeviceLaws.{went_out_both}
 use Rattle.ws_text.specs.Printed.{IsPrinted}
+use Rattle.ws_live.specs.declared.live.AfterUnwell.TheVariants.{GoOn}
 use Rattle.ws_live.specs.declared.live.Closing.{Closing}
 use Rattle.ws_live.specs.declared.live.Closing.TheVariants.{Nothing, Done, Declined, Late, Ended, Stopped, Closed}
 use Rattle.ws_live.specs.live.LiveText.{HaveRun, LinesDo, account, line_result, stops, line_printing}
@@ -32,7 +33,7 @@ told_goes closing e = ap stops (told_done closing e)
 
 module _ {L P : Type 0} (runs : LinesDo L P) (line : L) where
   module _ {O : Type 0} (printer : Writer O) (from mid to : P) (old between new : O) (count : ℕ)
-      (printed : List ℕ) (h : HaveRun runs from (replicate count line) (account true printed) mid)
+      (printed : List ℕ) (h : HaveRun GoOn runs from (replicate count line) (account true printed) mid)
       (out : WentOut printer old between printed) where
     came_to : (outcome : Result Closing Fault) (last : List ℕ) → runs line mid (line_result outcome last) to
         → CarriesOn runs line from (line_result outcome (printed ++ last)) to
@@ -41,7 +42,7 @@ module _ {L P : Type 0} (runs : LinesDo L P) (line : L) where
 
     -- once more
     pub one_told : (closing : Closing) → IsPrinted printer between new (line_printing runs mid line to) (Ok closing)
-        → is_told closing ≡ true → (text : List ℕ) × HaveRun runs from (replicate (count + 1) line)
+        → is_told closing ≡ true → (text : List ℕ) × HaveRun GoOn runs from (replicate (count + 1) line)
         (account true text) to
         × WentOut printer old new text
     one_told closing one told =
@@ -51,8 +52,9 @@ module _ {L P : Type 0} (runs : LinesDo L P) (line : L) where
         let longer : replicate count line ++ line ∷ [] ≡ replicate (count + 1) line = replicate-append-replicate
         count 1 line in (
           printed ++ one.0,
-          subst (λ (lines : List L). HaveRun runs from lines (account true (printed ++ one.0)) to) longer
-              (run_more runs from mid to (replicate count line) line (account true printed) one.0 Done h came refl),
+          subst (λ (lines : List L). HaveRun GoOn runs from lines (account true (printed ++ one.0)) to) longer
+              (run_more runs GoOn from mid to (replicate count line) line (account true printed) one.0 Done h came
+              refl),
           went_out_both printer old between new printed one.0 out one.2,
         )
 
@@ -73,7 +75,7 @@ module _ {L P : Type 0} (runs : LinesDo L P) (line : L) where
         (carrying_on runs line from to).Ends why (λ text came. inl came) one
 
   pub too_much_told : {O : Type 0} (printer : Writer O) (from to : P) (old new : O)
-      (printed : List ℕ) (count : ℕ) → HaveRun runs from (replicate count line) (account true printed) to
+      (printed : List ℕ) (count : ℕ) → HaveRun GoOn runs from (replicate count line) (account true printed) to
       → WentOut printer old new printed → count ≡ most_reads
       → IsPrinted printer old new (carrying_on runs line from to) (Err fault.Read)
   too_much_told printer from to old new printed count h out all = inl (
@@ -81,7 +83,7 @@ module _ {L P : Type 0} (runs : LinesDo L P) (line : L) where
     inr (
       refl,
       record {
-        ran = subst (λ (n : ℕ). HaveRun runs from (replicate n line)
+        ran = subst (λ (n : ℕ). HaveRun GoOn runs from (replicate n line)
             (account true printed) to) all h;
       },
     ),

@@ -1,6 +1,6 @@
 -- Lines that are carried out one after another.
 
-use Rattle.std.specs.Prelude.{Result, Ok, Err}
+use Rattle.std.specs.Prelude.{Result, Ok, Err, ◌||◌, not}
 use Rattle.std.proofs.Common.{◌≡◌, ℕ, ◌+◌, ◌<◌, List, [], ◌∷◌, ◌++◌, Bool, true, false, ◌&&◌, length, take, drop, inl}
 use Rattle.std.proofs.Common.{inr, refl, sym, ap, ◌∙◌, subst, arith, append_assoc, suc, get_or, take-append-drop}
 use Rattle.std.proofs.Math.Seq.{drop-cons}
@@ -14,9 +14,11 @@ use Rattle.ws_text.specs.Printed.{IsPrinted}
 use Rattle.ws_text.specs.Printing.{IsOut}
 use Rattle.ws_text.specs.declared.output.Output.{Output}
 use Rattle.ws_text.specs.declared.output.Output.TheVariants.{Open, Failed}
+use Rattle.ws_live.specs.declared.live.AfterUnwell.{AfterUnwell}
+use Rattle.ws_live.specs.declared.live.AfterUnwell.TheVariants.{GoOn, Stop}
 use Rattle.ws_live.specs.declared.live.Closing.{Closing}
 use Rattle.ws_live.specs.declared.live.Ran.{Ran}
-use Rattle.ws_live.specs.live.LiveText.{is_well, stops, ran_by, ran_and, HaveRun, IsStoppedAt, IsCutIn}
+use Rattle.ws_live.specs.live.LiveText.{ends_session, is_well, stops, ran_by, ran_and, HaveRun, IsStoppedAt, IsCutIn}
 use Rattle.ws_live.specs.live.LiveText.{Account, LineResult, LinesDo, account, line_result, line_printing}
 use Rattle.ws_live.specs.live.LiveText.{lines_printing}
 
@@ -30,13 +32,24 @@ and_assoc : (a b c : Bool) → ((a && b) && c) ≡ (a && (b && c))
 and_assoc true b c = refl
 and_assoc false b c = refl
 
+or_left : (a b : Bool) → (a || b) ≡ false → a ≡ false
+or_left true b e = e
+or_left false b e = refl
+
+-- a line that doesn't end the session doesn't stop it
+pub unstopped : (after : AfterUnwell) (closing : Closing) → ends_session after closing ≡ false → stops closing ≡ false
+unstopped GoOn closing e = e
+unstopped Stop closing e = or_left (stops closing) (not (is_well closing)) e
+
 module _ {L P : Type 0} (runs : LinesDo L P) where
   -- one line more
-  pub run_more : (from mid to : P) (before : List L) (line : L) (came : Account) (last : List ℕ)
+  pub run_more : (after : AfterUnwell) (from mid to : P) (before : List L) (line : L) (came : Account) (last : List ℕ)
       (closing : Closing)
-      → HaveRun runs from before came mid → runs line mid (line_result (Ok closing) last) to → stops closing ≡ false
-      → HaveRun runs from (before ++ line ∷ []) (account (came.all_well && is_well closing) (came.text ++ last)) to
-  run_more from mid to [] line came last closing h r s = (
+      → HaveRun after runs from before came mid → runs line mid (line_result (Ok closing) last) to
+      → ends_session after closing ≡ false
+      → HaveRun after runs from (before ++ line ∷ []) (account (came.all_well && is_well closing)
+      (came.text ++ last)) to
+  run_more after from mid to [] line came last closing h r s = (
     closing,
     last,
     to,
@@ -47,14 +60,14 @@ module _ {L P : Type 0} (runs : LinesDo L P) where
     ap (λ b. b && is_well closing) h.1 ∙ sym (and_true (is_well closing)),
     ap (λ z. z ++ last) h.2 ∙ sym (append-nil last),
   )
-  run_more from mid to (first ∷ before) line came last closing h r s = (
+  run_more after from mid to (first ∷ before) line came last closing h r s = (
     h.0,
     h.1,
     h.2,
     account (h.3.all_well && is_well closing) (h.3.text ++ last),
     h.4,
     h.5,
-    run_more h.2 mid to before line h.3 last closing h.6 r s,
+    run_more after h.2 mid to before line h.3 last closing h.6 r s,
     ap (λ b. b && is_well closing) h.7 ∙ and_assoc (is_well h.0) h.3.all_well (is_well closing),
     ap (λ z. z ++ last) h.8 ∙ append_assoc h.1 h.3.text last,
   )
@@ -101,17 +114,17 @@ module _ {L P : Type 0} (runs : LinesDo L P) where
     )
 
   -- one line more, behind those that were carried out and printed
-  module _ {O : Type 0} (writer : Writer O) (from mid to : P) (old between new : O)
+  module _ {O : Type 0} (after : AfterUnwell) (writer : Writer O) (from mid to : P) (old between new : O)
       (before : List L) (line : L) (ran : Ran) (printed : List ℕ)
-      (h : HaveRun runs from before (account ran.all_well printed) mid) (out : WentOut writer old between printed)
+      (h : HaveRun after runs from before (account ran.all_well printed) mid) (out : WentOut writer old between printed)
     where
-      stopped_at : (after lines : List L) → lines ≡ before ++ line ∷ after → (outcome : Result Closing Fault)
+      stopped_at : (others lines : List L) → lines ≡ before ++ line ∷ others → (outcome : Result Closing Fault)
           (last : List ℕ) → runs line mid (line_result outcome last) to
-          → IsStoppedAt runs from lines (line_result outcome (printed ++ last)) to
-      stopped_at after lines split outcome last r = record {
+          → IsStoppedAt after runs from lines (line_result outcome (printed ++ last)) to
+      stopped_at others lines split outcome last r = record {
         before = before;
         line = line;
-        after = after;
+        others = others;
         split = split;
         so_far = account ran.all_well printed;
         mid = mid;
@@ -122,27 +135,28 @@ module _ {L P : Type 0} (runs : LinesDo L P) where
       }
 
       pub goes_on : (closing : Closing) → IsPrinted writer between new (line_printing runs mid line to) (Ok closing)
-          → (ran_and ran (ran_by closing)).is_over ≡ false
+          → (ran_and ran (ran_by after closing)).is_over ≡ false
           → (text : List ℕ)
-          × HaveRun runs from (before ++ line ∷ []) (account (ran_and ran (ran_by closing)).all_well text) to
+          × HaveRun after runs from (before ++ line ∷ [])
+          (account (ran_and ran (ran_by after closing)).all_well text) to
           × WentOut writer old new text
       goes_on closing one going = (
         printed ++ one.0,
-        run_more from mid to before line (account ran.all_well printed) one.0 closing h one.1 going,
+        run_more after from mid to before line (account ran.all_well printed) one.0 closing h one.1 going,
         went_out_both writer old between new printed one.0 out one.2,
       )
 
-      pub ends_here : (after lines : List L) → lines ≡ before ++ line ∷ after → (closing : Closing)
+      pub ends_here : (others lines : List L) → lines ≡ before ++ line ∷ others → (closing : Closing)
           → IsPrinted writer between new (line_printing runs mid line to) (Ok closing)
-          → (ran_and ran (ran_by closing)).is_over ≡ true
-          → IsPrinted writer old new (lines_printing runs from lines to) (Ok (ran_and ran (ran_by closing)))
+          → (ran_and ran (ran_by after closing)).is_over ≡ true
+          → IsPrinted writer old new (lines_printing after runs from lines to) (Ok (ran_and ran (ran_by after closing)))
       unfolding stopped_at
-      ends_here after lines split closing one over = (
+      ends_here others lines split closing one over = (
         printed ++ one.0,
         inr (
           record {
             closing = closing;
-            at = stopped_at after lines split (Ok closing) one.0 one.1;
+            at = stopped_at others lines split (Ok closing) one.0 one.1;
             over = over;
             well = refl;
           },
@@ -151,13 +165,13 @@ module _ {L P : Type 0} (runs : LinesDo L P) where
         went_out_both writer old between new printed one.0 out one.2,
       )
 
-      pub breaks : (after lines : List L) → lines ≡ before ++ line ∷ after → (fault : Fault)
+      pub breaks : (others lines : List L) → lines ≡ before ++ line ∷ others → (fault : Fault)
           → IsPrinted writer between new (line_printing runs mid line to) (Err fault)
-          → IsPrinted writer old new (lines_printing runs from lines to) (Err fault)
-      breaks after lines split fault one =
+          → IsPrinted writer old new (lines_printing after runs from lines to) (Err fault)
+      breaks others lines split fault one =
           fails_behind writer mid to old between new line printed out
-          (λ came. IsStoppedAt runs from lines came to) (stopped_at after lines split)
-          (lines_printing runs from lines to).Ends fault
+          (λ came. IsStoppedAt after runs from lines came to) (stopped_at others lines split)
+          (lines_printing after runs from lines to).Ends fault
           (λ text at. at) one
 
 -- the lines of a list, of which so many are carried out

@@ -5,8 +5,8 @@ use Rattle.std.proofs.Common.{◌≡◌, ℕ, List, ◌++◌, true, refl, sym, a
 use Rattle.ws_code.specs.Address.{IsRowAndColumn}
 use Rattle.ws_text.specs.Words.{IsSmall, IsCell}
 use Rattle.ws_printing.specs.declared.station_report.Span.{Span}
-use Rattle.ws_live.specs.declared.script.script_line.LineFault.{LineFault}
-use Rattle.ws_live.specs.declared.script.script_line.LineFault.TheVariants.{Bad, Memory}
+use Rattle.ws_live.specs.declared.script.ScriptFault.{ScriptFault}
+use Rattle.ws_live.specs.declared.script.ScriptFault.TheVariants.{Line, Memory}
 use Rattle.ws_live.specs.live.ConnectLines.{IsBehindRow, IsCellCount, IsPlaced, IsRowText, IsSpanText}
 use Rattle.ws_live.specs.script.ScriptFaults.{IsLineFault, has_no_blank}
 use Rattle.ws_live.proofs.ScriptWords.{blank_inside, digits_have_no_blank, split_unique}
@@ -15,9 +15,9 @@ use Rattle.ws_live.proofs.StrokeWords.{same_number}
 -- The words of a line that prints what it asks for.
 
 -- where no memory is asked for, a fault is a bad word
-pub only_bad : {X : Type 0} (P : X → Type 0) (fault : LineFault) → IsLineFault P ⊥ fault
-    → (fault ≡ Bad) × ((x : X) → P x → ⊥)
-only_bad P Bad h = (refl, h)
+pub only_bad : {X : Type 0} (P : X → Type 0) (fault : ScriptFault) → IsLineFault P ⊥ fault
+    → (fault ≡ Line 1) × ((x : X) → P x → ⊥)
+only_bad P (Line at) h = (ap (λ z. Line z) h.0, h.1)
 only_bad P Memory h = absurd h
 
 pub no_row_word : (word : List ℕ) → ((n : ℕ) → IsSmall word n → ⊥) → (cell : ℕ) → IsRowText word cell → ⊥

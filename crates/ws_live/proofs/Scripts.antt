@@ -12,8 +12,8 @@ use Rattle.ws_record.specs.declared.opcode.Opcode.{Opcode}
 use Rattle.ws_stream.specs.declared.element.Element.{Element}
 use Rattle.ws_session.specs.declared.world.Move.{Move}
 use Rattle.ws_session.specs.declared.world.Move.TheVariants.{Send, Cancel, ToStation, ToHost, Key as Press}
-use Rattle.ws_live.specs.declared.script.script_line.LineFault.{LineFault}
-use Rattle.ws_live.specs.declared.script.script_line.LineFault.TheVariants.{Bad, Memory}
+use Rattle.ws_live.specs.declared.script.ScriptFault.{ScriptFault}
+use Rattle.ws_live.specs.declared.script.ScriptFault.TheVariants.{Line, Memory}
 use Rattle.ws_live.specs.script.KeyNames.{key_named}
 use Rattle.ws_live.specs.script.Script.{AreTypedMoves, typed_key, IsCount, IsSendOpcode, IsBodyText, IsRecordText}
 use Rattle.ws_live.specs.script.Script.{IsMove, MeansMoves, IsScriptLine, IsBad, AreLines, IsScript, IsFirstBad}
@@ -22,13 +22,13 @@ use Rattle.ws_live.specs.script.ScriptFaults.{IsNoComment, IsLineFault, IsGoodSo
 use Rattle.ws_live.proofs.ScriptWords.{differ, blank_inside, split_unique, digits_have_no_blank}
 
 -- a fault of a part, as one of what holds the part
-pub fault_on : {X Y A B : Type 0} (P : X → Type 0) (Q : Y → Type 0) (fault : LineFault)
+pub fault_on : {X Y A B : Type 0} (P : X → Type 0) (Q : Y → Type 0) (fault : ScriptFault)
     → (((x : X) → P x → ⊥) → (y : Y) → Q y → ⊥) → (A → B) → IsLineFault P A fault → IsLineFault Q B fault
-fault_on P Q Bad f good h = f h
+fault_on P Q (Line at) f good h = (h.0, f h.1)
 fault_on P Q Memory f good h = good h
 
 -- a growth was refused, where what was read is good
-pub only_memory : {X A : Type 0} (P : X → Type 0) (fault : LineFault) → fault ≡ Memory → A → IsLineFault P A fault
+pub only_memory : {X A : Type 0} (P : X → Type 0) (fault : ScriptFault) → fault ≡ Memory → A → IsLineFault P A fault
 only_memory P fault e good = rw e good
 
 -- a line more, and its moves

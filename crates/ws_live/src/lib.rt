@@ -27,9 +27,11 @@ pub use live::serve_line::{AnswerAwaited, HostLine};
 pub use live::watch::{WaitSpan, Watch};
 pub use live::wire_line::{WireLine, carry_wire};
 pub use live::wire_words::read_wire;
-pub use live::{Carried, Closing, LiveMove, Ran, carry_line, carry_lines, hand_on, put_bad};
+pub use live::{
+    AfterUnwell, Carried, Closing, LineSettings, LiveMove, Ran, carry_line, carry_lines, hand_on,
+    put_bad,
+};
 pub use script::key_name::aid_named;
 pub use script::named_key::NamedKey;
-pub use script::script_line::LineFault;
 pub use script::{ScriptFault, read_script};
 pub use ws_printing::{BufferedSink, OperatedDisplay, Paint, play_to};

@@ -50,12 +50,32 @@ pub enum Closing {
     Closed,
 }
 
+/// What follows a line that didn't go well: it closed late or ended, or something of it was refused.
+#[derive(Clone, Copy, Debug, PartialEq, Eq)]
+pub enum AfterUnwell {
+    /// The next line is carried out.
+    GoOn,
+    /// The session is over.
+    Stop,
+}
+
+/// How the lines of a live session are carried out.
+#[derive(Clone, Copy, Debug, PartialEq, Eq)]
+pub struct LineSettings {
+    /// Whether `ok` stands after each line's output.
+    pub ready: bool,
+    /// Of the screens that are printed.
+    pub paint: Paint,
+    pub after: AfterUnwell,
+}
+
 /// What the lines of a live session came to.
 #[derive(Clone, Copy)]
 pub struct Ran {
     /// None closed late or ended, and nothing was refused.
     pub all_well: bool,
-    /// The last has stopped the session: the end refused a byte, or the line closed the connection.
+    /// The last has ended the session: the end refused a byte, the line closed the connection, or it didn't go well and
+    /// such a line was to stop the session.
     pub is_over: bool,
 }
 
@@ -82,13 +102,16 @@ impl Ran {
 }
 
 impl Closing {
-    /// What a line came to that closed so.
-    pub fn ran(self) -> Ran
-        ensures { result ≡ Spec.ran_by self }
+    /// What a line came to that closed so, where this follows one that didn't go well.
+    pub fn ran(self, after: AfterUnwell) -> Ran
+        ensures { result ≡ Spec.ran_by after self }
     {
         Ran {
             all_well: matches!(self, Closing::Nothing | Closing::Done | Closing::Closed),
-            is_over: matches!(self, Closing::Stopped | Closing::Closed),
+            is_over: match after {
+                AfterUnwell::GoOn => matches!(self, Closing::Stopped | Closing::Closed),
+                AfterUnwell::Stop => !matches!(self, Closing::Nothing | Closing::Done),
+            },
         }
     }
 }
@@ -131,10 +154,10 @@ pub trait LiveMove<E, S, K>: LiveLine {
             Spec.stops closing ≡ false → attached.new.broken ≡ false) };
 }
 
-/// Carries lines out one after another, up to the first that stops the session: at which the end refuses a byte, or that
-/// closes the connection. What each prints is out before the next; behind it comes a line `late` or `ended` where it
-/// closed so, and `ok` with `ready`. Screens are printed in the paint. So many records are ahead, that lines which show
-/// something have taken.
+/// Carries lines out one after another, up to the first that ends the session: at which the end refuses a byte, that
+/// closes the connection, or that doesn't go well where `settings` say that such a line stops the session. What each
+/// prints is out before the next; after it comes a line `late` or `ended` where it closed so, and `ok` with `ready`. So
+/// many records are ahead, that lines which show something have taken.
 ///
 /// # Errors
 ///
@@ -147,8 +170,7 @@ pub fn carry_lines<E, S, K, L: LiveMove<E, S, K>, W: Watch<S>, O: Sink>(
     ahead: &mut u64,
     watch: &mut W,
     lines: &[L],
-    ready: bool,
-    paint: Paint,
+    settings: LineSettings,
     out: &mut BufferedSink<O>,
 ) -> Result<Ran, Fault>
     // At an end that works, with nothing held back.
@@ -156,7 +178,8 @@ pub fn carry_lines<E, S, K, L: LiveMove<E, S, K>, W: Watch<S>, O: Sink>(
     requires empty { out.old.held ≡ [] }
     // What was printed, and how it ended.
     ensures printed { IsPrinted O.writer out.old.sink out.new.sink (Spec.lines_printing
-        (Spec.WithClosing (InTime (L.runs W.tells paint) L.waits W.times) ready)
+        settings.after
+        (Spec.WithClosing (InTime (L.runs W.tells settings.paint) L.waits W.times) settings.ready)
         ((attached.old, ahead.old), watch.old) lines.now
         ((attached.new, ahead.new), watch.new)) result }
     // The end works on unless the session is over, and nothing is held back.
@@ -165,11 +188,11 @@ pub fn carry_lines<E, S, K, L: LiveMove<E, S, K>, W: Watch<S>, O: Sink>(
 {
     let mut ran = Ran::none();
     for line in lines {
-        let closing = match carry_line(attached, ahead, watch, line, ready, paint, out) {
+        let closing = match carry_line(attached, ahead, watch, line, settings, out) {
             Ok(closing) => closing,
             Err(fault) => return Err(fault),
         };
-        ran = ran.and(closing.ran());
+        ran = ran.and(closing.ran(settings.after));
         if ran.is_over {
             return Ok(ran);
         }
@@ -187,8 +210,7 @@ pub fn carry_line<E, S, K, L: LiveMove<E, S, K>, W: Watch<S>, O: Sink>(
     ahead: &mut u64,
     watch: &mut W,
     line: &L,
-    ready: bool,
-    paint: Paint,
+    settings: LineSettings,
     out: &mut BufferedSink<O>,
 ) -> Result<Closing, Fault>
     // At an end that works, with nothing held back.
@@ -196,7 +218,7 @@ pub fn carry_line<E, S, K, L: LiveMove<E, S, K>, W: Watch<S>, O: Sink>(
     requires empty { out.old.held ≡ [] }
     // What was printed, and how it ended.
     ensures printed { IsPrinted O.writer out.old.sink out.new.sink (Spec.line_printing
-        (Spec.WithClosing (InTime (L.runs W.tells paint) L.waits W.times) ready)
+        (Spec.WithClosing (InTime (L.runs W.tells settings.paint) L.waits W.times) settings.ready)
         ((attached.old, ahead.old), watch.old) line.now
         ((attached.new, ahead.new), watch.new)) result }
     // The end works on unless the session is over, and nothing is held back.
@@ -204,10 +226,10 @@ pub fn carry_line<E, S, K, L: LiveMove<E, S, K>, W: Watch<S>, O: Sink>(
         Spec.stops closing ≡ false → attached.new.broken ≡ false) }
     ensures held { out.new.held ≡ [] }
 {
-    let carried = line.carry_out(attached, ahead, watch, paint, out, Output::Open);
+    let carried = line.carry_out(attached, ahead, watch, settings.paint, out, Output::Open);
     match carried.outcome {
         Ok(closing) => {
-            let output = put_closing(out, carried.output, ready, closing);
+            let output = put_closing(out, carried.output, settings.ready, closing);
             match hand_on(out, output) {
                 Output::Open => Ok(closing),
                 Output::Failed => Err(Fault::Write),

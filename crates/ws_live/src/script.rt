@@ -10,7 +10,7 @@ pub(crate) mod named_key;
 pub(crate) mod script_line;
 pub(crate) mod script_move;
 
-use crate::script::script_line::{LineFault, read_line};
+use crate::script::script_line::read_line;
 use std::alloc::Global;
 use thiserror::Error;
 use ws_session::Move;
@@ -45,8 +45,8 @@ pub fn read_script(alloc: Global, text: &[u8]) -> Result<Vec<Move>, ScriptFault>
         number += 1;
         match read_line(alloc, line, &mut moves) {
             Ok(()) => {}
-            Err(LineFault::Bad) => return Err(ScriptFault::Line(number)),
-            Err(LineFault::Memory) => return Err(ScriptFault::Memory),
+            Err(ScriptFault::Line(_)) => return Err(ScriptFault::Line(number)),
+            Err(ScriptFault::Memory) => return Err(ScriptFault::Memory),
         }
         rest = behind;
     }

@@ -26,7 +26,7 @@ use Rattle.ws_network.proofs.SessionLaws.{new_at}
 module _ (asked : ServeAsked) (lines : List AnyLine) (came : Account)
     (to : (AttachedParts AnyParts ConnectionReads ConnectionWrites × ℕ) × ℕ) where
   abbrev RanAny : AttachedParts AnyParts ConnectionReads ConnectionWrites → ℕ → Type 0
-  RanAny attached begun = IsTextAndOn (session_lines (AnyRunsInTime timed timed_waits) asked.ready
+  RanAny attached begun = IsTextAndOn (session_lines (AnyRunsInTime timed timed_waits) asked.settings
       ((attached, 0), begun) lines to) Await came
 
   abbrev Told : ConnectionWrites → ConnectionWrites → List ℕ → Type 0

@@ -67,8 +67,9 @@ module _ (display : LiveDisplay) (asked : ConnectAsked)
     (lines : List (StationLine display.on.Pressed)) (came : Account)
     (to : (AttachedParts (StationOf display.on) ConnectionReads ConnectionWrites × ℕ) × ℕ) (is_over : Bool) where
   abbrev RanConnect : AttachedParts (StationOf display.on) ConnectionReads ConnectionWrites → ℕ → Type 0
-  RanConnect attached begun = IsLiveText (WithClosing (StationRunsInTime display timed timed_waits asked.paint)
-      asked.ready) ((attached, 0), begun) lines is_over came to
+  RanConnect attached begun = IsLiveText asked.settings.after
+      (WithClosing (StationRunsInTime display timed timed_waits asked.settings.paint) asked.settings.ready)
+      ((attached, 0), begun) lines is_over came to
 
   pub connected : (station : StationOf display.on) (source : ConnectionReads) (sink : ConnectionWrites)
       (attached : AttachedParts (StationOf display.on) ConnectionReads ConnectionWrites) (begun : ℕ)
@@ -89,7 +90,7 @@ module _ (display : LiveDisplay) (asked : ConnectAsked)
 module _ (asked : ServeAsked) (lines : List HostLine) (came : Account)
     (to : (AttachedParts HostParts ConnectionReads ConnectionWrites × ℕ) × ℕ) where
   abbrev RanServe : AttachedParts HostParts ConnectionReads ConnectionWrites → ℕ → Type 0
-  RanServe attached begun = IsTextAndOn (session_lines (HostRunsInTime timed timed_waits) asked.ready
+  RanServe attached begun = IsTextAndOn (session_lines (HostRunsInTime timed timed_waits) asked.settings
       ((attached, 0), begun) lines to) Await came
 
   abbrev Told : ConnectionWrites → ConnectionWrites → List ℕ → Type 0

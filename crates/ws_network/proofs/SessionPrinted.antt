@@ -9,27 +9,30 @@ use Rattle.ws_code.proofs.DeviceLaws.{went_out_none, went_out_both}
 use Rattle.ws_text.specs.Printed.{Printing, IsPrinted}
 use Rattle.ws_live.specs.asked.RunFaults.{told_fault}
 use Rattle.ws_live.specs.declared.asked.fault.ToldFault.{ToldFault}
+use Rattle.ws_live.specs.declared.live.LineSettings.{LineSettings}
 use Rattle.ws_live.specs.declared.live.Ran.{Ran}
 use Rattle.ws_live.specs.live.CarryingOn.{carrying_on}
-use Rattle.ws_live.specs.live.LiveText.{Account, HaveRun, IsLiveText, IsOverAt, LinesDo, account}
+use Rattle.ws_live.specs.live.LiveText.{Account, IsLiveText, IsOverAt, LinesDo, account}
 use Rattle.ws_network.specs.SessionPrinting.{HaveLedTo, IsPrintedBehind, IsTextAndOn, SessionLines, all_lines}
 use Rattle.ws_network.specs.SessionPrinting.{prints_closed, serve_printing, session_lines, session_printing}
 
 -- What a session printed by its lines, and behind them by one that is carried on.
 
 module _ {L P : Type 0} (session : SessionLines L P) (is_over : Bool) (came : Account)
-    (h : IsLiveText (prints_closed session) session.from session.lines is_over came session.to) where
-  all_run : is_over ≡ false → HaveRun (prints_closed session) session.from session.lines came session.to
-  all_run going = elim h [
-    | inl all ↦ all.0
-    | inr at ↦ absurd (false≢true (sym going ∙ at.1))
-  ]
+    (h : IsLiveText session.settings.after (prints_closed session) session.from session.lines is_over came session.to)
+  where
+    all_run : is_over ≡ false → HaveLedTo session came session.to
+    all_run going = elim h [
+      | inl all ↦ all.0
+      | inr at ↦ absurd (false≢true (sym going ∙ at.1))
+    ]
 
-  is_over_at : is_over ≡ true → IsOverAt (prints_closed session) session.from session.lines came session.to
-  is_over_at over = elim h [
-    | inl all ↦ absurd (false≢true (sym all.1 ∙ over))
-    | inr at ↦ at.0
-  ]
+    is_over_at : is_over ≡ true
+        → IsOverAt session.settings.after (prints_closed session) session.from session.lines came session.to
+    is_over_at over = elim h [
+      | inl all ↦ absurd (false≢true (sym all.1 ∙ over))
+      | inr at ↦ at.0
+    ]
 
 -- a session by its lines alone
 module _ {L P O : Type 0} (session : SessionLines L P) (printer : Writer O) (has_script : Bool) (old new : O) where
@@ -63,11 +66,11 @@ module _ {L P O : Type 0} (session : SessionLines L P) (printer : Writer O) (has
       → IsPrinted printer old new Session outcome → IsPrinted printer old new Judged (Err told)
   judged_badly outcome told is printed = subst (IsPrinted printer old new Session) is printed
 
-module _ {L P O : Type 0} (does : LinesDo L P) (on : L) (ready : Bool)
+module _ {L P O : Type 0} (does : LinesDo L P) (on : L) (settings : LineSettings)
     (printer : Writer O) (from : P) (lines : List L) (has_script : Bool) where
   -- the session that comes to there
   abbrev SessionAt : P → SessionLines L P
-  SessionAt to = session_lines does ready from lines to
+  SessionAt to = session_lines does settings from lines to
 
   abbrev SessionTo : P → Printing Ran ToldFault
   SessionTo to = session_printing (SessionAt to) has_script (λ ran told. told ≡ ran)
@@ -117,8 +120,8 @@ module _ {L P O : Type 0} (does : LinesDo L P) (on : L) (ready : Bool)
           let came = e.1 in (
             e.0,
             all_run (SessionAt mid) ran.is_over (account ran.all_well e.0)
-                (subst (λ r. IsLiveText (prints_closed (SessionAt mid)) from lines r.is_over (account r.all_well e.0)
-                mid) (sym came.2) came.1) going,
+                (subst (λ r. IsLiveText settings.after (prints_closed (SessionAt mid)) from lines r.is_over
+                (account r.all_well e.0) mid) (sym came.2) came.1) going,
             e.2,
           )
 
@@ -167,11 +170,11 @@ module _ {L P O : Type 0} (does : LinesDo L P) (on : L) (ready : Bool)
           went_out_both printer old s.1 new s.0 e.0 s.2 e.2,
         )
 
-module _ {L P O : Type 0} (does : LinesDo L P) (ready : Bool)
+module _ {L P O : Type 0} (does : LinesDo L P) (settings : LineSettings)
     (printer : Writer O) (from to : P) (has_script : Bool) (old new : O) (Read : List L → Type 0) where
   -- the session of these lines
   abbrev SessionOf : List L → SessionLines L P
-  SessionOf lines = session_lines does ready from lines to
+  SessionOf lines = session_lines does settings from lines to
 
   pub served_well : (on : L) (outcome : Result Bool ToldFault)
       → (lines : List L) × Read lines
@@ -179,7 +182,7 @@ module _ {L P O : Type 0} (does : LinesDo L P) (ready : Bool)
       → IfOk outcome (λ all_well. (lines : List L) × (text : List ℕ) × Read lines
       × IsTextAndOn (SessionOf lines) on (account all_well text) × WentOut printer old new text)
   served_well on (Ok all_well) s =
-      let e = well_printed does on ready printer from s.0 has_script to old new all_well s.2 in
+      let e = well_printed does on settings printer from s.0 has_script to old new all_well s.2 in
       (s.0, e.0, s.1, e.1, e.2)
   served_well on (Err told) s = tt
 
@@ -188,7 +191,7 @@ module _ {L P O : Type 0} (does : LinesDo L P) (ready : Bool)
       (session_printing (SessionOf lines) has_script (λ ran all_well. all_well ≡ ran.all_well)) outcome
       → IfOk outcome (λ all_well. (lines : List L) × (text : List ℕ) × Read lines
       × ((is_over : Bool)
-      × IsLiveText (prints_closed (SessionOf lines)) from lines is_over (account all_well text) to)
+      × IsLiveText settings.after (prints_closed (SessionOf lines)) from lines is_over (account all_well text) to)
       × WentOut printer old new text)
   connected_well (Ok all_well) s =
       let e = s.2 in
@@ -198,7 +201,7 @@ module _ {L P O : Type 0} (does : LinesDo L P) (ready : Bool)
         s.1,
         (
           ran.is_over,
-          subst (λ b. IsLiveText (prints_closed (SessionOf s.0)) from s.0 ran.is_over (account b e.0) to)
+          subst (λ b. IsLiveText settings.after (prints_closed (SessionOf s.0)) from s.0 ran.is_over (account b e.0) to)
               (sym e.1.2) e.1.1,
         ),
         e.2,

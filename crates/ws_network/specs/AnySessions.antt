@@ -25,5 +25,5 @@ pub record IsAnyServed (asked : ServeAsked) (lines : List AnyLine) (came : Accou
   pub sink : ConnectionWrites
   pub told : WentOut timed_writer no_writes sink (plain_spelling raw_rules (Telnet opening ∷ []))
   pub to : (AttachedParts AnyParts ConnectionReads ConnectionWrites × ℕ) × ℕ
-  pub ran : IsTextAndOn (session_lines (AnyRunsInTime timed timed_waits) asked.ready
+  pub ran : IsTextAndOn (session_lines (AnyRunsInTime timed timed_waits) asked.settings
       ((at_connection host sink, 0), 0) lines to) Await came

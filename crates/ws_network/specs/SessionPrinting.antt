@@ -9,6 +9,7 @@ use Rattle.ws_live.specs.asked.RunFaults.{told_fault}
 use Rattle.ws_live.specs.live.CarryingOn.{IsCarriedText, carrying_on}
 use Rattle.ws_live.specs.live.LiveText.{Account, HaveRun, IsOverAt, LinesDo, WithClosing, account, lines_printing}
 use Rattle.ws_live.specs.declared.asked.fault.ToldFault.{ToldFault}
+use Rattle.ws_live.specs.declared.live.LineSettings.{LineSettings}
 use Rattle.ws_live.specs.declared.live.Ran.{Ran}
 use Rattle.ws_network.specs.InputLines.{IsInputFault}
 
@@ -41,35 +42,37 @@ abbrev pub IsPrintedBehind : {S A E : Type 0} → Writer S → S → S → (List
 IsPrintedBehind {S} writer from to printing outcome = (first : List ℕ) × (between : S)
     × WentOut writer from between first × IsPrinted writer between to (printing first) outcome
 
--- the lines of a session, which lead from there to there, with what each does; and whether the session tells when it is
--- ready
+-- the lines of a session, which lead from there to there, with what each does; and how they are carried out
 pub record SessionLines (L P : Type 0) : Type 1 where
   pub does : LinesDo L P
-  pub ready : Bool
+  pub settings : LineSettings
   pub from : P
   pub lines : List L
   pub to : P
 
--- the lines of a session by what each does: told when they are ready or not, from there, these, to there
-abbrev pub session_lines : {L P : Type 0} → LinesDo L P → Bool → P → List L → P → SessionLines L P
-session_lines does ready from lines to =
-    record { does = does; ready = ready; from = from; lines = lines; to = to }
+-- the lines of a session by what each does: carried out so, from there, these, to there
+abbrev pub session_lines : {L P : Type 0} → LinesDo L P → LineSettings → P → List L → P → SessionLines L P
+session_lines does settings from lines to =
+    record { does = does; settings = settings; from = from; lines = lines; to = to }
 
 -- a session by its lines, of a script or of standard input
 module _ {L P : Type 0} (session : SessionLines L P) where
   -- what each line does with what ends its output
   abbrev pub prints_closed : LinesDo L P
-  prints_closed = WithClosing session.does session.ready
+  prints_closed = WithClosing session.does session.settings.ready
 
   -- what the lines print
   abbrev pub all_lines : Printing Ran Fault
-  all_lines = lines_printing prints_closed session.from session.lines session.to
+  all_lines = lines_printing session.settings.after prints_closed session.from session.lines session.to
+
+  -- the lines were carried out, this is the account of them, and they came to there
+  abbrev pub HaveLedTo : Account → P → Type 0
+  HaveLedTo came mid = HaveRun session.settings.after prints_closed session.from session.lines came mid
 
   -- all were carried out, and without a script there was none more to be had: it couldn't be read, or is bad
   abbrev pub IsOutOfLines : Bool → List ℕ → ToldFault → Type 0
   IsOutOfLines has_script text told = (has_script ≡ false)
-      × ((well : Bool) × HaveRun prints_closed session.from session.lines (account well text) session.to)
-      × IsInputFault session.ready told
+      × ((well : Bool) × HaveLedTo (account well text) session.to) × IsInputFault session.settings.ready told
 
   -- how a session ends of which this is told: its lines do, or without a script there is none more
   abbrev pub SessionEnds : {A : Type 0} → Bool → (Ran → A → Type 0) → List ℕ → Result A ToldFault → Type 0
@@ -84,18 +87,14 @@ module _ {L P : Type 0} (session : SessionLines L P) where
     Cut = (told_as Tells all_lines).Cut;
   }
 
-  -- the lines were carried out, this is the account of them, and they came to there
-  abbrev pub HaveLedTo : Account → P → Type 0
-  HaveLedTo came mid = HaveRun prints_closed session.from session.lines came mid
-
-  -- the account of the lines and of one after them that is carried on: where a line stopped the session, nothing
+  -- the account of the lines and of one after them that is carried on: where a line ended the session, nothing
   -- stands after it
   abbrev pub IsTextAndOn : L → Account → Type 0
   IsTextAndOn on came =
       ((so_far : Account) × (mid : P) × (behind : Account) × HaveLedTo so_far mid
       × IsCarriedText session.does on mid behind session.to
       × (came.all_well ≡ so_far.all_well && behind.all_well) × (came.text ≡ so_far.text ++ behind.text))
-      ⊎ IsOverAt prints_closed session.from session.lines came session.to
+      ⊎ IsOverAt session.settings.after prints_closed session.from session.lines came session.to
 
   -- what is printed by the one that is carried on, after lines that went so well
   abbrev pub answering_on : L → Bool → P → Printing Bool ToldFault

@@ -53,7 +53,8 @@ module _ (display : LiveDisplay) where
     pub new : ReachedOn display.on station [] [] (new_state_on display.on.does asked.terminal)
     pub to : (AttachedParts (StationOf display.on) ConnectionReads ConnectionWrites × ℕ) × ℕ
     pub is_over : Bool
-    pub ran : IsLiveText (WithClosing (StationRunsInTime display timed timed_waits asked.paint) asked.ready)
+    pub ran : IsLiveText asked.settings.after
+        (WithClosing (StationRunsInTime display timed timed_waits asked.settings.paint) asked.settings.ready)
         ((at_connection station no_writes, 0), 0) lines is_over came to
 
 -- a host end whose opening went out carried out the lines and answered on
@@ -64,7 +65,7 @@ pub record IsServed (asked : ServeAsked) (lines : List HostLine) (came : Account
   pub told : WentOut timed_writer no_writes sink
       (plain_spelling element_rules (Telnet opening ∷ []))
   pub to : (AttachedParts HostParts ConnectionReads ConnectionWrites × ℕ) × ℕ
-  pub ran : IsTextAndOn (session_lines (HostRunsInTime timed timed_waits) asked.ready
+  pub ran : IsTextAndOn (session_lines (HostRunsInTime timed timed_waits) asked.settings
       ((at_connection host sink, 0), 0) lines to) Await came
 
 module _ {O : Type 0} (out : Printout O) where

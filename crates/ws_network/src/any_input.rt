@@ -13,11 +13,11 @@ use crate::timer::LineWatch;
 use std::rt::Runtime;
 use ws_any_host::{AnyHost, AnyLine, carry_on};
 use ws_code::{Sink, Source};
-use ws_live::{BufferedSink, Paint, ToldFault, Vocabulary};
+use ws_live::{BufferedSink, LineSettings, ToldFault, Vocabulary};
 use ws_session::Attached;
 
 /// Carries out the lines of a script at a host that takes any record, or without one those of standard input, and then
-/// takes what the station sends, unless a byte was refused: true where all went well.
+/// takes what the station sends, unless a line ended the session: true where all went well.
 ///
 /// # Errors
 ///
@@ -28,7 +28,7 @@ pub(crate) fn carry_at_any_host<R, S, K, W, O>(
     ahead: &mut u64,
     watch: &mut W,
     script: Option<&[AnyLine]>,
-    ready: bool,
+    settings: LineSettings,
     out: &mut BufferedSink<O>,
 ) -> Result<bool, ToldFault>
 where
@@ -44,7 +44,7 @@ where
     ensures printed { (lines : List AnAnyLine)
         × AreScripted script.entry lines
         × IsPrintedBehind O.writer out.old.sink out.new.sink (serve_printing (session_lines
-        (AnyRunsInTime (watched_devices (on_devices K.writer S.reader) W.tells) W.times) ready
+        (AnyRunsInTime (watched_devices (on_devices K.writer S.reader) W.tells) W.times) settings
         ((attached.old, ahead.old), watch.old) lines ((attached.new, ahead.new), watch.new))
         (is_some script.entry) Await) result }
     ensures held { out.new.held ≡ [] }
@@ -56,8 +56,7 @@ where
         watch,
         script,
         Vocabulary::AnyHost,
-        ready,
-        Paint::Plain,
+        settings,
         out,
     ) {
         Ok(ran) => ran,

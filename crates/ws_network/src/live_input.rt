@@ -20,13 +20,12 @@ use std::io::BufReader;
 use std::rt::Runtime;
 use ws_code::{Fault, Sink, Source};
 use ws_live::{
-    BufferedSink, Closing, HostLine, LiveMove, NamedKey, OperatedDisplay, Paint, Ran, RunFault,
-    StationLine, ToldFault, Vocabulary, answer_on, carry_line,
+    BufferedSink, Closing, HostLine, LineSettings, LiveMove, NamedKey, OperatedDisplay, Ran,
+    RunFault, StationLine, ToldFault, Vocabulary, answer_on, carry_line,
 };
 use ws_session::{Attached, HostEnd, StationOn};
 
 /// Carries out the lines of a script at a station, or without one those of standard input: true where all went well.
-/// Screens are printed in the paint.
 ///
 /// # Errors
 ///
@@ -39,8 +38,7 @@ pub(crate) fn carry_at_station<D, R, S, K, W, O>(
     watch: &mut W,
     script: Option<&[StationLine<D::Key>]>,
     vocabulary: Vocabulary,
-    ready: bool,
-    paint: Paint,
+    settings: LineSettings,
     out: &mut BufferedSink<O>,
 ) -> Result<bool, ToldFault>
 where
@@ -57,13 +55,13 @@ where
         × AreScripted script.entry lines
         × IsPrinted O.writer out.old.sink out.new.sink (session_printing (session_lines
         (StationRunsInTime (live_display D.Commands.rules D.does D.operated D.Key.words)
-        (watched_devices (on_devices K.writer S.reader) W.tells) W.times paint) ready
+        (watched_devices (on_devices K.writer S.reader) W.tells) W.times settings.paint) settings
         ((attached.old, ahead.old), watch.old) lines ((attached.new, ahead.new), watch.new))
         (is_some script.entry) TellsWell) result }
     ensures held { out.new.held ≡ [] }
 {
     match carry_session(
-        rt, attached, ahead, watch, script, vocabulary, ready, paint, out,
+        rt, attached, ahead, watch, script, vocabulary, settings, out,
     ) {
         Ok(ran) => Ok(ran.all_well),
         Err(fault) => Err(fault),
@@ -71,7 +69,7 @@ where
 }
 
 /// Carries out the lines of a script at a host, or without one those of standard input, and then answers the station
-/// on, unless a byte was refused: true where all went well.
+/// on, unless a line ended the session: true where all went well.
 ///
 /// # Errors
 ///
@@ -82,7 +80,7 @@ pub(crate) fn carry_at_host<R, S, K, W, O>(
     ahead: &mut u64,
     watch: &mut W,
     script: Option<&[HostLine]>,
-    ready: bool,
+    settings: LineSettings,
     out: &mut BufferedSink<O>,
 ) -> Result<bool, ToldFault>
 where
@@ -98,7 +96,7 @@ where
     ensures printed { (lines : List AHostLine)
         × AreScripted script.entry lines
         × IsPrintedBehind O.writer out.old.sink out.new.sink (serve_printing (session_lines
-        (HostRunsInTime (watched_devices (on_devices K.writer S.reader) W.tells) W.times) ready
+        (HostRunsInTime (watched_devices (on_devices K.writer S.reader) W.tells) W.times) settings
         ((attached.old, ahead.old), watch.old) lines ((attached.new, ahead.new), watch.new))
         (is_some script.entry) Await) result }
     ensures held { out.new.held ≡ [] }
@@ -110,8 +108,7 @@ where
         watch,
         script,
         Vocabulary::Host,
-        ready,
-        Paint::Plain,
+        settings,
         out,
     ) {
         Ok(ran) => ran,
@@ -138,8 +135,7 @@ pub(crate) fn carry_session<R, E, S, K, L, W, O>(
     watch: &mut W,
     script: Option<&[L]>,
     vocabulary: Vocabulary,
-    ready: bool,
-    paint: Paint,
+    settings: LineSettings,
     out: &mut BufferedSink<O>,
 ) -> Result<Ran, ToldFault>
 where
@@ -154,7 +150,7 @@ where
     ensures printed { (lines : List L)
         × AreScripted script.entry lines
         × IsPrinted O.writer out.old.sink out.new.sink (session_printing
-        (session_lines (InTime (L.runs W.tells paint) L.waits W.times) ready
+        (session_lines (InTime (L.runs W.tells settings.paint) L.waits W.times) settings
         ((attached.old, ahead.old), watch.old) lines ((attached.new, ahead.new), watch.new))
         (is_some script.entry) (λ ran told. told ≡ ran)) result }
     // The end works on unless the session is over, and nothing is held back.
@@ -162,10 +158,10 @@ where
     ensures held { out.new.held ≡ [] }
 {
     match script {
-        Some(lines) => Ok(carry_script(attached, ahead, watch, lines, ready, paint, out)?),
+        Some(lines) => Ok(carry_script(attached, ahead, watch, lines, settings, out)?),
         None => {
             carry_input::<R, E, S, K, L, W, O>(
-                rt, attached, ahead, watch, vocabulary, ready, paint, out,
+                rt, attached, ahead, watch, vocabulary, settings, out,
             )
         },
     }
@@ -177,8 +173,7 @@ fn carry_script<E, S, K, L: LiveMove<E, S, K>, W: LineWatch<S>, O: Sink>(
     ahead: &mut u64,
     watch: &mut W,
     lines: &[L],
-    ready: bool,
-    paint: Paint,
+    settings: LineSettings,
     out: &mut BufferedSink<O>,
 ) -> Result<Ran, Fault>
     // At an end that works, with nothing held back.
@@ -186,7 +181,8 @@ fn carry_script<E, S, K, L: LiveMove<E, S, K>, W: LineWatch<S>, O: Sink>(
     requires empty { out.old.held ≡ [] }
     // What was printed, and how it ended.
     ensures printed { IsPrinted O.writer out.old.sink out.new.sink (Spec.lines_printing
-        (Spec.WithClosing (InTime (L.runs W.tells paint) L.waits W.times) ready)
+        settings.after
+        (Spec.WithClosing (InTime (L.runs W.tells settings.paint) L.waits W.times) settings.ready)
         ((attached.old, ahead.old), watch.old) lines.now
         ((attached.new, ahead.new), watch.new)) result }
     // The end works on unless the session is over, and nothing is held back.
@@ -195,11 +191,11 @@ fn carry_script<E, S, K, L: LiveMove<E, S, K>, W: LineWatch<S>, O: Sink>(
 {
     let mut ran = Ran::none();
     for line in lines {
-        let closing = match carry_next(attached, ahead, watch, line, ready, paint, out) {
+        let closing = match carry_next(attached, ahead, watch, line, settings, out) {
             Ok(closing) => closing,
             Err(fault) => return Err(fault),
         };
-        ran = ran.and(closing.ran());
+        ran = ran.and(closing.ran(settings.after));
         if ran.is_over {
             return Ok(ran);
         }
@@ -215,8 +211,7 @@ fn carry_input<R, E, S, K, L, W, O>(
     ahead: &mut u64,
     watch: &mut W,
     vocabulary: Vocabulary,
-    ready: bool,
-    paint: Paint,
+    settings: LineSettings,
     out: &mut BufferedSink<O>,
 ) -> Result<Ran, ToldFault>
 where
@@ -230,7 +225,7 @@ where
     // What was printed, and how it ended.
     ensures printed { (lines : List L)
         × IsPrinted O.writer out.old.sink out.new.sink (session_printing
-        (session_lines (InTime (L.runs W.tells paint) L.waits W.times) ready
+        (session_lines (InTime (L.runs W.tells settings.paint) L.waits W.times) settings
         ((attached.old, ahead.old), watch.old) lines ((attached.new, ahead.new), watch.new))
         false (λ ran told. told ≡ ran)) result }
     // The end works on unless the session is over, and nothing is held back.
@@ -244,18 +239,22 @@ where
     };
     let mut input = InputLines::new(rt.alloc(), reader);
     for _ in 0..u64::MAX {
-        let next = match next_line::<BufReader<R::Reader>, L>(&mut input, vocabulary, ready) {
+        let next = match next_line::<BufReader<R::Reader>, L>(
+            &mut input,
+            vocabulary,
+            settings.ready,
+        ) {
             Ok(next) => next,
             Err(fault) => return Err(fault),
         };
         let Some(line) = next else {
             return Ok(ran);
         };
-        let closing = match carry_next(attached, ahead, watch, &line, ready, paint, out) {
+        let closing = match carry_next(attached, ahead, watch, &line, settings, out) {
             Ok(closing) => closing,
             Err(fault) => return Err(ToldFault::from(fault)),
         };
-        ran = ran.and(closing.ran());
+        ran = ran.and(closing.ran(settings.after));
         if ran.is_over {
             return Ok(ran);
         }
@@ -269,8 +268,7 @@ fn carry_next<E, S, K, L: LiveMove<E, S, K>, W: LineWatch<S>, O: Sink>(
     ahead: &mut u64,
     watch: &mut W,
     line: &L,
-    ready: bool,
-    paint: Paint,
+    settings: LineSettings,
     out: &mut BufferedSink<O>,
 ) -> Result<Closing, Fault>
     // At an end that works, with nothing held back.
@@ -278,7 +276,7 @@ fn carry_next<E, S, K, L: LiveMove<E, S, K>, W: LineWatch<S>, O: Sink>(
     requires empty { out.old.held ≡ [] }
     // What was printed, and how it ended.
     ensures printed { IsPrinted O.writer out.old.sink out.new.sink (Spec.line_printing
-        (Spec.WithClosing (InTime (L.runs W.tells paint) L.waits W.times) ready)
+        (Spec.WithClosing (InTime (L.runs W.tells settings.paint) L.waits W.times) settings.ready)
         ((attached.old, ahead.old), watch.old) line.now
         ((attached.new, ahead.new), watch.new)) result }
     // The end works on unless the session is over, and nothing is held back.
@@ -287,5 +285,5 @@ fn carry_next<E, S, K, L: LiveMove<E, S, K>, W: LineWatch<S>, O: Sink>(
     ensures held { out.new.held ≡ [] }
 {
     watch.end_waits();
-    carry_line(attached, ahead, watch, line, ready, paint, out)
+    carry_line(attached, ahead, watch, line, settings, out)
 }

@@ -121,8 +121,7 @@ where
         &mut TimedWatch::new(&timer),
         lines_of(&script),
         vocabulary,
-        asked.ready,
-        asked.paint,
+        asked.settings,
         out,
     );
     close(rt, &stream, &recording, PieceSender::Host);

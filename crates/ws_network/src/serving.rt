@@ -205,7 +205,7 @@ impl ServedLine for HostLine {
             &mut ahead,
             &mut TimedWatch::new(&timer),
             script,
-            asked.ready,
+            asked.settings,
             out,
         );
         close(rt, stream, &recording, PieceSender::Station);
@@ -243,7 +243,7 @@ impl ServedLine for AnyLine {
             &mut ahead,
             &mut TimedWatch::new(&timer),
             script,
-            asked.ready,
+            asked.settings,
             out,
         );
         close(rt, stream, &recording, PieceSender::Station);

@@ -14,7 +14,7 @@ use Rattle.ws_program.specs.declared.command_fault.CommandFault.TheVariants.{Wor
 -- a fault with the name of a file that can't be read
 pub unread_told : (file : List ℕ) (result : CommandFault) → IsOfFile file run.Read result
     → IsToldOfFile (Some file) (told.Run run.Read) result
-unread_told file (OfFile fault) h = (refl, h.0, ap (λ z. Some z) (sym h.1))
+unread_told file (OfFile fault name why) h = (refl, h.0, ap (λ z. Some z) (sym h.1))
 unread_told file (Told fault) (inl e) = inl e
 unread_told file (Told fault) (inr e) = inr (refl, e)
 unread_told file (Words why) h = absurd h

@@ -13,7 +13,7 @@ use Rattle.ws_program.specs.declared.words.command_line.InputAsked.TheVariants.{
 
 -- a fault that was met with a file is told with its name, or by itself; or memory was wanted for the name
 abbrev pub IsOfFile : List ℕ → RunFault → CommandFault → Type 0
-IsOfFile file fault (OfFile told) = (told.fault ≡ fault) × (string_bytes told.file ≡ file)
+IsOfFile file fault (OfFile told name why) = (told ≡ fault) × (string_bytes name ≡ file)
 IsOfFile file fault (Told told) = (told ≡ Run fault) ⊎ (told ≡ Run run.Memory)
 IsOfFile file fault other = ⊥
 
@@ -21,8 +21,8 @@ IsOfFile file fault other = ⊥
 -- itself; or memory was wanted for the name. That the output can't be written has a fault of its own, and any other is
 -- told by itself.
 abbrev pub IsToldOfFile : Option (List ℕ) → ToldFault → CommandFault → Type 0
-IsToldOfFile file met (OfFile told) = (met ≡ Run run.Read) × (told.fault ≡ run.Read)
-    × (file ≡ Some (string_bytes told.file))
+IsToldOfFile file met (OfFile told name why) = (met ≡ Run run.Read) × (told ≡ run.Read)
+    × (file ≡ Some (string_bytes name))
 IsToldOfFile file met (Told told) = (told ≡ met) ⊎ ((met ≡ Run run.Read) × (told ≡ Run run.Memory))
 IsToldOfFile file met Unwritten = met ≡ Run run.Write
 IsToldOfFile file met other = ⊥

@@ -29,7 +29,7 @@ abbrev pub IsWordsFault : CommandFault → Type 0
 IsWordsFault (Words why) = Unit {0}
 IsWordsFault (Run fault) = fault ≡ Memory
 IsWordsFault (Told fault) = ⊥
-IsWordsFault (OfFile fault) = ⊥
+IsWordsFault (OfFile fault file why) = ⊥
 IsWordsFault Unwritten = ⊥
 
 -- what a live session lacks: without a script it reads standard input

@@ -2,7 +2,7 @@ ghost use Rattle.std.specs.Prelude.{◌≡◌};
 ghost use Rattle.ws_program.specs.Runs.{IsWordsFault};
 ghost use Rattle.ws_program.specs.declared.command_fault.CommandFault.TheVariants as command;
 
-use crate::file_fault::FileFault;
+use crate::file_fault::Unreadable;
 use ws_live::{RunFault, ToldFault};
 
 /// What ends the program before it runs, or in running.
@@ -13,8 +13,12 @@ pub enum CommandFault {
     Run(RunFault),
     /// The same, with its cause where it has one.
     Told(ToldFault),
-    /// The same, of a file that its line names.
-    OfFile(FileFault),
+    /// The same, of a file that its line names, with why the file can't be read where that is known.
+    OfFile {
+        fault: RunFault,
+        file: String,
+        why: Option<Unreadable>,
+    },
     /// `Write` of a command that says nothing of it where nobody reads its output any more: any but `check`, `show` and
     /// `play`.
     Unwritten,

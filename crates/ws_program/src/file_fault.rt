@@ -5,30 +5,12 @@ ghost use Rattle.ws_program.specs.FileFaults.{IsOfFile, IsToldBy, IsToldOfFile};
 
 use crate::command_fault::CommandFault;
 use crate::words::InputAsked;
+use std::fs;
 use std::fs::File;
 use std::io::ErrorKind;
 use std::rt::Files;
-use std::{fmt, fs};
 use thiserror::Error;
 use ws_live::{RunFault, ToldFault};
-
-/// A fault of a file: its line has the file's name, and where that is known why the file can't be read.
-#[derive(Debug, PartialEq, Eq, Drop)]
-pub struct FileFault {
-    pub fault: RunFault,
-    pub file: String,
-    pub why: Option<Unreadable>,
-}
-
-impl fmt::Display for FileFault {
-    fn fmt<W: fmt::Write>(&self, f: &mut fmt::Formatter<W>) -> fmt::Result {
-        write!(f, "{}: {}", self.fault, self.file)?;
-        match self.why {
-            Some(why) => write!(f, ": {why}"),
-            None => Ok(()),
-        }
-    }
-}
 
 /// Why a file can't be read.
 #[derive(Clone, Copy, Debug, PartialEq, Eq, Drop, Error)]
@@ -127,7 +109,7 @@ fn named<R: AllocGlobal>(
     ensures { IsOfFile file.now fault result }
 {
     match String::from_str(rt.alloc(), file) {
-        Ok(file) => CommandFault::OfFile(FileFault { fault, file, why }),
+        Ok(file) => CommandFault::OfFile { fault, file, why },
         Err(_) => CommandFault::Told(ToldFault::Run(RunFault::Memory)),
     }
 }

@@ -27,7 +27,7 @@ mod words;
 pub use check::{check_from, check_to};
 pub use command_fault::CommandFault;
 pub use file_checks::FileChecks;
-pub use file_fault::{FileFault, Unreadable};
+pub use file_fault::Unreadable;
 pub use hex_text::{TextFault, hex_bytes};
 pub use program::{answer, status};
 pub use recorded::recorded_bytes;

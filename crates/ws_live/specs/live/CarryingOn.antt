@@ -6,6 +6,7 @@ use Rattle.ws_code.specs.declared.fault.Fault.{Fault}
 use Rattle.ws_code.specs.declared.fault.Fault.TheVariants as fault
 use Rattle.ws_text.specs.Printed.{Printing}
 use Rattle.ws_live.specs.live.LiveText.{Account, HaveRun, IsCutIn, LineResult, LinesDo, account, line_result}
+use Rattle.ws_live.specs.declared.live.AfterUnwell.TheVariants.{GoOn}
 use Rattle.ws_live.specs.declared.live.Closing.{Closing}
 use Rattle.ws_live.specs.declared.live.Closing.TheVariants.{Done, Stopped}
 
@@ -26,7 +27,7 @@ module _ {L P : Type 0} (runs : LinesDo L P) (line : L) where
     pub count : ℕ
     pub printed : List ℕ
     pub mid : P
-    pub ran : HaveRun runs from (replicate count line) (account true printed) mid
+    pub ran : HaveRun GoOn runs from (replicate count line) (account true printed) mid
     pub last : List ℕ
     pub ends : runs line mid (line_result came.outcome last) to
     pub all : came.text ≡ printed ++ last
@@ -38,7 +39,7 @@ module _ {L P : Type 0} (runs : LinesDo L P) (line : L) where
 
   -- the line was carried out as often as one wait reads, and went well each time
   pub record CarriesOnFor (from to : P) (text : List ℕ) : Type 0 where
-    pub ran : HaveRun runs from (replicate most_reads line) (account true text) to
+    pub ran : HaveRun GoOn runs from (replicate most_reads line) (account true text) to
 
   -- what is printed by a line that is carried on, up to the first time that nothing is told, a fault comes, or too much
   -- is told; a sink may fail within the text of so many times

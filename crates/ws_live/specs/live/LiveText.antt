@@ -1,10 +1,12 @@
 -- What a live session prints, by its lines. What a line does at an end stands in ConnectText and ServeText.
 
-use Rattle.std.specs.Prelude.{◌≡◌, ℕ, List, [], ◌∷◌, ◌++◌, ◌⊎◌, Bool, true, false, ◌&&◌, codes}
+use Rattle.std.specs.Prelude.{◌≡◌, ℕ, List, [], ◌∷◌, ◌++◌, ◌⊎◌, Bool, true, false, ◌&&◌, ◌||◌, not, codes}
 use Rattle.std.specs.Prelude.{Result, Ok, Err, MatchResult}
 use Rattle.ws_code.specs.declared.fault.Fault.{Fault}
 use Rattle.ws_code.specs.declared.fault.Fault.TheVariants.{Write}
 use Rattle.ws_text.specs.Printed.{Printing}
+use Rattle.ws_live.specs.declared.live.AfterUnwell.{AfterUnwell}
+use Rattle.ws_live.specs.declared.live.AfterUnwell.TheVariants.{GoOn, Stop}
 use Rattle.ws_live.specs.declared.live.Closing.{Closing}
 use Rattle.ws_live.specs.declared.live.Closing.TheVariants.{Nothing, Done, Declined, Late, Ended, Stopped, Closed}
 use Rattle.ws_live.specs.declared.live.Ran.{Ran}
@@ -43,13 +45,18 @@ stops Stopped = true
 stops Closed = true
 stops closing = false
 
+-- the line ends the session: it stops it, or didn't go well where that is to stop it
+abbrev pub ends_session : AfterUnwell → Closing → Bool
+ends_session GoOn closing = stops closing
+ends_session Stop closing = stops closing || not (is_well closing)
+
 -- what a run has come to before its first line: all well, and not over
 abbrev pub ran_none : Ran
 ran_none = record { all_well = true; is_over = false }
 
 -- what a run has come to by one line that closes in this way
-abbrev pub ran_by : Closing → Ran
-ran_by closing = record { all_well = is_well closing; is_over = stops closing }
+abbrev pub ran_by : AfterUnwell → Closing → Ran
+ran_by after closing = record { all_well = is_well closing; is_over = ends_session after closing }
 
 -- what two runs have come to, one after the other
 abbrev pub ran_and : Ran → Ran → Ran
@@ -110,19 +117,22 @@ module _ {L P : Type 0} (runs : LinesDo L P) where
     Cut = IsCutIn (λ came. runs line from came to);
   }
 
-  -- the lines were carried out one after another, none stopped the session, and this is the account of them
+-- what lines come to one after another, where this follows one that doesn't go well
+module _ {L P : Type 0} (after : AfterUnwell) (runs : LinesDo L P) where
+  -- the lines were carried out one after another, none ended the session, and this is the account of them
   abbrev pub HaveRun : P → List L → Account → P → Type 0
   HaveRun from [] came to = (to ≡ from) × (came.all_well ≡ true) × (came.text ≡ [])
   HaveRun from (line ∷ more) came to = (closing : Closing) × (first : List ℕ) × (mid : P) × (rest : Account)
-      × runs line from (line_result (Ok closing) first) mid × (stops closing ≡ false) × HaveRun mid more rest to
+      × runs line from (line_result (Ok closing) first) mid × (ends_session after closing ≡ false)
+      × HaveRun mid more rest to
       × (came.all_well ≡ is_well closing && rest.all_well) × (came.text ≡ first ++ rest.text)
 
   -- lines were carried out, the next came to this, and all of them printed this
   pub record IsStoppedAt (from : P) (lines : List L) (came : LineResult) (to : P) : Type 0 where
     pub before : List L
     pub line : L
-    pub after : List L
-    pub split : lines ≡ before ++ line ∷ after
+    pub others : List L
+    pub split : lines ≡ before ++ line ∷ others
     pub so_far : Account
     pub mid : P
     pub ran : HaveRun from before so_far mid
@@ -130,20 +140,20 @@ module _ {L P : Type 0} (runs : LinesDo L P) where
     pub stopped : runs line mid (line_result came.outcome last) to
     pub all : came.text ≡ so_far.text ++ last
 
-  -- lines were carried out, and the next stopped the session: this is the account of them all
+  -- lines were carried out, and the next ended the session: this is the account of them all
   pub record IsOverAt (from : P) (lines : List L) (came : Account) (to : P) : Type 0 where
     pub closing : Closing
     pub at : IsStoppedAt from lines (line_result (Ok closing) came.text) to
-    pub over : stops closing ≡ true
+    pub over : ends_session after closing ≡ true
     pub well : came.all_well ≡ at.so_far.all_well && is_well closing
 
-  -- lines were carried out, and this is the account of them: all of them, or those up to the first that stopped the
+  -- lines were carried out, and this is the account of them: all of them, or those up to the first that ended the
   -- session, which is over then
   abbrev pub IsLiveText : P → List L → Bool → Account → P → Type 0
   IsLiveText from lines is_over came to = (HaveRun from lines came to × (is_over ≡ false))
       ⊎ (IsOverAt from lines came to × (is_over ≡ true))
 
-  -- what is printed by lines that are carried out one after another, up to the first that stops the session: a sink
+  -- what is printed by lines that are carried out one after another, up to the first that ends the session: a sink
   -- may fail within the text of those so far
   abbrev pub lines_printing : P → List L → P → Printing Ran Fault
   lines_printing from lines to = record {

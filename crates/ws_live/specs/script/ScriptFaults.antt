@@ -8,8 +8,6 @@ use Rattle.ws_record.specs.declared.opcode.Opcode.{Opcode}
 use Rattle.ws_session.specs.declared.world.Move.{Move}
 use Rattle.ws_live.specs.declared.script.ScriptFault.{ScriptFault}
 use Rattle.ws_live.specs.declared.script.ScriptFault.TheVariants.{Line, Memory}
-use Rattle.ws_live.specs.declared.script.script_line.LineFault.{LineFault}
-use Rattle.ws_live.specs.declared.script.script_line.LineFault.TheVariants.{Bad, Memory as LineMemory}
 use Rattle.ws_live.specs.script.Script.{MeansMoves, AreLines, IsSendOpcode, IsFirstBad}
 
 -- the words of a record to be sent are good up to its body
@@ -41,10 +39,11 @@ abbrev pub IsScriptFault : List ℕ → ScriptFault → Type 0
 IsScriptFault text (Line number) = IsFirstBad text number
 IsScriptFault text Memory = IsReadSoFar text
 
--- nothing is what a part of a line should be; or a growth was refused, and what was read of it is good
-abbrev pub IsLineFault : {X : Type 0} → (X → Type 0) → Type 0 → LineFault → Type 0
-IsLineFault {X} IsRead IsGood Bad = (x : X) → IsRead x → ⊥
-IsLineFault IsRead IsGood LineMemory = IsGood
+-- why a line, or a part of it, isn't read: it is the bad one, and nothing is what it should be; or a growth was
+-- refused, and it is good up to there
+abbrev pub IsLineFault : {X : Type 0} → (X → Type 0) → Type 0 → ScriptFault → Type 0
+IsLineFault {X} IsRead IsGood (Line at) = (at ≡ 1) × ((x : X) → IsRead x → ⊥)
+IsLineFault IsRead IsGood Memory = IsGood
 
 -- no byte of a word is a blank
 abbrev pub has_no_blank : List ℕ → Bool

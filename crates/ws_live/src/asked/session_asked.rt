@@ -1,7 +1,7 @@
 //! What a command line asks of a live session.
 use crate::asked::live_address::HostPort;
+use crate::live::LineSettings;
 use ws_nego::TerminalType;
-use ws_printing::Paint;
 
 /// A live session that a command line asks for.
 #[derive(Clone, Copy, Debug, PartialEq, Eq)]
@@ -17,9 +17,7 @@ pub struct ConnectAsked<'a> {
     pub terminal: TerminalType,
     /// In seconds, 1 to 86,400.
     pub wait: u32,
-    pub ready: bool,
-    /// Of the screens that are printed.
-    pub paint: Paint,
+    pub settings: LineSettings,
     /// Whether its display also takes what live hosts send beside the profile.
     pub extended: bool,
     /// The file of a recording; without it, none is made.
@@ -34,7 +32,8 @@ pub struct ServeAsked<'a> {
     pub address: HostPort<'a>,
     /// In seconds, 1 to 86,400.
     pub wait: u32,
-    pub ready: bool,
+    /// A host's screen is printed plainly, whatever the paint.
+    pub settings: LineSettings,
     /// Whether it takes any terminal name and any record, and judges none.
     pub any: bool,
     /// How many stations it serves one after another, 1 to 1,000,000; without it one. Then a script is named.

@@ -13,7 +13,6 @@ use crate::live::wire_words::read_milliseconds;
 use crate::script::ScriptFault;
 use crate::script::key_line::{named_key, typed_keys};
 use crate::script::named_key::NamedKey;
-use crate::script::script_line::LineFault;
 use crate::script::script_move::split_word;
 use std::alloc::Global;
 use std::str;
@@ -67,11 +66,7 @@ impl<Q: NamedKey> LiveLine for StationLine<Q> {
         if !inside.is_empty() {
             return Err(ScriptFault::Line(1));
         }
-        match read_line(alloc, line) {
-            Ok(read) => Ok(read),
-            Err(LineFault::Bad) => Err(ScriptFault::Line(1)),
-            Err(LineFault::Memory) => Err(ScriptFault::Memory),
-        }
+        read_line(alloc, line)
     }
 
     fn bad(cause: String) -> Self {
@@ -80,13 +75,13 @@ impl<Q: NamedKey> LiveLine for StationLine<Q> {
 }
 
 // A line without its line end.
-fn read_line<Q: NamedKey>(alloc: Global, line: &[u8]) -> Result<StationLine<Q>, LineFault>
+fn read_line<Q: NamedKey>(alloc: Global, line: &[u8]) -> Result<StationLine<Q>, ScriptFault>
     ensures line { IfOk result (IsStationLine Q.words line.now) }
     ensures fault { IfErr result (IsLineFault (IsStationLine Q.words line.now)
         (IsStationSoFar Q.words line.now)) }
 {
     let Ok(text) = str::from_utf8(line) else {
-        return Err(LineFault::Bad);
+        return Err(ScriptFault::Line(1));
     };
     if text.is_empty() {
         return Ok(StationLine::Nothing);
@@ -101,7 +96,7 @@ fn read_line<Q: NamedKey>(alloc: Global, line: &[u8]) -> Result<StationLine<Q>, 
 }
 
 // A line that is one word.
-fn read_word<Q: NamedKey>(word: &str) -> Result<StationLine<Q>, LineFault>
+fn read_word<Q: NamedKey>(word: &str) -> Result<StationLine<Q>, ScriptFault>
     // A word alone on its line.
     requires some { 0 < length word.now }
     requires no_blank { has_no_blank word.now ≡ true }
@@ -117,7 +112,7 @@ fn read_word<Q: NamedKey>(word: &str) -> Result<StationLine<Q>, LineFault>
         "fields" => Ok(StationLine::Fields),
         "show" => Ok(StationLine::Show),
         "status" => Ok(StationLine::Report(StationReport::Status)),
-        _ => Err(LineFault::Bad),
+        _ => Err(ScriptFault::Line(1)),
     }
 }
 
@@ -126,7 +121,7 @@ fn read_command<Q: NamedKey>(
     alloc: Global,
     command: &str,
     words: &str,
-) -> Result<StationLine<Q>, LineFault>
+) -> Result<StationLine<Q>, ScriptFault>
     requires no_blank { has_no_blank command.now ≡ true }
     requires no_comment { IsNoComment (command.now ++ codes " " ++ words.now) }
     ensures line { IfOk result (Spec.MeansStationLine Q.words
@@ -145,12 +140,12 @@ fn read_command<Q: NamedKey>(
         "cells" => Ok(StationLine::Report(StationReport::Cells(read_row(words)?))),
         "show" => Ok(StationLine::Report(StationReport::Text(read_span(words)?))),
         "note" => Ok(StationLine::Report(StationReport::Note(read_note(alloc, words)?))),
-        _ => Err(LineFault::Bad),
+        _ => Err(ScriptFault::Line(1)),
     }
 }
 
 // What is waited for: a record, quiet, or a text of one character at least, anywhere or at a cell.
-fn read_awaited(alloc: Global, words: &str) -> Result<Awaited, LineFault>
+fn read_awaited(alloc: Global, words: &str) -> Result<Awaited, ScriptFault>
     ensures awaited { IfOk result (Spec.IsAwaited words.now) }
     ensures fault { IfErr result (IsLineFault (Spec.IsAwaited words.now)
         (Spec.IsTextAwaited words.now)) }
@@ -168,7 +163,7 @@ fn read_awaited(alloc: Global, words: &str) -> Result<Awaited, LineFault>
 }
 
 // How long nothing is to have come.
-fn read_quiet(words: &str) -> Result<Awaited, LineFault>
+fn read_quiet(words: &str) -> Result<Awaited, ScriptFault>
     ensures awaited { IfOk result (Spec.IsQuietAwaited words.now) }
     ensures fault { IfErr result (IsLineFault (Spec.IsQuietAwaited words.now) ⊥) }
 {
@@ -177,7 +172,7 @@ fn read_quiet(words: &str) -> Result<Awaited, LineFault>
             Ok(time) => Ok(Awaited::Quiet(time)),
             Err(fault) => Err(fault),
         },
-        None => Err(LineFault::Bad),
+        None => Err(ScriptFault::Line(1)),
     }
 }
 
@@ -206,7 +201,7 @@ fn behind_quiet(words: &str) -> Option<&str>
 }
 
 // A text that is awaited anywhere.
-fn read_text_anywhere(alloc: Global, text: &str) -> Result<Awaited, LineFault>
+fn read_text_anywhere(alloc: Global, text: &str) -> Result<Awaited, ScriptFault>
     ensures awaited { IfOk result (Spec.IsTextAnywhere text.now) }
     ensures fault { IfErr result (IsLineFault (Spec.IsTextAnywhere text.now) (text.now ≢ [])) }
 {
@@ -217,7 +212,7 @@ fn read_text_anywhere(alloc: Global, text: &str) -> Result<Awaited, LineFault>
 }
 
 // A text behind the row and the column of its first cell.
-fn read_placed_text(alloc: Global, words: &str) -> Result<Awaited, LineFault>
+fn read_placed_text(alloc: Global, words: &str) -> Result<Awaited, ScriptFault>
     ensures awaited { IfOk result (Spec.IsPlacedText words.now) }
     ensures fault { IfErr result (IsLineFault (Spec.IsPlacedText words.now)
         (Spec.IsTextPlaced words.now)) }
@@ -229,7 +224,7 @@ fn read_placed_text(alloc: Global, words: &str) -> Result<Awaited, LineFault>
 }
 
 // A text that is awaited at a cell.
-fn read_text_at(alloc: Global, cell: Address, text: &str) -> Result<Awaited, LineFault>
+fn read_text_at(alloc: Global, cell: Address, text: &str) -> Result<Awaited, ScriptFault>
     ensures awaited { IfOk result (Spec.IsTextAt cell text.now) }
     ensures fault { IfErr result (IsLineFault (Spec.IsTextAt cell text.now) (text.now ≢ [])) }
 {
@@ -240,15 +235,15 @@ fn read_text_at(alloc: Global, cell: Address, text: &str) -> Result<Awaited, Lin
 }
 
 // A text of one character at least.
-fn read_text(alloc: Global, text: &str) -> Result<String, LineFault>
+fn read_text(alloc: Global, text: &str) -> Result<String, ScriptFault>
     ensures text { IfOk result (λ read. Spec.IsSomeText text.now (string_bytes read)) }
     ensures fault { IfErr result (IsLineFault (Spec.IsSomeText text.now) (text.now ≢ [])) }
 {
     if text.is_empty() {
-        return Err(LineFault::Bad);
+        return Err(ScriptFault::Line(1));
     }
     match String::from_str(alloc, text) {
         Ok(text) => Ok(text),
-        Err(_) => Err(LineFault::Memory),
+        Err(_) => Err(ScriptFault::Memory),
     }
 }

@@ -4,7 +4,7 @@ ghost use Rattle.ws_live.specs.live.ConnectLines as Spec;
 ghost use Rattle.ws_live.specs.script.ScriptFaults.{IsLineFault};
 
 use crate::live::stroke_words::{read_place, read_small};
-use crate::script::script_line::LineFault;
+use crate::script::ScriptFault;
 use crate::script::script_move::split_word;
 use std::alloc::Global;
 use ws_code::{Address, CELLS, List};
@@ -15,15 +15,15 @@ use ws_text::read_number;
 ///
 /// # Errors
 ///
-/// `Bad` where the word isn't a row from 1 to 24, in 1 to 9 decimal digits.
-pub fn read_row(word: &str) -> Result<Address, LineFault>
+/// `Line(1)` where the word isn't a row from 1 to 24, in 1 to 9 decimal digits.
+pub fn read_row(word: &str) -> Result<Address, ScriptFault>
     ensures row { IfOk result (Spec.IsRowText word.now) }
     ensures fault { IfErr result (IsLineFault (Spec.IsRowText word.now) ⊥) }
 {
     let row = read_small(word)?;
     match Address::new(row, 1) {
         Some(cell) => Ok(cell),
-        None => Err(LineFault::Bad),
+        None => Err(ScriptFault::Line(1)),
     }
 }
 
@@ -31,9 +31,9 @@ pub fn read_row(word: &str) -> Result<Address, LineFault>
 ///
 /// # Errors
 ///
-/// `Bad` where the words, with one blank between them, aren't a row from 1 to 24, a column from 1 to 80 and a count
+/// `Line(1)` where the words, with one blank between them, aren't a row from 1 to 24, a column from 1 to 80 and a count
 /// from 1 to 1,920, each in 1 to 9 decimal digits.
-pub fn read_span(words: &str) -> Result<Span, LineFault>
+pub fn read_span(words: &str) -> Result<Span, ScriptFault>
     ensures span { IfOk result (Spec.IsSpanText words.now) }
     ensures fault { IfErr result (IsLineFault (Spec.IsSpanText words.now) ⊥) }
 {
@@ -44,7 +44,7 @@ pub fn read_span(words: &str) -> Result<Span, LineFault>
 }
 
 // The cells from this one on, of this number.
-fn read_counted(at: Address, word: &str) -> Result<Span, LineFault>
+fn read_counted(at: Address, word: &str) -> Result<Span, ScriptFault>
     ensures span { IfOk result (λ span. (span.at ≡ at) × Spec.IsCellCount word.now span.count) }
     ensures fault { IfErr result (IsLineFault (Spec.IsCellCount word.now) ⊥) }
 {
@@ -53,7 +53,7 @@ fn read_counted(at: Address, word: &str) -> Result<Span, LineFault>
             at,
             count: number as u16,
         }),
-        _ => Err(LineFault::Bad),
+        _ => Err(ScriptFault::Line(1)),
     }
 }
 
@@ -61,24 +61,24 @@ fn read_counted(at: Address, word: &str) -> Result<Span, LineFault>
 ///
 /// # Errors
 ///
-/// `Bad` where the words don't begin with a row from 1 to 24 and a column from 1 to 80, each in 1 to 9 decimal digits
-/// and with one blank behind it.
-pub fn read_placed(words: &str) -> Result<(Address, &str), LineFault>
+/// `Line(1)` where the words don't begin with a row from 1 to 24 and a column from 1 to 80, each in 1 to 9 decimal
+/// digits and with one blank behind it.
+pub fn read_placed(words: &str) -> Result<(Address, &str), ScriptFault>
     ensures placed { IfOk result (λ placed. Spec.IsPlaced words.now placed.0 placed.1.now) }
-    ensures fault { IfErr result (λ fault. (fault ≡ LineFault.Bad)
+    ensures fault { IfErr result (λ fault. (fault ≡ ScriptFault.Line 1)
         × ((cell : ℕ) (rest : Seq ℕ) → Spec.IsPlaced words.now cell rest → ⊥)) }
 {
     match split_word(words) {
         Some((row, behind)) => read_behind_row(row, behind),
-        None => Err(LineFault::Bad),
+        None => Err(ScriptFault::Line(1)),
     }
 }
 
 // The same of what stands behind the row.
-fn read_behind_row<'a>(row: &str, words: &'a str) -> Result<(Address, &'a str), LineFault>
+fn read_behind_row<'a>(row: &str, words: &'a str) -> Result<(Address, &'a str), ScriptFault>
     ensures placed { IfOk result (λ placed.
         Spec.IsBehindRow row.now words.now placed.0 placed.1.now) }
-    ensures fault { IfErr result (λ fault. (fault ≡ LineFault.Bad)
+    ensures fault { IfErr result (λ fault. (fault ≡ ScriptFault.Line 1)
         × ((cell : ℕ) (rest : Seq ℕ) → Spec.IsBehindRow row.now words.now cell rest → ⊥)) }
 {
     match split_word(words) {
@@ -86,7 +86,7 @@ fn read_behind_row<'a>(row: &str, words: &'a str) -> Result<(Address, &'a str), 
             Ok(cell) => Ok((cell, rest)),
             Err(fault) => Err(fault),
         },
-        None => Err(LineFault::Bad),
+        None => Err(ScriptFault::Line(1)),
     }
 }
 
@@ -95,12 +95,12 @@ fn read_behind_row<'a>(row: &str, words: &'a str) -> Result<(Address, &'a str), 
 /// # Errors
 ///
 /// `Memory` where a growth was refused.
-pub fn read_note(alloc: Global, text: &str) -> Result<List<u8>, LineFault>
+pub fn read_note(alloc: Global, text: &str) -> Result<List<u8>, ScriptFault>
     ensures note { IfOk result (λ note. note ≡ text.now) }
-    ensures fault { IfErr result (λ fault. fault ≡ LineFault.Memory) }
+    ensures fault { IfErr result (λ fault. fault ≡ ScriptFault.Memory) }
 {
     match Vec::from_slice(alloc, text.as_bytes()) {
         Ok(bytes) => Ok(List::of(bytes)),
-        Err(_) => Err(LineFault::Memory),
+        Err(_) => Err(ScriptFault::Memory),
     }
 }

@@ -12,7 +12,6 @@ use crate::live::wire_line::WireLine;
 use crate::live::wire_words::read_wire;
 use crate::script::ScriptFault;
 use crate::script::key_name::aid_named;
-use crate::script::script_line::LineFault;
 use crate::script::script_move::{read_move, read_opcode, split_word};
 use std::alloc::Global;
 use std::str;
@@ -81,21 +80,17 @@ fn read_alone(alloc: Global, line: &[u8]) -> Result<HostLine, ScriptFault>
     ensures line { IfOk result (IsHostLine line.now []) }
     ensures fault { IfErr result (IsBlockFault host_language line.now []) }
 {
-    match read_line(alloc, line) {
-        Ok(read) => Ok(read),
-        Err(LineFault::Bad) => Err(ScriptFault::Line(1)),
-        Err(LineFault::Memory) => Err(ScriptFault::Memory),
-    }
+    read_line(alloc, line)
 }
 
 // A line by itself.
-fn read_line(alloc: Global, line: &[u8]) -> Result<HostLine, LineFault>
+fn read_line(alloc: Global, line: &[u8]) -> Result<HostLine, ScriptFault>
     ensures line { IfOk result (IsOneLine line.now) }
     ensures fault { IfErr result (IsLineFault (IsOneLine line.now)
         (Spec.IsOneSoFar line.now)) }
 {
     let Ok(text) = str::from_utf8(line) else {
-        return Err(LineFault::Bad);
+        return Err(ScriptFault::Line(1));
     };
     if text.is_empty() {
         return Ok(HostLine::Nothing);
@@ -110,7 +105,7 @@ fn read_line(alloc: Global, line: &[u8]) -> Result<HostLine, LineFault>
 }
 
 // A line that is one word.
-fn read_word(word: &str) -> Result<HostLine, LineFault>
+fn read_word(word: &str) -> Result<HostLine, ScriptFault>
     // A word alone on its line.
     requires some { 0 < length word.now }
     requires no_blank { has_no_blank word.now ≡ true }
@@ -125,7 +120,7 @@ fn read_word(word: &str) -> Result<HostLine, LineFault>
         "close" => Ok(HostLine::Wire(WireLine::Close)),
         "end" => Ok(HostLine::Nothing),
         "show" => Ok(HostLine::Show),
-        _ => Err(LineFault::Bad),
+        _ => Err(ScriptFault::Line(1)),
     }
 }
 
@@ -136,7 +131,7 @@ fn read_command(
     line: &str,
     command: &str,
     words: &str,
-) -> Result<HostLine, LineFault>
+) -> Result<HostLine, ScriptFault>
     // A line of a command and its words.
     requires is { line.now ≡ command.now ++ codes " " ++ words.now }
     requires no_blank { has_no_blank command.now ≡ true }
@@ -150,7 +145,7 @@ fn read_command(
     match command {
         "send" => match read_move(alloc, command, words) {
             Ok(Move::Send(opcode, body)) => Ok(HostLine::Give(HostRequest::Send(opcode, body))),
-            Ok(_) => Err(LineFault::Bad),
+            Ok(_) => Err(ScriptFault::Line(1)),
             Err(fault) => Err(fault),
         },
         "await" => match read_awaited(words) {
@@ -165,7 +160,7 @@ fn read_command(
 }
 
 // The answer that is awaited.
-fn read_awaited(words: &str) -> Result<AnswerAwaited, LineFault>
+fn read_awaited(words: &str) -> Result<AnswerAwaited, ScriptFault>
     ensures awaited { IfOk result (IsAnswerAwaited words.now) }
     ensures fault { IfErr result (IsLineFault (IsAnswerAwaited words.now) ⊥) }
 {
@@ -174,7 +169,7 @@ fn read_awaited(words: &str) -> Result<AnswerAwaited, LineFault>
     }
     match aid_named(words) {
         Some(aid) => Ok(AnswerAwaited::By(aid)),
-        None => Err(LineFault::Bad),
+        None => Err(ScriptFault::Line(1)),
     }
 }
 

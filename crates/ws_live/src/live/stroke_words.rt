@@ -6,9 +6,9 @@ ghost use Rattle.ws_live.specs.declared.live.script_stroke.FieldFilling.{FieldFi
 ghost use Rattle.ws_text.specs.Words.{IsCell, IsSmall};
 
 use crate::live::script_stroke::FieldFilling;
+use crate::script::ScriptFault;
 use crate::script::key_line::typed_keys;
 use crate::script::named_key::NamedKey;
-use crate::script::script_line::LineFault;
 use crate::script::script_move::split_word;
 use std::alloc::Global;
 use ws_code::Address;
@@ -19,14 +19,15 @@ use ws_text::read_number;
 ///
 /// # Errors
 ///
-/// `Bad` where the words aren't a row from 1 to 24, one blank and a column from 1 to 80, each in 1 to 9 decimal digits.
-pub fn read_cell(words: &str) -> Result<Address, LineFault>
+/// `Line(1)` where the words aren't a row from 1 to 24, one blank and a column from 1 to 80, each in 1 to 9 decimal
+/// digits.
+pub fn read_cell(words: &str) -> Result<Address, ScriptFault>
     ensures cell { IfOk result (Spec.IsCellText words.now) }
     ensures fault { IfErr result (IsLineFault (Spec.IsCellText words.now) ⊥) }
 {
     match split_word(words) {
         Some((row, column)) => read_place(row, column),
-        None => Err(LineFault::Bad),
+        None => Err(ScriptFault::Line(1)),
     }
 }
 
@@ -34,8 +35,9 @@ pub fn read_cell(words: &str) -> Result<Address, LineFault>
 ///
 /// # Errors
 ///
-/// `Bad` where the one word isn't a row from 1 to 24, or the other one a column from 1 to 80, in 1 to 9 decimal digits.
-pub fn read_place(row: &str, column: &str) -> Result<Address, LineFault>
+/// `Line(1)` where the one word isn't a row from 1 to 24, or the other one a column from 1 to 80, in 1 to 9 decimal
+/// digits.
+pub fn read_place(row: &str, column: &str) -> Result<Address, ScriptFault>
     ensures cell { IfOk result (IsCell row.now column.now) }
     ensures fault { IfErr result (IsLineFault (IsCell row.now column.now) ⊥) }
 {
@@ -43,7 +45,7 @@ pub fn read_place(row: &str, column: &str) -> Result<Address, LineFault>
     let at_column = read_small(column)?;
     match Address::new(at_row, at_column) {
         Some(cell) => Ok(cell),
-        None => Err(LineFault::Bad),
+        None => Err(ScriptFault::Line(1)),
     }
 }
 
@@ -51,14 +53,14 @@ pub fn read_place(row: &str, column: &str) -> Result<Address, LineFault>
 ///
 /// # Errors
 ///
-/// `Bad` where the word isn't a number from 0 to 255, in 1 to 9 decimal digits.
-pub fn read_small(word: &str) -> Result<u8, LineFault>
+/// `Line(1)` where the word isn't a number from 0 to 255, in 1 to 9 decimal digits.
+pub fn read_small(word: &str) -> Result<u8, ScriptFault>
     ensures ok { IfOk result (IsSmall word.now) }
     ensures fault { IfErr result (IsLineFault (IsSmall word.now) ⊥) }
 {
     match read_number(word) {
         Some(number) if number < 256 => Ok(number as u8),
-        _ => Err(LineFault::Bad),
+        _ => Err(ScriptFault::Line(1)),
     }
 }
 
@@ -66,16 +68,16 @@ pub fn read_small(word: &str) -> Result<u8, LineFault>
 ///
 /// # Errors
 ///
-/// `Bad` where the words don't begin with a number from 1 to 256, in 1 to 9 decimal digits, and a blank. `Memory` where
-/// they do, and a growth was refused.
-pub fn read_filling<Q: NamedKey>(alloc: Global, words: &str) -> Result<FieldFilling<Q>, LineFault>
+/// `Line(1)` where the words don't begin with a number from 1 to 256, in 1 to 9 decimal digits, and a blank. `Memory`
+/// where they do, and a growth was refused.
+pub fn read_filling<Q: NamedKey>(alloc: Global, words: &str) -> Result<FieldFilling<Q>, ScriptFault>
     ensures filling { IfOk result (Spec.IsFilling Q.words words.now) }
     ensures fault { IfErr result (IsLineFault (Spec.IsFilling Q.words words.now)
         ((filling : AFilling Q) × Spec.IsFilling Q.words words.now filling)) }
 {
     match split_word(words) {
         Some((word, text)) => read_field(alloc, word, text),
-        None => Err(LineFault::Bad),
+        None => Err(ScriptFault::Line(1)),
     }
 }
 
@@ -84,7 +86,7 @@ fn read_field<Q: NamedKey>(
     alloc: Global,
     word: &str,
     text: &str,
-) -> Result<FieldFilling<Q>, LineFault>
+) -> Result<FieldFilling<Q>, ScriptFault>
     ensures filling { IfOk result (Spec.IsFieldText Q.words word.now text.now) }
     ensures fault { IfErr result (IsLineFault (Spec.IsFieldText Q.words word.now text.now)
         ((filling : AFilling Q) × Spec.IsFieldText Q.words word.now text.now filling)) }
@@ -95,12 +97,12 @@ fn read_field<Q: NamedKey>(
 }
 
 // The number of a field that a screen may have.
-fn read_field_number(word: &str) -> Result<u16, LineFault>
+fn read_field_number(word: &str) -> Result<u16, ScriptFault>
     ensures ok { IfOk result (Spec.IsFieldNumber word.now) }
     ensures fault { IfErr result (IsLineFault (Spec.IsFieldNumber word.now) ⊥) }
 {
     match read_number(word) {
         Some(number) if number >= 1 && number <= MAX_FIELDS as u32 => Ok(number as u16),
-        _ => Err(LineFault::Bad),
+        _ => Err(ScriptFault::Line(1)),
     }
 }

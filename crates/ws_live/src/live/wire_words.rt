@@ -9,7 +9,7 @@ ghost use Rattle.ws_live.specs.live.WireLines as Spec;
 ghost use Rattle.ws_text.specs.Words.{IsHex};
 
 use crate::live::wire_line::WireLine;
-use crate::script::script_line::LineFault;
+use crate::script::ScriptFault;
 use hex::FromHexError;
 use std::alloc::Global;
 use std::slice;
@@ -22,10 +22,10 @@ use ws_text::{TextFault, read_items, read_number};
 ///
 /// # Errors
 ///
-/// `Bad` where the line is none of these: `close`; `pause` and a time that `read_milliseconds` takes; `raw` and the hex
-/// of a byte or more; `telnet` and a command's words, as items are printed (RFC 854, 855). `Memory` where a growth was
-/// refused: the line is such a `telnet`, or a `raw` whose hex may be bad.
-pub fn read_wire(alloc: Global, line: &str) -> Result<WireLine, LineFault>
+/// `Line(1)` where the line is none of these: `close`; `pause` and a time that `read_milliseconds` takes; `raw` and the
+/// hex of a byte or more; `telnet` and a command's words, as items are printed (RFC 854, 855). `Memory` where a growth
+/// was refused: the line is such a `telnet`, or a `raw` whose hex may be bad.
+pub fn read_wire(alloc: Global, line: &str) -> Result<WireLine, ScriptFault>
     ensures line { IfOk result (Spec.MeansWire line.now) }
     ensures fault { IfErr result (IsLineFault (Spec.MeansWire line.now)
         (Spec.IsWireBegun line.now)) }
@@ -46,7 +46,7 @@ pub fn read_wire(alloc: Global, line: &str) -> Result<WireLine, LineFault>
 }
 
 // The bytes that are written as they are.
-fn read_bytes(alloc: Global, line: &str) -> Result<List<u8>, LineFault>
+fn read_bytes(alloc: Global, line: &str) -> Result<List<u8>, ScriptFault>
     ensures bytes { IfOk result (Spec.IsRaw line.now) }
     ensures fault { IfErr result (IsLineFault (Spec.IsRaw line.now) (Spec.IsWireBegun line.now)) }
 {
@@ -54,7 +54,7 @@ fn read_bytes(alloc: Global, line: &str) -> Result<List<u8>, LineFault>
         Some(hex) => read_hex(alloc, hex),
         None => match behind_telnet(line) {
             Some(_) => read_telnet(alloc, line),
-            None => Err(LineFault::Bad),
+            None => Err(ScriptFault::Line(1)),
         },
     }
 }
@@ -87,47 +87,47 @@ fn behind_telnet(line: &str) -> Option<&str>
 ///
 /// # Errors
 ///
-/// `Bad` where the word isn't a number from 1 to 3,600,000, in 1 to 9 decimal digits.
-pub fn read_milliseconds(word: &str) -> Result<u32, LineFault>
+/// `Line(1)` where the word isn't a number from 1 to 3,600,000, in 1 to 9 decimal digits.
+pub fn read_milliseconds(word: &str) -> Result<u32, ScriptFault>
     ensures time { IfOk result (IsMilliseconds word.now) }
     ensures fault { IfErr result (IsLineFault (IsMilliseconds word.now) ⊥) }
 {
     match read_number(word) {
         Some(time) if time >= 1 && time <= 3_600_000 => Ok(time),
-        _ => Err(LineFault::Bad),
+        _ => Err(ScriptFault::Line(1)),
     }
 }
 
 // Bytes in hex, at least one.
-fn read_hex(alloc: Global, hex: &str) -> Result<List<u8>, LineFault>
+fn read_hex(alloc: Global, hex: &str) -> Result<List<u8>, ScriptFault>
     ensures bytes { IfOk result (IsHex hex.now) }
     ensures fault { IfErr result (IsLineFault (IsHex hex.now) (Unit {0})) }
 {
     if hex.is_empty() {
-        return Err(LineFault::Bad);
+        return Err(ScriptFault::Line(1));
     }
     match hex::decode(alloc, hex) {
         Ok(bytes) => Ok(List::of(bytes)),
-        Err(FromHexError::OutOfMemory) => Err(LineFault::Memory),
-        Err(_) => Err(LineFault::Bad),
+        Err(FromHexError::OutOfMemory) => Err(ScriptFault::Memory),
+        Err(_) => Err(ScriptFault::Line(1)),
     }
 }
 
 // The bytes of the Telnet command that a line says.
-fn read_telnet(alloc: Global, line: &str) -> Result<List<u8>, LineFault>
+fn read_telnet(alloc: Global, line: &str) -> Result<List<u8>, ScriptFault>
     ensures bytes { IfOk result (Spec.IsCommandSaid line.now) }
     ensures fault { IfErr result
         (IsLineFault (Spec.IsCommandSaid line.now) (Spec.SaysItems line.now)) }
 {
     match read_items::<Commands>(alloc, line.as_bytes()) {
         Ok(items) => spelled_alone(alloc, items.as_slice()),
-        Err(TextFault::Line(_)) => Err(LineFault::Bad),
-        Err(TextFault::Memory) => Err(LineFault::Memory),
+        Err(TextFault::Line(_)) => Err(ScriptFault::Line(1)),
+        Err(TextFault::Memory) => Err(ScriptFault::Memory),
     }
 }
 
 // The bytes of the one item that there is, if it is a Telnet command.
-fn spelled_alone(alloc: Global, items: &[Item<Element>]) -> Result<List<u8>, LineFault>
+fn spelled_alone(alloc: Global, items: &[Item<Element>]) -> Result<List<u8>, ScriptFault>
     ensures bytes { IfOk result (λ bytes. (telnet : ATelnet)
         × (items.now ≡ TelnetItem telnet ∷ []) × (bytes ≡ telnet_spelling telnet)) }
     ensures fault { IfErr result (IsLineFault (λ (telnet : ATelnet).
@@ -135,12 +135,12 @@ fn spelled_alone(alloc: Global, items: &[Item<Element>]) -> Result<List<u8>, Lin
 {
     match items {
         [item] => spelled(alloc, item),
-        _ => Err(LineFault::Bad),
+        _ => Err(ScriptFault::Line(1)),
     }
 }
 
 // The bytes of an item, if it is a Telnet command.
-fn spelled(alloc: Global, item: &Item<Element>) -> Result<List<u8>, LineFault>
+fn spelled(alloc: Global, item: &Item<Element>) -> Result<List<u8>, ScriptFault>
     ensures bytes { IfOk result (λ bytes. (telnet : ATelnet)
         × (item.now ≡ TelnetItem telnet) × (bytes ≡ telnet_spelling telnet)) }
     ensures fault { IfErr result (IsLineFault (λ (telnet : ATelnet).
@@ -149,8 +149,8 @@ fn spelled(alloc: Global, item: &Item<Element>) -> Result<List<u8>, LineFault>
     match item {
         Item::Telnet(_) => match encode::<Commands>(alloc, slice::from_ref(item)) {
             Ok(bytes) => Ok(List::of(bytes)),
-            Err(_) => Err(LineFault::Memory),
+            Err(_) => Err(ScriptFault::Memory),
         },
-        Item::Record(_) => Err(LineFault::Bad),
+        Item::Record(_) => Err(ScriptFault::Line(1)),
     }
 }

@@ -5,35 +5,27 @@ ghost use Rattle.ws_session.specs.declared.world.Move.{Move as AMove};
 ghost use Rattle.ws_live.specs.script.Script as Spec;
 ghost use Rattle.ws_live.specs.script.ScriptFaults.{IsLineFault, IsGoodSoFar, IsNoComment, has_no_blank};
 
+use crate::script::ScriptFault;
 use crate::script::script_move::{read_move, split_word};
 use std::alloc::Global;
 use std::str;
 use ws_keys::Key;
 use ws_session::Move;
 
-/// Why a line gives no moves.
-#[derive(Clone, Copy)]
-pub enum LineFault {
-    /// It is no line of a script.
-    Bad,
-    /// A growth was refused.
-    Memory,
-}
-
 /// Adds a line's moves.
 ///
 /// # Errors
 ///
-/// `Bad` where the line isn't UTF-8, or is no line of a script of both ends. `Memory` where a growth was refused: it is
-/// one, or a `send` that is good up to the blank before its body.
-pub fn read_line(alloc: Global, line: &[u8], moves: &mut Vec<Move>) -> Result<(), LineFault>
+/// `Line(1)` where the line isn't UTF-8, or is no line of a script of both ends. `Memory` where a growth was refused:
+/// it is one, or a `send` that is good up to the blank before its body.
+pub fn read_line(alloc: Global, line: &[u8], moves: &mut Vec<Move>) -> Result<(), ScriptFault>
     ensures ok { OnOk result ((given : Seq AMove) × Spec.IsScriptLine line.now given
         × (moves.new.items ≡ moves.old.items ++ given)) }
     ensures fault { IfErr result (IsLineFault (Spec.IsScriptLine line.now)
         (IsUtf8 line.now × IsGoodSoFar line.now)) }
 {
     let Ok(text) = str::from_utf8(line) else {
-        return Err(LineFault::Bad);
+        return Err(ScriptFault::Line(1));
     };
     if text.is_empty() {
         return Ok(());
@@ -48,7 +40,7 @@ pub fn read_line(alloc: Global, line: &[u8], moves: &mut Vec<Move>) -> Result<()
 }
 
 // Adds the moves of a line that is one word.
-fn read_word(word: &str, moves: &mut Vec<Move>) -> Result<(), LineFault>
+fn read_word(word: &str, moves: &mut Vec<Move>) -> Result<(), ScriptFault>
     // A word alone on its line.
     requires some { 0 < length word.now }
     requires no_blank { has_no_blank word.now ≡ true }
@@ -62,7 +54,7 @@ fn read_word(word: &str, moves: &mut Vec<Move>) -> Result<(), LineFault>
     match word {
         "cancel" => add(moves, Move::Cancel),
         "settle" => settle(moves),
-        _ => Err(LineFault::Bad),
+        _ => Err(ScriptFault::Line(1)),
     }
 }
 
@@ -72,7 +64,7 @@ fn read_command(
     command: &str,
     words: &str,
     moves: &mut Vec<Move>,
-) -> Result<(), LineFault>
+) -> Result<(), ScriptFault>
     requires no_blank { has_no_blank command.now ≡ true }
     requires no_comment { IsNoComment (command.now ++ codes " " ++ words.now) }
     ensures ok { OnOk result ((given : Seq AMove)
@@ -97,20 +89,20 @@ fn read_command(
 /// # Errors
 ///
 /// `Memory` where the growth was refused.
-pub fn add<T: Drop>(items: &mut Vec<T>, item: T) -> Result<(), LineFault>
+pub fn add<T: Drop>(items: &mut Vec<T>, item: T) -> Result<(), ScriptFault>
     ensures ok { OnOk result (items.new.items ≡ items.old.items ++ item ∷ []) }
-    ensures fault { IfErr result (λ fault. fault ≡ LineFault.Memory) }
+    ensures fault { IfErr result (λ fault. fault ≡ ScriptFault.Memory) }
 {
     match items.push(item) {
         Ok(()) => Ok(()),
-        Err(_) => Err(LineFault::Memory),
+        Err(_) => Err(ScriptFault::Memory),
     }
 }
 
 // All that is in flight arrives, four times to and fro.
-fn settle(moves: &mut Vec<Move>) -> Result<(), LineFault>
+fn settle(moves: &mut Vec<Move>) -> Result<(), ScriptFault>
     ensures ok { OnOk result (moves.new.items ≡ moves.old.items ++ Spec.settling) }
-    ensures fault { IfErr result (λ fault. fault ≡ LineFault.Memory) }
+    ensures fault { IfErr result (λ fault. fault ≡ ScriptFault.Memory) }
 {
     deliver_all(moves)?;
     deliver_all(moves)?;
@@ -118,19 +110,19 @@ fn settle(moves: &mut Vec<Move>) -> Result<(), LineFault>
     deliver_all(moves)
 }
 
-fn deliver_all(moves: &mut Vec<Move>) -> Result<(), LineFault>
+fn deliver_all(moves: &mut Vec<Move>) -> Result<(), ScriptFault>
     ensures ok { OnOk result (moves.new.items ≡ moves.old.items ++ Spec.to_and_fro) }
-    ensures fault { IfErr result (λ fault. fault ≡ LineFault.Memory) }
+    ensures fault { IfErr result (λ fault. fault ≡ ScriptFault.Memory) }
 {
     add(moves, Move::ToStation(usize::MAX))?;
     add(moves, Move::ToHost(usize::MAX))
 }
 
 // Adds a key for each character of the text.
-fn type_text(text: &str, inserts: bool, moves: &mut Vec<Move>) -> Result<(), LineFault>
+fn type_text(text: &str, inserts: bool, moves: &mut Vec<Move>) -> Result<(), ScriptFault>
     ensures ok { OnOk result ((given : Seq AMove) × Spec.AreTypedMoves inserts text.now given
         × (moves.new.items ≡ moves.old.items ++ given)) }
-    ensures fault { IfErr result (λ fault. fault ≡ LineFault.Memory) }
+    ensures fault { IfErr result (λ fault. fault ≡ ScriptFault.Memory) }
 {
     for character in text.chars() {
         add(moves, Move::Key(typed_key(inserts, character)))?;

@@ -5,8 +5,8 @@ ghost use Rattle.ws_stream.specs.Elements.{element_rules};
 ghost use Rattle.ws_live.specs.script.Script as Spec;
 ghost use Rattle.ws_live.specs.script.ScriptFaults.{IsLineFault, IsSendBegun, IsSendLine, has_no_blank};
 
+use crate::script::ScriptFault;
 use crate::script::key_name::key_named;
-use crate::script::script_line::LineFault;
 use hex::FromHexError;
 use std::alloc::Global;
 use ws_code::List;
@@ -28,11 +28,11 @@ pub fn split_word(text: &str) -> Option<(&str, &str)>
 ///
 /// # Errors
 ///
-/// `Bad` where command and words are none of these: `send` and an opcode that `read_opcode` takes, alone or with a
+/// `Line(1)` where command and words are none of these: `send` and an opcode that `read_opcode` takes, alone or with a
 /// blank and the hex of elements behind it (SC30-3533, commands and orders); `down` or `up` and `all` or a number of 1
 /// to 9 decimal digits; `key` and the name of a key. `Memory` where a growth was refused: they are a `send` that is
 /// good up to the blank before its body.
-pub fn read_move(alloc: Global, command: &str, words: &str) -> Result<Move, LineFault>
+pub fn read_move(alloc: Global, command: &str, words: &str) -> Result<Move, ScriptFault>
     requires { has_no_blank command.now ≡ true }
     ensures ok { IfOk result (Spec.IsMove (command.now ++ codes " " ++ words.now)) }
     ensures fault { IfErr result
@@ -45,14 +45,14 @@ pub fn read_move(alloc: Global, command: &str, words: &str) -> Result<Move, Line
         "up" => Ok(Move::ToHost(read_count(words)?)),
         "key" => match key_named(words) {
             Some(key) => Ok(Move::Key(key)),
-            None => Err(LineFault::Bad),
+            None => Err(ScriptFault::Line(1)),
         },
-        _ => Err(LineFault::Bad),
+        _ => Err(ScriptFault::Line(1)),
     }
 }
 
 // A record to be sent: its opcode, and its body in hex where it has one.
-fn read_send(alloc: Global, words: &str) -> Result<Move, LineFault>
+fn read_send(alloc: Global, words: &str) -> Result<Move, ScriptFault>
     ensures ok { IfOk result (Spec.IsMove (codes "send " ++ words.now)) }
     ensures fault { IfErr result
         (IsLineFault (Spec.IsMove (codes "send " ++ words.now)) (IsSendBegun words.now)) }
@@ -63,7 +63,7 @@ fn read_send(alloc: Global, words: &str) -> Result<Move, LineFault>
     };
     let opcode = read_opcode(number)?;
     if hex.is_empty() {
-        return Err(LineFault::Bad);
+        return Err(ScriptFault::Line(1));
     }
     let body = read_body_text(alloc, hex)?;
     Ok(Move::Send(opcode, List::of(body)))
@@ -73,49 +73,49 @@ fn read_send(alloc: Global, words: &str) -> Result<Move, LineFault>
 ///
 /// # Errors
 ///
-/// `Bad` where the word isn't the number of an opcode in 1 to 9 decimal digits, or is that of Cancel Invite (RFC 1205,
-/// section 3).
-pub fn read_opcode(word: &str) -> Result<Opcode, LineFault>
+/// `Line(1)` where the word isn't the number of an opcode in 1 to 9 decimal digits, or is that of Cancel Invite (RFC
+/// 1205, section 3).
+pub fn read_opcode(word: &str) -> Result<Opcode, ScriptFault>
     ensures ok { IfOk result (Spec.IsSendOpcode word.now) }
     ensures fault { IfErr result (IsLineFault (Spec.IsSendOpcode word.now) ⊥) }
 {
     let Some(number) = read_number(word) else {
-        return Err(LineFault::Bad);
+        return Err(ScriptFault::Line(1));
     };
     if number > 255 {
-        return Err(LineFault::Bad);
+        return Err(ScriptFault::Line(1));
     }
     match Opcode::from_byte(number as u8) {
-        None | Some(Opcode::CancelInvite) => Err(LineFault::Bad),
+        None | Some(Opcode::CancelInvite) => Err(ScriptFault::Line(1)),
         Some(opcode) => Ok(opcode),
     }
 }
 
 // A body in hex.
-fn read_body_text(alloc: Global, hex: &str) -> Result<Vec<Element>, LineFault>
+fn read_body_text(alloc: Global, hex: &str) -> Result<Vec<Element>, ScriptFault>
     ensures ok { IfOk result (λ body. Spec.IsBodyText hex.now body.items) }
     ensures fault { IfErr result (IsLineFault (Spec.IsBodyText hex.now) (Unit {0})) }
 {
     match hex::decode(alloc, hex) {
         Ok(bytes) => read_elements(alloc, bytes.as_slice()),
-        Err(FromHexError::OutOfMemory) => Err(LineFault::Memory),
-        Err(_) => Err(LineFault::Bad),
+        Err(FromHexError::OutOfMemory) => Err(ScriptFault::Memory),
+        Err(_) => Err(ScriptFault::Line(1)),
     }
 }
 
 // The elements that the bytes spell.
-fn read_elements(alloc: Global, bytes: &[u8]) -> Result<Vec<Element>, LineFault>
+fn read_elements(alloc: Global, bytes: &[u8]) -> Result<Vec<Element>, ScriptFault>
     ensures ok { IfOk result (λ body. IsBody element_rules bytes.now body.items) }
     ensures fault { IfErr result (IsLineFault (IsBody element_rules bytes.now) (Unit {0})) }
 {
     read_body::<Commands>(alloc, bytes).map_err(|fault| match fault {
-        BodyFault::Bad => LineFault::Bad,
-        BodyFault::Memory => LineFault::Memory,
+        BodyFault::Bad => ScriptFault::Line(1),
+        BodyFault::Memory => ScriptFault::Memory,
     })
 }
 
 // How many bytes arrive.
-fn read_count(word: &str) -> Result<usize, LineFault>
+fn read_count(word: &str) -> Result<usize, ScriptFault>
     ensures ok { IfOk result (Spec.IsCount word.now) }
     ensures fault { IfErr result (IsLineFault (Spec.IsCount word.now) ⊥) }
 {
@@ -124,6 +124,6 @@ fn read_count(word: &str) -> Result<usize, LineFault>
     }
     match read_number(word) {
         Some(number) => Ok(number as usize),
-        None => Err(LineFault::Bad),
+        None => Err(ScriptFault::Line(1)),
     }
 }

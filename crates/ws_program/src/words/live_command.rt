@@ -2,7 +2,7 @@ use crate::words::command_parts::{CommandParts, fault, flag, place};
 use crate::words::host_words::{address_to_listen, host_and_script};
 use clap::{Arg, ArgAction, ArgMatches, value_parser};
 use std::alloc::{AllocError, Global};
-use ws_live::{ConnectAsked, Paint, ServeAsked};
+use ws_live::{AfterUnwell, ConnectAsked, LineSettings, Paint, ServeAsked};
 use ws_nego::TerminalType;
 
 const CONNECT_EXAMPLES: &str = "\
@@ -26,12 +26,13 @@ one a line of standard input is carried out before the next is read:
   note TEXT    prints TEXT
 Those that show something first take what has come.
 
-A bad line is `bad line: CAUSE` with --ready, and the session goes on; else it
-ends, as a script with one does, by `script line N: CAUSE`.
+A bad line is `bad line: CAUSE` with --ready; else it ends the session, as a
+script with one does, by `script line N: CAUSE`.
 
-A refused key is told as `key refused REASON`, behind it a character that it
-enters. A wait that runs out prints `late`, and the session goes on; one whose
-host has closed prints `ended`.
+A refused key is told as `key refused REASON`, after it a character that it
+enters. A wait that runs out prints `late`; one whose host has closed prints
+`ended`. The first such line ends the session of a SCRIPT, with status 1; on
+standard input the session goes on. --stop and --go-on change that.
 `station refused at P: reason K NAME` is the last line.
 
 With --record, FILE has a line `MILLISECONDS host|station HEX` for each piece
@@ -80,9 +81,11 @@ begin with two blanks; `end` or an empty one belongs to it, and has no `ok` of
 its own. Bad lines are told as connect tells them.
 
 A refused send is told as `send refused REASON`. A wait that runs out prints
-`late`, and the session goes on; one whose station has closed prints `ended`.
-`host refused at P: reason K NAME` is the last line. Behind the last line of a
-script it answers on until the station closes, or the wait is over.
+`late`; one whose station has closed prints `ended`. The first such line ends
+the session of a SCRIPT, with status 1; on standard input the session goes on.
+--stop and --go-on change that. `host refused at P: reason K NAME` is the last
+line. After the last line of a script, unless a line ended the session, it
+answers on until the station closes, or the wait is over.
 
 With --record, FILE has a line `MILLISECONDS host|station HEX` for each piece
 that crossed the connection. It holds what was typed into hidden fields,
@@ -125,6 +128,11 @@ const ADDRESS_HELP: &str =
 
 const READY_HELP: &str =
     "Prints `ok` behind each line's output, for a program that drives the session";
+
+const STOP_HELP: &str =
+    "Ends the session after the first line that is late, ended, refused or bad; the default with a SCRIPT";
+
+const GO_ON_HELP: &str = "Carries out the lines after such a line; the default without a SCRIPT";
 
 const SCRIPT_HELP: &str = "A script; without it, standard input is read a line at a time";
 
@@ -180,11 +188,14 @@ pub(crate) fn paint_asked(words: &ArgMatches<'_>) -> Paint {
     }
 }
 
-// What both sessions take: the time of a wait, whether `ok` is told, a recording, and a script.
+// What both sessions take: the time of a wait, whether `ok` is told, what follows a line that doesn't go well, a
+// recording, and a script.
 fn with_script<'a>(alloc: Global, command: CommandParts<'a>) -> CommandParts<'a> {
     command
         .word(wait(alloc))
         .word(flag(alloc, "ready", READY_HELP))
+        .made_word(flag(alloc, "stop", STOP_HELP).conflicts_with("go-on"))
+        .word(flag(alloc, "go-on", GO_ON_HELP))
         .word(record(alloc))
         .word(place(alloc, "SCRIPT", SCRIPT_HELP, false))
 }
@@ -238,8 +249,7 @@ pub(crate) fn connect_asked<'a>(
         host,
         terminal: terminal_asked(alloc, words)?,
         wait: seconds(words),
-        ready: words.get_flag("ready"),
-        paint: paint_asked(words),
+        settings: settings_asked(words, paint_asked(words), script),
         extended: !words.get_flag("strict"),
         record: words.get_str("record"),
         script,
@@ -277,15 +287,30 @@ pub(crate) fn serve_asked<'a>(
         Ok(address) => address,
         Err(wrong) => return Err(fault(serve_command(alloc), "t5250 serve", wrong.told(alloc))),
     };
+    let script = words.get_str("SCRIPT");
     Ok(ServeAsked {
         address,
         wait: seconds(words),
-        ready: words.get_flag("ready"),
+        settings: settings_asked(words, Paint::Plain, script),
         any: words.get_flag("any"),
         sessions: words.get_one::<u32>("sessions"),
         record: words.get_str("record"),
-        script: words.get_str("SCRIPT"),
+        script,
     })
+}
+
+// How the lines are carried out: where no word says it, a line that doesn't go well stops the lines of a script alone.
+fn settings_asked(words: &ArgMatches<'_>, paint: Paint, script: Option<&str>) -> LineSettings {
+    let is_to_stop = words.get_flag("stop") || (script.is_some() && !words.get_flag("go-on"));
+    LineSettings {
+        ready: words.get_flag("ready"),
+        paint,
+        after: if is_to_stop {
+            AfterUnwell::Stop
+        } else {
+            AfterUnwell::GoOn
+        },
+    }
 }
 
 // The time of a wait. No 0 comes through.

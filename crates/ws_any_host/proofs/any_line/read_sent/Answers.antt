@@ -1,11 +1,18 @@
 use Rattle.std.proofs.Common.{refl}
-use Rattle.ws_any_host.proofs.AnyWords.{two_words, hex_fault}
+use Rattle.ws_text.specs.Words.{IsHex}
+use Rattle.ws_live.proofs.Scripts.{fault_on}
+use Rattle.ws_any_host.specs.AnyLines.{IsSendText}
+use Rattle.ws_any_host.proofs.AnyWords.{two_words}
 use Rattle.ws_any_host.proofs.any_line.read_sent.Goals as goal
 
 pub returns-in-Err-clause-fault : goal.returns-in-Err-clause-fault
-returns-in-Err-clause-fault c = hex_fault c.args.words.now c.in-Some.number.now c.in-Some.hex.now c.in-Some.ensures.0
-    c.in-Some.ensures.1 c.in-Some-read_opcode-2.opcode c.in-Some-read_opcode-2.ensures c.in-Err.fault
-    c.in-Err.ensures.fault
+returns-in-Err-clause-fault c =
+    let words = c.args.words.now in
+    let parts = c.in-Some in
+    let read = c.in-Some-read_opcode-2 in
+    fault_on (IsHex parts.hex.now) (IsSendText words) c.in-Err.fault (λ none r s.
+    (let p = two_words words parts.number.now parts.hex.now parts.ensures.0 parts.ensures.1 r s in none p.1 p.3))
+    (λ good. (parts.number.now, parts.hex.now, read.opcode, parts.ensures.0, read.ensures)) c.in-Err.ensures.fault
 
 pub returns-in-None-read_opcode-2-clause-fault : goal.returns-in-None-read_opcode-2-clause-fault
 returns-in-None-read_opcode-2-clause-fault c = (

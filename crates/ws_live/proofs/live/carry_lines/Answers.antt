@@ -5,7 +5,7 @@ use Rattle.ws_text.specs.Printed.{IsPrinted}
 use Rattle.ws_live.specs.declared.live.Ran.{Ran}
 use Rattle.ws_live.specs.live.LiveText.{HaveRun, WithClosing, account, line_printing, lines_printing, ran_and, ran_by}
 use Rattle.ws_live.specs.live.Watches.{InTime}
-use Rattle.ws_live.proofs.LiveRuns.{goes_on, ends_here, breaks, split_here, taken_here}
+use Rattle.ws_live.proofs.LiveRuns.{goes_on, ends_here, breaks, split_here, taken_here, unstopped}
 use Rattle.ws_live.proofs.live.carry_lines.Goals as goal
 
 pub loop-line-init : goal.loop-line-init
@@ -24,9 +24,10 @@ returns-in-Err-clause-printed g c =
     let lines = c.args.lines.now in
     let i = c.loop-line.line-index in
     let line = c.line-item.result in
-    let runs = WithClosing (InTime (g.L.LiveMove.runs g.W.Watch.tells c.args.paint) g.L.LiveMove.waits
-    g.W.Watch.times) c.args.ready in
-    breaks runs g.O.Sink.writer ((c.args.attached.now, c.args.ahead.now), c.args.watch.now)
+    let asked = c.args.settings in
+    let runs = WithClosing (InTime (g.L.LiveMove.runs g.W.Watch.tells asked.paint) g.L.LiveMove.waits
+    g.W.Watch.times) asked.ready in
+    breaks runs asked.after g.O.Sink.writer ((c.args.attached.now, c.args.ahead.now), c.args.watch.now)
     ((c.loop-line.attached, c.loop-line.ahead), c.loop-line.watch)
     ((c.carry_line.new.attached, c.carry_line.new.ahead), c.carry_line.new.watch)
     c.args.out.now.sink c.loop-line.out.sink c.carry_line.new.out.sink
@@ -43,14 +44,15 @@ returns-then-ran-clause-printed g c =
     let lines = c.args.lines.now in
     let i = c.loop-line.line-index in
     let line = c.line-item.result in
-    let runs = WithClosing (InTime (g.L.LiveMove.runs g.W.Watch.tells c.args.paint) g.L.LiveMove.waits
-    g.W.Watch.times) c.args.ready in
-    let same : c.and-ran.result ≡ ran_and c.loop-line.ran (ran_by c.in-Ok.closing) = c.and-ran.ensures
+    let asked = c.args.settings in
+    let runs = WithClosing (InTime (g.L.LiveMove.runs g.W.Watch.tells asked.paint) g.L.LiveMove.waits
+    g.W.Watch.times) asked.ready in
+    let same : c.and-ran.result ≡ ran_and c.loop-line.ran (ran_by asked.after c.in-Ok.closing) = c.and-ran.ensures
     ∙ ap (λ (r : Ran). ran_and c.loop-line.ran r) c.ran.ensures in
     subst (λ (r : Ran). IsPrinted g.O.Sink.writer c.args.out.now.sink c.carry_line.new.out.sink
-    (lines_printing runs ((c.args.attached.now, c.args.ahead.now), c.args.watch.now) lines
+    (lines_printing asked.after runs ((c.args.attached.now, c.args.ahead.now), c.args.watch.now) lines
     ((c.carry_line.new.attached, c.carry_line.new.ahead), c.carry_line.new.watch)) (Ok r)) (sym same)
-    (ends_here runs g.O.Sink.writer ((c.args.attached.now, c.args.ahead.now), c.args.watch.now)
+    (ends_here runs asked.after g.O.Sink.writer ((c.args.attached.now, c.args.ahead.now), c.args.watch.now)
     ((c.loop-line.attached, c.loop-line.ahead), c.loop-line.watch)
     ((c.carry_line.new.attached, c.carry_line.new.ahead), c.carry_line.new.watch) c.args.out.now.sink
     c.loop-line.out.sink c.carry_line.new.out.sink
@@ -68,12 +70,13 @@ loop-line-preserved g c =
     let lines = c.args.lines.now in
     let i = c.loop-line.line-index in
     let line = c.line-item.result in
-    let runs = WithClosing (InTime (g.L.LiveMove.runs g.W.Watch.tells c.args.paint) g.L.LiveMove.waits
-    g.W.Watch.times) c.args.ready in
-    let same : c.and-ran.result ≡ ran_and c.loop-line.ran (ran_by c.in-Ok.closing) = c.and-ran.ensures
+    let asked = c.args.settings in
+    let runs = WithClosing (InTime (g.L.LiveMove.runs g.W.Watch.tells asked.paint) g.L.LiveMove.waits
+    g.W.Watch.times) asked.ready in
+    let same : c.and-ran.result ≡ ran_and c.loop-line.ran (ran_by asked.after c.in-Ok.closing) = c.and-ran.ensures
     ∙ ap (λ (r : Ran). ran_and c.loop-line.ran r) c.ran.ensures in
     let going = ap (λ (r : Ran). r.is_over) (sym same) ∙ c.if-ran.false in
-    let more = goes_on runs g.O.Sink.writer ((c.args.attached.now, c.args.ahead.now), c.args.watch.now)
+    let more = goes_on runs asked.after g.O.Sink.writer ((c.args.attached.now, c.args.ahead.now), c.args.watch.now)
     ((c.loop-line.attached, c.loop-line.ahead), c.loop-line.watch)
     ((c.carry_line.new.attached, c.carry_line.new.ahead), c.carry_line.new.watch) c.args.out.now.sink
     c.loop-line.out.sink
@@ -85,14 +88,16 @@ loop-line-preserved g c =
     let well = ap (λ (r : Ran). r.all_well) (sym same) in
     let next = taken_here lines i line c.loop-line-test.true c.line-item.is in (
       more.0,
-      subst (λ (b : Bool). HaveRun runs ((c.args.attached.now, c.args.ahead.now), c.args.watch.now)
+      subst (λ (b : Bool). HaveRun asked.after runs ((c.args.attached.now, c.args.ahead.now), c.args.watch.now)
           (take (i + 1) lines) (account b more.0)
           ((c.carry_line.new.attached, c.carry_line.new.ahead), c.carry_line.new.watch)) well
-          (subst (λ (z : List g.row.L.Denot). HaveRun runs ((c.args.attached.now, c.args.ahead.now), c.args.watch.now) z
-          (account (ran_and c.loop-line.ran (ran_by c.in-Ok.closing)).all_well more.0)
+          (subst (λ (z : List g.row.L.Denot). HaveRun asked.after runs (
+            (c.args.attached.now, c.args.ahead.now),
+            c.args.watch.now,
+          ) z (account (ran_and c.loop-line.ran (ran_by asked.after c.in-Ok.closing)).all_well more.0)
           ((c.carry_line.new.attached, c.carry_line.new.ahead), c.carry_line.new.watch)) next more.1),
       more.2,
       c.if-ran.false,
-      c.in-Ok.ensures.works going,
+      c.in-Ok.ensures.works (unstopped asked.after c.in-Ok.closing going),
       c.carry_line.ensures.held,
     )

@@ -14,7 +14,7 @@ returns-in-Err-clause-printed g c =
       e.0,
       e.1,
       session_fails (AnyRunsInTime (watched_devices (on_devices g.K.Sink.writer g.S.Source.reader) g.W.Watch.tells)
-          g.W.Watch.times) Await c.args.ready g.O.Sink.writer
+          g.W.Watch.times) Await c.args.settings g.O.Sink.writer
           ((c.args.attached.now, c.args.ahead.now), c.args.watch.now) e.0 (is_some c.args.script)
           ((c.carry_session.new.attached, c.carry_session.new.ahead), c.carry_session.new.watch)
           c.args.out.now.sink c.carry_session.new.out.sink c.carry_session.result c.in-Err.fault c.in-Err.is e.2,
@@ -26,7 +26,7 @@ returns-then-ran-clause-printed g c =
       e.0,
       e.1,
       session_stops (AnyRunsInTime (watched_devices (on_devices g.K.Sink.writer g.S.Source.reader) g.W.Watch.tells)
-          g.W.Watch.times) Await c.args.ready g.O.Sink.writer
+          g.W.Watch.times) Await c.args.settings g.O.Sink.writer
           ((c.args.attached.now, c.args.ahead.now), c.args.watch.now) e.0 (is_some c.args.script)
           ((c.carry_session.new.attached, c.carry_session.new.ahead), c.carry_session.new.watch)
           c.args.out.now.sink c.carry_session.new.out.sink c.carry_session.result c.in-Ok.ran c.in-Ok.is e.2
@@ -44,7 +44,7 @@ returns-after-ran-2-clause-printed g c =
       e.0,
       e.1,
       goes_on_well (AnyRunsInTime (watched_devices (on_devices g.K.Sink.writer g.S.Source.reader) g.W.Watch.tells)
-          g.W.Watch.times) Await c.args.ready g.O.Sink.writer
+          g.W.Watch.times) Await c.args.settings g.O.Sink.writer
           ((c.args.attached.now, c.args.ahead.now), c.args.watch.now) e.0 (is_some c.args.script)
           ((c.carry_on.new.attached, c.carry_on.new.ahead), c.carry_on.new.watch) c.args.out.now.sink
           c.carry_on.new.out.sink
@@ -59,7 +59,7 @@ returns-in-Err-carry_on-clause-printed g c =
       e.0,
       e.1,
       goes_on_badly (AnyRunsInTime (watched_devices (on_devices g.K.Sink.writer g.S.Source.reader) g.W.Watch.tells)
-          g.W.Watch.times) Await c.args.ready g.O.Sink.writer
+          g.W.Watch.times) Await c.args.settings g.O.Sink.writer
           ((c.args.attached.now, c.args.ahead.now), c.args.watch.now) e.0 (is_some c.args.script)
           ((c.carry_on.new.attached, c.carry_on.new.ahead), c.carry_on.new.watch) c.args.out.now.sink
           c.carry_on.new.out.sink

@@ -14,8 +14,9 @@ returns-in-Ok-clause-printed g c =
       e.1,
       judged_well (session_lines (StationRunsInTime (live_display g.D.Commands.Code.rules
           g.D.StationDisplay.does g.D.OperatedDisplay.operated g.D.Key.NamedKey.words)
-          (watched_devices (on_devices g.K.Sink.writer g.S.Source.reader) g.W.Watch.tells) g.W.Watch.times c.args.paint)
-          c.args.ready ((c.args.attached.now, c.args.ahead.now), c.args.watch.now) e.0
+          (watched_devices (on_devices g.K.Sink.writer g.S.Source.reader) g.W.Watch.tells) g.W.Watch.times
+          c.args.settings.paint)
+          c.args.settings ((c.args.attached.now, c.args.ahead.now), c.args.watch.now) e.0
           ((c.carry_session.new.attached, c.carry_session.new.ahead), c.carry_session.new.watch)) g.O.Sink.writer
           (is_some c.args.script) c.args.out.now.sink c.carry_session.new.out.sink c.carry_session.result
           c.in-Ok.ran c.in-Ok.is e.2,
@@ -28,8 +29,9 @@ returns-in-Err-clause-printed g c =
       e.1,
       judged_badly (session_lines (StationRunsInTime (live_display g.D.Commands.Code.rules
           g.D.StationDisplay.does g.D.OperatedDisplay.operated g.D.Key.NamedKey.words)
-          (watched_devices (on_devices g.K.Sink.writer g.S.Source.reader) g.W.Watch.tells) g.W.Watch.times c.args.paint)
-          c.args.ready ((c.args.attached.now, c.args.ahead.now), c.args.watch.now) e.0
+          (watched_devices (on_devices g.K.Sink.writer g.S.Source.reader) g.W.Watch.tells) g.W.Watch.times
+          c.args.settings.paint)
+          c.args.settings ((c.args.attached.now, c.args.ahead.now), c.args.watch.now) e.0
           ((c.carry_session.new.attached, c.carry_session.new.ahead), c.carry_session.new.watch)) g.O.Sink.writer
           (is_some c.args.script) c.args.out.now.sink c.carry_session.new.out.sink c.carry_session.result
           c.in-Err.fault c.in-Err.is e.2,

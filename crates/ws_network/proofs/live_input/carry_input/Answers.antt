@@ -5,7 +5,7 @@ use Rattle.ws_text.specs.Printed.{IsPrinted}
 use Rattle.ws_live.specs.declared.live.Ran.{Ran}
 use Rattle.ws_live.specs.live.LiveText.{HaveRun, WithClosing, account, line_printing, ran_and, ran_by}
 use Rattle.ws_live.specs.live.Watches.{InTime}
-use Rattle.ws_live.proofs.LiveRuns.{goes_on, ends_here, breaks}
+use Rattle.ws_live.proofs.LiveRuns.{goes_on, ends_here, breaks, unstopped}
 use Rattle.ws_network.specs.SessionPrinting.{session_lines, session_printing}
 use Rattle.ws_network.proofs.SessionPrinted.{script_ends, script_fails}
 use Rattle.ws_network.proofs.live_input.carry_input.Goals as goal
@@ -46,19 +46,20 @@ pub returns-in-Err-carry_next-clause-printed : goal.returns-in-Err-carry_next-cl
 returns-in-Err-carry_next-clause-printed g c =
     let so_far = c.loop.invariant in
     let lines : List g.row.L.Denot = so_far.0 ++ c.in-Some.line ∷ [] in
-    let does = InTime (g.L.LiveMove.runs g.W.Watch.tells c.args.paint) g.L.LiveMove.waits g.W.Watch.times in
-    let runs = WithClosing does c.args.ready in (
+    let asked = c.args.settings in
+    let does = InTime (g.L.LiveMove.runs g.W.Watch.tells asked.paint) g.L.LiveMove.waits g.W.Watch.times in
+    let runs = WithClosing does asked.ready in (
       lines,
       subst (λ told. IsPrinted g.O.Sink.writer c.args.out.now.sink c.carry_next.new.out.sink
-          (session_printing (session_lines does c.args.ready ((c.args.attached.now, c.args.ahead.now), c.args.watch.now)
+          (session_printing (session_lines does asked ((c.args.attached.now, c.args.ahead.now), c.args.watch.now)
           lines ((c.carry_next.new.attached, c.carry_next.new.ahead), c.carry_next.new.watch)) false
           (λ ran told. told ≡ ran)) (Err told)) (sym c.from.ensures)
-          (script_fails (session_lines does c.args.ready ((c.args.attached.now, c.args.ahead.now), c.args.watch.now)
+          (script_fails (session_lines does asked ((c.args.attached.now, c.args.ahead.now), c.args.watch.now)
           lines
           ((c.carry_next.new.attached, c.carry_next.new.ahead), c.carry_next.new.watch)) g.O.Sink.writer false
           c.args.out.now.sink
           c.carry_next.new.out.sink c.in-Err-carry_next.fault
-          (breaks runs g.O.Sink.writer ((c.args.attached.now, c.args.ahead.now), c.args.watch.now)
+          (breaks runs asked.after g.O.Sink.writer ((c.args.attached.now, c.args.ahead.now), c.args.watch.now)
           ((c.loop.attached, c.loop.ahead), c.loop.watch) (
             (c.carry_next.new.attached, c.carry_next.new.ahead),
             c.carry_next.new.watch,
@@ -75,21 +76,22 @@ pub returns-then-ran-clause-printed : goal.returns-then-ran-clause-printed
 returns-then-ran-clause-printed g c =
     let so_far = c.loop.invariant in
     let lines : List g.row.L.Denot = so_far.0 ++ c.in-Some.line ∷ [] in
-    let does = InTime (g.L.LiveMove.runs g.W.Watch.tells c.args.paint) g.L.LiveMove.waits g.W.Watch.times in
-    let runs = WithClosing does c.args.ready in
-    let same : c.and-ran.result ≡ ran_and c.loop.ran (ran_by c.in-Ok-carry_next.closing) = c.and-ran.ensures
+    let asked = c.args.settings in
+    let does = InTime (g.L.LiveMove.runs g.W.Watch.tells asked.paint) g.L.LiveMove.waits g.W.Watch.times in
+    let runs = WithClosing does asked.ready in
+    let same : c.and-ran.result ≡ ran_and c.loop.ran (ran_by asked.after c.in-Ok-carry_next.closing) = c.and-ran.ensures
     ∙ ap (λ (r : Ran). ran_and c.loop.ran r) c.ran.ensures in (
       lines,
       subst (λ (r : Ran). IsPrinted g.O.Sink.writer c.args.out.now.sink c.carry_next.new.out.sink
-          (session_printing (session_lines does c.args.ready ((c.args.attached.now, c.args.ahead.now), c.args.watch.now)
+          (session_printing (session_lines does asked ((c.args.attached.now, c.args.ahead.now), c.args.watch.now)
           lines ((c.carry_next.new.attached, c.carry_next.new.ahead), c.carry_next.new.watch)) false
           (λ ran told. told ≡ ran)) (Ok r)) (sym same)
-          (script_ends (session_lines does c.args.ready ((c.args.attached.now, c.args.ahead.now), c.args.watch.now)
+          (script_ends (session_lines does asked ((c.args.attached.now, c.args.ahead.now), c.args.watch.now)
           lines
           ((c.carry_next.new.attached, c.carry_next.new.ahead), c.carry_next.new.watch)) g.O.Sink.writer false
           c.args.out.now.sink
-          c.carry_next.new.out.sink (ran_and c.loop.ran (ran_by c.in-Ok-carry_next.closing))
-          (ends_here runs g.O.Sink.writer ((c.args.attached.now, c.args.ahead.now), c.args.watch.now)
+          c.carry_next.new.out.sink (ran_and c.loop.ran (ran_by asked.after c.in-Ok-carry_next.closing))
+          (ends_here runs asked.after g.O.Sink.writer ((c.args.attached.now, c.args.ahead.now), c.args.watch.now)
           ((c.loop.attached, c.loop.ahead), c.loop.watch) (
             (c.carry_next.new.attached, c.carry_next.new.ahead),
             c.carry_next.new.watch,
@@ -107,12 +109,13 @@ pub loop-preserved : goal.loop-preserved
 loop-preserved g c =
     let so_far = c.loop.invariant in
     let lines : List g.row.L.Denot = so_far.0 ++ c.in-Some.line ∷ [] in
-    let does = InTime (g.L.LiveMove.runs g.W.Watch.tells c.args.paint) g.L.LiveMove.waits g.W.Watch.times in
-    let runs = WithClosing does c.args.ready in
-    let same : c.and-ran.result ≡ ran_and c.loop.ran (ran_by c.in-Ok-carry_next.closing) = c.and-ran.ensures
+    let asked = c.args.settings in
+    let does = InTime (g.L.LiveMove.runs g.W.Watch.tells asked.paint) g.L.LiveMove.waits g.W.Watch.times in
+    let runs = WithClosing does asked.ready in
+    let same : c.and-ran.result ≡ ran_and c.loop.ran (ran_by asked.after c.in-Ok-carry_next.closing) = c.and-ran.ensures
     ∙ ap (λ (r : Ran). ran_and c.loop.ran r) c.ran.ensures in
     let going = ap (λ (r : Ran). r.is_over) (sym same) ∙ c.if-ran.false in
-    let more = goes_on runs g.O.Sink.writer ((c.args.attached.now, c.args.ahead.now), c.args.watch.now)
+    let more = goes_on runs asked.after g.O.Sink.writer ((c.args.attached.now, c.args.ahead.now), c.args.watch.now)
     ((c.loop.attached, c.loop.ahead), c.loop.watch) (
       (c.carry_next.new.attached, c.carry_next.new.ahead),
       c.carry_next.new.watch,
@@ -125,12 +128,12 @@ loop-preserved g c =
     c.in-Ok-carry_next.is c.carry_next.ensures.printed) going in (
       lines,
       more.0,
-      subst (λ (b : Bool). HaveRun runs ((c.args.attached.now, c.args.ahead.now), c.args.watch.now) lines
+      subst (λ (b : Bool). HaveRun asked.after runs ((c.args.attached.now, c.args.ahead.now), c.args.watch.now) lines
           (account b more.0)
           ((c.carry_next.new.attached, c.carry_next.new.ahead), c.carry_next.new.watch))
           (ap (λ (r : Ran). r.all_well) (sym same)) more.1,
       more.2,
       c.if-ran.false,
-      c.in-Ok-carry_next.ensures.works going,
+      c.in-Ok-carry_next.ensures.works (unstopped asked.after c.in-Ok-carry_next.closing going),
       c.carry_next.ensures.held,
     )

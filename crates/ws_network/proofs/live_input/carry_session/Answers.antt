@@ -12,8 +12,8 @@ returns-in_err-carry_script-in-Some-clause-printed g c =
     rw (p.1, p.2, c.in-Some.is) (
       c.in-Some.lines.now,
       refl,
-      script_fails (session_lines (InTime (g.L.LiveMove.runs g.W.Watch.tells c.args.paint)
-          g.L.LiveMove.waits g.W.Watch.times) c.args.ready
+      script_fails (session_lines (InTime (g.L.LiveMove.runs g.W.Watch.tells c.args.settings.paint)
+          g.L.LiveMove.waits g.W.Watch.times) c.args.settings
           ((c.args.attached.now, c.args.ahead.now), c.args.watch.now) c.in-Some.lines.now
           ((c.carry_script.new.attached, c.carry_script.new.ahead), c.carry_script.new.watch)) g.O.Sink.writer true
           c.args.out.now.sink c.carry_script.new.out.sink e.field-0.0 e.ensures.printed,
@@ -25,8 +25,8 @@ returns-in_ok-carry_script-in-Some-clause-printed g c =
     rw (c.in-Some.is) (
       c.in-Some.lines.now,
       refl,
-      script_ends (session_lines (InTime (g.L.LiveMove.runs g.W.Watch.tells c.args.paint)
-          g.L.LiveMove.waits g.W.Watch.times) c.args.ready
+      script_ends (session_lines (InTime (g.L.LiveMove.runs g.W.Watch.tells c.args.settings.paint)
+          g.L.LiveMove.waits g.W.Watch.times) c.args.settings
           ((c.args.attached.now, c.args.ahead.now), c.args.watch.now) c.in-Some.lines.now
           ((c.carry_script.new.attached, c.carry_script.new.ahead), c.carry_script.new.watch)) g.O.Sink.writer true
           c.args.out.now.sink c.carry_script.new.out.sink e.field-0 e.ensures.printed,

@@ -14,8 +14,8 @@ pub returns-clause-ran : goal.returns-clause-ran
 returns-clause-ran g c =
     judged _ _ c.carry_at_station-outcome.result c.judge.result
     (connected_well (StationRunsInTime (live_display g.D.Commands.Code.rules g.D.StationDisplay.does
-    g.D.OperatedDisplay.operated g.D.Key.NamedKey.words) timed timed_waits c.args.asked.now.paint)
-    c.args.asked.now.ready g.O.Sink.writer ((c.new-attached.result, 0), c.new-4.result) (
+    g.D.OperatedDisplay.operated g.D.Key.NamedKey.words) timed timed_waits c.args.asked.now.settings.paint)
+    c.args.asked.now.settings g.O.Sink.writer ((c.new-attached.result, 0), c.new-4.result) (
       (c.carry_at_station-outcome.new.attached, c.carry_at_station-outcome.new.ahead),
       c.carry_at_station-outcome.new.watch,
     )

@@ -1,5 +1,5 @@
 use Rattle.std.specs.Prelude.{codes}
-use Rattle.std.proofs.Common.{◌++◌, List, ℕ, ap}
+use Rattle.std.proofs.Common.{◌++◌, List, ℕ, ap, refl}
 use Rattle.std.proofs.lemmas.Result.{err_from_is_err_and}
 use Rattle.ws_live.specs.live.ConnectLines.{AreNamed, IsAwaited, IsCellText, IsFilling, IsRowText, IsSpanText}
 use Rattle.ws_live.specs.live.ConnectLines.{MeansStationLine}
@@ -67,16 +67,20 @@ returns-in_ok-named_key-in-key-clause-line g c =
 
 pub returns-in_default-clause-fault : goal.returns-in_default-clause-fault
 returns-in_default-clause-fault g c =
-    no_station_command g.Q.NamedKey.words c.args.command.now c.args.words.now c.requires.no_blank c.requires.no_comment (
-      c.in_default.not-type,
-      c.in_default.not-insert,
-      c.in_default.not-key,
-      c.in_default.not-await,
-      c.in_default.not-cursor,
-      c.in_default.not-field,
-      c.in_default.not-cells,
-      c.in_default.not-show,
-      c.in_default.not-note,
+    let none = c.in_default in (
+      refl,
+      no_station_command g.Q.NamedKey.words c.args.command.now c.args.words.now c.requires.no_blank
+          c.requires.no_comment (
+            none.not-type,
+            none.not-insert,
+            none.not-key,
+            none.not-await,
+            none.not-cursor,
+            none.not-field,
+            none.not-cells,
+            none.not-show,
+            none.not-note,
+          ),
     )
 
 pub returns-in_err-read_cell-in-cursor-clause-fault : goal.returns-in_err-read_cell-in-cursor-clause-fault

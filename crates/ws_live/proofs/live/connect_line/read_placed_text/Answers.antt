@@ -1,4 +1,4 @@
-use Rattle.std.proofs.Common.{◌≢◌, []}
+use Rattle.std.proofs.Common.{◌≢◌, [], refl}
 use Rattle.std.proofs.lemmas.Result.{IfErr-weaker}
 use Rattle.ws_live.specs.live.ConnectLines.{IsPlacedText, IsTextAt, IsTextPlaced}
 use Rattle.ws_live.specs.script.ScriptFaults.{IsLineFault}
@@ -20,4 +20,4 @@ returns-in-Ok-clause-fault c =
 pub returns-in-Err-clause-fault : goal.returns-in-Err-clause-fault
 returns-in-Err-clause-fault c =
     let e = c.in-Err.ensures.fault in
-    rw e.0 (no_placed_text c.args.words.now e.1)
+    rw e.0 (refl, no_placed_text c.args.words.now e.1)

@@ -1,3 +1,4 @@
+use Rattle.std.proofs.Common.{refl}
 use Rattle.ws_live.specs.live.ConnectLines.{IsMilliseconds, IsQuietAwaited}
 use Rattle.ws_live.proofs.AwaitedWords.{no_quiet, no_quiet_time}
 use Rattle.ws_live.proofs.Scripts.{fault_on}
@@ -14,4 +15,4 @@ returns-in-Err-clause-fault c =
     (no_quiet_time words word c.in-Some.ensures) (λ (h : ⊥). h) c.in-Err.ensures.fault
 
 pub returns-in-None-clause-fault : goal.returns-in-None-clause-fault
-returns-in-None-clause-fault c = no_quiet c.args.words.now c.in-None.ensures
+returns-in-None-clause-fault c = (refl, no_quiet c.args.words.now c.in-None.ensures)

@@ -2,6 +2,7 @@ use Rattle.std.specs.Prelude.{replicate}
 use Rattle.std.proofs.Common.{◌≡◌, ℕ, List, [], true, false}
 use Rattle.ws_code.specs.Device.{WentOut}
 use Rattle.ws_printing.specs.declared.paint.Paint.TheVariants.{Plain}
+use Rattle.ws_live.specs.declared.live.AfterUnwell.TheVariants.{GoOn}
 use Rattle.ws_live.specs.live.LiveText.{HaveRun, account}
 use Rattle.ws_live.specs.live.Watches.{InTime}
 use Rattle.ws_live.proofs.live.repeated.carry_on.Given as goal
@@ -9,7 +10,7 @@ use Rattle.ws_live.proofs.live.repeated.carry_on.Given as goal
 -- so many things were told and printed
 abbrev pub invariant-loop : goal.invariant-loop
 invariant-loop g l = (text : List ℕ)
-    × HaveRun (InTime (g.L.LiveMove.runs g.W.Watch.tells Plain) g.L.LiveMove.waits g.W.Watch.times)
+    × HaveRun GoOn (InTime (g.L.LiveMove.runs g.W.Watch.tells Plain) g.L.LiveMove.waits g.W.Watch.times)
     ((l.fn.attached, l.fn.ahead), l.fn.watch) (replicate l.counter l.line) (account true text)
     ((l.attached, l.ahead), l.watch) × WentOut g.O.Sink.writer l.fn.out.sink l.out.sink text
     × (l.attached.broken ≡ false) × (l.out.held ≡ [])

@@ -1,3 +1,4 @@
+use Rattle.std.proofs.Common.{refl}
 use Rattle.std.proofs.lemmas.Result.{err_from_is_err_and}
 use Rattle.ws_text.specs.Words.{IsSmall}
 use Rattle.ws_live.specs.live.ConnectLines.{IsRowText}
@@ -14,4 +15,4 @@ returns-in_err-row-clause-fault c =
 
 pub returns-in-None-clause-fault : goal.returns-in-None-clause-fault
 returns-in-None-clause-fault c =
-    no_row_there c.args.word.now c.in_ok-row.row c.in_ok-row.ensures.ok c.in-None.ensures
+    (refl, no_row_there c.args.word.now c.in_ok-row.row c.in_ok-row.ensures.ok c.in-None.ensures)

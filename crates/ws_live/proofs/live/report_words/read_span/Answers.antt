@@ -1,4 +1,4 @@
-use Rattle.std.proofs.Common.{ℕ, sym, subst}
+use Rattle.std.proofs.Common.{ℕ, sym, subst, refl}
 use Rattle.std.proofs.lemmas.Result.{IfOk-weaker, IfErr-weaker}
 use Rattle.ws_printing.specs.declared.station_report.Span.{Span}
 use Rattle.ws_live.specs.live.ConnectLines.{IsCellCount, IsPlaced, IsSpanText}
@@ -30,4 +30,4 @@ pub returns-in-Err-clause-fault : goal.returns-in-Err-clause-fault
 returns-in-Err-clause-fault c =
     let e = c.in-Err.ensures.fault in
     let words = c.args.words.now in
-    rw e.0 (λ (span : Span) m. e.1 span.at m.0 m.1)
+    rw e.0 (refl, λ (span : Span) m. e.1 span.at m.0 m.1)

@@ -1,3 +1,4 @@
+use Rattle.std.proofs.Common.{refl}
 use Rattle.std.proofs.lemmas.Result.{IfOk-weaker, IfErr-weaker}
 use Rattle.ws_text.specs.Words.{IsCell}
 use Rattle.ws_live.specs.live.ConnectLines.{IsCellText}
@@ -22,4 +23,4 @@ returns-in-Some-clause-fault c =
     (λ (h : ⊥). absurd h) h) c.read_place.ensures.fault
 
 pub returns-in-None-clause-fault : goal.returns-in-None-clause-fault
-returns-in-None-clause-fault c = no_cell_word c.args.words.now c.in-None.ensures
+returns-in-None-clause-fault c = (refl, no_cell_word c.args.words.now c.in-None.ensures)

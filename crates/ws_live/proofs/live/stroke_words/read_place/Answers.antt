@@ -1,3 +1,4 @@
+use Rattle.std.proofs.Common.{refl}
 use Rattle.std.proofs.lemmas.Result.{err_from_is_err_and}
 use Rattle.ws_text.specs.Words.{IsCell, IsSmall}
 use Rattle.ws_live.proofs.Scripts.{fault_on}
@@ -22,5 +23,8 @@ returns-in_err-at_column-clause-fault c =
     c.in_err-at_column.ensures.fault)
 
 pub returns-in-None-clause-fault : goal.returns-in-None-clause-fault
-returns-in-None-clause-fault c = off_screen c.args.row.now c.args.column.now c.in_ok-at_row.at_row
-    c.in_ok-at_column.at_column c.in_ok-at_row.ensures.ok c.in_ok-at_column.ensures.ok c.in-None.ensures
+returns-in-None-clause-fault c = (
+  refl,
+  off_screen c.args.row.now c.args.column.now c.in_ok-at_row.at_row c.in_ok-at_column.at_column
+      c.in_ok-at_row.ensures.ok c.in_ok-at_column.ensures.ok c.in-None.ensures,
+)

@@ -1,4 +1,4 @@
-use Rattle.std.proofs.Common.{inl, inr}
+use Rattle.std.proofs.Common.{inl, inr, refl}
 use Rattle.std.proofs.lemmas.Result.{IfOk-weaker, IfErr-weaker}
 use Rattle.ws_text.specs.Words.{IsHex}
 use Rattle.ws_live.specs.live.WireLines.{IsCommandSaid, IsRaw, IsWireBegun, SaysItems}
@@ -32,4 +32,5 @@ returns-in-Some-behind_telnet-clause-fault c =
     (λ says. inr ((c.in-Some-behind_telnet.field-0.now, c.in-Some-behind_telnet.ensures), says)) h) c.read_telnet.ensures.fault
 
 pub returns-in-None-behind_telnet-clause-fault : goal.returns-in-None-behind_telnet-clause-fault
-returns-in-None-behind_telnet-clause-fault c = no_raw c.args.line.now c.in-None.ensures c.in-None-behind_telnet.ensures
+returns-in-None-behind_telnet-clause-fault c =
+    (refl, no_raw c.args.line.now c.in-None.ensures c.in-None-behind_telnet.ensures)

@@ -1,4 +1,4 @@
-use Rattle.std.proofs.Common.{◌≡◌, ◌∷◌, [], ℕ, List, sym, ◌∙◌, subst}
+use Rattle.std.proofs.Common.{◌≡◌, ◌∷◌, [], ℕ, List, sym, ◌∙◌, subst, refl}
 use Rattle.std.proofs.lemmas.Result.{IfErr-weaker}
 use Rattle.ws_telnet.specs.declared.token.Telnet.{Telnet}
 use Rattle.ws_record.specs.declared.record.Item.{Item}
@@ -25,6 +25,9 @@ returns-in-Ok-clause-fault c =
     )) h) c.spelled_alone.ensures.fault
 
 pub returns-in-Err-Line-clause-fault : goal.returns-in-Err-Line-clause-fault
-returns-in-Err-Line-clause-fault c = λ bytes m.
-    line_no_memory _ (rw c.in-Err-Line.field-0-is at (c.in-Err-Line.ensures.only (TelnetItem m.0 ∷ [])
-    (subst (λ (z : List ℕ). AreSaid z (TelnetItem m.0 ∷ [])) (sym c.as_bytes.ensures.value) m.1)))
+returns-in-Err-Line-clause-fault c = (
+  refl,
+  λ bytes m.
+      line_no_memory _ (rw c.in-Err-Line.field-0-is at (c.in-Err-Line.ensures.only (TelnetItem m.0 ∷ [])
+      (subst (λ (z : List ℕ). AreSaid z (TelnetItem m.0 ∷ [])) (sym c.as_bytes.ensures.value) m.1))),
+)

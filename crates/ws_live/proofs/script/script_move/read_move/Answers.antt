@@ -1,5 +1,5 @@
 use Rattle.std.specs.Prelude.{codes}
-use Rattle.std.proofs.Common.{◌++◌, ℕ, List, ap, subst}
+use Rattle.std.proofs.Common.{◌++◌, ℕ, List, ap, subst, refl}
 use Rattle.std.proofs.lemmas.Result.{err_from_is_err_and, IfErr-weaker}
 use Rattle.ws_live.specs.script.Script.{IsMove, IsCount}
 use Rattle.ws_live.specs.script.ScriptFaults.{IsLineFault, IsSendBegun, IsSendLine}
@@ -24,8 +24,11 @@ returns-in_err-read_count-in-up-clause-fault c =
     (no_up command words c.in-up.is) (λ (h : ⊥). absurd h) c.in_err-read_count-in-up.ensures.fault)
 
 pub returns-in_default-clause-fault : goal.returns-in_default-clause-fault
-returns-in_default-clause-fault c = no_other c.args.command.now c.args.words.now c.requires c.in_default.not-send
-    c.in_default.not-down c.in_default.not-up c.in_default.not-key
+returns-in_default-clause-fault c = (
+  refl,
+  no_other c.args.command.now c.args.words.now c.requires c.in_default.not-send c.in_default.not-down
+      c.in_default.not-up c.in_default.not-key,
+)
 
 pub returns-in-send-clause-fault : goal.returns-in-send-clause-fault
 returns-in-send-clause-fault c =

@@ -1,5 +1,5 @@
 use Rattle.std.specs.Prelude.{codes}
-use Rattle.std.proofs.Common.{◌++◌, sym, ◌∙◌}
+use Rattle.std.proofs.Common.{◌++◌, sym, ◌∙◌, refl}
 use Rattle.std.proofs.lemmas.Result.{err_from_is_err_and}
 use Rattle.ws_text.proofs.LineEnds.{is_none}
 use Rattle.ws_live.specs.script.Script.{IsMove, IsSendOpcode, IsBodyText}
@@ -17,9 +17,11 @@ returns-in_err-opcode-2-clause-fault c =
 
 pub returns-then-is_empty-clause-fault : goal.returns-then-is_empty-clause-fault
 returns-then-is_empty-clause-fault c =
-    let hex = c.in-Some.hex.now in
-    no_send c.args.words.now c.in-Some.number.now hex c.in-Some.ensures.0 c.in-Some.ensures.1
-    (λ opcode body sent some text. some (is_none hex (sym c.is_empty.ensures ∙ c.if-is_empty.true)))
+    let hex = c.in-Some.hex.now in (
+      refl,
+      no_send c.args.words.now c.in-Some.number.now hex c.in-Some.ensures.0 c.in-Some.ensures.1
+          (λ opcode body sent some text. some (is_none hex (sym c.is_empty.ensures ∙ c.if-is_empty.true))),
+    )
 
 pub returns-in_err-body-clause-fault : goal.returns-in_err-body-clause-fault
 returns-in_err-body-clause-fault c =

@@ -14,7 +14,7 @@ use Rattle.ws_network.proofs.serving.AnyLineServedLine.serve.Goals as goal
 pub returns-clause-served : goal.returns-clause-served
 returns-clause-served g c =
     judged _ _ c.carry_at_any_host-outcome.result c.judge.result
-    (served_well (AnyRunsInTime timed timed_waits) c.args.asked.now.ready g.O.Sink.writer
+    (served_well (AnyRunsInTime timed timed_waits) c.args.asked.now.settings g.O.Sink.writer
     ((c.new-attached.result, 0), c.new.result) (
       (c.carry_at_any_host-outcome.new.attached, c.carry_at_any_host-outcome.new.ahead),
       c.carry_at_any_host-outcome.new.watch,

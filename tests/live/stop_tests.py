@@ -1,0 +1,94 @@
+"""What follows a line that is late, ended or refused: a session that stops, or goes on."""
+import time
+import unittest
+
+from live.lines import KINDS, READY, at_host, sending, served
+from live.program import Run, timed
+from live.screens import SIGN_ON, SIGN_ON_FIELDS
+from live.sessions_tests import begun, whole
+from records import record
+
+# What a host does, a line after the first `await` at which something goes wrong there, and what it prints.
+STATIONS = [(sending(SIGN_ON), "await record", "late\n"), (sending(SIGN_ON, closes=True), "await record", "ended\n"),
+            (sending(SIGN_ON), "key Dup", "key refused DupNotAllowed\n"),
+            (sending(SIGN_ON), "field 3 SECRET", "field refused NoSuchField\n"),
+            (sending(SIGN_ON), "await text No such text", "late\n")]
+
+
+class TestStop(unittest.TestCase):
+    def test_a_script_stops(self):
+        """No key is pressed after such a line, and its status is 1."""
+        for play, line, printed in STATIONS:
+            for words in [], ["--stop"]:
+                text = "await\n%s\nfields\ntype SECRET\nkey Enter\n" % line
+                at_host(play, ["--wait", "3", *words], None, 1, printed, script=text)
+        at_host(sending(SIGN_ON), ["--ready", "--wait", "3"], None, 1, "ok\nlate\nok\n",
+                script="await\nawait record\nnote A\n")
+
+    def test_a_script_goes_on(self):
+        for play, line, printed in STATIONS:
+            text = "await\n%s\nfields\nnote A\n" % line
+            # What shows something tells that the host has closed.
+            told = "ended\n" if printed == "ended\n" else ""
+            at_host(play, ["--wait", "3", "--go-on"], None, 1, printed + SIGN_ON_FIELDS + told + "A\n", script=text)
+
+    def test_a_good_script_stops_nowhere(self):
+        play = sending(SIGN_ON, answer=record("0636F1" "110635C1"))
+        at_host(play, ["--stop", "--wait", "60"], None, 0, SIGN_ON_FIELDS, script="# A\n\nawait\nfields\ntype A\nkey Enter\n")
+
+    def test_standard_input(self):
+        """It goes on, unless it is to stop."""
+        for play, line, printed in STATIONS:
+            text = "await\n%s\nnote A\n" % line
+            at_host(play, ["--wait", "3"], text, 1, printed + "A\n")
+            at_host(play, ["--wait", "3", "--go-on"], text, 1, printed + "A\n")
+            at_host(play, ["--wait", "3", "--stop"], text, 1, printed)
+        # A bad line, which is told where the session tells when it is ready.
+        words = ["--ready", "--wait", "3"]
+        told = "bad line: unknown word `nonsense`\nok\n"
+        at_host(sending(SIGN_ON), words, "await\nnonsense\nnote A\n", 1, "ok\n" + told + "A\nok\n")
+        at_host(sending(SIGN_ON), [*words, "--stop"], "await\nnonsense\nnote A\n", 1, "ok\n" + told)
+
+    def test_a_host_stops(self):
+        """It sends nothing after such a line, and doesn't answer on."""
+        for kind, ready in KINDS:
+            lines = [("await", "late\n")] if kind else [("await", "late\n"), ("cancel", "send refused NoReadToCancel\n")]
+            for line, printed in lines:
+                text = "await\n%s\nsend 1\n" % line
+                serve, side = served(None, *kind, wait=3, script=text)
+                side.take_end()
+                side.close()
+                serve.end(1, ready + printed)
+                serve, side = served(None, *kind, "--go-on", wait=3, script=text)
+                side.take(record(opcode=1))
+                side.close()
+                serve.end(1, ready + printed)
+                serve, side = served(text, *kind, wait=3)
+                side.take(record(opcode=1))
+                side.close()
+                serve.end(1, ready + printed)
+                serve, side = served(text, *kind, "--stop", wait=3)
+                side.take_end()
+                side.close()
+                serve.end(1, ready + printed)
+        # It ends at once, though its wait goes on for longer.
+        serve, side = served(None, wait=60, script="await\ncancel\n")
+        began = time.monotonic()
+        side.take_end()
+        side.close()
+        serve.end(1, READY + "send refused NoReadToCancel\n")
+        timed(0, 40, began, "it")
+
+    def test_the_next_station_is_served(self):
+        serve, station = begun(2, script="await\nsend 3 0440\ncancel\ncancel\n")
+        for _ in range(2):
+            side = station()
+            whole(side)
+        # Each session is over at its first refused line.
+        refused = READY + "send refused NoReadToCancel\n"
+        serve.end(1, refused + "session 2\n" + refused)
+
+    def test_both_at_once(self):
+        for command in ["connect", "127.0.0.1:1"], ["serve", "127.0.0.1:0"]:
+            for words in ["--stop", "--go-on"], ["--go-on", "--stop"], ["--stop", "--stop"]:
+                Run([command[0], *words, *command[1:]], "").end(2, "", None)
