@@ -28,7 +28,7 @@ has another form, ends it with status 2.
 
 With --of, FILE is a recording, as --record of connect and serve makes it. Of
 its lines `MILLISECONDS host|station HEX` those of that end are the stream, one
-behind another; a line of another form is told as `script line N`.
+after another; a line of another form is told as `script line N`.
 
 With --raw, FILE has the bytes. They are read in pieces, none of which is kept,
 and no further than to the one with a byte that is refused.
@@ -86,7 +86,7 @@ pub(crate) const MAKE_EXAMPLES: &str = "\
 A text has the lines that `show` prints, and is read before anything is written:
   record opcode K   a record of opcode K; flags FFFF may stand before opcode
   telnet DO 24      a Telnet command; so too telnet NOP, telnet SB 24 HEX
-    WRITE 00 08     an element of the record, behind two blanks
+    WRITE 00 08     an element of the record, after two blanks
     TEXT Sign On    characters for cells
 A place (at P) counts for nothing, nor does an empty line or one that begins
 with #. A line screen ends the text.
@@ -112,7 +112,7 @@ Examples:
 pub(crate) const ANSWERS_HELP: &str = "Reads what a station sends, and not what a host sends";
 
 pub(crate) const EXTENDED_HELP: &str =
-    "Takes also what live hosts send beside the profile, or with --answers what their stations tell";
+    "Takes what live hosts send in addition to the profile, or with --answers what their stations tell";
 
 pub(crate) const STREAM_HELP: &str =
     "A hex text, or what --of or --raw says; without it, standard input is read";

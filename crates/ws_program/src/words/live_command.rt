@@ -39,7 +39,7 @@ With --record, FILE has a line `MILLISECONDS host|station HEX` for each piece
 that crossed the connection. It holds what was typed into hidden fields,
 passwords too, so none but its owner can read it.
 
-It takes what live hosts send beside the profile, such as Query and Save Screen:
+It takes what live hosts send in addition to the profile, such as Query:
 `key Reset` takes an error away that a host shows, and until then `await` goes
 on too, and `show` ends with `error row R`. With --strict it refuses all that,
 and there is no `key Reset`.
@@ -61,7 +61,7 @@ port. A script has a line for each step, and is read before anything is sent.
 Without one a line of standard input is carried out before the next is read:
   send K HEX   sends a record of opcode K, with the body HEX
   send K       sends one without a body, or with the elements of the lines
-               behind it, as `show` prints them and `make` reads them:
+               after it, as `show` prints them and `make` reads them:
     WRITE 00 08
     TEXT Sign On
   cancel       cancels the read that is asked
@@ -73,7 +73,7 @@ Without one a line of standard input is carried out before the next is read:
   raw HEX      writes these bytes as they are
   telnet WORDS writes a Telnet command, as `make` reads it: telnet DO 39
   pause MS     lets MS milliseconds go by, at most 3600000
-  close        closes the connection; no line is carried out behind it
+  close        closes the connection; no line is carried out after it
   end          ends the lines of a `send K`
 
 On standard input `send K` is carried out when the next line comes that doesn't
@@ -111,7 +111,8 @@ Examples:
 pub(crate) const COLOR_HELP: &str =
     "Prints the rows of a screen in colour, by sequences of ECMA-48";
 
-const STRICT_HELP: &str = "Keeps to the profile, and refuses what live hosts send beside it";
+const STRICT_HELP: &str =
+    "Keeps to the profile, and refuses what live hosts send in addition to it";
 
 const EXTENDED_HELP: &str = "Without effect: what it asked for is taken without --strict";
 
@@ -127,7 +128,7 @@ const ADDRESS_HELP: &str =
     "Where it listens: HOST:PORT, with an address of IPv6 in brackets; port 0 takes a free one";
 
 const READY_HELP: &str =
-    "Prints `ok` behind each line's output, for a program that drives the session";
+    "Prints `ok` after each line's output, for a program that drives the session";
 
 const STOP_HELP: &str =
     "Ends the session after the first line that is late, ended, refused or bad; the default with a SCRIPT";
