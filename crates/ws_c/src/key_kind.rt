@@ -100,7 +100,8 @@ fn attention_key(value: u32) -> Option<Key>
 /// The refusal of a key of this number, where there is one.
 pub(crate) fn refusal_from(number: u8) -> Option<KeyRefusal>
     ensures some { IfSome result (λ refusal. status_number refusal ≡ number) }
-    ensures none { IfNone result ((refusal : ARefusal) → status_number refusal ≡ number → ⊥) }
+    ensures none { IfNone result
+        ((refusal : ARefusal) → status_number refusal ≡ number → ⊥) }
 {
     match number {
         1 => Some(KeyRefusal::Locked),

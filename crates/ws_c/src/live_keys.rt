@@ -161,7 +161,8 @@ pub extern "C" fn ws_c_station_missing(
     refusal: u8,
     field: &mut u16,
 ) -> u32
-    ensures { (named : Option ARefusal) × IsRefusalFrom refusal named × HasStatus result (λ status.
+    ensures { (named : Option ARefusal) × IsRefusalFrom refusal named
+        × HasStatus result (λ status.
         OnLive handle.old.owned.value handle.new.owned.value
         (λ old new. (new ≡ old) × IsMissingTold named old.end status field.new)
         (HoldsNone status (field.new ≡ 0))) }

@@ -298,7 +298,8 @@ pub extern "C" fn ws_c_station_row(
         (HoldsNone status ((text.new ≡ text.old) × (told.new ≡ told_length 0)))) }
     ensures off { ¬ IsRow row → (result ≡ status_number Status.BadArgument)
         × (handle.new ≡ handle.old) × (text.new ≡ text.old) × (told.new ≡ told_length 0) }
-    ensures room { IsRow row → length text.old < ROW_ROOM → (result ≡ status_number Status.NoRoom)
+    ensures room { IsRow row → length text.old < ROW_ROOM
+        → (result ≡ status_number Status.NoRoom)
         × (handle.new ≡ handle.old) × (text.new ≡ text.old) × (told.new ≡ told_length 0) }
 {
     *told = Told::length(0);

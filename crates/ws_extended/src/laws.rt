@@ -58,7 +58,8 @@ pub fn image_gives()
         → s.writing ≡ None
         → (row : ℕ) (h : History) → open_write h ≡ None
         → s ≡ screen_of (after_end (after_elements h (image row s))) }
-    ensures unrefused { (g : History) (s : ScreenParts) → Gives g s → IsLegal s → s.writing ≡ None
+    ensures unrefused { (g : History) (s : ScreenParts)
+        → Gives g s → IsLegal s → s.writing ≡ None
         → (row : ℕ) (h : History) → open_write h ≡ None → body_fault h (image row s) ≡ None }
     ensures body { (row : ℕ) (s : ScreenParts) → IsLegal s → IsTyped s → row < 256
         → IsWhole element_rules (image row s) }
@@ -94,7 +95,8 @@ pub fn roll_moves_rows()
 /// Whatever stood on a display, a saved screen that comes back is as it was, its error line too, and no error stands.
 /// It is a body of a live host.
 pub fn restore_gives_back()
-    ensures restored { (g : History) (s : ScreenParts) → Gives g s → IsLegal s → s.writing ≡ None
+    ensures restored { (g : History) (s : ScreenParts)
+        → Gives g s → IsLegal s → s.writing ≡ None
         → (row : ℕ) (state : ExtendedState)
         → s ≡ screen_of (state_after_end (state_after_all state (saved_screen row s))).history }
     ensures row { (row : ℕ) (s : ScreenParts) (state : ExtendedState)
@@ -109,13 +111,15 @@ pub fn restore_gives_back()
 /// After a Write Error Code and its text, the key Reset gives the screen as it was, but for the lock and the cursor,
 /// and of neither is anything refused: as events, and on a display. Where no error stands Reset does nothing.
 pub fn reset_gives_back()
-    ensures given { (h : History) (s : ScreenParts) → Gives h s → IsLegal s → s.writing ≡ None
+    ensures given { (h : History) (s : ScreenParts)
+        → Gives h s → IsLegal s → s.writing ≡ None
         → (row : ℕ) (text : List Element) → IsRow row → IsErrorText text
         → Gives (after_reset h row text s.cells) (record s {
           locked = false;
           cursor = unwrap_or (text_cursor text None) s.cursor;
         }) }
-    ensures unrefused { (h : History) (s : ScreenParts) → Gives h s → IsLegal s → s.writing ≡ None
+    ensures unrefused { (h : History) (s : ScreenParts)
+        → Gives h s → IsLegal s → s.writing ≡ None
         → (row : ℕ) (text : List Element) → IsRow row → IsErrorText text
         → (body_fault h (error_shown row text) ≡ None)
         × (body_fault (after_error h row text) (given_back RESETS row

@@ -32,7 +32,8 @@ impl ExtendedCommands {
     // The first row.
     pub(super) fn roll_top(&mut self, control: u8, byte: u8) -> Push<ExtendedElement>
         requires { IsUnfinished extended_rules self.old.place (ESCAPE ∷ ROLL ∷ control ∷ []) }
-        ensures { IsStep extended_rules (reading self.old.place (ESCAPE ∷ ROLL ∷ control ∷ [])) byte
+        ensures { IsStep extended_rules
+            (reading self.old.place (ESCAPE ∷ ROLL ∷ control ∷ [])) byte
             (reading_by self.new) result }
     {
         match Roll::new(control, byte, ROWS) {
