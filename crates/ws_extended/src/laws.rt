@@ -124,7 +124,8 @@ pub fn reset_gives_back()
         → (body_fault h (error_shown row text) ≡ None)
         × (body_fault (after_error h row text) (given_back RESETS row
         (row_cells row s.cells)) ≡ None) }
-    ensures reset { (h : History) (s : ScreenParts) → Gives h s → IsLegal s → s.writing ≡ None
+    ensures reset { (h : History) (s : ScreenParts) → Gives h s → IsLegal s
+        → s.writing ≡ None
         → (n : ℕ) (text : List Element) → IsErrorText text → IsRow (error_row h)
         → Gives (state_after_reset (state_after_end (state_after_all
         (record { history = h; kept = None; text = n }) (WriteError ∷ map Text text)))).history

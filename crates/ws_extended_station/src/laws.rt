@@ -90,7 +90,8 @@ pub fn reset_takes_errors_back()
         → (r : Record AnElement) (text : List Element) → IsErrorText text
         → r.body ≡ WriteError ∷ map Text text → opcode_events r.opcode ≡ []
         → TakesErrorBack s screen r text }
-    ensures none { (s : ExtendedEndState) → NoErrorStands s → extended.presses s Reset ≡ Silent s }
+    ensures none { (s : ExtendedEndState) → NoErrorStands s → extended.presses s Reset
+        ≡ Silent s }
     ensures silent { extended.sends Reset ≡ false }
 {}
 

@@ -60,7 +60,8 @@ impl<B: Body> UnitReader<B> {
             × (bytes.now ≡ B.rules.spelling unit ++ result.now)
             × (length result.now < length bytes.now)
             × (self.new ≡ B.rules.after unit) }
-        ensures none { slot.new ≡ None → (units : List B.Unit) → IsChain B.rules self.old units
+        ensures none { slot.new ≡ None → (units : List B.Unit)
+            → IsChain B.rules self.old units
             → bytes.now ≡ spelling_of B.rules units → units ≡ [] }
         ensures stays { slot.new ≡ None → self.new ≡ self.old }
     {

@@ -20,7 +20,8 @@ pub struct Identity {
 impl Identity {
     /// The keyboard's type that a host is told: three bytes.
     pub fn keyboard_type(&self) -> &[u8]
-        ensures value { result.now ≡ unwrap_or self.now.keyboard (page_keyboard self.now.page.country) }
+        ensures value { result.now ≡ unwrap_or self.now.keyboard
+            (page_keyboard self.now.page.country) }
         ensures legal { IsTrue (is_keyboard_type result.now) }
     {
         match &self.keyboard {

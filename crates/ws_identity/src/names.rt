@@ -74,7 +74,8 @@ impl Model for Keyboard {
 impl Keyboard {
     /// The type of these bytes, with small letters as capitals. `None` where they aren't three letters and digits.
     pub fn new(name: &[u8]) -> Option<Self>
-        ensures { SomeIff result (IsTrue (is_keyboard_type (capitals name.now))) (capitals name.now) }
+        ensures { SomeIff result (IsTrue (is_keyboard_type (capitals name.now)))
+            (capitals name.now) }
     {
         let mut letters = ArrayVec::try_from(name).ok()?;
         letters.as_mut_slice().make_ascii_uppercase();

@@ -148,7 +148,8 @@ fn push_token(bytes: &mut ArrayVec<u8, 17>, token: Telnet)
 /// Appends the token of a verb and an option.
 pub(crate) fn push_option(bytes: &mut ArrayVec<u8, 17>, verb: Verb, option: u8)
     requires { length bytes.old.items + 3 ≤ 17 }
-    ensures { bytes.new.items ≡ bytes.old.items ++ telnet_bytes (option_tokens (Some verb) option) }
+    ensures { bytes.new.items
+        ≡ bytes.old.items ++ telnet_bytes (option_tokens (Some verb) option) }
 {
     push_token(bytes, Telnet::Option(verb, option));
 }
