@@ -8,13 +8,13 @@ use C.{record_spelling, header, CancelInvite, PutGet, Item, answer_rules, elemen
 use C.{ScreenParts, ReadKind, Read, Key, Doing, Did, Happening, Does, doing, items_of, IsTrace, Transitions}
 use C.{station_transitions, host_at_send, host_transitions, AttachedParts, HaveLed, HaveLedUnwritten, Applied}
 use C.{HostRequest, SendFault, SendFailed, KeyFault, AtHost, HostReached, HostParts, IsSent, IsSendFault, HostEndState}
-use C.{SendReaction, RefusesSend, answer_spelling, StationParts, StationReached, StationEndState, TakesNoMore}
-use C.{RefusesKey, answer_record, Opcode, host_send, IsSome, ◌≢◌}
+use C.{SendReaction, RefusesSend, StationParts, StationReached, StationEndState, TakesNoMore}
+use C.{RefusesKey, KeyFailed, answer_record, Opcode, host_send, IsSome, ◌≢◌}
 use Rattle.ws_code.specs.Device.{Devices}
 use Rattle.ws_keys.specs.declared.answer.Answer.{Answer}
 use Rattle.ws_code.specs.declared.fault.Fault.TheVariants.{Memory as NoMemory}
 use Rattle.ws_end.specs.Behaviour.{Behaviour}
-use Rattle.ws_end.specs.attached.Requests.{HasActed, HasDoneRequest, IfRefused, Judged, request_judged}
+use Rattle.ws_end.specs.attached.Requests.{HasActed, HasDoneKey, HasDoneRequest, IfRefused, Judged, key_judged, request_judged}
 use Rattle.ws_end.specs.EndTransitions.{IsSendWanting}
 use Rattle.ws_end.specs.declared.attached.acted.Acted.{Acted}
 use Rattle.ws_end.specs.declared.attached.acted.Acted.TheVariants.{Done, Refused}
@@ -24,11 +24,11 @@ use Rattle.ws_end.specs.host_end.HostReached.{CarriesOut, sent_bytes}
 use Rattle.ws_end.specs.host_end.HostEndState.{host_requests}
 use Rattle.ws_end.specs.declared.host_end.send_fault.SendFault.TheVariants.{Memory}
 use Rattle.ws_end.specs.station.Displays.{DisplayOf, EndStateOn, KeyReactionOn, on_display}
-use Rattle.ws_end.specs.driver.DriverBehaviour.{DriverTraces}
+use Rattle.ws_end.specs.station.AnswerSpelling.{sent_by}
 use Rattle.ws_end.specs.station.StationTransitions.{at_key_on, key_on}
 use Rattle.ws_end.specs.station.StationReacting.{PartsOn, transitions_on}
 use Rattle.ws_end.specs.station.StationEndState.{profile}
-use Rattle.ws_end.specs.station.Stations.{ReachedOn, IsKeyedOn, station_driving}
+use Rattle.ws_end.specs.station.Stations.{ReachedOn, IsKeyedOn}
 use Rattle.ws_end.proofs.Shuts.{not_shut, shut_fails}
 use Rattle.ws_end.specs.Acts.{protocol_of}
 
@@ -74,16 +74,17 @@ module _ {D P U H PlaceV V K R : Type 0} (rules : Rules P U) (d : DisplayOf D U 
   key_trace new bytes items state key text = request_trace _ _ _ _ bytes items state text key
 
   key_sends : (old new : PartsOn D P) (bytes : List ℕ) (items : List (Item U)) (state : EndStateOn H) (key : K)
-      (answer : Answer) → IsKeyedOn (on_display rules d) old new bytes items state key (Ok (Some answer))
-      → KeyTraceOn new bytes items state (answer_spelling answer) (key_on d state key)
-  key_sends old new bytes items state key (Read body) k =
+      (answer : Option Answer) → IsKeyedOn (on_display rules d) old new bytes items state key (Ok answer)
+      → KeyTraceOn new bytes items state (sent_by answer) (key_on d state key)
+  key_sends old new bytes items state key None k = rw k.1 (refl, refl, k.2)
+  key_sends old new bytes items state key (Some (Read body)) k =
       rw k.3 (
         ap (λ z. record_spelling (header (10 + length z) 0 PutGet ++ z)) k.4 ∙ sym (append-nil _)
             ∙ sym (spells (d.shows state.happened) k.1 k.2),
         refl,
         k.5,
       )
-  key_sends old new bytes items state key answer k = rw k.0 (refl, refl, k.1)
+  key_sends old new bytes items state key (Some answer) k = rw k.0 (refl, refl, k.1)
 
   -- whatever led to the station, the key gives this
   abbrev pub KeyedOn : PartsOn D P → PartsOn D P → K → Result (Option Answer) KeyFault → Type 0
@@ -91,39 +92,51 @@ module _ {D P U H PlaceV V K R : Type 0} (rules : Rules P U) (d : DisplayOf D U 
       → ReachedOn (on_display rules d) old bytes items state → length bytes + 1 < 2 ^ 64
       → IsKeyedOn (on_display rules d) old new bytes items state key result
 
-  module _ (old new : PartsOn D P) (key : K) where
-    pub key_silent_traces : KeyedOn old new key (Ok None) → (TakesNoMore old → ⊥)
-        → DriverTraces (station_driving (on_display rules d)) old (Did key ∷ []) [] [] new
-    key_silent_traces p works = record {
-      led = λ bytes items state l few.
-          let k = p bytes items state l (omega (arith, few)) in
-          key_trace new bytes items state key [] (rw k.1 (refl, refl, k.2));
-      shut = λ shut. absurd (works shut);
-    }
-
-    pub key_sent_traces : (answer : Answer) → KeyedOn old new key (Ok (Some answer)) → (TakesNoMore old → ⊥)
-        → DriverTraces (station_driving (on_display rules d)) old (Did key ∷ []) (answer_spelling answer) [] new
-    key_sent_traces answer p works = record {
-      led = λ bytes items state l few. key_trace new bytes items state key _
-          (key_sends old new bytes items state key _ (p bytes items state l (omega (arith, few))));
-      shut = λ shut. absurd (works shut);
-    }
-
-    pub key_refused_traces : (fault : KeyFault) → KeyedOn old new key (Err fault) → new ≡ old
-        → DriverTraces (station_driving (on_display rules d)) old (Did key ∷ []) [] [] new
-    key_refused_traces fault p same = record {
-      led = λ bytes items state l few.
-          let k = p bytes items state l (omega (arith, few)) in
-          key_trace new bytes items state key [] (rw k.0 (refl, refl, rw k.1 l));
-      shut = λ shut. record { no_byte = refl; same = same; unwritten = refl; no_event = refl };
-    }
-
-  pub key_taken : (old new : PartsOn D P) (bytes : List ℕ) (items : List (Item U)) (state : EndStateOn H) (key : K)
+  key_taken : (old new : PartsOn D P) (bytes : List ℕ) (items : List (Item U)) (state : EndStateOn H) (key : K)
       (answer : Option Answer) → IsKeyedOn (on_display rules d) old new bytes items state key (Ok answer)
       → (fault : KeyFault) → key_on d state key ≡ RefusesKey fault → ⊥
   key_taken old new bytes items state key None k fault e = cc (k.1, e)
   key_taken old new bytes items state key (Some (Read body)) k fault e = cc (k.3, e)
   key_taken old new bytes items state key (Some answer) k fault e = cc (k.0, e)
+
+  pub key_judges : (old new : PartsOn D P) (key : K) (result : Result (Option Answer) KeyFault)
+      → KeyedOn old new key result → (IsSome old.ended → result ≡ Err KeyFailed)
+      → (old.live.taken + 1 ≡ 2 ^ 64 → result ≡ Err KeyFailed) → OnErr result (new ≡ old)
+      → HasDoneKey (key_judged (on_display rules d) key) old new result
+  key_judges old new key (Ok answer) keyed failed full same =
+      let works = not_shut _ _ KeyFailed answer failed full in
+      record {
+        done = record {
+          led = λ bytes items state l few. key_trace new bytes items state key (sent_by answer)
+              (key_sends old new bytes items state key answer (keyed bytes items state l (omega (arith, few))));
+          shut = λ shut. absurd (works shut);
+        };
+        taken = record {
+          led = λ bytes items state l few.
+              key_taken old new bytes items state key answer (keyed bytes items state l few);
+          works = works;
+        };
+        refused = tt;
+        same = tt;
+      }
+  key_judges old new key (Err fault) keyed failed full same = record {
+    done = tt;
+    taken = tt;
+    refused = (
+      record {
+        led = λ bytes items state l few. (keyed bytes items state l few).0;
+        shut = λ shut. (let e : ◌≡◌ {A = Result (Option Answer) KeyFault} (Err fault) (Err KeyFailed) =
+            shut_fails _ _ KeyFailed _ failed full shut in cc);
+      },
+      record {
+        led = λ bytes items state l few.
+            let k = keyed bytes items state l (omega (arith, few)) in
+            key_trace new bytes items state key [] (rw k.0 (refl, refl, rw k.1 l));
+        shut = λ shut. record { no_byte = refl; same = same; unwritten = refl; no_event = refl };
+      },
+    );
+    same = same;
+  }
 
 -- the profile's answers
 pub profile_spells : SpellsOn profile

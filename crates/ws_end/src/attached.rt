@@ -2,22 +2,23 @@
 ghost use Rattle.std.specs.Prelude.{◌≡◌, ◌≢◌, ◌<◌, [], Err, true, false, length, OnOk, IfOk, IfErr};
 ghost use Rattle.ws_end.specs.attached.Attachments.{HasTakenSome, HasTakenWaiting, IsWaitingFault, HasHeard, IsHearFault, breaks};
 ghost use Rattle.ws_end.specs.attached.Attachments.{IfEvents, TakesFirst, HearsFirst, HearsNext};
-ghost use Rattle.ws_end.specs.attached.Requests.{HasActed, judged, key_judged};
+ghost use Rattle.ws_end.specs.attached.Requests.{HasActed, judged};
 ghost use Rattle.ws_code.specs.Device.{on_devices};
-ghost use Rattle.ws_end.specs.station.Displays.{on_display as on};
 
 pub(crate) mod acted;
 pub(crate) mod acting;
 mod beside;
+pub(crate) mod keyed;
 pub(crate) mod player;
 pub(crate) mod run;
 pub(crate) mod waiting;
 pub(crate) mod writing;
 
+use crate::attached::keyed::Keyed;
 use crate::attached::waiting::Waiting;
-use crate::attached::writing::{PieceTaken, hear_piece, press_key};
+use crate::attached::writing::{PieceTaken, hear_piece};
 use crate::end::End;
-use crate::{Acted, Acting, KeyFault, SendFault, StationDisplay, StationOn};
+use crate::{Acted, Acting, KeyFault, SendFault};
 use std::marker::Model;
 use ws_code::{DeviceFailed, Fault, Sink, Source, write_whole};
 
@@ -219,22 +220,22 @@ impl<E: Acting, S: Source, K: Sink> Attached<E, S, K> {
     }
 }
 
-impl<D: StationDisplay, S: Source, K: Sink> Attached<StationOn<D>, S, K> {
+impl<E: Keyed, S: Source, K: Sink> Attached<E, S, K> {
     /// Presses a key, and writes what it sends.
     ///
     /// # Errors
     ///
     /// `Write` where a write failed, or took no byte: the key has had its effect, and a prefix of what it sends went
-    /// out. `Failed` after a call that answered `Write`, or in which the station refused a byte; nothing is then
-    /// changed. A station that is shut otherwise refuses the key by `KeyFault::Failed`.
-    pub fn press(&mut self, key: D::Key) -> Result<Acted<KeyFault>, Fault>
+    /// out. `Failed` after a call that answered `Write`, or in which the end refused a byte; nothing is then
+    /// changed. An end that is shut otherwise refuses the key by `KeyFault::Failed`.
+    pub fn press(&mut self, key: E::Key) -> Result<Acted<KeyFault>, Fault>
         ensures { HasActed (on_devices K.writer S.reader)
-            (key_judged (on D.Commands.rules D.does) key) self.old self.new result }
+            (E.keyed key) self.old self.new result }
     {
         if self.broken {
             return Err(Fault::Failed);
         }
-        match press_key(&mut self.end, &mut self.sink, key) {
+        match self.end.press(&mut self.sink, key) {
             Ok(acted) => Ok(acted),
             Err(fault) => {
                 self.broken = true;

@@ -13,6 +13,7 @@ mod station;
 pub use attached::Attached;
 pub use attached::acted::Acted;
 pub use attached::acting::Acting;
+pub use attached::keyed::Keyed;
 pub use attached::run::{Played, run_station};
 pub use driver::Driver;
 pub use driver::halt::Halt;

@@ -1,9 +1,10 @@
 -- A request at an end on devices: whether it was done, and what a fault leaves
 
-use Rattle.std.specs.Prelude.{◌≡◌, ◌≢◌, [], ◌∷◌, Bool, true, false, Result, Err, OnOk, OnErr, IfOk, IfErr}
+use Rattle.std.specs.Prelude.{◌≡◌, ◌≢◌, [], ◌∷◌, Bool, true, false, Option, Result, Err, OnOk, OnErr, IfOk, IfErr}
 use Rattle.ws_code.specs.Device.{Devices, Writer}
 use Rattle.ws_code.specs.declared.fault.Fault.{Fault}
 use Rattle.ws_code.specs.declared.fault.Fault.TheVariants.{Failed, Memory, Write}
+use Rattle.ws_keys.specs.declared.answer.Answer.{Answer}
 use Rattle.ws_end.specs.declared.end_step.Applied.{Applied}
 use Rattle.ws_end.specs.declared.end_step.HostRequest.{HostRequest}
 use Rattle.ws_end.specs.declared.end_step.Sent.{Sent}
@@ -20,6 +21,7 @@ use Rattle.ws_end.specs.EndTransitions.{IsSendRefusal, IsSendTaken, IsSendWantin
 use Rattle.ws_end.specs.attached.Attachments.{AttachedParts, HaveLed, IsSendFailure}
 use Rattle.ws_end.specs.attached.Written.{HasWritten, HasWrittenPrefix}
 use Rattle.ws_end.specs.host_end.HostReached.{HostParts, sent_bytes}
+use Rattle.ws_end.specs.station.AnswerSpelling.{sent_by}
 use Rattle.ws_end.specs.station.Displays.{OnDisplay}
 use Rattle.ws_end.specs.station.StationActs.{IsKeyRefusalOn, IsKeyTakenOn}
 use Rattle.ws_end.specs.station.Stations.{StationOf}
@@ -83,6 +85,14 @@ pub record HasDoneRequest {E Request Event : Type 0} (j : Judged E Request Event
   pub refused : IfErr result (λ fault. fault ≢ NoMemory
       → j.refrains old fault × j.behaviour.traces old (Did j.request ∷ []) [] [] new)
   pub wanting : result ≡ Err NoMemory → j.wants old
+  pub same : OnErr result (new ≡ old)
+
+-- What a key at an end comes to: what it sends; or why it is refused, which changes nothing.
+pub record HasDoneKey {E Request Event : Type 0} (j : Judged E Request Event KeyFault) (old new : E)
+    (result : Result (Option Answer) KeyFault) : Type 0 where
+  pub done : IfOk result (λ answer. j.behaviour.traces old (Did j.request ∷ []) (sent_by answer) [] new)
+  pub taken : OnOk result (j.acts old)
+  pub refused : IfErr result (λ fault. j.refrains old fault × j.behaviour.traces old (Did j.request ∷ []) [] [] new)
   pub same : OnErr result (new ≡ old)
 
 -- What a request at an end comes to, and what of it goes into a sink at once: what it writes, or a prefix of that.

@@ -14,7 +14,8 @@ ghost use Rattle.ws_end.specs.attached.Playing.{AtPlayer, HasDone, IsBrought};
 ghost use Rattle.ws_end.specs.station.StationReached.{AtStation};
 ghost use Rattle.ws_end.specs.attached.StationRun.{IsRunFault, outflow};
 
-use crate::attached::writing::{fault_of, press_key};
+use crate::attached::keyed::Keyed;
+use crate::attached::writing::fault_of;
 use crate::end_step::EndFed;
 use crate::{Acted, Played, Station, StationDisplay};
 use ws_code::{Fault, Sink, write_whole};
@@ -41,7 +42,7 @@ impl Player {
             → FailedWithin S.writer sink.old sink.new (plain_spelling answer_rules
             (doing station_transitions state (Does key ∷ [])).written))) }
     {
-        match press_key(&mut self.station, sink, key) {
+        match self.station.press(sink, key) {
             Ok(Acted::Done) => Ok(()),
             Ok(Acted::Refused(_)) => {
                 self.keys_refused = self.keys_refused.saturating_add(1);

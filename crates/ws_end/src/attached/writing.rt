@@ -1,15 +1,13 @@
-//! What an end does at bytes or a key, and writes at once into a sink: the steps of `Attached` and of `run_station`.
+//! What an end does at bytes, and writes at once into a sink: the steps of `Attached` and of `run_station`.
 ghost use Rattle.std.specs.Prelude.{◌≡◌, ◌<◌, ◌≤◌, [], true, length, take, IfOk, IfErr};
 ghost use Rattle.ws_end.specs.Acts.{all_came, as_list};
-ghost use Rattle.ws_end.specs.attached.Requests.{WritesRequest, key_judged};
 ghost use Rattle.ws_end.specs.attached.Attachments as spec;
 ghost use Rattle.ws_end.specs.attached.Attachments.{breaks, IfEvents, TellsAtLast};
 ghost use Rattle.ws_end.specs.attached.Written.{HasWritten, IsUnheard};
-ghost use Rattle.ws_end.specs.station.Displays.{on_display as on};
 
+use crate::Refusal;
 use crate::end::End;
 use crate::end_step::EndFed;
-use crate::{Acted, KeyFault, Refusal, StationDisplay, StationOn, write_answer};
 use ws_code::{Fault, Sink, write_whole};
 
 // What a piece led to: how many bytes of it are gone, and what the end told, or why it stopped.
@@ -67,25 +65,5 @@ pub(crate) fn fault_of(refusal: Refusal) -> Fault
         Refusal::At { place, reason } => Fault::Refused { place, reason },
         Refusal::Failed => Fault::Failed,
         Refusal::Memory => Fault::Memory,
-    }
-}
-
-// Presses a key, and writes what it sends. `Write` is the only fault: the key has had its effect, and a prefix of what
-// it sends went out.
-pub(crate) fn press_key<D: StationDisplay, K: Sink>(
-    station: &mut StationOn<D>,
-    sink: &mut K,
-    key: D::Key,
-) -> Result<Acted<KeyFault>, Fault>
-    ensures { WritesRequest K.writer (key_judged (on D.Commands.rules D.does) key)
-        station.old station.new sink.old sink.new result }
-{
-    match station.key(key) {
-        Ok(None) => Ok(Acted::Done),
-        Ok(Some(answer)) => {
-            write_answer(sink, &answer)?;
-            Ok(Acted::Done)
-        }
-        Err(fault) => Ok(Acted::Refused(fault)),
     }
 }

@@ -22,5 +22,5 @@ pub returns-in-Err-clause-fault : goal.returns-in-Err-clause-fault
 returns-in-Err-clause-fault g c = (
   c.in-Err.ensures.fault.0,
   λ bytes items state l few. press_failed _ c.args.self.now bytes items state _
-      c.press_key.new.station _ _ l few c.in-Err.ensures.fault.1,
+      c.press.new.self _ _ l few c.in-Err.ensures.fault.1,
 )
