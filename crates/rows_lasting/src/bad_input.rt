@@ -131,6 +131,7 @@ fn pieces_may_be_cut_anywhere(rt: HostRuntime) {
         refused(&rt, &station, 2, 33, 12);
         same(&rt, station.records(), 3);
         same(&rt, station.taken(), single.taken());
+        same(&rt, station.refused_at(), single.refused_at());
     }
 }
 

@@ -8,6 +8,8 @@ mod hosts;
 #[cfg(test)]
 mod identities;
 #[cfg(test)]
+mod places;
+#[cfg(test)]
 mod rolls;
 #[cfg(test)]
 mod rows;

@@ -9,12 +9,13 @@ use Rattle.ws_end.specs.declared.refusal.Refusal.{Refusal}
 use Rattle.ws_end.specs.declared.refusal.Refusal.TheVariants.{At, Failed, Memory}
 use Rattle.ws_end.specs.station.Displays.{OnDisplay}
 use Rattle.ws_lasting.specs.Behaviour.{AreQuiet, AreTakenSo, LeadsOnFrom}
-use Rattle.ws_lasting.specs.Footings.{AtLasting, LastingOf, LastingStep, IsByteTaken, bytes_written}
+use Rattle.ws_lasting.specs.Footings.{AtLasting, LastingOf, LastingStep, IsByteTaken, IsRefusalPlaced, bytes_written}
 use Rattle.ws_lasting.specs.Fronts.{IsFrontTaken}
 use Rattle.ws_lasting.specs.Lasting.{FootingOn, IsAtByte, Lasts}
 use Rattle.ws_lasting.specs.declared.lasting_reply.LastingReply.{LastingReply}
 use Rattle.ws_lasting.specs.declared.record_event.RecordEvent.{RecordEvent}
 use Rattle.ws_lasting.specs.LastingLaws.{leads_both, lasts_both}
+use Rattle.ws_lasting.proofs.Placing.{placed_after}
 
 -- What comes of bytes one after another.
 
@@ -115,14 +116,17 @@ module _ (on : OnDisplay) where
       (fed : EndFed RecordEvent (LastingReply on.Replied))
       → IsFrontTaken on b (left_of piece used) c fed → (gave : LastingStep on.Replied) × (fed.step ≡ Ok gave)
       × (gave.event ≡ None) × (bytes_written on c gave.reply ≡ []) → (used ≤ length piece)
-      × (b.taken ≡ a.taken + used) × AtLasting on a (λ at. LeadsOnFrom on a b at (all_came (take used piece)) [] [])
-      → (used + fed.used ≤ length piece) × (c.taken ≡ a.taken + (used + fed.used))
+      × (b.taken ≡ a.taken + used) × IsRefusalPlaced a a.taken b None
+      × AtLasting on a (λ at. LeadsOnFrom on a b at (all_came (take used piece)) [] [])
+      → (used + fed.used ≤ length piece) × (c.taken ≡ a.taken + (used + fed.used)) × IsRefusalPlaced a a.taken c None
       × AtLasting on a (λ at. LeadsOnFrom on a c at (all_came (take (used + fed.used) piece)) [] [])
   front_silent a b c piece used fed f silent led = (
     omega (arith, f.within, length_rest piece used, led.0),
     (let n = rw silent.1 at f.counted in omega (arith, n, led.1)),
+    (let n = rw silent.1 at f.counted in rw silent.2 at (rw silent.1 at (placed_after a b c fed.step
+        (omega (arith, led.1)) (ok_so fed.step (omega (arith, n))) led.2 f.placed))),
     λ at st. (
-        let l = led.2 at st in
+        let l = led.3 at st in
         quiet_so a c at (take (used + fed.used) piece) fed.step silent
         (rw (bytes_on [] piece used fed.used) at (taken_after a b c at (take used piece) l
         (take fed.used (left_of piece used)) fed.step (f.taken l.0 l.2)))),
@@ -140,6 +144,7 @@ module _ (on : OnDisplay) where
         some = f.some;
         taken = λ at st. rw (take-take fed.used count piece within) at (f.taken at st);
         first = λ at st m lt. rw (take-take m count piece (omega (arith, lt, within))) at (f.first at st m lt);
+        placed = f.placed;
         counted = f.counted;
         after = f.after;
       }

@@ -2,7 +2,7 @@ use Rattle.std.proofs.Common.{◌≡◌, ℕ, List, [], ◌∷◌, ◌++◌, app
 use Rattle.std.proofs.Common.{Option, Some, None, Ok, Err, Result}
 use Rattle.ws_code.specs.Code.{Rules, IsPrefixFree}
 use Rattle.ws_code.proofs.CodeLaws.{Begins}
-use Rattle.std.specs.Prelude.{IfOk}
+use Rattle.std.specs.Prelude.{IfOk, OnErr}
 use Rattle.ws_record.specs.Encode.{record_spelling}
 use Rattle.ws_record.specs.Grammar.{header}
 use Rattle.ws_record.specs.declared.opcode.Opcode.TheVariants.{PutGet}
@@ -11,11 +11,15 @@ use Rattle.ws_keys.specs.declared.answer.Answer.{Answer}
 use Rattle.ws_keys.specs.declared.answer.Answer.TheVariants.{Read, Attention, SystemRequest}
 use Rattle.ws_end.specs.Acts.{Did}
 use Rattle.ws_end.specs.Ends.{IsShut}
+use Rattle.ws_end.specs.attached.Requests.{HasDoneKey}
 use Rattle.ws_end.specs.declared.station.key_fault.KeyFault.{KeyFault}
+use Rattle.ws_end.specs.declared.station.key_fault.KeyFault.TheVariants.{Failed as KeyFailed}
 use Rattle.ws_end.proofs.EndRequests.{SpellsOn}
-use Rattle.ws_end.specs.station.Displays.{DisplayOf, EndStateOn, on_display}
+use Rattle.ws_end.specs.station.AnswerSpelling.{sent_by}
+use Rattle.ws_end.specs.station.Displays.{DisplayOf, EndStateOn, RefusesKey, on_display}
+use Rattle.ws_end.specs.station.StationTransitions.{key_on}
 use Rattle.ws_end.specs.station.Stations.{ReachedOn, IsKeyedOn, AtStationOn}
-use Rattle.ws_lasting.specs.Behaviour.{LastingTraces, LeadsOnFrom, sent_by}
+use Rattle.ws_lasting.specs.Behaviour.{LastingTraces, LeadsOnFrom, lasting_key_judged}
 use Rattle.ws_lasting.specs.Counting.{IsCounted}
 use Rattle.ws_lasting.specs.Footings.{AtLasting, LastingParts, ReadsOrPasses, StandsAt, IsKeyHeard}
 use Rattle.ws_lasting.specs.LastingLaws.{counted_none}
@@ -25,6 +29,58 @@ use Rattle.ws_lasting.proofs.Holdings.{one_holds}
 use Rattle.ws_lasting.proofs.Passing.{stands_passing, stands_reading}
 
 -- What comes of a key.
+
+module _ {D P U H PlaceV V K R : Type 0} (rules : Rules P U) (d : DisplayOf D U H PlaceV V K R)
+    (old new : LastingParts D P) (key : K) where
+  -- one that is taken isn't refused
+  key_taken : (at : Footing H) (answer : Option Answer) → IsKeyHeard (on_display rules d) old new at key (Ok answer)
+      → (fault : KeyFault) → key_on d at.state key ≡ RefusesKey fault → ⊥
+  key_taken at None k fault e = cc (k.1, e)
+  key_taken at (Some (Read body)) k fault e = cc (k.3, e)
+  key_taken at (Some Attention) k fault e = cc (k.0, e)
+  key_taken at (Some SystemRequest) k fault e = cc (k.0, e)
+
+  -- one that is refused leads nowhere
+  key_idle : (at : Footing H) (fault : KeyFault) → IsKeyHeard (on_display rules d) old new at key (Err fault)
+      → StandsAt (on_display rules d) old at → LeadsOnFrom (on_display rules d) old new at (Did key ∷ []) [] []
+  key_idle at fault k st = rw k.1 (
+    at,
+    rw k.0 ([], (refl, refl, refl), refl),
+    st,
+    counted_none old.counts,
+    omega arith,
+  )
+
+  pub key_judges : (result : Result (Option Answer) KeyFault)
+      → AtLasting (on_display rules d) old (λ at. old.taken + 1 < 2 ^ 64
+      → IsKeyHeard (on_display rules d) old new at key result)
+      → IfOk result (λ answer. LastingTraces (on_display rules d) old (Did key ∷ []) (sent_by answer) [] new)
+      → (IsShut old.ended old.taken → result ≡ Err KeyFailed) → OnErr result (new ≡ old)
+      → HasDoneKey (lasting_key_judged (on_display rules d) key) old new result
+  key_judges (Ok answer) keyed acted shut same = record {
+    done = acted;
+    taken = record {
+      led = λ at st few. key_taken at answer (keyed at st few);
+      works = λ s. (let e : ◌≡◌ {A = Result (Option Answer) KeyFault} (Ok answer) (Err KeyFailed) = shut s in cc);
+    };
+    refused = tt;
+    same = tt;
+  }
+  key_judges (Err fault) keyed acted shut same = record {
+    done = tt;
+    taken = tt;
+    refused = (
+      record {
+        led = λ at st few. (keyed at st few).0;
+        shut = λ s. (let e : ◌≡◌ {A = Result (Option Answer) KeyFault} (Err fault) (Err KeyFailed) = shut s in cc);
+      },
+      record {
+        led = λ at st few. key_idle at fault (keyed at st (omega (arith, few))) st;
+        shut = λ s. record { no_byte = refl; same = same; unwritten = refl; no_event = refl };
+      },
+    );
+    same = same;
+  }
 
 module _ {D P U H PlaceV V K R : Type 0} (rules : Rules P U) (d : DisplayOf D U H PlaceV V K R)
     (free : IsPrefixFree rules) (begins : Begins rules) (old new : LastingParts D P) (at : Footing H) (key : K)

@@ -6,6 +6,7 @@ pub mod Judging
 pub mod Keying
 pub mod Others
 pub mod Passing
+pub mod Placing
 pub mod Pushing
 pub mod ReadingOn
 pub mod Taking

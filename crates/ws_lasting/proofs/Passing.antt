@@ -170,7 +170,12 @@ module _ {D P U H PlaceV V K R : Type 0} (rules : Rules P U) (d : DisplayOf D U 
         → station_allows_records old.station.reacts.options ≡ true
         → old.begun ≡ [] → bytes_written (on_display rules d) new step.reply ≡ negative why.reason
         → step.event ≡ Some (Refused why)
-        → new ≡ record old { size = 0; passing = None; counts = new.counts }
+        → new ≡ record old {
+          size = 0;
+          passing = None;
+          counts = new.counts;
+          refused_at = Some old.passing_from;
+        }
         → IsCounted old.counts (Refused why ∷ []) new.counts
         → IsWordHeard (on_display rules d) old.counts new at here (Whole Eor) (Ok step)
     passes_eor free begins new allows between written told same counted = rw told (

@@ -1,23 +1,20 @@
--- A station that no record ends, as whoever attaches it to a line sees it
+-- A station that no record ends, as whoever attaches it to a line sees it, and presses keys at it
 
-use Rattle.std.specs.Prelude.{◌≡◌, ℕ, ◌+◌, ◌^◌, ◌<◌, List, [], ◌∷◌, ◌++◌, Option, Some, None, Result, Ok, Err, IsSome, length}
-use Rattle.ws_keys.specs.declared.answer.Answer.{Answer}
+use Rattle.std.specs.Prelude.{◌≡◌, ℕ, ◌+◌, ◌^◌, ◌<◌, List, [], ◌∷◌, ◌++◌, Result, Ok, Err, IsSome, length}
 use Rattle.ws_end.specs.Acts.{Act, ComesToNothing, all_came, as_list, bytes_of}
 use Rattle.ws_end.specs.Behaviour.{Behaviour}
 use Rattle.ws_end.specs.Ends.{IsShut}
+use Rattle.ws_end.specs.attached.Requests.{Judged, judged}
 use Rattle.ws_end.specs.declared.refusal.Refusal.{Refusal}
 use Rattle.ws_end.specs.declared.refusal.Refusal.TheVariants.{At, Failed, Memory}
-use Rattle.ws_end.specs.station.AnswerSpelling.{answer_spelling}
-use Rattle.ws_end.specs.station.Displays.{OnDisplay}
+use Rattle.ws_end.specs.declared.station.key_fault.KeyFault.{KeyFault}
+use Rattle.ws_end.specs.declared.station.key_fault.KeyFault.TheVariants.{Failed as KeyFailed}
+use Rattle.ws_end.specs.station.Displays.{OnDisplay, RefusesKey}
+use Rattle.ws_end.specs.station.StationTransitions.{key_on}
 use Rattle.ws_lasting.specs.Counting.{IsCounted}
 use Rattle.ws_lasting.specs.Footings.{AtLasting, LastingOf, LastingStep, StandsAt, bytes_written}
 use Rattle.ws_lasting.specs.Lasting.{FootingOn, IsFatal, Lasts}
 use Rattle.ws_lasting.specs.declared.record_event.RecordEvent.{RecordEvent}
-
--- the bytes of what a key sends
-abbrev pub sent_by : Option Answer → List ℕ
-sent_by None = []
-sent_by (Some answer) = answer_spelling answer
 
 module _ (on : OnDisplay) where
   -- the acts lead from where it stands to there, and the station to one that stands there
@@ -73,3 +70,19 @@ module _ (on : OnDisplay) where
     silent = LastingSilent;
     over = λ station. IsSome station.ended;
   }
+
+  -- it refuses the key, for this reason, where it stands, or since it is shut
+  pub record IsLastingKeyRefusal (station : LastingOf on) (key : on.Pressed) (fault : KeyFault) : Type 0 where
+    pub led : AtLasting on station (λ at. station.taken + 1 < 2 ^ 64 → key_on on.does at.state key ≡ RefusesKey fault)
+    pub shut : IsShut station.ended station.taken → fault ≡ KeyFailed
+
+  -- it has no reason to refuse the key, and isn't shut
+  pub record IsLastingKeyTaken (station : LastingOf on) (key : on.Pressed) : Type 0 where
+    pub led : AtLasting on station (λ at. station.taken + 1 < 2 ^ 64
+        → (fault : KeyFault) → key_on on.does at.state key ≡ RefusesKey fault → ⊥)
+    pub works : IsShut station.ended station.taken → ⊥
+
+  -- a key at it, which takes no memory
+  abbrev pub lasting_key_judged : on.Pressed → Judged (LastingOf on) on.Pressed RecordEvent KeyFault
+  lasting_key_judged key =
+      judged lasting_behaviour IsLastingKeyRefusal IsLastingKeyTaken (λ station request. ⊥) key

@@ -1,6 +1,6 @@
 -- What a station that no record ends keeps, where it stands, and what bytes and keys make of it
 
-use Rattle.std.specs.Prelude.{◌≡◌, ℕ, ◌+◌, ◌^◌, ◌<◌, ◌≤◌, List, [], ◌∷◌, Option, Some, None, Result, Ok, Err, OnOk, OnErr, IsSome, true, length}
+use Rattle.std.specs.Prelude.{◌≡◌, ℕ, ◌+◌, ◌^◌, ◌<◌, ◌≤◌, ◌⊎◌, List, [], ◌∷◌, Option, Some, None, Result, Ok, Err, OnOk, OnErr, IsSome, MatchResult, true, length}
 use Rattle.ws_code.specs.declared.code.Push.{Push}
 use Rattle.ws_code.specs.declared.code.Push.TheVariants.{Unit as Whole}
 use Rattle.ws_telnet.specs.declared.token.Telnet.{Telnet}
@@ -32,26 +32,49 @@ use Rattle.ws_lasting.specs.declared.lasting_reply.LastingReply.{LastingReply}
 use Rattle.ws_lasting.specs.declared.lasting_reply.LastingReply.TheVariants.{Station, Environ}
 use Rattle.ws_lasting.specs.declared.record_counts.RecordCounts.{RecordCounts}
 use Rattle.ws_lasting.specs.declared.record_event.RecordEvent.{RecordEvent}
-use Rattle.ws_lasting.specs.declared.record_event.RecordEvent.TheVariants.{CarriedOut}
+use Rattle.ws_lasting.specs.declared.record_event.RecordEvent.TheVariants.{CarriedOut, Refused}
 use Rattle.ws_lasting.specs.declared.record_event.RefusedRecord.{RefusedRecord}
 
 -- What such a station keeps: a station, the bytes of the token that has begun, how many bytes the open record has, why
--- it is refused if it is passed over, what the session has come to, how many bytes it has taken, why it takes no more,
--- NEW-ENVIRON if it has an identity, and the bytes that this answered last.
+-- it is refused if it is passed over and at which byte of the session, what the session has come to, at which byte of it
+-- the last record was refused that was told as refused, how many bytes it has taken, why it takes no more, NEW-ENVIRON if
+-- it has an identity, and the bytes that this answered last.
 pub record LastingParts (D P : Type 0) : Type 0 where
   pub station : PartsOn D P
   pub begun : List ℕ
   pub size : ℕ
   pub passing : Option RefusedRecord
+  pub passing_from : ℕ
   pub counts : RecordCounts
+  pub refused_at : Option ℕ
   pub taken : ℕ
   pub ended : Option Refusal
   pub environ : Option EnvironState
   pub environ_reply : List ℕ
 
+-- at which byte the last record was refused that was told as refused, where a record is that is refused at this one
+abbrev pub told_place : ℕ → Option RecordEvent → Option ℕ → Option ℕ
+told_place place (Some (Refused why)) last = Some place
+told_place place other last = last
+
+-- The byte of the session at which the open record is refused, if it is: that from which on it was passed over before,
+-- or one of those taken from here on. It stays while the record is passed over, and is shown once this is told.
+abbrev pub IsRefusalPlaced : {D P : Type 0} → LastingParts D P → ℕ → LastingParts D P → Option RecordEvent → Type 0
+IsRefusalPlaced old here new told = (place : ℕ) × (IsSome old.passing → place ≡ old.passing_from)
+    × (old.passing ≡ None → IsSome new.passing ⊎ IsSome told → (here ≤ place) × (place < new.taken))
+    × (IsSome new.passing → new.passing_from ≡ place)
+    × (IsSome old.passing → told ≡ None → new.passing ≡ old.passing)
+    × (new.refused_at ≡ told_place place told old.refused_at)
+
 -- what the last byte taken gives it
 abbrev pub LastingStep : Type 0 → Type 0
 LastingStep R = EndStep RecordEvent (LastingReply R)
+
+-- where a record is refused at the bytes taken from here on, by what they give; a byte that ends the session tells none
+abbrev pub IsRefusalPlacedSo : {D P R : Type 0} → LastingParts D P → ℕ → LastingParts D P
+    → Result (LastingStep R) Refusal → Type 0
+IsRefusalPlacedSo old here new result =
+    MatchResult result (λ step. IsRefusalPlaced old here new step.event) (λ why. new.refused_at ≡ old.refused_at)
 
 module _ (on : OnDisplay) where
   abbrev pub LastingOf : Type 0
@@ -105,6 +128,7 @@ module _ (on : OnDisplay) where
   pub record TakesByte (old : LastingOf) (byte : ℕ) (new : LastingOf)
       (result : Result (LastingStep on.Replied) Refusal) : Type 0 where
     pub taken : AtLasting old (λ at. old.taken + 1 < 2 ^ 64 → IsByteTaken old new at byte result)
+    pub placed : IsRefusalPlacedSo old old.taken new result
     pub counted : OnOk result (new.taken ≡ old.taken + 1)
     pub after : OnErr result (IsSome new.ended)
     pub full : old.taken + 1 ≡ 2 ^ 64 → result ≡ Err Failed

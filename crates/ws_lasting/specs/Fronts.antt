@@ -12,7 +12,7 @@ use Rattle.ws_end.specs.declared.end_step.EndFed.{EndFed}
 use Rattle.ws_end.specs.declared.refusal.Refusal.TheVariants.{Failed}
 use Rattle.ws_end.specs.station.Displays.{OnDisplay}
 use Rattle.ws_lasting.specs.Behaviour.{AreQuiet, AreTakenSo}
-use Rattle.ws_lasting.specs.Footings.{AtLasting, LastingOf}
+use Rattle.ws_lasting.specs.Footings.{AtLasting, IsRefusalPlacedSo, LastingOf}
 use Rattle.ws_lasting.specs.Lasting.{FootingOn, IsTokenRefused}
 use Rattle.ws_lasting.specs.declared.lasting_reply.LastingReply.{LastingReply}
 use Rattle.ws_lasting.specs.declared.record_event.RecordEvent.{RecordEvent}
@@ -25,6 +25,7 @@ module _ (on : OnDisplay) where
     pub some : fed.step ≢ Err Failed → 0 < fed.used
     pub taken : AtLasting on old (λ at. AreTakenSo on old new at (take fed.used piece) fed.step)
     pub first : AtLasting on old (λ at. (n : ℕ) → n < fed.used → AreQuiet on at (take n piece))
+    pub placed : IsRefusalPlacedSo old old.taken new fed.step
     pub counted : OnOk fed.step (new.taken ≡ old.taken + fed.used)
     pub after : OnErr fed.step (IsSome new.ended)
 

@@ -1,13 +1,14 @@
 //! A station that no record ends.
 ghost use Rattle.std.specs.Prelude.{◌≡◌, ◌&&◌, ◌≢◌, ◌≤◌, ◌<◌, ◌+◌, ◌-◌, ◌^◌, ◌∷◌, ℕ, [], None, Some, Err, IfOk, IsSome, OnErr, OnOk};
 ghost use Rattle.ws_identity.specs.Environ.{new_environ};
-ghost use Rattle.ws_lasting.specs.Behaviour.{LastingTraces, sent_by};
-ghost use Rattle.ws_lasting.specs.Footings.{AtLasting, IsByteTaken, IsKeyHeard, IsPushedSo, StandsAt};
+ghost use Rattle.ws_lasting.specs.Behaviour.{LastingTraces};
+ghost use Rattle.ws_lasting.specs.Footings.{AtLasting, IsByteTaken, IsKeyHeard, IsRefusalPlacedSo, IsPushedSo, StandsAt};
 ghost use Rattle.ws_lasting.specs.Lasting.{new_footing};
 ghost use Rattle.ws_end.specs.Acts.{Did};
 ghost use Rattle.ws_end.specs.Ends.{IsShut};
 ghost use Rattle.ws_end.specs.declared.refusal.Refusal.{Refusal as ARefusal};
 ghost use Rattle.ws_end.specs.declared.station.key_fault.KeyFault.{KeyFault as AKeyFault};
+ghost use Rattle.ws_end.specs.station.AnswerSpelling.{sent_by};
 ghost use Rattle.ws_end.specs.station.Displays.{on_display as on};
 ghost use Rattle.ws_end.specs.station.StationTransitions.{new_state_on};
 
@@ -38,7 +39,11 @@ pub struct LastingStation<D: StationDisplay> {
     size: u64,
     /// Why the record is refused that is passed over.
     passing: Option<RefusedRecord>,
+    /// The byte of the session at which that record is refused.
+    passing_from: u64,
     counts: RecordCounts,
+    /// The byte of the session at which the last record was refused that was told as refused.
+    refused_at: Option<u64>,
     taken: u64,
     /// Why it takes no more bytes.
     ended: Option<Refusal>,
@@ -51,7 +56,6 @@ pub struct LastingStation<D: StationDisplay> {
 impl<D: StationDisplay> Model for LastingStation<D> {
     ghost use Rattle.std.specs.Prelude.{◌≤◌};
     ghost use Rattle.ws_code.specs.Code.{IsUnfinished};
-    ghost use Rattle.ws_lasting.specs.Behaviour.{LastingTraces, sent_by};
     ghost use Rattle.ws_lasting.specs.Footings.{LastingParts};
     ghost use Rattle.ws_telnet.specs.Machine.{unfinished_token};
     ghost use Rattle.ws_telnet.specs.Token.{token_rules};
@@ -63,7 +67,9 @@ impl<D: StationDisplay> Model for LastingStation<D> {
       begun = unfinished_token s.tokens;
       size = s.size;
       passing = s.passing;
+      passing_from = s.passing_from;
       counts = s.counts;
+      refused_at = s.refused_at;
       taken = s.taken;
       ended = s.ended;
       environ = s.environ;
@@ -81,6 +87,7 @@ impl<D: StationDisplay> LastingStation<D> {
             (new_footing (new_state_on D.does terminal) None) }
         ensures counts { result.counts ≡ record { carried_out = 0; refused = 0; last = None } }
         ensures taken { result.taken ≡ 0 }
+        ensures none { result.refused_at ≡ None }
     {
         Self::start(terminal, None)
     }
@@ -91,6 +98,7 @@ impl<D: StationDisplay> LastingStation<D> {
             (new_footing (new_state_on D.does terminal) (Some (new_environ identity))) }
         ensures counts { result.counts ≡ record { carried_out = 0; refused = 0; last = None } }
         ensures taken { result.taken ≡ 0 }
+        ensures none { result.refused_at ≡ None }
     {
         Self::start(terminal, Some(Environ::new(identity)))
     }
@@ -100,13 +108,16 @@ impl<D: StationDisplay> LastingStation<D> {
             (new_footing (new_state_on D.does terminal) environ) }
         ensures counts { result.counts ≡ record { carried_out = 0; refused = 0; last = None } }
         ensures taken { result.taken ≡ 0 }
+        ensures none { result.refused_at ≡ None }
     {
         LastingStation {
             station: StationOn::new(terminal),
             tokens: Tokens::start(()),
             size: 0,
             passing: None,
+            passing_from: 0,
             counts: RecordCounts::new(),
+            refused_at: None,
             taken: 0,
             ended: None,
             environ,
@@ -127,6 +138,7 @@ impl<D: StationDisplay> LastingStation<D> {
         ensures taken { AtLasting (on D.Commands.rules D.does) self.old (λ at.
             self.old.taken + 1 < 2 ^ 64
             → IsByteTaken (on D.Commands.rules D.does) self.old self.new at byte result) }
+        ensures placed { IsRefusalPlacedSo self.old self.old.taken self.new result }
         ensures counted { OnOk result (self.new.taken ≡ self.old.taken + 1) }
         ensures after { OnErr result (IsSome self.new.ended) }
         ensures full { self.old.taken + 1 ≡ 2 ^ 64 → result ≡ Err ARefusal.Failed }

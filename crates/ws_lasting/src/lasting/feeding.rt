@@ -1,7 +1,7 @@
 //! Bytes that come to a station that no record ends, in pieces.
 ghost use Rattle.std.specs.Prelude.{◌≡◌, ◌≢◌, ◌≤◌, ◌<◌, ◌+◌, ◌^◌, ◌⊎◌, [], ℕ, None, Ok, Err, IfErr, IfOk, IsSome, OnErr, OnOk, length, take, true, false};
 ghost use Rattle.ws_lasting.specs.Behaviour.{AreQuiet, AreTakenSo};
-ghost use Rattle.ws_lasting.specs.Footings.{AtLasting, LastingStep, bytes_written};
+ghost use Rattle.ws_lasting.specs.Footings.{AtLasting, IsRefusalPlacedSo, LastingStep, bytes_written};
 ghost use Rattle.ws_lasting.specs.Fronts.{IsFrontTaken};
 ghost use Rattle.ws_end.specs.Ends.{IsShut};
 ghost use Rattle.ws_end.specs.station.Displays.{on_display as on};
@@ -20,7 +20,8 @@ impl<D: StationDisplay> LastingStation<D> {
     /// As `take_byte`. The byte that ends the session is the last that is used.
     pub fn feed(&mut self, piece: &[u8]) -> EndFed<RecordEvent, LastingReply<D::Reply>>
         ensures within { result.used ≤ length piece.now }
-        ensures some { 0 < length piece.now → result.step ≢ Err Refusal.Failed → 0 < result.used }
+        ensures some { 0 < length piece.now → result.step ≢ Err Refusal.Failed
+            → 0 < result.used }
         ensures whole { IfOk result.step (λ step. step.event ≡ None
             → bytes_written (on D.Commands.rules D.does) self.new step.reply ≡ []
             → (result.used ≡ length piece.now) ⊎ (self.old.taken + result.used + 1 ≡ 2 ^ 64)) }
@@ -31,6 +32,7 @@ impl<D: StationDisplay> LastingStation<D> {
         ensures first { AtLasting (on D.Commands.rules D.does) self.old (λ at.
             (n : ℕ) → n < result.used
             → AreQuiet (on D.Commands.rules D.does) at (take n piece.now)) }
+        ensures placed { IsRefusalPlacedSo self.old self.old.taken self.new result.step }
         ensures after { OnErr result.step (IsSome self.new.ended) }
         ensures stopped { IsShut self.old.ended self.old.taken
             → (result.step ≡ Err Refusal.Failed) × (result.used ≡ 0) }
@@ -57,7 +59,8 @@ impl<D: StationDisplay> LastingStation<D> {
     fn take(&mut self, piece: &[u8]) -> EndFed<RecordEvent, LastingReply<D::Reply>>
         requires fits { self.old.taken + length piece.now < 2 ^ 64 }
         ensures within { result.used ≤ length piece.now }
-        ensures some { 0 < length piece.now → result.step ≢ Err Refusal.Failed → 0 < result.used }
+        ensures some { 0 < length piece.now → result.step ≢ Err Refusal.Failed
+            → 0 < result.used }
         ensures whole { IfOk result.step (λ step. step.event ≡ None
             → bytes_written (on D.Commands.rules D.does) self.new step.reply ≡ []
             → result.used ≡ length piece.now) }
@@ -67,6 +70,7 @@ impl<D: StationDisplay> LastingStation<D> {
         ensures first { AtLasting (on D.Commands.rules D.does) self.old (λ at.
             (n : ℕ) → n < result.used
             → AreQuiet (on D.Commands.rules D.does) at (take n piece.now)) }
+        ensures placed { IsRefusalPlacedSo self.old self.old.taken self.new result.step }
         ensures after { OnErr result.step (IsSome self.new.ended) }
     {
         let _is = &self.taken;

@@ -1,6 +1,6 @@
 //! What comes of a byte where a station reads.
 ghost use Rattle.std.specs.Prelude.{◌≡◌, ◌≢◌, ◌<◌, ◌-◌, ◌^◌, [], ℕ, List, None, Some, IsSome, OnErr, length, true, false};
-ghost use Rattle.ws_lasting.specs.Footings.{IsFollowed, IsReading, IsWordHeard, LastingOf, bytes_written};
+ghost use Rattle.ws_lasting.specs.Footings.{IsFollowed, IsRefusalPlacedSo, IsReading, IsWordHeard, LastingOf, bytes_written};
 ghost use Rattle.ws_lasting.specs.Fronts.{IsWordRefused};
 ghost use Rattle.ws_lasting.specs.Lasting.{Footing, IsTokenStep};
 ghost use Rattle.ws_record.specs.declared.record.Item.{Item};
@@ -51,6 +51,8 @@ impl<D: StationDisplay> LastingStation<D> {
             → self.old.environ ≡ at.environ
             → IsWordHeard (on D.Commands.rules D.does)
             self.old.counts self.new at (self.old.taken - 1) word result }
+        ensures placed { self.old.passing ≡ None
+            → IsRefusalPlacedSo self.old (self.old.taken - 1) self.new result }
         ensures same { (self.new.begun ≡ self.old.begun) × (self.new.taken ≡ self.old.taken) }
         ensures after { OnErr result (IsSome self.new.ended) }
     {
@@ -84,6 +86,8 @@ impl<D: StationDisplay> LastingStation<D> {
             → self.old.environ ≡ at.environ
             → IsWordHeard (on D.Commands.rules D.does)
             self.old.counts self.new at (self.old.taken - 1) word result }
+        ensures placed { self.old.passing ≡ None
+            → IsRefusalPlacedSo self.old (self.old.taken - 1) self.new result }
         ensures same { (self.new.begun ≡ self.old.begun) × (self.new.taken ≡ self.old.taken) }
         ensures after { OnErr result (IsSome self.new.ended) }
     {
@@ -92,8 +96,8 @@ impl<D: StationDisplay> LastingStation<D> {
         }
         let why = self.refused_here(reason);
         self.revive();
+        self.pass_over(why);
         if !is_end {
-            self.pass_over(why);
             return Ok(silence::<D>());
         }
         self.close(RecordEvent::Refused(why));

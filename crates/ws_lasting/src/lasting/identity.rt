@@ -13,7 +13,8 @@ use ws_telnet::Telnet;
 impl<D: StationDisplay> LastingStation<D> {
     /// Who it says that it is.
     pub fn identity(&self) -> Option<&Identity>
-        ensures { option_copied result ≡ option_map (λ environ. environ.identity) self.now.environ }
+        ensures { option_copied result
+            ≡ option_map (λ environ. environ.identity) self.now.environ }
     {
         match &self.environ {
             Some(environ) => Some(environ.identity()),

@@ -1,6 +1,6 @@
 //! What comes of a byte where a station passes over a record.
 ghost use Rattle.std.specs.Prelude.{◌≡◌, ◌<◌, ◌-◌, ℕ, Some, None, IsSome, OnErr};
-ghost use Rattle.ws_lasting.specs.Footings.{IsPassingOver, IsWordHeard};
+ghost use Rattle.ws_lasting.specs.Footings.{IsPassingOver, IsRefusalPlacedSo, IsWordHeard};
 ghost use Rattle.ws_lasting.specs.Lasting.{Footing, IsTokenStep};
 ghost use Rattle.ws_end.specs.station.Displays.{on_display as on};
 
@@ -26,6 +26,8 @@ impl<D: StationDisplay> LastingStation<D> {
             → self.old.environ ≡ at.environ
             → IsWordHeard (on D.Commands.rules D.does)
             self.old.counts self.new at (self.old.taken - 1) word result }
+        ensures placed { self.old.passing ≡ Some why
+            → IsRefusalPlacedSo self.old (self.old.taken - 1) self.new result }
         ensures same { (self.new.begun ≡ self.old.begun) × (self.new.taken ≡ self.old.taken) }
         ensures after { OnErr result (IsSome self.new.ended) }
     {

@@ -1,6 +1,7 @@
 //! The steps of a station that no record ends, each of which writes one part of it.
 ghost use Rattle.std.specs.Prelude.{◌≡◌, ◌&&◌, ◌<◌, ◌≤◌, ◌+◌, ◌-◌, ◌^◌, ◌∷◌, ℕ, List, [], None, Some, Err, OnErr, length};
 ghost use Rattle.ws_lasting.specs.Counting.{IsCounted};
+ghost use Rattle.ws_lasting.specs.Footings.{told_place};
 ghost use Rattle.ws_lasting.specs.Lasting.{IsTokenStep};
 ghost use Rattle.ws_lasting.specs.Negative.{is_of_record as spec_of_record};
 ghost use Rattle.ws_nego.specs.Options.{telnet_bytes};
@@ -19,6 +20,16 @@ use ws_code::{Code, Push, Reason};
 use ws_keys::Answer;
 use ws_session::{Applied, EndStep, KeyFault, Refusal, StationDisplay};
 use ws_telnet::{Telnet, Token};
+
+// At which byte the last record was refused that was told as refused.
+fn last_place(place: u64, event: RecordEvent, last: Option<u64>) -> Option<u64>
+    ensures { result ≡ told_place place (Some event) last }
+{
+    match event {
+        RecordEvent::Refused(_) => Some(place),
+        RecordEvent::CarriedOut => last,
+    }
+}
 
 impl<D: StationDisplay> LastingStation<D> {
     // Hands the station a key.
@@ -121,22 +132,29 @@ impl<D: StationDisplay> LastingStation<D> {
         self.size += bytes as u64;
     }
 
-    // Passes over the rest of a record.
+    // Passes over the rest of a record, which is refused at the last byte taken.
     pub(super) fn pass_over(&mut self, why: RefusedRecord)
-        ensures { self.new ≡ record self.old { passing = Some why } }
+        ensures { self.new
+            ≡ record self.old { passing = Some why; passing_from = self.old.taken - 1 } }
     {
         self.passing = Some(why);
+        self.passing_from = self.taken.saturating_sub(1);
     }
 
     // Reads on after a record, of which this is told.
     pub(super) fn close(&mut self, event: RecordEvent)
-        ensures same { self.new
-            ≡ record self.old { size = 0; passing = None; counts = self.new.counts } }
+        ensures same { self.new ≡ record self.old {
+          size = 0;
+          passing = None;
+          counts = self.new.counts;
+          refused_at = told_place self.old.passing_from (Some event) self.old.refused_at;
+        } }
         ensures counted { IsCounted self.old.counts (event ∷ []) self.new.counts }
     {
         self.size = 0;
         self.passing = None;
         self.counts = self.counts.with(event);
+        self.refused_at = last_place(self.passing_from, event, self.refused_at);
     }
 
     // Takes no more bytes.

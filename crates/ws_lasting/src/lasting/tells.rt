@@ -70,6 +70,14 @@ impl<D: StationDisplay> LastingStation<D> {
         self.counts.last
     }
 
+    /// The byte of the session, counted from 0, at which the last record was refused that was told as refused; None
+    /// while there is none. `RefusedRecord::place` counts the record's own bytes instead.
+    pub fn refused_at(&self) -> Option<u64>
+        ensures { result ≡ self.now.refused_at }
+    {
+        self.refused_at
+    }
+
     /// How many bytes it has taken, one that ended the session among them.
     pub fn taken(&self) -> u64
         ensures { result ≡ self.now.taken }

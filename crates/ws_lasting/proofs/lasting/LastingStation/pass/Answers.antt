@@ -1,5 +1,8 @@
-use Rattle.std.proofs.Common.{◌-◌, ◌∙◌, refl, sym, rules}
+use Rattle.std.proofs.Common.{◌-◌, ◌∙◌, None, Some, ap, refl, sym, rules}
 use Rattle.ws_lasting.specs.declared.lasting_reply.LastingReply.TheVariants.{Station}
+use Rattle.ws_lasting.specs.Footings.{LastingParts}
+use Rattle.ws_lasting.specs.declared.record_event.RecordEvent.TheVariants.{Refused}
+use Rattle.ws_lasting.proofs.Placing.{placed_before}
 use Rattle.ws_lasting.proofs.Passing.{passes_more, passes_data, passes_telnet, passes_eor}
 use Rattle.ws_lasting.proofs.lasting.LastingStation.pass.Goals as goal
 
@@ -33,3 +36,27 @@ returns-else-not-allows_records-clause-heard g c =
     g.met.D.Commands.Code.prefix_free g.met.D.Commands.Code.begins c.close.new.self
     (sym c.allows_records.ensures ∙ search (rules, c.if-not-allows_records.false)) step.0
     (c.reply.ensures.written _ ∙ c.negative.ensures) refl c.close.ensures.same c.close.ensures.counted)
+
+pub returns-in-More-clause-placed : goal.returns-in-More-clause-placed
+returns-in-More-clause-placed g c = λ is. rw c.silence.ensures.told (placed_before c.args.self.now c.args.self.now
+    (c.args.self.now.taken - 1) None (rw is refl) (λ some. refl) (λ untold. refl) refl)
+
+pub returns-in-Unit-Data-clause-placed : goal.returns-in-Unit-Data-clause-placed
+returns-in-Unit-Data-clause-placed g c = λ is. rw c.silence-in-Unit-Data.ensures.told (placed_before c.args.self.now
+    c.args.self.now (c.args.self.now.taken - 1) None (rw is refl) (λ some. refl) (λ untold. refl) refl)
+
+pub returns-in-Unit-Telnet-clause-placed : goal.returns-in-Unit-Telnet-clause-placed
+returns-in-Unit-Telnet-clause-placed g c = λ is.
+    let kept = c.replied.ensures.same in
+    let same = c.answer-reply.ensures.options in
+    placed_before c.args.self.now c.replied.new.self (c.args.self.now.taken - 1) None (rw is refl)
+    (λ some. ap (λ (z : LastingParts _ _). z.passing_from) kept ∙ ap (λ (z : LastingParts _ _). z.passing_from) same)
+    (λ untold. ap (λ (z : LastingParts _ _). z.passing) kept ∙ ap (λ (z : LastingParts _ _). z.passing) same)
+    (ap (λ (z : LastingParts _ _). z.refused_at) kept ∙ ap (λ (z : LastingParts _ _). z.refused_at) same)
+
+pub returns-else-not-allows_records-clause-placed : goal.returns-else-not-allows_records-clause-placed
+returns-else-not-allows_records-clause-placed g c = λ is.
+    let same = c.close.ensures.same in
+    placed_before c.args.self.now c.close.new.self (c.args.self.now.taken - 1) (Some (Refused c.args.why)) (rw is refl)
+    (λ some. ap (λ (z : LastingParts _ _). z.passing_from) same) (λ told. cc)
+    (ap (λ (z : LastingParts _ _). z.refused_at) same)

@@ -1,10 +1,11 @@
-use Rattle.std.proofs.Common.{ℕ, List, [], Option, ap, sym, subst, subst₂, arith, take, take_all, length}
+use Rattle.std.proofs.Common.{ℕ, List, [], None, Option, ap, sym, subst, subst₂, arith, take, take_all, length}
 use Rattle.ws_end.specs.Acts.{all_came, as_list}
 use Rattle.ws_end.specs.station.Displays.{on_display}
 use Rattle.ws_lasting.specs.Behaviour.{LeadsOnFrom}
 use Rattle.ws_lasting.specs.Footings.{AtLasting, LastingParts}
 use Rattle.ws_lasting.specs.declared.record_event.RecordEvent.{RecordEvent}
 use Rattle.ws_lasting.proofs.Feeding.{quiet_front}
+use Rattle.ws_lasting.proofs.Placing.{placed_before}
 use Rattle.ws_lasting.proofs.Runs.{run_bytes, run_passed}
 use Rattle.ws_lasting.proofs.lasting.LastingStation.pass_run.Goals as goal
 
@@ -27,6 +28,10 @@ returns g c =
           (sym c.silence.ensures.told) (subst (λ x. LeadsOnFrom on old new at (all_came x) [] []) (sym whole)
           (passed at st));
       first = λ at st n lt. (let l = passed at st in quiet_front on run at l.0 n l.1);
+      placed = rw c.silence.ensures.told (placed_before old new old.taken None c.requires.passes
+          (λ some. ap (λ (z : LastingParts _ _). z.passing_from) c.count.ensures)
+          (λ untold. ap (λ (z : LastingParts _ _). z.passing) c.count.ensures)
+          (ap (λ (z : LastingParts _ _). z.refused_at) c.count.ensures));
       counted = ap (λ (z : LastingParts _ _). z.taken) c.count.ensures;
       after = tt;
     }

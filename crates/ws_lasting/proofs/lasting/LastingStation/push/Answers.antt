@@ -6,6 +6,7 @@ returns-in-Ok g c = (
   _,
   record {
     taken = c.in-Ok.ensures.taken;
+    placed = c.in-Ok.ensures.placed;
     counted = c.in-Ok.ensures.counted;
     after = c.in-Ok.ensures.after;
     full = c.in-Ok.ensures.full;
@@ -19,6 +20,7 @@ returns-in-Err g c = (
   _,
   record {
     taken = c.in-Err.ensures.taken;
+    placed = c.in-Err.ensures.placed;
     counted = c.in-Err.ensures.counted;
     after = c.in-Err.ensures.after;
     full = c.in-Err.ensures.full;

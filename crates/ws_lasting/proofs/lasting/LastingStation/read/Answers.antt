@@ -2,9 +2,10 @@ use Rattle.std.proofs.Common.{◌≡◌, ◌<◌, ◌+◌, ◌-◌, ◌^◌, Ok,
 use Rattle.ws_end.specs.declared.refusal.Refusal.TheVariants.{Failed, Memory}
 use Rattle.ws_end.specs.station.Displays.{on_display}
 use Rattle.ws_end.specs.station.Stations.{station_driving}
-use Rattle.ws_lasting.specs.Footings.{LastingParts, IsWordHeard}
+use Rattle.ws_lasting.specs.Footings.{LastingParts, IsRefusalPlaced, IsRefusalPlacedSo, IsWordHeard}
 use Rattle.ws_lasting.specs.Lasting.{IsTokenStep}
 use Rattle.ws_lasting.specs.declared.record_counts.RecordCounts.{RecordCounts}
+use Rattle.ws_lasting.proofs.Placing.{placed_on}
 use Rattle.ws_lasting.proofs.Pushing.{pushed, refused}
 use Rattle.ws_lasting.proofs.ReadingOn.{fits_so, heard, held_so, judged}
 use Rattle.ws_lasting.proofs.Taking.{followed}
@@ -42,6 +43,16 @@ returns-in-Ok g c =
           same)) step)
           (pushed (station_driving on) old.station c.hear.new.self.station c.args.byte r.bytes r.items at.state
           r.reached few c.in-Ok.step c.in-Ok.ensures.heard) c.follow.ensures c.in_default.not-Bad));
+      placed = λ none. subst (λ (z : LastingParts _ _). IsRefusalPlaced z (old.taken - 1) c.follow.new.self
+          c.follow.result.event) same (placed_on on c.hear.new.self c.follow.new.self (old.taken - 1) c.args.word c.in-Ok.step.reply c.follow.result
+          c.follow.ensures (ap (λ (z : LastingParts _ _). z.passing) same ∙ none)
+          (omega (
+            arith,
+            c.requires.counted,
+            taken,
+            (followed on c.hear.new.self c.follow.new.self c.args.word c.in-Ok.step.reply c.follow.result
+                c.follow.ensures).1,
+          )));
       same =
           let kept = followed on c.hear.new.self c.follow.new.self c.args.word c.in-Ok.step.reply
           c.follow.result c.follow.ensures in (kept.0 ∙ ap (λ (z : LastingParts _ _). z.begun) same, kept.1 ∙ taken);
@@ -56,6 +67,7 @@ returns-in-Err-Failed g c =
           c.hear.new.self.station c.args.byte r.bytes r.items at.state r.reached
           (let n = r.few in omega (arith, n, c.requires.counted, c.requires.few)) Failed
           (rw c.in-Err-Failed.field-0-is at c.in-Err-Failed.ensures.heard)).0;
+      placed = search rules;
       same = search rules;
       after = search rules;
     }
@@ -71,6 +83,7 @@ returns-in-Err-Memory g c =
             | inl q ↦ (let never = q.0 in cc)
             | inr q ↦ absurd q.so.3
           ];
+      placed = search rules;
       same = search rules;
       after = search rules;
     }
@@ -103,6 +116,8 @@ returns g c =
           c.is_end.ensures.yes c.is_end.ensures.no (ap (λ (z : LastingParts _ _). z.size) same ∙ size)
           (ap (λ (z : LastingParts _ _). z.ended) same ∙ works)
           (ap (λ (z : LastingParts _ _). z.environ) same ∙ named)));
+      placed = λ none. subst (λ (z : LastingParts _ _). IsRefusalPlacedSo z (z.taken - 1) c.refuse.new.self
+          c.refuse.result) same (c.refuse.ensures.placed (ap (λ (z : LastingParts _ _). z.passing) same ∙ none));
       same = (c.refuse.ensures.same.0 ∙ begun, c.refuse.ensures.same.1 ∙ taken);
       after = c.refuse.ensures.after;
     }

@@ -12,6 +12,7 @@ use Rattle.ws_lasting.specs.declared.lasting_reply.LastingReply.TheVariants.{Sta
 use Rattle.ws_lasting.specs.declared.record_counts.RecordCounts.{RecordCounts}
 use Rattle.ws_lasting.specs.declared.record_event.RecordEvent.TheVariants.{CarriedOut}
 use Rattle.ws_lasting.proofs.Feeding.{ok_so}
+use Rattle.ws_lasting.proofs.Placing.{placed_from, placed_here}
 use Rattle.ws_lasting.proofs.ReadingEnds.{end_goes, end_quiet, end_refused}
 use Rattle.ws_lasting.proofs.ReadingRuns.{never_failed, never_memory}
 use Rattle.ws_lasting.proofs.lasting.LastingStation.read_end.Goals as goal
@@ -43,6 +44,10 @@ returns-in-Ok g c =
       first = λ at st n lt. end_quiet rules_ does code.prefix_free code.begins can code.bytes old c.requires.fits c.requires.between
           c.requires.reads h.new.self.station h.result.used h.ensures.heard.within at st h.result.step h.ensures.heard
           n (omega (arith, lt, h.ensures.heard.within));
+      placed = placed_here old c.close.new.self old.taken (Some CarriedOut) c.requires.reads
+          (omega (arith, any, ap (λ (z : LastingParts _ _). z.taken) same))
+          (λ some. (let e = rw (ap (λ (z : LastingParts _ _). z.passing) same) at some in cc))
+          (ap (λ (z : LastingParts _ _). z.refused_at) same);
       counted = ap (λ (z : LastingParts _ _). z.taken) same;
       after = tt;
     }
@@ -75,6 +80,8 @@ returns-in-Err-At g c =
       first = λ at st n lt. end_quiet rules_ does code.prefix_free code.begins can code.bytes old c.requires.fits c.requires.between
           c.requires.reads h.new.self.station h.result.used h.ensures.heard.within at st h.result.step h.ensures.heard
           n (omega (arith, lt, h.ensures.heard.within));
+      placed = placed_from old c.refuse.new.self old.taken (old.taken + h.result.used - 1) c.refuse.result
+          (omega (arith, any)) (rw same at c.refuse.ensures.placed c.requires.reads);
       counted = ok_so c.refuse.result (c.refuse.ensures.same.1 ∙ ap (λ (z : LastingParts _ _). z.taken) same);
       after = c.refuse.ensures.after;
     }
@@ -98,6 +105,7 @@ returns-in-Err-Failed g c =
       first = λ at st n lt. end_quiet rules_ does code.prefix_free code.begins can code.bytes old c.requires.fits c.requires.between
           c.requires.reads h.new.self.station h.result.used h.ensures.heard.within at st h.result.step h.ensures.heard
           n (omega (arith, lt, h.ensures.heard.within));
+      placed = search rules;
       counted = search rules;
       after = search rules;
     }
@@ -121,6 +129,7 @@ returns-in-Err-Memory g c =
       first = λ at st n lt. end_quiet rules_ does code.prefix_free code.begins can code.bytes old c.requires.fits c.requires.between
           c.requires.reads h.new.self.station h.result.used h.ensures.heard.within at st h.result.step h.ensures.heard
           n (omega (arith, lt, h.ensures.heard.within));
+      placed = search rules;
       counted = search rules;
       after = search rules;
     }

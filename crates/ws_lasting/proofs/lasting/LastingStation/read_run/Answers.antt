@@ -9,6 +9,7 @@ use Rattle.ws_lasting.specs.Footings.{LastingParts}
 use Rattle.ws_lasting.specs.declared.lasting_reply.LastingReply.TheVariants.{Station}
 use Rattle.ws_lasting.proofs.Feeding.{ok_so}
 use Rattle.ws_lasting.proofs.Runs.{run_bytes}
+use Rattle.ws_lasting.proofs.Placing.{placed_from, placed_here}
 use Rattle.ws_lasting.proofs.ReadingRuns.{never_failed, never_memory, run_goes, run_quiet, run_refused}
 use Rattle.ws_lasting.proofs.lasting.LastingStation.read_run.Goals as goal
 
@@ -36,6 +37,10 @@ returns-in-Ok g c =
           old run c.requires.fits c.requires.between c.requires.reads h.new.self.station
           h.result.used h.ensures.heard.within at st are
           c.requires.plain n;
+      placed = placed_here old c.grow.new.self old.taken None c.requires.reads
+          (omega (arith, any, ap (λ (z : LastingParts _ _). z.taken) same))
+          (λ some. (let e = rw (ap (λ (z : LastingParts _ _). z.passing) same ∙ c.requires.reads) at some in cc))
+          (ap (λ (z : LastingParts _ _). z.refused_at) same);
       counted = ap (λ (z : LastingParts _ _). z.taken) same;
       after = tt;
     }
@@ -80,6 +85,8 @@ returns-in-Err-At g c =
           old run c.requires.fits c.requires.between c.requires.reads h.new.self.station
           h.result.used h.ensures.heard.within at st are
           c.requires.plain n;
+      placed = placed_from old c.refuse.new.self old.taken (old.taken + h.result.used - 1) c.refuse.result
+          (omega (arith, any)) (rw same at c.refuse.ensures.placed c.requires.reads);
       counted = ok_so c.refuse.result (c.refuse.ensures.same.1 ∙ ap (λ (z : LastingParts _ _). z.taken) same);
       after = c.refuse.ensures.after;
     }
@@ -106,6 +113,7 @@ returns-in-Err-Failed g c =
           old run c.requires.fits c.requires.between c.requires.reads h.new.self.station
           h.result.used h.ensures.heard.within at st are
           c.requires.plain n;
+      placed = search rules;
       counted = search rules;
       after = search rules;
     }
@@ -132,6 +140,7 @@ returns-in-Err-Memory g c =
           old run c.requires.fits c.requires.between c.requires.reads h.new.self.station
           h.result.used h.ensures.heard.within at st are
           c.requires.plain n;
+      placed = search rules;
       counted = search rules;
       after = search rules;
     }

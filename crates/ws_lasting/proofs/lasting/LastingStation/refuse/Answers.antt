@@ -1,4 +1,4 @@
-use Rattle.std.proofs.Common.{rules, ◌≡◌, ◌∷◌, ◌∙◌, ◌-◌, [], Some, Ok, sym, ap, subst, subst₂, true, false}
+use Rattle.std.proofs.Common.{rules, ◌≡◌, ◌∷◌, ◌∙◌, ◌-◌, [], None, Some, Ok, sym, ap, subst, subst₂, arith, true, false}
 use Rattle.std.specs.Prelude.{◌&&◌}
 use Rattle.ws_nego.specs.Station.{station_allows_records}
 use Rattle.ws_end.specs.station.Displays.{on_display}
@@ -10,6 +10,7 @@ use Rattle.ws_lasting.specs.declared.lasting_reply.LastingReply.TheVariants.{Sta
 use Rattle.ws_lasting.specs.declared.record_counts.RecordCounts.{RecordCounts}
 use Rattle.ws_lasting.specs.declared.record_event.RecordEvent.TheVariants.{Refused}
 use Rattle.ws_lasting.specs.declared.record_event.RefusedRecord.{RefusedRecord}
+use Rattle.ws_lasting.proofs.Placing.{placed_here}
 use Rattle.ws_lasting.proofs.Refusing.{refused_at_end, refused_inside, refused_last}
 use Rattle.ws_lasting.proofs.lasting.LastingStation.refuse.Goals as goal
 
@@ -27,6 +28,7 @@ returns-then-not-is_end-clause-heard g c = λ at items byte word stands step ref
     let new = c.pass_over.new.self in
     let same = c.pass_over.ensures ∙ ap (λ (z : LastingParts _ _). (record z {
       passing = Some c.refused_here-why.result;
+      passing_from = z.taken - 1;
     })) c.revive.ensures.same in
     subst (λ (z : RecordCounts). IsWordHeard on z new at (c.args.self.now.taken - 1) word (Ok c.silence.result))
     (ap (λ (z : LastingParts _ _). z.counts) same)
@@ -45,14 +47,18 @@ pub returns-clause-heard : goal.returns-clause-heard
 returns-clause-heard g c = λ at items byte word stands step refused yes no size works named.
     let on = on_display g.D.Commands.Code.rules g.D.StationDisplay.does in
     let new = c.close.new.self in
-    let same = c.revive.ensures.same in
+    let same = c.pass_over.ensures ∙ ap (λ (z : LastingParts _ _). (record z {
+      passing = Some c.refused_here-why.result;
+      passing_from = z.taken - 1;
+    })) c.revive.ensures.same in
     let closed = c.close.ensures.same in
     let is = yes (search (rules, c.if-not-is_end.false)) in
     let ends = rw is at step in
     rw is (refused_at_end g.D.Commands.Code.rules g.D.StationDisplay.does at c.args.reason new
     (ap (λ (z : LastingParts _ _). z.ended) closed ∙ ap (λ (z : LastingParts _ _). z.ended) same ∙ works)
     (ap (λ (z : LastingParts _ _). z.environ) closed ∙ ap (λ (z : LastingParts _ _). z.environ) same ∙ named)
-    (subst (λ x. ReachedOn on x [] [] at.state) (sym (ap (λ (z : LastingParts _ _). z.station) closed))
+    (subst (λ x. ReachedOn on x [] [] at.state)
+    (sym (ap (λ (z : LastingParts _ _). z.station) closed ∙ ap (λ (z : LastingParts _ _). z.station) c.pass_over.ensures))
     (c.revive.ensures.led items at.state stands))
     (subst (λ o. (is_of_record c.args.reason && station_allows_records o) ≡ true) stands.options
     (sym c.may_pass_over.ensures ∙ search (rules, c.if-not-may_pass_over.false)))
@@ -67,3 +73,28 @@ returns-clause-heard g c = λ at items byte word stands step refused yes no size
     (ap (λ (w : RefusedRecord). Some (Refused w)) c.refused_here-why.ensures)
     (subst₂ (λ (k : RecordCounts) (w : RefusedRecord). IsCounted k (Refused w ∷ []) new.counts)
     (ap (λ (z : LastingParts _ _). z.counts) same) c.refused_here-why.ensures c.close.ensures.counted))
+
+pub returns-then-not-is_end-clause-placed : goal.returns-then-not-is_end-clause-placed
+returns-then-not-is_end-clause-placed g c = λ none.
+    let same = c.pass_over.ensures ∙ ap (λ (z : LastingParts _ _). (record z {
+      passing = Some c.refused_here-why.result;
+      passing_from = z.taken - 1;
+    })) c.revive.ensures.same in
+    rw c.silence.ensures.told (placed_here c.args.self.now c.pass_over.new.self (c.args.self.now.taken - 1) None none
+    (omega (arith, c.requires, ap (λ (z : LastingParts _ _). z.taken) same))
+    (λ some. ap (λ (z : LastingParts _ _). z.passing_from) same) (ap (λ (z : LastingParts _ _). z.refused_at) same))
+
+pub returns-clause-placed : goal.returns-clause-placed
+returns-clause-placed g c = λ none.
+    let same = c.close.ensures.same ∙ ap (λ (z : LastingParts _ _). (record z {
+      size = 0;
+      passing = None;
+      counts = c.close.new.self.counts;
+      refused_at = Some z.passing_from;
+    })) (c.pass_over.ensures ∙ ap (λ (z : LastingParts _ _). (record z {
+      passing = Some c.refused_here-why.result;
+      passing_from = z.taken - 1;
+    })) c.revive.ensures.same) in
+    placed_here c.args.self.now c.close.new.self (c.args.self.now.taken - 1) (Some (Refused c.refused_here-why.result))
+    none (omega (arith, c.requires, ap (λ (z : LastingParts _ _). z.taken) same))
+    (λ some. ap (λ (z : LastingParts _ _). z.passing_from) same) (ap (λ (z : LastingParts _ _). z.refused_at) same)

@@ -1,14 +1,15 @@
-use Rattle.std.proofs.Common.{length, ◌-◌, ◌≤◌, ◌+◌, ◌≡◌, [], take}
+use Rattle.std.proofs.Common.{length, ◌-◌, ◌≤◌, ◌+◌, ◌≡◌, [], None, take}
 use Rattle.ws_end.specs.Acts.{all_came}
 use Rattle.ws_end.specs.station.Displays.{on_display}
 use Rattle.ws_lasting.specs.Behaviour.{LeadsOnFrom}
-use Rattle.ws_lasting.specs.Footings.{AtLasting}
+use Rattle.ws_lasting.specs.Footings.{AtLasting, IsRefusalPlaced}
 use Rattle.ws_lasting.proofs.lasting.LastingStation.take.Given as goal
 
--- the bytes so far were taken, and nothing was written or told at them
+-- the bytes so far were taken, where a record is refused among them is known, and nothing was written or told at them
 abbrev pub invariant-loop-used : goal.invariant-loop-used
 invariant-loop-used g l = let on = on_display g.D.Commands.Code.rules g.D.StationDisplay.does in
     (l.used ≤ length l.piece) × (l.self.taken ≡ l.fn.self.taken + l.used)
+    × IsRefusalPlaced l.fn.self l.fn.self.taken l.self None
     × AtLasting on l.fn.self (λ at. LeadsOnFrom on l.fn.self l.self at (all_came (take l.used l.piece)) [] [])
 
 abbrev pub decreases-loop-used : goal.decreases-loop-used

@@ -1,6 +1,6 @@
 use Rattle.std.proofs.Common.{rules, ◌≡◌, ◌+◌, ◌-◌, None, Some, Option, sym, ap, ◌∙◌, subst, subst₂, arith}
 use Rattle.ws_end.specs.station.Displays.{on_display}
-use Rattle.ws_lasting.specs.Footings.{LastingParts, ReadsOrPasses, IsReading, IsPassingOver, IsWordHeard}
+use Rattle.ws_lasting.specs.Footings.{LastingParts, IsRefusalPlacedSo, ReadsOrPasses, IsReading, IsPassingOver, IsWordHeard}
 use Rattle.ws_lasting.specs.Lasting.{IsTokenStep}
 use Rattle.ws_lasting.specs.declared.record_counts.RecordCounts.{RecordCounts}
 use Rattle.ws_lasting.specs.declared.record_event.RefusedRecord.{RefusedRecord}
@@ -50,3 +50,23 @@ returns-in-Some-clause-taken g c = λ at st few.
     (subst (λ x. IsTokenStep at.begun c.args.byte x c.step-word.result) (sym c.pass.ensures.same.0) step)
     (subst₂ (λ (k : RecordCounts) n. IsWordHeard on k c.pass.new.self at n c.step-word.result c.pass.result) (ap (λ (z
     : LastingParts _ _). z.counts) same) place heard)
+
+pub returns-in-None-clause-placed : goal.returns-in-None-clause-placed
+returns-in-None-clause-placed g c =
+    let same = c.count.ensures ∙ ap (λ (z : LastingParts _ _). (record z { taken = z.taken + 1 }))
+    c.step-word.ensures.same in
+    let passing : c.count.new.self.passing ≡ None = search (rules, c.in-None.is, c.self-2.view_is) in
+    let taken : c.count.new.self.taken ≡ c.args.self.now.taken + 1 = ap (λ (z : LastingParts _ _). z.taken) same in
+    let place : c.count.new.self.taken - 1 ≡ c.args.self.now.taken = omega (arith, taken) in
+    subst₂ (λ (z : LastingParts _ _) n. IsRefusalPlacedSo z n c.read.new.self c.read.result) same place
+    (c.read.ensures.placed passing)
+
+pub returns-in-Some-clause-placed : goal.returns-in-Some-clause-placed
+returns-in-Some-clause-placed g c =
+    let same = c.count.ensures ∙ ap (λ (z : LastingParts _ _). (record z { taken = z.taken + 1 }))
+    c.step-word.ensures.same in
+    let passing : c.count.new.self.passing ≡ Some c.in-Some.why = search (rules, c.in-Some.is, c.self-2.view_is) in
+    let taken : c.count.new.self.taken ≡ c.args.self.now.taken + 1 = ap (λ (z : LastingParts _ _). z.taken) same in
+    let place : c.count.new.self.taken - 1 ≡ c.args.self.now.taken = omega (arith, taken) in
+    subst₂ (λ (z : LastingParts _ _) n. IsRefusalPlacedSo z n c.pass.new.self c.pass.result) same place
+    (c.pass.ensures.placed passing)

@@ -31,6 +31,7 @@ returns g c =
           _ c.take_byte.result (c.take_byte.ensures.taken at st (omega (arith, c.requires.some, c.requires.fits)))
           c.take_byte.ensures.counted);
       first = λ at st n lt. (let zero : n ≡ 0 = omega (arith, lt) in rw zero (at, (refl, refl, refl)));
+      placed = c.take_byte.ensures.placed;
       counted = c.take_byte.ensures.counted;
       after = c.take_byte.ensures.after;
     }
