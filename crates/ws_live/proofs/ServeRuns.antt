@@ -4,12 +4,11 @@ use Rattle.std.specs.Prelude.{Some}
 use Rattle.std.proofs.Common.{◌≡◌, ℕ, List, [], ◌∷◌, ◌++◌, false, refl}
 use Rattle.std.proofs.Common.{subst}
 use Rattle.ws_code.specs.Device.{Devices}
-use Rattle.ws_code.specs.declared.fault.Fault.TheVariants as fault
 use Rattle.ws_end.specs.Behaviours.{host_behaviour}
 use Rattle.ws_end.specs.attached.Attachments.{AttachedParts, HasHeard}
 use Rattle.ws_end.specs.declared.host_end.host_event.HostEvent.{HostEvent}
 use Rattle.ws_end.specs.host_end.HostReached.{HostParts}
-use Rattle.ws_live.specs.declared.live.serve_line.AnswerAwaited.{AnswerAwaited}
+use Rattle.ws_script.specs.declared.lines.serve_line.AnswerAwaited.{AnswerAwaited}
 use Rattle.ws_live.specs.live.ServeText.{is_awaited}
 use Rattle.ws_live.specs.live.ServeText.{HaveToldBeforeAnswer}
 

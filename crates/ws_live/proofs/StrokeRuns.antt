@@ -7,6 +7,7 @@ use Rattle.std.proofs.Common.{take-append-drop, inl, inr, refl, sym, ap, ◌∙�
 use Rattle.std.proofs.Math.Seq.{drop-cons}
 use Rattle.std.proofs.lemmas.Grind.{flat_map-append}
 use Rattle.std.proofs.lemmas.List.{append-nil, map-append, take_more, replicate-append-replicate}
+use Rattle.ws_code.specs.Device.{Devices}
 use Rattle.ws_code.specs.declared.fault.Fault.{Fault}
 use Rattle.ws_screen.specs.ScreenParts.{ScreenParts}
 use Rattle.ws_keys.specs.Strokes.{keys_of}
@@ -19,15 +20,13 @@ use Rattle.ws_end.specs.declared.attached.acted.Acted.TheVariants as acted
 use Rattle.ws_end.specs.declared.station.key_fault.KeyFault.{KeyFault}
 use Rattle.ws_live.specs.declared.live.Closing.{Closing}
 use Rattle.ws_live.specs.declared.live.Closing.TheVariants.{Declined, Done}
-use Rattle.ws_live.specs.declared.live.script_stroke.FieldFilling.{FieldFilling}
-use Rattle.ws_live.specs.declared.live.script_stroke.ScriptStroke.{ScriptStroke}
-use Rattle.ws_live.specs.declared.live.script_stroke.ScriptStroke.TheVariants.{Cursor, NewLine, EraseEof, Fill}
-use Rattle.ws_live.specs.live.ConnectText.{key_refused_text, pressed, KeyRuns, KeysUntil, StrokeRuns}
-use Rattle.ws_live.specs.live.Stroking.{keys_behind, no_field_text, stroke_keys, stroke_runs}
+use Rattle.ws_script.specs.declared.lines.script_stroke.FieldFilling.{FieldFilling}
+use Rattle.ws_script.specs.declared.lines.script_stroke.ScriptStroke.{ScriptStroke}
+use Rattle.ws_script.specs.declared.lines.script_stroke.ScriptStroke.TheVariants.{Cursor, NewLine, EraseEof, Fill}
+use Rattle.ws_live.specs.live.ConnectText.{closing_by, key_refused_text, no_field_line, KeyRuns, KeysUntil, StrokeRuns}
+use Rattle.ws_script.specs.lines.Stroking.{keys_behind, stroke_keys, stroke_runs}
 use Rattle.ws_live.specs.live.LiveText.{LineResult, LinesDo, line_result}
-use Rattle.ws_live.specs.live.Operating.{KeyedDisplay}
-use Rattle.ws_end.specs.station.Stations.{StationOf}
-use Rattle.ws_live.specs.live.Operating.{KeyAt}
+use Rattle.ws_live.specs.live.Operating.{LiveStation}
 
 -- Keys one after another, up to the first that isn't taken.
 
@@ -87,15 +86,15 @@ no_keys_behind (Fill f) other = absurd (other f refl)
 
 -- KEYS THAT ARE PRESSED
 
-module _ {S K : Type 0} (display : KeyedDisplay S K) where
+module _ {S K : Type 0} (at : LiveStation) (devices : Devices S K) (line : Option ℕ) where
   abbrev Parts : Type 0
-  Parts = AttachedParts (StationOf display.at.on) S K
+  Parts = AttachedParts at.Station S K
 
-  abbrev Runs : LinesDo (KeyAt display.at) Parts
-  Runs = KeyRuns display
+  abbrev Runs : LinesDo at.Pressed Parts
+  Runs = KeyRuns at devices line
 
-  abbrev Until : LinesDo (List (KeyAt display.at)) Parts
-  Until = KeysUntil display
+  abbrev Until : LinesDo (List at.Pressed) Parts
+  Until = KeysUntil at devices line
 
   -- a key or keys that were taken, and printed this
   abbrev taken : List ℕ → LineResult
@@ -103,17 +102,17 @@ module _ {S K : Type 0} (display : KeyedDisplay S K) where
 
   -- a key that is taken prints nothing
   quiet : (entered : Option ℕ) (refused : Acted KeyFault)
-      → ◌≡◌ {A = Result Closing Fault} (Ok Done) (Ok (pressed (is_done refused)))
-      → key_refused_text entered refused ≡ []
+      → ◌≡◌ {A = Result Closing Fault} (Ok Done) (Ok (closing_by (is_done refused)))
+      → key_refused_text line entered refused ≡ []
   quiet entered acted.Done e = refl
   quiet entered (acted.Refused why) e = cc
 
-  pub prints_nothing : (key : KeyAt display.at) (from to : Parts) (text : List ℕ) → Runs key from (taken text) to
+  pub prints_nothing : (key : at.Pressed) (from to : Parts) (text : List ℕ) → Runs key from (taken text) to
       → text ≡ []
-  prints_nothing key from to text (inl r) = r.3 ∙ quiet (display.words.entered key) r.0 r.2
+  prints_nothing key from to text (inl r) = r.3 ∙ quiet (at.words.entered key) r.0 r.2
   prints_nothing key from to text (inr r) = r.2
 
-  pub silent : (key : KeyAt display.at) (from to : Parts) (came : LineResult) → came.outcome ≡ Ok Done
+  pub silent : (key : at.Pressed) (from to : Parts) (came : LineResult) → came.outcome ≡ Ok Done
       → Runs key from came to → Runs key from (taken []) to
   silent key from to came e r =
       let done : Runs key from (taken came.text) to =
@@ -121,7 +120,7 @@ module _ {S K : Type 0} (display : KeyedDisplay S K) where
       subst (λ (z : List ℕ). Runs key from (taken z) to) (prints_nothing key from to came.text done) done
 
   -- keys that were all taken, and those behind them
-  pub until_on : (a b : List (KeyAt display.at)) (from mid to : Parts) (came : LineResult) (first : List ℕ)
+  pub until_on : (a b : List at.Pressed) (from mid to : Parts) (came : LineResult) (first : List ℕ)
       → Until a from (taken first) mid → Until b mid came to → Until (a ++ b) from came to
   until_on [] b from mid to came first h more = subst (λ (z : Parts). Until b z came to) h.0 more
   until_on (key ∷ a) b from mid to came first (inl h) more =
@@ -129,14 +128,14 @@ module _ {S K : Type 0} (display : KeyedDisplay S K) where
   until_on (key ∷ a) b from mid to came first (inr h) more = absurd (h.1 refl)
 
   -- all that were taken print nothing
-  pub until_quiet : (a : List (KeyAt display.at)) (from to : Parts) (text : List ℕ) → Until a from (taken text) to
+  pub until_quiet : (a : List at.Pressed) (from to : Parts) (text : List ℕ) → Until a from (taken text) to
       → text ≡ []
   until_quiet [] from to text h = h.2
   until_quiet (key ∷ a) from to text (inl h) = until_quiet a h.0 to text h.2
   until_quiet (key ∷ a) from to text (inr h) = absurd (h.1 refl)
 
   -- keys of which one wasn't taken
-  pub until_stopped : (a b : List (KeyAt display.at)) (from to : Parts) (came : LineResult)
+  pub until_stopped : (a b : List at.Pressed) (from to : Parts) (came : LineResult)
       → Until a from came to → came.outcome ≢ Ok Done → Until (a ++ b) from came to
   until_stopped [] b from to came h other = absurd (other h.1)
   until_stopped (key ∷ a) b from to came (inl h) other =
@@ -144,25 +143,25 @@ module _ {S K : Type 0} (display : KeyedDisplay S K) where
   until_stopped (key ∷ a) b from to came (inr h) other = inr h
 
   -- a key more that is taken
-  pub until_more : (a all : List (KeyAt display.at)) (key : KeyAt display.at) (from mid to : Parts) (came : LineResult)
+  pub until_more : (a all : List at.Pressed) (key : at.Pressed) (from mid to : Parts) (came : LineResult)
       → a ++ key ∷ [] ≡ all → Until a from (taken []) mid → came.outcome ≡ Ok Done → Runs key mid came to
       → Until all from (taken []) to
   until_more a all key from mid to came is h done r =
-      subst (λ (z : List (KeyAt display.at)). Until z from (taken []) to) is
+      subst (λ (z : List at.Pressed). Until z from (taken []) to) is
       (until_on a (key ∷ []) from mid to (taken []) [] h
       (inl (to, silent key mid to came done r, (refl, refl, refl))))
 
   -- a key more that isn't
-  pub until_one : (a b all : List (KeyAt display.at)) (key : KeyAt display.at) (from mid to : Parts) (came : LineResult)
+  pub until_one : (a b all : List at.Pressed) (key : at.Pressed) (from mid to : Parts) (came : LineResult)
       → all ≡ a ++ key ∷ b → Until a from (taken []) mid → came.outcome ≢ Ok Done → Runs key mid came to
       → Until all from came to
   until_one a b all key from mid to came is h other r =
-      subst (λ (z : List (KeyAt display.at)). Until z from came to) (sym is)
+      subst (λ (z : List at.Pressed). Until z from came to) (sym is)
       (until_on a (key ∷ b) from mid to came [] h (inr (r, other)))
 
   -- RUNS, AND STROKES
 
-  module _ (profile : Key → KeyAt display.at) (runs : List KeyRun) (i : ℕ) (run : KeyRun) (inside : i < length runs)
+  module _ (profile : Key → at.Pressed) (runs : List KeyRun) (i : ℕ) (run : KeyRun) (inside : i < length runs)
       (is : run ≡ get_or runs i run) (from mid to : Parts) (came : LineResult) where
     abbrev Before : Type 0
     Before = Until (display_keys profile (take i runs)) from (taken []) mid
@@ -171,7 +170,7 @@ module _ {S K : Type 0} (display : KeyedDisplay S K) where
     Next = Until (replicate run.times (profile run.key)) mid came to
 
     both : Before → Next → Until (display_keys profile (take (i + 1) runs)) from came to
-    both before next = subst (λ (z : List (KeyAt display.at)). Until z from came to)
+    both before next = subst (λ (z : List at.Pressed). Until z from came to)
         (keys_more profile runs i run inside is)
         (until_on (display_keys profile (take i runs)) (replicate run.times (profile run.key)) from mid to came []
         before next)
@@ -188,23 +187,23 @@ module _ {S K : Type 0} (display : KeyedDisplay S K) where
     -- one more, of which a key isn't
     pub run_stops : Before → Next → came.outcome ≢ Ok Done → Until (display_keys profile runs) from came to
     run_stops before next other =
-        subst (λ (z : List (KeyAt display.at)). Until z from came to) (sym (keys_on profile runs (i + 1)))
+        subst (λ (z : List at.Pressed). Until z from came to) (sym (keys_on profile runs (i + 1)))
         (until_stopped (display_keys profile (take (i + 1) runs)) (display_keys profile (drop (i + 1) runs)) from to
         came (both before next) other)
 
-  module _ (s : ScreenParts) (stroke : ScriptStroke (KeyAt display.at)) (from to : Parts) (came : LineResult) where
+  module _ (s : ScreenParts) (stroke : ScriptStroke at.Pressed) (from to : Parts) (came : LineResult) where
     abbrev Strokes : Option (List KeyRun) → Type 0
-    Strokes runs = StrokeRuns display
-        (option_map (λ runs. map display.words.profile (keys_of runs) ++ keys_behind stroke) runs) from came to
+    Strokes runs = StrokeRuns at devices line
+        (option_map (λ runs. map at.words.profile (keys_of runs) ++ keys_behind stroke) runs) from came to
 
     -- a stroke whose field there is
     pub stroke_some : (runs : List KeyRun) → Some runs ≡ stroke_runs s stroke
-        → Until (map display.words.profile (keys_of runs) ++ keys_behind stroke) from came to
-        → StrokeRuns display (stroke_keys display.words s stroke) from came to
+        → Until (map at.words.profile (keys_of runs) ++ keys_behind stroke) from came to
+        → StrokeRuns at devices line (stroke_keys at.words s stroke) from came to
     stroke_some runs e h = subst Strokes e h
 
     -- one whose field there isn't
     pub stroke_none : None ≡ stroke_runs s stroke → to ≡ from → came.outcome ≡ Ok Declined
-        → came.text ≡ no_field_text
-        → StrokeRuns display (stroke_keys display.words s stroke) from came to
+        → came.text ≡ no_field_line line
+        → StrokeRuns at devices line (stroke_keys at.words s stroke) from came to
     stroke_none e same declined printed = subst Strokes e (same, declined, printed)

@@ -1,4 +1,1 @@
-pub mod script
 pub mod live
-pub mod cause
-pub mod asked

@@ -1,11 +1,7 @@
 pub mod CarryingOn
-pub mod ConnectLines
 pub mod ConnectText
-pub mod LiveScript
 pub mod LiveText
 pub mod Operating
-pub mod ServeLines
 pub mod ServeText
-pub mod Stroking
 pub mod Watches
-pub mod WireLines
+pub mod WireRuns

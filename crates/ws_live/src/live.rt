@@ -6,30 +6,25 @@ ghost use Rattle.ws_text.specs.Printed.{IsPrinted};
 ghost use Rattle.ws_text.specs.Printing.{IsOut, Prints};
 ghost use Rattle.ws_live.specs.live.LiveText as Spec;
 ghost use Rattle.ws_live.specs.live.Watches.{HasBegunIf, InTime, WatchTells};
-ghost use Rattle.ws_printing.specs.declared.paint.Paint.{Paint as APaint};
+ghost use Rattle.ws_live.specs.declared.live.Telling.{Telling as ATelling};
 ghost use Rattle.ws_live.specs.declared.live.watch.WaitSpan.{WaitSpan as ASpan};
 
+pub(crate) mod carried_wire;
 pub(crate) mod connect;
-pub(crate) mod connect_line;
 pub(crate) mod host_closing;
-pub(crate) mod live_line;
+pub(crate) mod live_station;
 pub(crate) mod pressing;
 pub(crate) mod repeated;
-pub(crate) mod report_words;
-pub(crate) mod script_stroke;
 pub(crate) mod serve;
-pub(crate) mod serve_line;
-pub(crate) mod stroke_words;
+pub(crate) mod waiting;
 pub(crate) mod watch;
-pub(crate) mod wire_line;
-pub(crate) mod wire_words;
 
-use crate::live::live_line::LiveLine;
 use crate::live::watch::Watch;
 use ws_code::{Fault, Sink};
 use ws_printing::{BufferedSink, Paint};
+use ws_script::{LiveLine, NumberedLine};
 use ws_session::Attached;
-use ws_text::{Output, put_text};
+use ws_text::{Number, Output, Text, put_text, texts};
 
 /// How a line of a live session closed.
 #[derive(Clone, Copy, PartialEq, Eq)]
@@ -67,6 +62,15 @@ pub struct LineSettings {
     /// Of the screens that are printed.
     pub paint: Paint,
     pub after: AfterUnwell,
+}
+
+/// How what a line tells is printed.
+#[derive(Clone, Copy, Debug, PartialEq, Eq)]
+pub struct Telling {
+    /// Of the screens that are printed.
+    pub paint: Paint,
+    /// The line's number in its script, counted from 1, which stands after what it tells; none is told without it.
+    pub line: Option<u64>,
 }
 
 /// What the lines of a live session came to.
@@ -123,12 +127,37 @@ pub struct Carried {
     pub outcome: Result<Closing, Fault>,
 }
 
+/// A live session: an end at its devices, and what its lines share.
+#[derive(Drop)]
+pub struct LiveSession<E, S, K, W> {
+    pub attached: Attached<E, S, K>,
+    /// How many records are ahead: that lines which show something have taken.
+    pub ahead: u64,
+    /// What tells the time of its waits.
+    pub watch: W,
+}
+
+impl<E, S, K, W> LiveSession<E, S, K, W> {
+    ghost use Rattle.ws_live.specs.live.Watches.{begun_session};
+
+    /// One that has carried out nothing yet.
+    pub fn new(attached: Attached<E, S, K>, watch: W) -> Self
+        ensures { result ≡ begun_session attached watch }
+    {
+        LiveSession {
+            attached,
+            ahead: 0,
+            watch,
+        }
+    }
+}
+
 /// A line that is carried out at an end with these devices.
 pub trait LiveMove<E, S, K>: LiveLine {
-    // At a watch that may tell this of its waits, and with screens in this paint, the line came to this at the one state,
-    // printed this text, and left the other. A state is that of the end, and how many records are ahead: that lines which
-    // show something have taken.
-    ghost runs: { WatchTells S → APaint → Spec.LinesDo Self (AttachedParts E S K × ℕ) };
+    // At a watch that may tell this of its waits, where what it tells is printed so, the line came to this at the one
+    // state, printed this text, and left the other. A state is that of the end, and how many records are ahead: that
+    // lines which show something have taken.
+    ghost runs: { WatchTells S → ATelling → Spec.LinesDo Self (AttachedParts E S K × ℕ) };
 
     // How long the wait lasts that it begins, if it begins one.
     ghost waits: { Self → Option ASpan };
@@ -136,28 +165,26 @@ pub trait LiveMove<E, S, K>: LiveLine {
     /// Carries the line out, and prints what it tells. A line that waits begins a wait before it reads.
     fn carry_out<W: Watch<S>, O: Sink>(
         &self,
-        attached: &mut Attached<E, S, K>,
-        ahead: &mut u64,
-        watch: &mut W,
-        paint: Paint,
+        session: &mut LiveSession<E, S, K, W>,
+        telling: Telling,
         out: &mut O,
         output: Output,
     ) -> Carried
-        requires works { attached.old.broken ≡ false }
+        requires works { session.old.attached.broken ≡ false }
         ensures runs { (text : List ℕ)
-            × runs W.tells paint self.now (attached.old, ahead.old)
-            (Spec.line_result result.outcome text) (attached.new, ahead.new)
+            × runs W.tells telling self.now (session.old.attached, session.old.ahead)
+            (Spec.line_result result.outcome text) (session.new.attached, session.new.ahead)
             × Prints O.writer out.old out.new output result.output text }
         ensures begun { HasBegunIf W.times (waits self.now)
-            attached.old.source watch.old watch.new }
+            session.old.attached.source session.old.watch session.new.watch }
         ensures works { IfOk result.outcome (λ closing.
-            Spec.stops closing ≡ false → attached.new.broken ≡ false) };
+            Spec.stops closing ≡ false → session.new.attached.broken ≡ false) };
 }
 
 /// Carries lines out one after another, up to the first that ends the session: at which the end refuses a byte, that
 /// closes the connection, or that doesn't go well where `settings` say that such a line stops the session. What each
-/// prints is out before the next; after it comes a line `late` or `ended` where it closed so, and `ok` with `ready`. So
-/// many records are ahead, that lines which show something have taken.
+/// prints is out before the next; after it comes a line `late` or `ended` where it closed so, with the number of the
+/// line where it has one, and `ok` with `ready`.
 ///
 /// # Errors
 ///
@@ -166,29 +193,27 @@ pub trait LiveMove<E, S, K>: LiveLine {
 /// or a wait took 4,294,967,296 reads or things told; `Memory` where a growth was refused; `Failed` where the end was
 /// shut before.
 pub fn carry_lines<E, S, K, L: LiveMove<E, S, K>, W: Watch<S>, O: Sink>(
-    attached: &mut Attached<E, S, K>,
-    ahead: &mut u64,
-    watch: &mut W,
-    lines: &[L],
+    session: &mut LiveSession<E, S, K, W>,
+    lines: &[NumberedLine<L>],
     settings: LineSettings,
     out: &mut BufferedSink<O>,
 ) -> Result<Ran, Fault>
     // At an end that works, with nothing held back.
-    requires works { attached.old.broken ≡ false }
+    requires works { session.old.attached.broken ≡ false }
     requires empty { out.old.held ≡ [] }
     // What was printed, and how it ended.
     ensures printed { IsPrinted O.writer out.old.sink out.new.sink (Spec.lines_printing
         settings.after
-        (Spec.WithClosing (InTime (L.runs W.tells settings.paint) L.waits W.times) settings.ready)
-        ((attached.old, ahead.old), watch.old) lines.now
-        ((attached.new, ahead.new), watch.new)) result }
+        (Spec.WithClosing (λ telling. InTime (L.runs W.tells telling) L.waits W.times) settings)
+        session.old lines.now session.new) result }
     // The end works on unless the session is over, and nothing is held back.
-    ensures works { IfOk result (λ ran. ran.is_over ≡ false → attached.new.broken ≡ false) }
+    ensures works { IfOk result (λ ran.
+        ran.is_over ≡ false → session.new.attached.broken ≡ false) }
     ensures held { out.new.held ≡ [] }
 {
     let mut ran = Ran::none();
     for line in lines {
-        let closing = match carry_line(attached, ahead, watch, line, settings, out) {
+        let closing = match carry_line(session, line, settings, out) {
             Ok(closing) => closing,
             Err(fault) => return Err(fault),
         };
@@ -200,36 +225,38 @@ pub fn carry_lines<E, S, K, L: LiveMove<E, S, K>, W: Watch<S>, O: Sink>(
     Ok(ran)
 }
 
-/// Carries a line out, as `carry_lines` does.
+/// Carries a line out, as `carry_lines` does. The waits of those before are over.
 ///
 /// # Errors
 ///
 /// The fault of the line, as at `carry_lines`; where it has none, `Write` where the sink failed.
 pub fn carry_line<E, S, K, L: LiveMove<E, S, K>, W: Watch<S>, O: Sink>(
-    attached: &mut Attached<E, S, K>,
-    ahead: &mut u64,
-    watch: &mut W,
-    line: &L,
+    session: &mut LiveSession<E, S, K, W>,
+    line: &NumberedLine<L>,
     settings: LineSettings,
     out: &mut BufferedSink<O>,
 ) -> Result<Closing, Fault>
     // At an end that works, with nothing held back.
-    requires works { attached.old.broken ≡ false }
+    requires works { session.old.attached.broken ≡ false }
     requires empty { out.old.held ≡ [] }
     // What was printed, and how it ended.
     ensures printed { IsPrinted O.writer out.old.sink out.new.sink (Spec.line_printing
-        (Spec.WithClosing (InTime (L.runs W.tells settings.paint) L.waits W.times) settings.ready)
-        ((attached.old, ahead.old), watch.old) line.now
-        ((attached.new, ahead.new), watch.new)) result }
+        (Spec.WithClosing (λ telling. InTime (L.runs W.tells telling) L.waits W.times) settings)
+        session.old line.now session.new) result }
     // The end works on unless the session is over, and nothing is held back.
     ensures works { IfOk result (λ closing.
-        Spec.stops closing ≡ false → attached.new.broken ≡ false) }
+        Spec.stops closing ≡ false → session.new.attached.broken ≡ false) }
     ensures held { out.new.held ≡ [] }
 {
-    let carried = line.carry_out(attached, ahead, watch, settings.paint, out, Output::Open);
+    session.watch.end_waits();
+    let telling = Telling {
+        paint: settings.paint,
+        line: line.number,
+    };
+    let carried = line.line.carry_out(session, telling, out, Output::Open);
     match carried.outcome {
         Ok(closing) => {
-            let output = put_closing(out, carried.output, settings.ready, closing);
+            let output = put_closing(out, carried.output, settings.ready, line.number, closing);
             match hand_on(out, output) {
                 Output::Open => Ok(closing),
                 Output::Failed => Err(Fault::Write),
@@ -255,23 +282,38 @@ pub fn hand_on<O: Sink>(out: &mut BufferedSink<O>, output: Output) -> Output
     }
 }
 
-// Writes what stands behind a line's text.
-fn put_closing<O: Sink>(out: &mut O, output: Output, ready: bool, closing: Closing) -> Output
+// Writes what stands behind the text of a line of this number.
+fn put_closing<O: Sink>(
+    out: &mut O,
+    output: Output,
+    ready: bool,
+    line: Option<u64>,
+    closing: Closing,
+) -> Output
     ensures { Prints O.writer out.old out.new output result
-        (Spec.closing_text ready closing) }
+        (Spec.closing_text ready line closing) }
 {
-    let output = put_text(out, output, closing_word(closing));
+    let output = put_closing_word(out, output, line, closing);
     put_text(out, output, ready_word(ready, closing))
 }
 
-fn closing_word(closing: Closing) -> &'static str
-    ensures { result.now ≡ Spec.closing_word closing }
+fn put_closing_word<O: Sink>(
+    out: &mut O,
+    output: Output,
+    line: Option<u64>,
+    closing: Closing,
+) -> Output
+    ensures { Prints O.writer out.old out.new output result
+        (Spec.closing_word line closing) }
 {
-    match closing {
-        Closing::Late => "late\n",
-        Closing::Ended => "ended\n",
-        _ => "",
-    }
+    let word = match closing {
+        Closing::Late => "late",
+        Closing::Ended => "ended",
+        _ => return output,
+    };
+    let output = put_text(out, output, word);
+    let output = put_line_behind(out, output, line);
+    put_text(out, output, "\n")
 }
 
 fn ready_word(ready: bool, closing: Closing) -> &'static str
@@ -283,6 +325,16 @@ fn ready_word(ready: bool, closing: Closing) -> &'static str
     match closing {
         Closing::Nothing | Closing::Stopped => "",
         _ => "ok\n",
+    }
+}
+
+// Writes the number of a script's line, after a blank and in parentheses, where one is told.
+pub(crate) fn put_line_behind<O: Sink>(out: &mut O, output: Output, line: Option<u64>) -> Output
+    ensures { Prints O.writer out.old out.new output result (Spec.line_behind line) }
+{
+    match line {
+        None => output,
+        Some(number) => texts!(" (line ", Number(number), ")").put_to(out, output),
     }
 }
 

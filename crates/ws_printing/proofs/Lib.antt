@@ -1,5 +1,10 @@
 pub mod Buffers
+pub mod CheckLemmas
 pub mod ColoredCells
 pub mod LastBlanks
 pub mod LiveDisplays
+pub mod PageChars
+pub mod ScriptWords
+pub mod Scripts
 pub mod ShownTexts
+pub mod SourceReads

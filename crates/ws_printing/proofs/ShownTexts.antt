@@ -2,11 +2,10 @@
 
 use Rattle.std.specs.Char.{encode_utf8}
 use Rattle.std.specs.List.{Contains, range_with_len}
-use Rattle.std.specs.Prelude.{◌==◌, ◌||◌}
 use Rattle.std.specs.Str.{encode_utf8_all}
 use Rattle.std.specs.Str.Iter.{HasSubslice}
-use Rattle.std.proofs.Common.{◌≡◌, ℕ, ◌+◌, ◌-◌, ◌*◌, ◌/◌, ◌%◌, ◌<◌, ◌≤◌, List, [], ◌∷◌, ◌++◌, Bool, true, false, Some}
-use Rattle.std.proofs.Common.{None, Option, length, map, cond, nat_lt, if◌then◌else◌, unwrap_or, slice_index, inl, inr}
+use Rattle.std.proofs.Common.{◌≡◌, ℕ, ◌+◌, ◌-◌, ◌*◌, ◌/◌, ◌%◌, ◌<◌, ◌≤◌, List, [], ◌∷◌, ◌++◌, Bool, true, false}
+use Rattle.std.proofs.Common.{length, map, cond, nat_lt, slice_index, inl, inr}
 use Rattle.std.proofs.Common.{refl, sym, ap, ◌∙◌, subst, arith}
 use Rattle.std.proofs.lemmas.Bool.{cases_lt}
 use Rattle.std.proofs.lemmas.List.{get_or-map, length-map}
@@ -14,13 +13,12 @@ use Rattle.std.proofs.lemmas.List.Edits.{get_or-between, length-between}
 use Rattle.std.proofs.lemmas.List.Elements.{All-cons, All-nil, All-contains, Contains-get_or, Contains-append_left}
 use Rattle.std.proofs.lemmas.List.Elements.{Contains-append_right, Contains-append_cases}
 use Rattle.std.proofs.lemmas.List.FromFn.{get_or-map-range_with_len, length-map-range_with_len}
-use Rattle.ws_code.specs.Ebcdic.{char_of}
-use Rattle.ws_stream.specs.FieldOrder.{is_attribute}
-use Rattle.ws_screen.specs.Attributes.{is_hidden}
-use Rattle.ws_screen.specs.Lines.{attribute_at, row_chars, shown_at, shown_row, shown_under}
-use Rattle.ws_screen.specs.declared.lines.TheConstants.{DUP}
+use Rattle.ws_code.specs.declared.code_page.CodePage.{CodePage}
+use Rattle.ws_screen.specs.Lines.{attribute_at}
 use Rattle.ws_printing.specs.ReportLines.{row_bytes}
-use Rattle.ws_printing.specs.ShownTexts.{IsNeededBy, IsOnlyFor}
+use Rattle.ws_printing.specs.ShownOnPage.{row_on_page, shown_on}
+use Rattle.ws_printing.specs.ShownTexts.{IsNeededBy, text_of_shown}
+use Rattle.ws_printing.proofs.PageChars.{shown_byte}
 
 abbrev High : ℕ → Type 0
 High x = 0x80 ≤ x
@@ -73,51 +71,43 @@ in_text (c ∷ cs) b small h = elim (Contains-append_cases (encode_utf8 c) (enco
   | inr later ↦ Contains-append_right (c ∷ []) cs b (in_text cs b small later)
 ]
 
--- a byte that shows such a character is the only one that does
-shown_byte : (a v c byte : ℕ) → IsOnlyFor c byte → (shown_under a v).character ≡ c → v ≡ byte
-shown_byte a v c byte only e = go (is_hidden a) ((v == 0) || is_attribute v) (v == DUP) (char_of v) refl e
-  where
-    go : (hidden blank dup : Bool) (own : Option ℕ) → char_of v ≡ own
-        → (if hidden then 0x20 else (if blank then 0x20 else (if dup then 0x2A else unwrap_or own 0x2E))) ≡ c → v ≡ byte
-    go true blank dup own q e = absurd (omega (arith, only.0, e))
-    go false true dup own q e = absurd (omega (arith, only.0, e))
-    go false false true own q e = absurd (omega (arith, only.0, e))
-    go false false false None q e = absurd (omega (arith, only.0, e))
-    go false false false (Some x) q e = only.2 v (q ∙ ap (λ z. Some z) e)
-
 -- the cell of a row that shows a character
-cell_of : (cells : List ℕ) (row c : ℕ) → Contains (row_chars cells row) c
-    → (k : ℕ) × (k < 80) × ((shown_at cells ((row - 1) * 80 + k)).character ≡ c)
-unfolding row_chars shown_row
-cell_of cells row c h =
+cell_of : (page : CodePage) (cells : List ℕ) (row c : ℕ)
+    → Contains (map (λ s. s.character) (row_on_page page cells row)) c
+    → (k : ℕ) × (k < 80) × ((shown_on page cells ((row - 1) * 80 + k)).character ≡ c)
+unfolding row_on_page
+cell_of page cells row c h =
     let first = (row - 1) * 80 in
-    let shown = map (shown_at cells) (range_with_len first 80) in
+    let shown = map (shown_on page cells) (range_with_len first 80) in
     let inside : h.0 < 80 = omega (
       arith,
       h.1,
       length-map shown (λ s. s.character),
-      length-map-range_with_len (shown_at cells) first 80,
+      length-map-range_with_len (shown_on page cells) first 80,
     ) in
-    let d = shown_at cells first in (
+    let d = shown_on page cells first in (
       h.0,
       inside,
-      ap (λ s. s.character) (sym (get_or-map-range_with_len (shown_at cells) first 80 h.0 (first + h.0) d inside refl))
+      ap (λ s. s.character)
+          (sym (get_or-map-range_with_len (shown_on page cells) first 80 h.0 (first + h.0) d inside refl))
           ∙ sym (get_or-map (λ s. s.character) shown h.0 d c (omega (arith, h.1, length-map shown (λ s. s.character))))
           ∙ h.2,
     )
 
 -- a row that shows a text has each byte that it needs
-pub needed_there : (cells text : List ℕ) (row byte : ℕ) → 1 ≤ row → row ≤ 24 → length cells ≡ 1920 → IsNeededBy text byte
-    → HasSubslice (encode_utf8_all (row_chars cells row)) text → Contains (row_bytes cells row) byte
-needed_there cells text row byte low high whole needed found =
+pub needed_there : (page : CodePage) (cells text : List ℕ) (row byte : ℕ) → 1 ≤ row → row ≤ 24 → length cells ≡ 1920
+    → IsNeededBy page text byte → HasSubslice (text_of_shown (row_on_page page cells row)) text
+    → Contains (row_bytes cells row) byte
+needed_there page cells text row byte low high whole needed found =
     let c = needed.0 in
     let only = needed.2 in
-    let there : Contains (encode_utf8_all (row_chars cells row)) c = subst (λ z. Contains z c) (sym found.2)
+    let shown = row_on_page page cells row in
+    let there : Contains (text_of_shown shown) c = subst (λ z. Contains z c) (sym found.2)
     (Contains-append_right found.0 (text ++ found.1) c (Contains-append_left text found.1 c needed.1)) in
-    let at = cell_of cells row c (in_text (row_chars cells row) c only.1 there) in
+    let at = cell_of page cells row c (in_text (map (λ s. s.character) shown) c only.1 there) in
     let first = (row - 1) * 80 in
-    let is : slice_index cells (first + at.0) ≡ byte =
-    shown_byte (attribute_at cells (first + at.0)) (slice_index cells (first + at.0)) c byte only at.2 in
+    let is : slice_index cells (first + at.0) ≡ byte = shown_byte page (attribute_at cells (first + at.0))
+    (slice_index cells (first + at.0)) c byte only at.2 in
     let inside : at.0 < length (row_bytes cells row) = omega (
       arith,
       at.1,

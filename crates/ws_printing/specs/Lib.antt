@@ -1,5 +1,7 @@
 pub mod Buffering
 pub mod Characters
+pub mod CheckLine
+pub mod Checking
 pub mod ColoredRows
 pub mod ErrorRow
 pub mod FieldLines
@@ -8,6 +10,9 @@ pub mod PlaceAndReason
 pub mod PlayLines
 pub mod Printouts
 pub mod ReportLines
+pub mod script
 pub mod ScreenLines
+pub mod ShownOnPage
 pub mod ShownTexts
+pub mod SourceChecks
 pub mod ToldLines

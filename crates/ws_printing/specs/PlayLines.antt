@@ -27,7 +27,7 @@ use Rattle.ws_session.specs.declared.world.Event.TheVariants.{Host, KeyRefused, 
 use Rattle.ws_session.specs.declared.world.Event.TheVariants.{HostRefused}
 use Rattle.ws_printing.specs.PlaceAndReason.{place_and_reason}
 use Rattle.ws_text.specs.ItemLines.{cell_text, hex_behind_blank}
-use Rattle.ws_printing.specs.ScreenLines.{screen_text}
+use Rattle.ws_printing.specs.ScreenLines.{on_037, screen_text}
 use Rattle.ws_printing.specs.declared.paint.Paint.{Paint}
 use Rattle.ws_printing.specs.declared.paint.Paint.TheVariants.{Plain}
 
@@ -93,9 +93,9 @@ event_text (HostRefused place reason) = codes "host" ++ refused_text place reaso
 abbrev pub events_text : List Event → List ℕ
 events_text events = flat_map event_text events
 
--- the lines of a screen in a paint, where they are asked for
+-- the lines of a screen in a paint, on page 037, where they are asked for
 abbrev pub screen_lines : Paint → Bool → ScreenParts → List ℕ
-screen_lines paint asked screen = if asked then screen_text paint screen else []
+screen_lines paint asked screen = if asked then screen_text (on_037 paint) screen else []
 
 -- the whole text of a session's report: the lines of its events, and after them the station's screen in a paint, where
 -- it is asked for

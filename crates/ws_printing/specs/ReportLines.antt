@@ -7,18 +7,17 @@ use Rattle.std.specs.Fmt.{decimal}
 use Rattle.std.specs.List.{flat_map}
 use Rattle.hex.specs.Hex.{encode_upper}
 use Rattle.ws_code.specs.declared.address.TheConstants.{COLUMNS}
-use Rattle.ws_nego.specs.Station.{station_allows_records}
+use Rattle.ws_code.specs.declared.code_page.CodePage.{CodePage}
 use Rattle.ws_screen.specs.Lines.{shown_row}
 use Rattle.ws_screen.specs.ScreenParts.{ScreenParts, holds}
 use Rattle.ws_screen.specs.declared.shown.Shown.{Shown}
-use Rattle.ws_end.specs.station.Displays.{DisplayOf}
-use Rattle.ws_end.specs.station.Stations.{PartsOn}
 use Rattle.ws_text.specs.ItemLines.{cell_text}
 use Rattle.ws_printing.specs.Characters.{characters_text, without_last_blanks}
 use Rattle.ws_printing.specs.FieldLines.{shown_from}
 use Rattle.ws_printing.specs.ScreenLines.{lock_name}
 use Rattle.ws_printing.specs.declared.station_report.StationReport.{StationReport}
 use Rattle.ws_printing.specs.declared.station_report.Span.{Span}
+use Rattle.ws_printing.specs.declared.station_report.StationStatus.{StationStatus}
 use Rattle.ws_printing.specs.declared.station_report.StationReport.TheVariants.{Status, Cells, Text, Note}
 
 -- whether records may be sent both ways
@@ -43,14 +42,13 @@ pub record ReportedStation : Type 0 where
   pub records : ℕ
   pub taken : ℕ
 
--- this of a station on a display
-abbrev pub reported_station : {D P U H PlaceV V Q R : Type 0} → DisplayOf D U H PlaceV V Q R → PartsOn D P
-    → ReportedStation
-reported_station does station = record {
-  screen = does.shown station.reacts.screen;
-  is_ready = station_allows_records station.reacts.options;
-  records = station.reacts.records;
-  taken = station.live.taken;
+-- this of its status
+abbrev pub reported_by : StationStatus → ReportedStation
+reported_by status = record {
+  screen = status.screen.now;
+  is_ready = status.is_ready;
+  records = status.records;
+  taken = status.taken;
 }
 
 -- the same with the number of the records that were applied, and of the bytes that were taken
@@ -71,22 +69,22 @@ abbrev pub cells_line : List ℕ → ℕ → List ℕ
 cells_line cells cell = let row = cell / COLUMNS + 1 in codes "cells " ++ decimal row ++ codes " "
     ++ encode_upper (row_bytes cells row) ++ codes " " ++ attributes_text (shown_row cells row) ++ codes "\n"
 
--- what cells show, without the blanks at its end
-abbrev pub span_line : List ℕ → Span → List ℕ
-span_line cells span = characters_text (λ s. s.character)
-    (without_last_blanks (λ s. s.character) (shown_from cells span.at span.count)) ++ codes "\n"
+-- what cells show on a page, without the blanks at its end
+abbrev pub span_line : CodePage → List ℕ → Span → List ℕ
+span_line page cells span = characters_text (λ s. s.character)
+    (without_last_blanks (λ s. s.character) (shown_from page cells span.at span.count)) ++ codes "\n"
 
 -- a note's line
 abbrev pub note_line : List ℕ → List ℕ
 note_line note = note ++ codes "\n"
 
--- what a report tells of a station
-abbrev pub report_text : ReportedStation → StationReport → List ℕ
-report_text station Status = status_line station
-report_text station (Cells cell) = cells_line station.screen.cells cell
-report_text station (Text span) = span_line station.screen.cells span
-report_text station (Note note) = note_line note
+-- what a report tells of a station whose text is on a page
+abbrev pub report_text : CodePage → ReportedStation → StationReport → List ℕ
+report_text page station Status = status_line station
+report_text page station (Cells cell) = cells_line station.screen.cells cell
+report_text page station (Text span) = span_line page station.screen.cells span
+report_text page station (Note note) = note_line note
 
--- this is what a report tells of a station
-abbrev pub IsReportText : ReportedStation → StationReport → List ℕ → Type 0
-IsReportText station report text = text ≡ report_text station report
+-- this is what a report tells of such a station
+abbrev pub IsReportText : CodePage → ReportedStation → StationReport → List ℕ → Type 0
+IsReportText page station report text = text ≡ report_text page station report

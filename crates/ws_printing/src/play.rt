@@ -6,6 +6,7 @@ ghost use Rattle.ws_printing.specs.PlaceAndReason.{place_and_reason};
 ghost use Rattle.ws_printing.specs.PlayLines as Spec;
 ghost use Rattle.ws_printing.specs.ScreenLines.{screen_text};
 
+use crate::look::Look;
 use crate::paint::Paint;
 use crate::place_and_reason::PlaceAndReason;
 use crate::screen_lines::ScreenLines;
@@ -66,13 +67,13 @@ pub fn play_painted_to<S: Sink>(
     }
 }
 
-// The lines of a screen, where they are asked for.
+// The lines of a screen on page 037, where they are asked for.
 fn screen_if(is_asked: bool, paint: Paint, screen: &Screen) -> Option<ScreenLines>
     ensures { text_where (λ l. screen_text l.0 l.1.now) result
         ≡ Spec.screen_lines paint is_asked screen.now }
 {
     if is_asked {
-        Some(ScreenLines(paint, screen))
+        Some(ScreenLines(Look::on_037(paint), screen))
     } else {
         None
     }

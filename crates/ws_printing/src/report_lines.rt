@@ -8,45 +8,41 @@ ghost use Rattle.ws_text.specs.Printing.{Prints};
 use crate::characters::{Characters, without_last_blanks};
 use crate::field_lines::show_from;
 use crate::screen_lines::lock_name;
-use crate::station_report::{Span, StationReport};
-use ws_code::{Address, CELLS, COLUMNS, ROWS, Sink};
+use crate::station_report::{Span, StationReport, StationStatus};
+use ws_code::{Address, CELLS, COLUMNS, CodePage, ROWS, Sink};
 use ws_screen::{Field, MAX_FIELDS, Screen, Shown};
-use ws_session::{StationDisplay, StationOn};
 use ws_text::{Bytes, Cell, EachAs, Hex, Number, Output, Text, TextAs, texts};
 
-/// Writes what a report tells of a station.
-pub fn put_report<D: StationDisplay, O: Sink>(
+/// Writes what a report tells of a station whose text is on a page.
+pub fn put_report<O: Sink>(
     out: &mut O,
     output: Output,
-    station: &StationOn<D>,
+    page: CodePage,
+    station: StationStatus<'_>,
     report: &StationReport,
 ) -> Output
     ensures { (text : List ℕ)
-        × Spec.IsReportText (Spec.reported_station D.does station.now) report.now text
+        × Spec.IsReportText page (Spec.reported_by station.entry) report.now text
         × Prints O.writer out.old out.new output result text }
 {
     match report {
         StationReport::Status => put_status(out, output, station),
-        StationReport::Cells(cell) => put_cells(out, output, station.screen(), *cell),
-        StationReport::Text(span) => put_span(out, output, station.screen(), *span),
+        StationReport::Cells(cell) => put_cells(out, output, station.screen, *cell),
+        StationReport::Text(span) => put_span(out, output, page, station.screen, *span),
         StationReport::Note(note) => put_note(out, output, note.as_slice()),
     }
 }
 
-fn put_status<D: StationDisplay, O: Sink>(
-    out: &mut O,
-    output: Output,
-    station: &StationOn<D>,
-) -> Output
+fn put_status<O: Sink>(out: &mut O, output: Output, station: StationStatus<'_>) -> Output
     ensures { Prints O.writer out.old out.new output result
-        (Spec.status_line (Spec.reported_station D.does station.now)) }
+        (Spec.status_line (Spec.reported_by station.entry)) }
 {
     texts!(
-        Operator(station.screen(), station.is_ready()),
+        Operator(station.screen, station.is_ready),
         " records ",
-        Number(station.records()),
+        Number(station.records),
         " bytes ",
-        Number(station.taken()),
+        Number(station.taken),
         "\n"
     )
     .put_to(out, output)
@@ -159,13 +155,19 @@ impl TextAs<Attributes> for Shown {
     }
 }
 
-// Writes what cells show, without the blanks at its end: from one on so many, or up to the last of the screen.
-fn put_span<O: Sink>(out: &mut O, output: Output, screen: &Screen, span: Span) -> Output
+// Writes what cells show on a page, without the blanks at its end: from one on so many, or up to the last of the screen.
+fn put_span<O: Sink>(
+    out: &mut O,
+    output: Output,
+    page: CodePage,
+    screen: &Screen,
+    span: Span,
+) -> Output
     ensures { Prints O.writer out.old out.new output result
-        (Spec.span_line screen.now.cells span) }
+        (Spec.span_line page screen.now.cells span) }
 {
     let mut all = [Shown::default(); CELLS as usize];
-    let shown = show_from(screen, span.at, span.count, &mut all);
+    let shown = show_from(page, screen, span.at, span.count, &mut all);
     texts!(Characters(without_last_blanks(shown)), "\n").put_to(out, output)
 }
 

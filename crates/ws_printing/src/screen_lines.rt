@@ -6,40 +6,42 @@ ghost use Rattle.ws_text.specs.Printing.{Prints};
 
 use crate::characters::{Characters, without_last_blanks};
 use crate::colored_cells::ColoredCells;
+use crate::look::Look;
 use crate::operated_display::OperatedDisplay;
 use crate::paint::Paint;
+use crate::shown_on_page::row_on;
 use ws_code::{ROWS, Sink};
 use ws_screen::{Screen, Shown};
 use ws_text::{Cell, Number, Output, Text, texts};
 
 /// Writes the lines of a screen.
-pub fn put_screen<S: Sink>(sink: &mut S, output: Output, paint: Paint, screen: &Screen) -> Output
-    ensures { (lines : List ℕ) × Spec.IsScreenText paint screen.now lines
+pub fn put_screen<S: Sink>(sink: &mut S, output: Output, look: Look, screen: &Screen) -> Output
+    ensures { (lines : List ℕ) × Spec.IsScreenText look screen.now lines
         × Prints S.writer sink.old sink.new output result lines }
 {
-    ScreenLines(paint, screen).put_to(sink, output)
+    ScreenLines(look, screen).put_to(sink, output)
 }
 
 /// Writes the lines of a display: those of its screen, and what is printed behind them.
 pub fn put_display<D: OperatedDisplay, S: Sink>(
     sink: &mut S,
     output: Output,
-    paint: Paint,
+    look: Look,
     display: &D,
 ) -> Output
     ensures { (lines : List ℕ)
-        × Spec.IsDisplayText paint (D.does.shown display.now) (D.operated.behind display.now) lines
+        × Spec.IsDisplayText look (D.does.shown display.now) (D.operated.behind display.now) lines
         × Prints S.writer sink.old sink.new output result lines }
 {
-    let output = ScreenLines(paint, display.screen()).put_to(sink, output);
+    let output = ScreenLines(look, display.screen()).put_to(sink, output);
     display.put_behind(sink, output)
 }
 
-/// The lines of a screen in a paint: each row that isn't all blank, and what there is beside the rows.
+/// The lines of a screen: each row that isn't all blank, and what there is beside the rows.
 ///
 /// In colour the same rows are written, cut at the same cells.
 #[derive(Clone, Copy)]
-pub struct ScreenLines<'a>(pub Paint, pub &'a Screen);
+pub struct ScreenLines<'a>(pub Look, pub &'a Screen);
 
 impl Text for ScreenLines<'_> {
     ghost text = { λ l. Spec.screen_text l.0 l.1.now };
@@ -51,7 +53,7 @@ impl Text for ScreenLines<'_> {
 
 // The lines of all rows.
 #[derive(Clone, Copy)]
-struct Rows<'a>(Paint, &'a Screen);
+struct Rows<'a>(Look, &'a Screen);
 
 impl Text for Rows<'_> {
     ghost text = { λ r. Spec.rows_text r.0 r.1.now.cells ALL_ROWS };
@@ -66,13 +68,13 @@ impl Text for Rows<'_> {
 }
 
 // Writes a row's line, if it isn't all blank.
-fn put_row<S: Sink>(sink: &mut S, output: Output, paint: Paint, screen: &Screen, row: u8) -> Output
+fn put_row<S: Sink>(sink: &mut S, output: Output, look: Look, screen: &Screen, row: u8) -> Output
     requires low { 1 ≤ row }
     requires high { row ≤ ROWS }
     ensures { Prints S.writer sink.old sink.new output result
-        (Spec.line_of_row paint screen.now.cells row) }
+        (Spec.line_of_row look screen.now.cells row) }
 {
-    let cells = screen.row(row);
+    let cells = row_on(look.page, screen, row);
     let shown = without_last_blanks(&cells);
     if shown.is_empty() {
         return output;
@@ -81,7 +83,7 @@ fn put_row<S: Sink>(sink: &mut S, output: Output, paint: Paint, screen: &Screen,
         indent(row),
         Number(row as u64),
         " ",
-        Painted(paint, shown),
+        Painted(look.paint, shown),
         "\n"
     )
     .put_to(sink, output)

@@ -1,6 +1,7 @@
 //! What a line asks to be told of a station.
 
 use ws_code::{Address, List};
+use ws_screen::Screen;
 
 /// What a line of a script prints beside fields and screens.
 #[derive(Drop)]
@@ -13,6 +14,19 @@ pub enum StationReport {
     Text(Span),
     /// These bytes.
     Note(List<u8>),
+}
+
+/// What a report can tell of a station.
+#[derive(Clone, Copy)]
+pub struct StationStatus<'a> {
+    /// Its screen.
+    pub screen: &'a Screen,
+    /// Whether records may be sent both ways.
+    pub is_ready: bool,
+    /// How many records it has carried out.
+    pub records: u64,
+    /// How many bytes it has taken.
+    pub taken: u64,
 }
 
 /// Cells along the rows: one and those behind it, so many or up to the last of the screen.

@@ -1,47 +1,47 @@
--- What a line of a script for a station does there, and what it prints, by the station's display.
+-- What a line of a script for a station does there, and what it prints.
 
 use Rattle.std.specs.Prelude.{◌≡◌, ◌≢◌, ℕ, ◌<◌, List, [], ◌∷◌, ◌++◌, ◌⊎◌, Bool, true, false, ◌&&◌, Option, None}
 use Rattle.std.specs.Prelude.{Some}
 use Rattle.std.specs.Prelude.{Result, Ok, Err, string_bytes, length, if◌then◌else◌, codes, encode_utf8}
-use Rattle.ws_code.specs.Device.{most_reads, one_more}
+use Rattle.std.specs.List.{flat_map, list_all}
+use Rattle.std.specs.Option.{is_none}
+use Rattle.ws_code.specs.Device.{Devices, most_reads, one_more}
 use Rattle.ws_code.specs.declared.fault.Fault.{Fault}
 use Rattle.ws_code.specs.declared.fault.Fault.TheVariants as fault
-use Rattle.ws_screen.specs.ScreenParts.{ScreenParts}
 use Rattle.ws_end.specs.Acts.{Did}
 use Rattle.ws_end.specs.attached.Attachments.{AttachedParts, HaveLedUnwritten, HasHeard, IsHearFault}
-use Rattle.ws_end.specs.attached.Requests.{HasActed, is_done, key_judged}
-use Rattle.ws_end.specs.Behaviours.{station_behaviour}
+use Rattle.ws_end.specs.attached.Requests.{HasActed, is_done}
 use Rattle.ws_end.specs.declared.attached.acted.Acted.{Acted}
 use Rattle.ws_end.specs.declared.attached.acted.Acted.TheVariants as acted
-use Rattle.ws_end.specs.declared.end_step.Applied.{Applied}
 use Rattle.ws_end.specs.declared.station.key_fault.KeyFault.{KeyFault}
 use Rattle.ws_session.specs.declared.world.Event.TheVariants.{StationRefused}
 use Rattle.ws_printing.specs.FieldLines.{AreFieldLines}
+use Rattle.ws_printing.specs.PlaceAndReason.{place_and_reason}
 use Rattle.ws_printing.specs.PlayLines.{event_text, key_fault_name}
-use Rattle.ws_printing.specs.ReportLines.{IsReportText, note_line, reported_station}
-use Rattle.ws_printing.specs.ScreenLines.{IsDisplayText}
+use Rattle.ws_printing.specs.ReportLines.{IsReportText, note_line}
+use Rattle.ws_printing.specs.ScreenLines.{IsDisplayText, look}
 use Rattle.ws_printing.specs.ShownTexts.{BeginsAt, ShowsText}
-use Rattle.ws_live.specs.declared.live.connect.Waited.{Waited}
-use Rattle.ws_live.specs.declared.live.connect.Waited.TheVariants.{Met, Late as WasLate, Ended as HasEnded, Failed}
-use Rattle.ws_live.specs.declared.live.connect_line.StationLine.{StationLine}
-use Rattle.ws_live.specs.declared.live.connect_line.StationLine.TheVariants.{Nothing as NoLine, Press, Stroke, Await}
-use Rattle.ws_live.specs.declared.live.connect_line.StationLine.TheVariants.{Fields, Show, Report, Bad}
-use Rattle.ws_live.specs.declared.live.connect_line.Awaited.{Awaited}
-use Rattle.ws_live.specs.declared.live.connect_line.Awaited.TheVariants.{Turn, Record, Text, At, Quiet}
+use Rattle.ws_printing.specs.declared.place_and_reason.PlaceAndReason.{PlaceAndReason}
 use Rattle.ws_printing.specs.declared.station_report.StationReport.{StationReport}
 use Rattle.ws_printing.specs.declared.station_report.StationReport.TheVariants.{Note}
-use Rattle.ws_live.specs.live.LiveText.{Account, LineResult, LinesDo, account, bad_outcome, bad_text, line_result}
-use Rattle.ws_printing.specs.Operating.{OperatedOn}
-use Rattle.ws_live.specs.live.Operating.{AttachedDisplay, KeyedDisplay, LiveDisplay, WatchedDisplay}
-use Rattle.ws_live.specs.live.Stroking.{no_field_text, stroke_keys}
-use Rattle.ws_live.specs.live.Watches.{InTime, WatchTimes, WatchedDevices}
+use Rattle.ws_script.specs.declared.lines.connect_line.StationLine.{StationLine}
+use Rattle.ws_script.specs.declared.lines.connect_line.StationLine.TheVariants.{Nothing as NoLine, Press, Stroke, Await}
+use Rattle.ws_script.specs.declared.lines.connect_line.StationLine.TheVariants.{Fields, Show, Report, Bad}
+use Rattle.ws_script.specs.declared.lines.connect_line.Awaited.{Awaited}
+use Rattle.ws_script.specs.declared.lines.connect_line.Awaited.TheVariants.{Turn, Record, Text, At, Quiet}
+use Rattle.ws_script.specs.lines.Stroking.{stroke_keys}
+use Rattle.ws_live.specs.live.LiveText.{Account, LineResult, LinesDo, account, bad_outcome, bad_text, line_behind}
+use Rattle.ws_live.specs.live.LiveText.{line_result}
+use Rattle.ws_live.specs.live.Operating.{LiveStation, station_page, station_screen}
+use Rattle.ws_live.specs.live.Watches.{InTime, WatchTells, WatchTimes, WatchedDevices}
 use Rattle.ws_live.specs.declared.live.Closing.{Closing}
-use Rattle.ws_printing.specs.declared.paint.Paint.{Paint}
 use Rattle.ws_live.specs.declared.live.Closing.TheVariants.{Nothing, Done, Declined, Late, Ended, Stopped}
+use Rattle.ws_live.specs.declared.live.LiveSession.{LiveSession}
+use Rattle.ws_live.specs.declared.live.Telling.{Telling}
+use Rattle.ws_live.specs.declared.live.waiting.Waited.{Waited}
+use Rattle.ws_live.specs.declared.live.waiting.Waited.TheVariants.{Met, Late as WasLate, Ended as HasEnded, Failed}
 use Rattle.ws_live.specs.declared.live.watch.WaitSpan.{WaitSpan}
 use Rattle.ws_live.specs.declared.live.watch.WaitSpan.TheVariants.{Whole, AtOnce, Quiet as UntilQuiet}
-use Rattle.ws_end.specs.station.Stations.{StationOf}
-use Rattle.ws_live.specs.live.Operating.{KeyAt}
 
 -- how long a wait for this lasts
 abbrev pub span_of : Awaited → WaitSpan
@@ -61,27 +61,50 @@ station_waits Show = Some AtOnce
 station_waits (Report report) = report_waits report
 station_waits line = None
 
--- how a line that waits closes
-abbrev pub waited_outcome : Waited → Result Closing Fault
-waited_outcome Met = Ok Done
-waited_outcome WasLate = Ok Late
-waited_outcome HasEnded = Ok Ended
-waited_outcome (Failed (fault.Refused place reason)) = Ok Stopped
-waited_outcome (Failed why) = Err why
+-- how a line closes that was carried out: nothing of it was refused, or something was
+abbrev pub closing_by : Bool → Closing
+closing_by well = if well then Done else Declined
 
--- what a wait prints: the station's refusal of a byte, or nothing
+-- how a line that waits closes, where no record was refused or one was
+abbrev pub waited_outcome : Bool → Waited → Result Closing Fault
+waited_outcome well Met = Ok (closing_by well)
+waited_outcome well WasLate = Ok Late
+waited_outcome well HasEnded = Ok Ended
+waited_outcome well (Failed (fault.Refused place reason)) = Ok Stopped
+waited_outcome well (Failed why) = Err why
+
+-- what the end of a wait prints: the station's refusal of a byte, or nothing
 abbrev pub waited_text : Waited → List ℕ
 waited_text (Failed (fault.Refused place reason)) = event_text (StationRefused place reason)
 waited_text waited = []
+
+-- what is printed of a record: where in the session and why it was refused, if it was
+abbrev pub record_text : Option PlaceAndReason → List ℕ
+record_text None = []
+record_text (Some why) = codes "record refused at " ++ place_and_reason why.0 why.1
+
+-- none of the records was refused
+abbrev pub none_refused : List (Option PlaceAndReason) → Bool
+none_refused records = list_all is_none records
+
+-- how many records are ahead after one: one more, as far as 64 bits count, if it was carried out
+abbrev pub ahead_after : ℕ → Option PlaceAndReason → ℕ
+ahead_after ahead None = one_more ahead
+ahead_after ahead (Some why) = ahead
 
 -- what becomes of a wait at which a read failed, late or not
 abbrev pub unread_by : Bool → Waited
 unread_by late = if late then WasLate else Failed fault.Read
 
--- a wait that only has to rest is met where its time was over since nothing came
+-- a wait whose time is over is met if it may rest
 abbrev pub rested : Bool → Waited → Waited
 rested rests WasLate = if rests then Met else WasLate
 rested rests waited = waited
+
+-- a wait for this may rest: one for quiet does, where nothing came
+abbrev pub Rests : {S : Type 0} → WatchTells S → Awaited → S → Bool → Type 0
+Rests tells (Quiet time) source rests = tells.is_quiet source rests
+Rests tells awaited source rests = rests ≡ false
 
 -- after a wait that no fault ended the end goes on
 abbrev pub IsWorking : Waited → Bool → Type 0
@@ -93,215 +116,216 @@ abbrev pub entered_behind : Option ℕ → List ℕ
 entered_behind None = []
 entered_behind (Some character) = codes " " ++ encode_utf8 character
 
--- the line of a key that is refused: why, and the character that it would have entered
-abbrev pub key_refused_line : Option ℕ → KeyFault → List ℕ
-key_refused_line entered why = codes "key refused " ++ key_fault_name why ++ entered_behind entered ++ codes "\n"
+-- the line of a key that is refused: why, the character that it would have entered, and the number of its script's line
+abbrev pub key_refused_line : Option ℕ → Option ℕ → KeyFault → List ℕ
+key_refused_line line entered why =
+    codes "key refused " ++ key_fault_name why ++ entered_behind entered ++ line_behind line ++ codes "\n"
 
 -- what is printed of a key that enters this: where it is refused, its line
-abbrev pub key_refused_text : Option ℕ → Acted KeyFault → List ℕ
-key_refused_text entered acted.Done = []
-key_refused_text entered (acted.Refused why) = key_refused_line entered why
+abbrev pub key_refused_text : Option ℕ → Option ℕ → Acted KeyFault → List ℕ
+key_refused_text line entered acted.Done = []
+key_refused_text line entered (acted.Refused why) = key_refused_line line entered why
 
--- keys were pressed, and perhaps one was refused
-abbrev pub pressed : Bool → Closing
-pressed well = if well then Done else Declined
+-- what is printed where the screen has no field of the number
+abbrev pub no_field_line : Option ℕ → List ℕ
+no_field_line line = codes "field refused NoSuchField" ++ line_behind line ++ codes "\n"
 
 -- how keys close that close so, and one after them
 abbrev pub closing_of_both : Closing → Closing → Closing
 closing_of_both Done next = next
 closing_of_both closing next = closing
 
--- how many records are ahead after these: one more for each, as far as 64 bits count
-abbrev pub more_ahead : ℕ → List Applied → ℕ
-more_ahead ahead [] = ahead
-more_ahead ahead (one ∷ told) = more_ahead (one_more ahead) told
+-- What is awaited holds of a station, where so many records are ahead. No station is quiet by itself.
+abbrev pub IsMet : (at : LiveStation) → Awaited → at.Station → ℕ → Type 0
+IsMet at Turn station ahead = at.operated.IsTurn (at.seen.display station)
+IsMet at (Text text) station ahead =
+    ShowsText (station_page at station) (station_screen at station).cells (string_bytes text)
+IsMet at (At cell text) station ahead =
+    BeginsAt (station_page at station) (station_screen at station).cells cell (string_bytes text)
+IsMet at Record station ahead = 0 < ahead
+IsMet at (Quiet time) station ahead = ⊥
 
--- what is awaited holds of a display, which shows this screen; a record is awaited by itself, and so is quiet
-abbrev pub IsMet : {D : Type 0} → (D → ScreenParts) → OperatedOn D → Awaited → D → Type 0
-IsMet shown operated Turn display = operated.IsTurn display
-IsMet shown operated (Text text) display = ShowsText (shown display).cells (string_bytes text)
-IsMet shown operated (At cell text) display = BeginsAt (shown display).cells cell (string_bytes text)
-IsMet shown operated Record display = Unit {0}
-IsMet shown operated (Quiet time) display = ⊥
-
-module _ {S K : Type 0} (at : AttachedDisplay S K) where
-  -- a station on such a display, on a source and a sink
+module _ {S K : Type 0} (at : LiveStation) (devices : Devices S K) where
+  -- such a station on a source and a sink
   abbrev pub AttachedStation : Type 0
-  AttachedStation = AttachedParts (StationOf at.on) S K
+  AttachedStation = AttachedParts at.Station S K
 
-  -- one call of `hear` leads from there to there, and tells this
-  abbrev pub Hears : AttachedStation → Option Applied → AttachedStation → Type 0
-  Hears from heard to = HasHeard (station_behaviour at.on) at.devices from to heard
+  -- one call of `hear` leads from there to there, up to a record, and this came of the record
+  abbrev pub HearsRecord : AttachedStation → Option PlaceAndReason → AttachedStation → Type 0
+  HearsRecord from refused to = (told : at.Event)
+      × HasHeard at.behaviour devices from to (Some told) × (refused ≡ at.seen.refused to.end told)
 
-  -- one call of `hear` failed for this
-  abbrev pub HearsFault : AttachedStation → Fault → AttachedStation → Type 0
-  HearsFault from why to = IsHearFault (station_behaviour at.on) at.devices from to why
+  -- a key of the station's own was pressed: what it sends went out, or it was refused, and nothing is changed; no byte
+  -- was read or taken
+  abbrev pub HasPressed : at.Key → AttachedStation → Acted KeyFault → AttachedStation → Type 0
+  HasPressed key from acted to = HasActed devices (at.keyed key) from to (Ok acted)
 
-  -- a key was pressed: what it sends went out, or it was refused, and nothing is changed; no byte was read or taken
-  abbrev pub IsKeyPressed : KeyAt at → AttachedStation → Acted KeyFault → AttachedStation → Type 0
-  IsKeyPressed key from acted to = HasActed at.devices (key_judged at.on key) from to (Ok acted)
+  -- one was pressed, and what it sends didn't go out
+  abbrev pub HasPressedUnwritten : at.Key → AttachedStation → AttachedStation → Type 0
+  HasPressedUnwritten key from to =
+      HaveLedUnwritten (at.keyed key).behaviour devices from to (Did (at.keyed key).request ∷ [])
 
-  -- a key was pressed, and what it sends didn't go out
-  abbrev pub IsKeyUnwritten : KeyAt at → AttachedStation → AttachedStation → Type 0
-  IsKeyUnwritten key from to =
-      HaveLedUnwritten (station_behaviour at.on) at.devices from to (Did key ∷ [])
+  -- after a key that came to this, the one that follows it was pressed, if one does; where the key was refused, none
+  -- was. What the second comes to isn't told.
+  abbrev pub HasFollowed : Option at.Key → Acted KeyFault → AttachedStation → AttachedStation → Type 0
+  HasFollowed None acted from to = to ≡ from
+  HasFollowed (Some next) acted.Done from to = (untold : Acted KeyFault) × HasPressed next from untold to
+  HasFollowed (Some next) (acted.Refused why) from to = to ≡ from
 
-  -- records were applied one after another, and before each it wasn't yet met
-  abbrev pub HasWaited : (at.on.Parts → Type 0) → AttachedStation → List Applied → AttachedStation → Type 0
+  -- a key was pressed, and the one that follows it
+  abbrev pub IsKeyPressed : at.Pressed → AttachedStation → Acted KeyFault → AttachedStation → Type 0
+  IsKeyPressed key from acted to = (mid : AttachedStation) × HasPressed (at.typing.typed from.end key) from acted mid
+      × HasFollowed (at.typing.follows from.end key) acted mid to
+
+  -- of a key that was carried out, the one that follows it was pressed, and what that sends didn't go out
+  abbrev pub HasFollowedUnwritten : Option at.Key → AttachedStation → AttachedStation → Type 0
+  HasFollowedUnwritten None from to = ⊥
+  HasFollowedUnwritten (Some next) from to = HasPressedUnwritten next from to
+
+  -- a key was pressed, and what it sends, or the one that follows it, didn't go out
+  abbrev pub IsKeyUnwritten : at.Pressed → AttachedStation → AttachedStation → Type 0
+  IsKeyUnwritten key from to = HasPressedUnwritten (at.typing.typed from.end key) from to
+      ⊎ ((mid : AttachedStation) × HasPressed (at.typing.typed from.end key) from acted.Done mid
+      × HasFollowedUnwritten (at.typing.follows from.end key) mid to)
+
+  -- what the key comes to that follows one that was carried out
+  abbrev pub FollowRuns : Option at.Key → AttachedStation → Result Closing Fault → AttachedStation → Type 0
+  FollowRuns next from (Ok closing) to = (closing ≡ Done) × HasFollowed next acted.Done from to
+  FollowRuns next from (Err why) to = (why ≡ fault.Write) × HasFollowedUnwritten next from to
+
+  -- such a station, and how many records are ahead
+  abbrev pub StationAndAhead : Type 0
+  StationAndAhead = AttachedStation × ℕ
+
+  -- this came of records, one after another, and before each it wasn't yet met
+  abbrev pub HasWaited : (at.Station → ℕ → Type 0) → StationAndAhead → List (Option PlaceAndReason) → StationAndAhead
+      → Type 0
   HasWaited Met' from [] to = to ≡ from
-  HasWaited Met' from (told ∷ more) to = (mid : AttachedStation) × (Met' from.end.reacts.screen → ⊥)
-      × Hears from (Some told) mid × HasWaited Met' mid more to
+  HasWaited Met' from (refused ∷ more) to = (mid : AttachedStation) × (Met' from.0.end from.1 → ⊥)
+      × HearsRecord from.0 refused mid × HasWaited Met' (mid, ahead_after from.1 refused) more to
 
--- Keys by their words.
-module _ {S K : Type 0} (display : KeyedDisplay S K) where
-  -- such a station
+-- Keys, where the number of the line in its script is told.
+module _ {S K : Type 0} (at : LiveStation) (devices : Devices S K) (line : Option ℕ) where
+  -- the station at which they are pressed
   abbrev pub KeyedStation : Type 0
-  KeyedStation = AttachedStation display.at
+  KeyedStation = AttachedStation at devices
 
   -- what is printed of a key at it: where it is refused, its line
-  abbrev pub refusal_text : KeyAt display.at → Acted KeyFault → List ℕ
-  refusal_text key acted = key_refused_text (display.words.entered key) acted
+  abbrev pub refusal_text : at.Pressed → Acted KeyFault → List ℕ
+  refusal_text key acted = key_refused_text line (at.words.entered key) acted
 
-  -- what a key comes to: it was pressed, or what it sends didn't go out
-  abbrev pub KeyRuns : LinesDo (KeyAt display.at) KeyedStation
-  KeyRuns key from came to = ((acted : Acted KeyFault) × IsKeyPressed display.at key from acted to
-      × (came.outcome ≡ Ok (pressed (is_done acted))) × (came.text ≡ refusal_text key acted))
-      ⊎ (IsKeyUnwritten display.at key from to × (came.outcome ≡ Err fault.Write) × (came.text ≡ []))
+  -- what a key comes to: it was pressed, and the one that follows it, or what one of them sends didn't go out
+  abbrev pub KeyRuns : LinesDo at.Pressed KeyedStation
+  KeyRuns key from came to = ((acted : Acted KeyFault) × IsKeyPressed at devices key from acted to
+      × (came.outcome ≡ Ok (closing_by (is_done acted))) × (came.text ≡ refusal_text key acted))
+      ⊎ (IsKeyUnwritten at devices key from to × (came.outcome ≡ Err fault.Write) × (came.text ≡ []))
 
   -- the account of keys one after another
-  abbrev pub ArePressed : KeyedStation → List (KeyAt display.at) → Account → KeyedStation → Type 0
+  abbrev pub ArePressed : KeyedStation → List at.Pressed → Account → KeyedStation → Type 0
   ArePressed from [] came to = (to ≡ from) × (came.all_well ≡ true) × (came.text ≡ [])
   ArePressed from (key ∷ keys) came to = (acted : Acted KeyFault) × (mid : KeyedStation) × (rest : Account)
-      × IsKeyPressed display.at key from acted mid × ArePressed mid keys rest to
+      × IsKeyPressed at devices key from acted mid × ArePressed mid keys rest to
       × (came.all_well ≡ is_done acted && rest.all_well) × (came.text ≡ refusal_text key acted ++ rest.text)
 
   -- what keys at a station come to: all were pressed, or up to one that wasn't written
-  abbrev pub KeysRun : LinesDo (List (KeyAt display.at)) KeyedStation
+  abbrev pub KeysRun : LinesDo (List at.Pressed) KeyedStation
   KeysRun keys from came to =
-      ((well : Bool) × ArePressed from keys (account well came.text) to × (came.outcome ≡ Ok (pressed well)))
-      ⊎ ((before : List (KeyAt display.at)) × (key : KeyAt display.at) × (after : List (KeyAt display.at))
+      ((well : Bool) × ArePressed from keys (account well came.text) to × (came.outcome ≡ Ok (closing_by well)))
+      ⊎ ((before : List at.Pressed) × (key : at.Pressed) × (after : List at.Pressed)
       × (well : Bool) × (mid : KeyedStation)
       × (keys ≡ before ++ key ∷ after) × ArePressed from before (account well came.text) mid
-      × IsKeyUnwritten display.at key mid to × (came.outcome ≡ Err fault.Write))
+      × IsKeyUnwritten at devices key mid to × (came.outcome ≡ Err fault.Write))
 
   -- what keys one after another come to, up to the first that isn't taken
-  abbrev pub KeysUntil : LinesDo (List (KeyAt display.at)) KeyedStation
+  abbrev pub KeysUntil : LinesDo (List at.Pressed) KeyedStation
   KeysUntil [] from came to = (to ≡ from) × (came.outcome ≡ Ok Done) × (came.text ≡ [])
   KeysUntil (key ∷ keys) from came to =
       ((mid : KeyedStation) × KeyRuns key from (line_result (Ok Done) []) mid × KeysUntil keys mid came to)
       ⊎ (KeyRuns key from came to × (came.outcome ≢ Ok Done))
 
   -- the keys of a stroke, or what is printed where the screen hasn't the field that it names
-  abbrev pub StrokeRuns : LinesDo (Option (List (KeyAt display.at))) KeyedStation
-  StrokeRuns None from came to = (to ≡ from) × (came.outcome ≡ Ok Declined) × (came.text ≡ no_field_text)
+  abbrev pub StrokeRuns : LinesDo (Option (List at.Pressed)) KeyedStation
+  StrokeRuns None from came to = (to ≡ from) × (came.outcome ≡ Ok Declined) × (came.text ≡ no_field_line line)
   StrokeRuns (Some keys) from came to = KeysUntil keys from came to
 
--- What a wait comes to, at a watch that tells of a source whether the read that failed was late.
-module _ {S K : Type 0} (display : WatchedDisplay S K) where
-  -- such a station
+-- Waits, at a watch that tells of a source whether the read that failed was late; and lines.
+module _ {S K : Type 0} (at : LiveStation) (on : WatchedDevices S K) where
+  -- the station that waits
   abbrev pub WatchedStation : Type 0
-  WatchedStation = AttachedStation display.at
+  WatchedStation = AttachedStation at on.devices
 
-  -- no record more was applied: the host closed, a read failed, for want of time or otherwise, a byte was refused,
-  -- or a write failed
+  -- the same, and how many records are ahead
+  abbrev pub WatchedAndAhead : Type 0
+  WatchedAndAhead = WatchedStation × ℕ
+
+  -- no record more came: the host closed, a read failed, for want of time or otherwise, a byte was refused, or a write
+  -- failed
   abbrev pub HearsNone : WatchedStation → Waited → WatchedStation → Type 0
   HearsNone from Met to = ⊥
-  HearsNone from WasLate to = HearsFault display.at from fault.Read to × display.tells.is_late to.source true
-  HearsNone from HasEnded to = Hears display.at from None to
-  HearsNone from (Failed why) to = HearsFault display.at from why to
-      × (why ≡ fault.Read → display.tells.is_late to.source false)
+  HearsNone from WasLate to =
+      IsHearFault at.behaviour on.devices from to fault.Read × on.tells.is_late to.source true
+  HearsNone from HasEnded to = HasHeard at.behaviour on.devices from to None
+  HearsNone from (Failed why) to = IsHearFault at.behaviour on.devices from to why
+      × (why ≡ fault.Read → on.tells.is_late to.source false)
 
-  -- the next record, whatever it is
-  abbrev pub HearsOne : WatchedStation → Waited → WatchedStation → Type 0
-  HearsOne from Met to = (told : Applied) × Hears display.at from (Some told) to
-  HearsOne from waited to = HearsNone from waited to
-
-  -- a wait: up to the first record at which it was met, or one that never came; no wait takes more than the most
+  -- a wait: up to the first record after which it was met, or one that never came; no wait takes more than the most
   -- records
-  abbrev pub WaitsFor : (display.at.on.Parts → Type 0) → WatchedStation → Waited → WatchedStation → Type 0
-  WaitsFor Met' from waited to =
-      ((told : List Applied) × HasWaited display.at Met' from told to × Met' to.end.reacts.screen × (waited ≡ Met))
-      ⊎ (((told : List Applied) × (mid : WatchedStation) × HasWaited display.at Met' from told mid
-      × (Met' mid.end.reacts.screen → ⊥) × HearsNone mid waited to)
-      ⊎ ((told : List Applied) × HasWaited display.at Met' from told to × (length told ≡ most_reads)
+  abbrev pub WaitsFor : (at.Station → ℕ → Type 0) → WatchedAndAhead → List (Option PlaceAndReason) → Waited
+      → WatchedAndAhead → Type 0
+  WaitsFor Met' from records waited to =
+      (HasWaited at on.devices Met' from records to × Met' to.0.end to.1 × (waited ≡ Met))
+      ⊎ (((mid : WatchedAndAhead) × HasWaited at on.devices Met' from records mid
+      × (Met' mid.0.end mid.1 → ⊥) × HearsNone mid.0 waited to.0 × (to.1 ≡ mid.1))
+      ⊎ (HasWaited at on.devices Met' from records to × (length records ≡ most_reads)
       × (waited ≡ Failed fault.Read)))
 
-  -- all records that came in a wait were applied, and this ended it
-  abbrev pub AppliesAll : WatchedStation → List Applied → Waited → WatchedStation → Type 0
-  AppliesAll from told ended to = (mid : WatchedStation) × HasWaited display.at (λ screen. ⊥) from told mid
-      × (HearsNone mid ended to ⊎ ((length told ≡ most_reads) × (to ≡ mid) × (ended ≡ Failed fault.Read)))
+  -- what is awaited: it is met by the station, or is over and may rest
+  abbrev pub IsWaited : Awaited → WatchedAndAhead → List (Option PlaceAndReason) → Waited → WatchedAndAhead → Type 0
+  IsWaited awaited from records waited to = (ended : Waited) × (rests : Bool)
+      × WaitsFor (IsMet at awaited) from records ended to × Rests on.tells awaited to.0.source rests
+      × (waited ≡ rested rests ended)
 
-  -- A line that shows something of a station: the records that have come are applied first, and are ahead then;
-  -- after its text stands what there was after them, if not only that no more has come.
-  pub record ShowsStation (IsText : StationOf display.at.on → List ℕ → Type 0) (from : WatchedStation × ℕ)
-      (came : LineResult) (to : WatchedStation × ℕ) : Type 0 where
-    pub told : List Applied
+  -- A line that shows something of a station: the records that have come are taken first, those that are carried out are
+  -- ahead then, and of those that are refused it is told; after its text stands what there was after them, if not only
+  -- that no more has come.
+  pub record ShowsStation (IsText : at.Station → List ℕ → Type 0) (from : WatchedAndAhead)
+      (came : LineResult) (to : WatchedAndAhead) : Type 0 where
+    pub records : List (Option PlaceAndReason)
     pub ended : Waited
-    pub taken : AppliesAll from.0 told ended to.0
-    pub ahead : to.1 ≡ more_ahead from.1 told
+    pub taken : WaitsFor (λ station ahead. ⊥) from records ended to
     pub shown : List ℕ
     pub is : IsText to.0.end shown
-    pub closes : came.outcome ≡ waited_outcome (rested true ended)
-    pub all : came.text ≡ shown ++ waited_text (rested true ended)
+    pub closes : came.outcome ≡ waited_outcome (none_refused records) (rested true ended)
+    pub all : came.text ≡ flat_map record_text records ++ shown ++ waited_text (rested true ended)
 
   -- a line that reports: a note is printed as it is
-  abbrev pub Reports : LinesDo StationReport (WatchedStation × ℕ)
+  abbrev pub Reports : LinesDo StationReport WatchedAndAhead
   Reports (Note note) from came to = (to ≡ from) × (came.outcome ≡ Ok Done) × (came.text ≡ note_line note)
   Reports report from came to =
-      ShowsStation (λ station. IsReportText (reported_station display.at.on.does station) report) from came to
+      ShowsStation (λ station. IsReportText (station_page at station) (at.seen.reported station) report) from came to
 
-  -- a wait for a record is met at once where one is ahead
-  abbrev pub WaitsForRecord : WatchedStation × ℕ → Waited → WatchedStation → Type 0
-  WaitsForRecord from waited to = ((0 < from.1) × (to ≡ from.0) × (waited ≡ Met))
-      ⊎ ((from.1 ≡ 0) × HearsOne from.0 waited to)
-
-  -- a wait for quiet takes all records, and is met where it was over since nothing came
-  abbrev pub IsQuieted : WatchedStation → Waited → WatchedStation → Type 0
-  IsQuieted from waited to = (told : List Applied) × (ended : Waited) × (quiet : Bool)
-      × AppliesAll from told ended to × display.tells.is_quiet to.source quiet × (waited ≡ rested quiet ended)
-
-  -- what is awaited at a display that an operator drives: one more record, quiet, or a display by which it is met
-  abbrev pub IsWaited : OperatedOn display.at.on.Parts → Awaited → WatchedStation × ℕ → Waited → WatchedStation → Type 0
-  IsWaited operated Record from waited to = WaitsForRecord from waited to
-  IsWaited operated (Quiet time) from waited to = IsQuieted from.0 waited to
-  IsWaited operated awaited from waited to =
-      WaitsFor (IsMet display.at.on.does.shown operated awaited) from.0 waited to
-
--- A display at which lines are carried out, and its devices at a watch.
-module _ {S K : Type 0} (display : LiveDisplay)
-    (on : WatchedDevices S K) where
-  -- such a station, and how many records are ahead
-  abbrev pub StationAndAhead : Type 0
-  StationAndAhead = AttachedParts (StationOf display.on) S K × ℕ
-
-  -- the display where keys are pressed
-  abbrev pub for_keys : KeyedDisplay S K
-  for_keys = record { at = record { on = display.on; devices = on.devices }; words = display.words }
-
-  -- the display where something is awaited
-  abbrev pub for_waits : WatchedDisplay S K
-  for_waits = record { at = record { on = display.on; devices = on.devices }; tells = on.tells }
-
-  -- What a line at a station comes to, with screens in a paint; the keys of a stroke are those at the screen that the
-  -- station then has. After a line that waits or presses keys no record is ahead.
-  abbrev pub StationRuns : Paint → LinesDo (StationLine display.on.Pressed) StationAndAhead
-  StationRuns paint NoLine from came to = (to ≡ from) × (came.outcome ≡ Ok Nothing) × (came.text ≡ [])
-  StationRuns paint (Press keys) from came to = KeysRun for_keys keys from.0 came to.0 × (to.1 ≡ 0)
-  StationRuns paint (Stroke stroke) from came to = StrokeRuns for_keys
-      (stroke_keys display.words (display.on.does.shown from.0.end.reacts.screen) stroke) from.0 came to.0 × (to.1 ≡ 0)
-  StationRuns paint (Await awaited) from came to = (waited : Waited)
-      × IsWaited for_waits display.operated awaited from waited to.0
-      × (came.outcome ≡ waited_outcome waited) × (came.text ≡ waited_text waited) × (to.1 ≡ 0)
-  StationRuns paint Fields from came to =
-      ShowsStation for_waits (λ station. AreFieldLines (display.on.does.shown station.reacts.screen)) from came to
-  StationRuns paint Show from came to =
-      ShowsStation for_waits (λ station. IsDisplayText paint (display.on.does.shown station.reacts.screen)
-      (display.operated.behind station.reacts.screen)) from came to
-  StationRuns paint (Report report) from came to = Reports for_waits report from came to
-  StationRuns paint (Bad cause) from came to = (to ≡ from) × (came.outcome ≡ bad_outcome)
+  -- What a line at a station comes to, where what it tells is printed so; the keys of a stroke are those at the screen
+  -- that the station then has. After a line that waits or presses keys no record is ahead.
+  abbrev pub StationRuns : Telling → LinesDo (StationLine at.Pressed) WatchedAndAhead
+  StationRuns telling NoLine from came to = (to ≡ from) × (came.outcome ≡ Ok Nothing) × (came.text ≡ [])
+  StationRuns telling (Press keys) from came to =
+      KeysRun at on.devices telling.line keys from.0 came to.0 × (to.1 ≡ 0)
+  StationRuns telling (Stroke stroke) from came to = StrokeRuns at on.devices telling.line
+      (stroke_keys at.words (station_screen at from.0.end) stroke) from.0 came to.0 × (to.1 ≡ 0)
+  StationRuns telling (Await awaited) from came to = (records : List (Option PlaceAndReason)) × (waited : Waited)
+      × (ahead : ℕ) × IsWaited awaited from records waited (to.0, ahead)
+      × (came.outcome ≡ waited_outcome (none_refused records) waited)
+      × (came.text ≡ flat_map record_text records ++ waited_text waited) × (to.1 ≡ 0)
+  StationRuns telling Fields from came to =
+      ShowsStation (λ station. AreFieldLines (station_page at station) (station_screen at station)) from came to
+  StationRuns telling Show from came to =
+      ShowsStation (λ station. IsDisplayText (look telling.paint (station_page at station)) (station_screen at station)
+      (at.operated.behind (at.seen.display station))) from came to
+  StationRuns telling (Report report) from came to = Reports report from came to
+  StationRuns telling (Bad cause) from came to = (to ≡ from) × (came.outcome ≡ bad_outcome)
       × (came.text ≡ bad_text (string_bytes cause))
 
-  -- what lines do at a station with screens in a paint, at a watch that keeps its waits so
-  abbrev pub StationRunsInTime : {W : Type 0} → WatchTimes W S → Paint
-      → LinesDo (StationLine display.on.Pressed) (StationAndAhead × W)
-  StationRunsInTime times paint = InTime (StationRuns paint) station_waits times
+  -- what lines do at a station where what they tell is printed so, at a watch that keeps its waits so
+  abbrev pub StationRunsInTime : {W : Type 0} → WatchTimes W S → Telling
+      → LinesDo (StationLine at.Pressed) (LiveSession at.Station S K W)
+  StationRunsInTime times telling = InTime (StationRuns telling) station_waits times

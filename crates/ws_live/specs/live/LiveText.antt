@@ -1,7 +1,8 @@
 -- What a live session prints, by its lines. What a line does at an end stands in ConnectText and ServeText.
 
 use Rattle.std.specs.Prelude.{◌≡◌, ℕ, List, [], ◌∷◌, ◌++◌, ◌⊎◌, Bool, true, false, ◌&&◌, ◌||◌, not, codes}
-use Rattle.std.specs.Prelude.{Result, Ok, Err, MatchResult}
+use Rattle.std.specs.Prelude.{Option, None, Some, Result, Ok, Err, MatchResult}
+use Rattle.std.specs.Fmt.{decimal}
 use Rattle.ws_code.specs.declared.fault.Fault.{Fault}
 use Rattle.ws_code.specs.declared.fault.Fault.TheVariants.{Write}
 use Rattle.ws_text.specs.Printed.{Printing}
@@ -9,17 +10,26 @@ use Rattle.ws_live.specs.declared.live.AfterUnwell.{AfterUnwell}
 use Rattle.ws_live.specs.declared.live.AfterUnwell.TheVariants.{GoOn, Stop}
 use Rattle.ws_live.specs.declared.live.Closing.{Closing}
 use Rattle.ws_live.specs.declared.live.Closing.TheVariants.{Nothing, Done, Declined, Late, Ended, Stopped, Closed}
+use Rattle.ws_live.specs.declared.live.LineSettings.{LineSettings}
 use Rattle.ws_live.specs.declared.live.Ran.{Ran}
+use Rattle.ws_live.specs.declared.live.Telling.{Telling}
+use Rattle.ws_printing.specs.declared.paint.Paint.{Paint}
+use Rattle.ws_script.specs.declared.lines.live_line.NumberedLine.{NumberedLine}
 
--- what a line closes with
-abbrev pub closing_word : Closing → List ℕ
-closing_word Nothing = []
-closing_word Done = []
-closing_word Declined = []
-closing_word Late = codes "late\n"
-closing_word Ended = codes "ended\n"
-closing_word Stopped = []
-closing_word Closed = []
+-- the number of a script's line after what it tells, where one is told
+abbrev pub line_behind : Option ℕ → List ℕ
+line_behind None = []
+line_behind (Some number) = codes " (line " ++ decimal number ++ codes ")"
+
+-- what a line of this number closes with
+abbrev pub closing_word : Option ℕ → Closing → List ℕ
+closing_word number Nothing = []
+closing_word number Done = []
+closing_word number Declined = []
+closing_word number Late = codes "late" ++ line_behind number ++ codes "\n"
+closing_word number Ended = codes "ended" ++ line_behind number ++ codes "\n"
+closing_word number Stopped = []
+closing_word number Closed = []
 
 -- what tells a program that a line is carried out
 abbrev pub ready_word : Bool → Closing → List ℕ
@@ -28,9 +38,9 @@ ready_word true Nothing = []
 ready_word true Stopped = []
 ready_word true closing = codes "ok\n"
 
--- what ends the output of a line: how its wait ended, and `ok` where that was asked for
-abbrev pub closing_text : Bool → Closing → List ℕ
-closing_text ready closing = closing_word closing ++ ready_word ready closing
+-- what ends the output of a line of this number: how its wait ended, and `ok` where that was asked for
+abbrev pub closing_text : Bool → Option ℕ → Closing → List ℕ
+closing_text ready number closing = closing_word number closing ++ ready_word ready closing
 
 -- the line went well: it was in time, the other side was there, and nothing was refused
 abbrev pub is_well : Closing → Bool
@@ -61,6 +71,10 @@ ran_by after closing = record { all_well = is_well closing; is_over = ends_sessi
 -- what two runs have come to, one after the other
 abbrev pub ran_and : Ran → Ran → Ran
 ran_and a b = record { all_well = a.all_well && b.all_well; is_over = b.is_over }
+
+-- screens are printed in this paint, and the line has this number, if it has one
+abbrev pub telling_by : Paint → Option ℕ → Telling
+telling_by paint number = record { paint = paint; line = number }
 
 -- what is told of a line that is bad for this cause
 abbrev pub bad_text : List ℕ → List ℕ
@@ -98,15 +112,15 @@ IsCutIn Comes text fault = ((fault ≡ Write) × ((closing : Closing) × Comes (
     ⊎ Comes (line_result (Err fault) text)
 
 -- with what ends its output, where a line closed: it prints what is such a text before that
-abbrev pub IsClosedText : (List ℕ → Type 0) → Bool → Result Closing Fault → List ℕ → Type 0
-IsClosedText IsText ready (Ok closing) text = (told : List ℕ) × IsText told × (text ≡ told
-    ++ closing_text ready closing)
-IsClosedText IsText ready (Err fault) text = IsText text
+abbrev pub IsClosedText : (List ℕ → Type 0) → (Closing → List ℕ) → Result Closing Fault → List ℕ → Type 0
+IsClosedText IsText ends (Ok closing) text = (told : List ℕ) × IsText told × (text ≡ told ++ ends closing)
+IsClosedText IsText ends (Err fault) text = IsText text
 
--- what lines do with what ends their output
-abbrev pub WithClosing : {L P : Type 0} → LinesDo L P → Bool → LinesDo L P
-WithClosing runs ready line from came to =
-    IsClosedText (λ text. runs line from (line_result came.outcome text) to) ready came.outcome came.text
+-- what lines do, each told with its number, with what ends their output
+abbrev pub WithClosing : {L P : Type 0} → (Telling → LinesDo L P) → LineSettings → LinesDo (NumberedLine L) P
+WithClosing runs settings line from came to = IsClosedText
+    (λ text. runs (telling_by settings.paint line.number) line.line from (line_result came.outcome text) to)
+    (closing_text settings.ready line.number) came.outcome came.text
 
 -- what a line comes to, and all that it prints
 module _ {L P : Type 0} (runs : LinesDo L P) where

@@ -1,7 +1,7 @@
 -- What a line of a script for a host does there, and what it prints, by what the host end is told.
 
 use Rattle.std.specs.Prelude.{◌≡◌, ℕ, List, [], ◌∷◌, ◌++◌, ◌⊎◌, Bool, true, false, Option, None, Some}
-use Rattle.std.specs.Prelude.{◌==◌, length, string_bytes, Result, Ok, Err}
+use Rattle.std.specs.Prelude.{◌==◌, codes, length, string_bytes, Result, Ok, Err}
 use Rattle.std.specs.List.{flat_map}
 use Rattle.ws_code.specs.Device.{most_reads, Devices}
 use Rattle.ws_code.specs.declared.fault.Fault.{Fault}
@@ -15,19 +15,21 @@ use Rattle.ws_end.specs.declared.attached.acted.Acted.TheVariants as acted
 use Rattle.ws_end.specs.declared.host_end.host_event.HostEvent.{HostEvent}
 use Rattle.ws_end.specs.declared.host_end.host_event.HostEvent.TheVariants.{Answer}
 use Rattle.ws_end.specs.declared.host_end.send_fault.SendFault.{SendFault}
-use Rattle.ws_session.specs.declared.world.Event.TheVariants.{SendRefused, HostRefused}
-use Rattle.ws_live.specs.live.LiveText.{LineResult, LinesDo, bad_outcome, bad_text, line_result}
+use Rattle.ws_session.specs.declared.world.Event.TheVariants.{HostRefused}
+use Rattle.ws_live.specs.live.LiveText.{LineResult, LinesDo, bad_outcome, bad_text, line_behind, line_result}
 use Rattle.ws_live.specs.live.Watches.{InTime, WatchTimes, WatchedDevices}
-use Rattle.ws_printing.specs.PlayLines.{event_text}
+use Rattle.ws_printing.specs.PlayLines.{event_text, send_fault_name}
 use Rattle.ws_printing.specs.ToldLines.{told_text}
-use Rattle.ws_printing.specs.ScreenLines.{IsScreenText}
-use Rattle.ws_live.specs.live.WireLines.{WireRuns}
-use Rattle.ws_live.specs.declared.live.serve_line.AnswerAwaited.{AnswerAwaited}
-use Rattle.ws_live.specs.declared.live.serve_line.AnswerAwaited.TheVariants.{Any, By}
-use Rattle.ws_live.specs.declared.live.serve_line.HostLine.{HostLine}
-use Rattle.ws_live.specs.declared.live.serve_line.HostLine.TheVariants.{Nothing as NoLine, Give, Await, AwaitAnswer}
-use Rattle.ws_live.specs.declared.live.serve_line.HostLine.TheVariants.{Show, Wire, Bad}
+use Rattle.ws_printing.specs.ScreenLines.{IsScreenText, on_037}
+use Rattle.ws_live.specs.live.WireRuns.{WireRuns}
+use Rattle.ws_script.specs.declared.lines.serve_line.AnswerAwaited.{AnswerAwaited}
+use Rattle.ws_script.specs.declared.lines.serve_line.AnswerAwaited.TheVariants.{Any, By}
+use Rattle.ws_script.specs.declared.lines.serve_line.HostLine.{HostLine}
+use Rattle.ws_script.specs.declared.lines.serve_line.HostLine.TheVariants.{Nothing as NoLine, Give, Await, AwaitAnswer}
+use Rattle.ws_script.specs.declared.lines.serve_line.HostLine.TheVariants.{Show, Wire, Bad}
 use Rattle.ws_live.specs.declared.live.Closing.{Closing}
+use Rattle.ws_live.specs.declared.live.LiveSession.{LiveSession}
+use Rattle.ws_live.specs.declared.live.Telling.{Telling}
 use Rattle.ws_printing.specs.declared.paint.Paint.TheVariants.{Plain}
 use Rattle.ws_live.specs.declared.live.watch.WaitSpan.{WaitSpan}
 use Rattle.ws_live.specs.declared.live.watch.WaitSpan.TheVariants.{Whole}
@@ -39,10 +41,11 @@ given_outcome (Ok acted.Done) = Ok Done
 given_outcome (Ok (acted.Refused why)) = Ok Declined
 given_outcome (Err why) = Err why
 
--- what an order to the host end prints: why the record couldn't be sent, or nothing
-abbrev pub given_text : Result (Acted SendFault) Fault → List ℕ
-given_text (Ok (acted.Refused why)) = event_text (SendRefused why)
-given_text given = []
+-- what an order to the host end prints, by a line of this number: why the record couldn't be sent, or nothing
+abbrev pub given_text : Option ℕ → Result (Acted SendFault) Fault → List ℕ
+given_text number (Ok (acted.Refused why)) = codes "send refused " ++ send_fault_name why ++ line_behind number
+    ++ codes "\n"
+given_text number given = []
 
 -- how a wait closes that a fault ended, late or not, and what it prints
 abbrev pub unheard_outcome : Bool → Fault → Result Closing Fault
@@ -126,24 +129,24 @@ module _ {S K : Type 0} (on : WatchedDevices S K) where
         ⊎ ((length told ≡ most_reads) × (to ≡ mid) × (came.outcome ≡ Err fault.Read) × (last ≡ [])))
     pub all : came.text ≡ flat_map told_text told ++ last
 
-  -- what a line comes to at a host end
-  abbrev pub HostDoes : LinesDo HostLine WatchedHost
-  HostDoes NoLine from came to = (to ≡ from) × (came.outcome ≡ Ok Nothing) × (came.text ≡ [])
-  HostDoes (Give order) from came to = (given : Result (Acted SendFault) Fault) × (from.broken ≡ false)
+  -- what a line of this number comes to at a host end
+  abbrev pub HostDoes : Option ℕ → LinesDo HostLine WatchedHost
+  HostDoes number NoLine from came to = (to ≡ from) × (came.outcome ≡ Ok Nothing) × (came.text ≡ [])
+  HostDoes number (Give order) from came to = (given : Result (Acted SendFault) Fault) × (from.broken ≡ false)
       × HasActed on.devices (request_judged order) from to given
-      × (came.outcome ≡ given_outcome given) × (came.text ≡ given_text given)
-  HostDoes Await from came to = HostHearsOne from came to
-  HostDoes (AwaitAnswer awaited) from came to = HearsAnswer awaited from came to
-  HostDoes Show from came to = (to ≡ from) × (came.outcome ≡ Ok Done)
-      × IsScreenText Plain from.end.reacts.screen came.text
-  HostDoes (Wire line) from came to = WireRuns on.devices.writer line from came.outcome to × (came.text ≡ [])
-  HostDoes (Bad cause) from came to = (to ≡ from) × (came.outcome ≡ bad_outcome)
+      × (came.outcome ≡ given_outcome given) × (came.text ≡ given_text number given)
+  HostDoes number Await from came to = HostHearsOne from came to
+  HostDoes number (AwaitAnswer awaited) from came to = HearsAnswer awaited from came to
+  HostDoes number Show from came to = (to ≡ from) × (came.outcome ≡ Ok Done)
+      × IsScreenText (on_037 Plain) from.end.reacts.screen came.text
+  HostDoes number (Wire line) from came to = WireRuns on.devices.writer line from came.outcome to × (came.text ≡ [])
+  HostDoes number (Bad cause) from came to = (to ≡ from) × (came.outcome ≡ bad_outcome)
       × (came.text ≡ bad_text (string_bytes cause))
 
   -- what a line comes to at it, which leaves the records ahead
-  abbrev pub HostRuns : LinesDo HostLine HostAndAhead
-  HostRuns line from came to = HostDoes line from.0 came to.0 × (to.1 ≡ from.1)
+  abbrev pub HostRuns : Telling → LinesDo HostLine HostAndAhead
+  HostRuns telling line from came to = HostDoes telling.line line from.0 came to.0 × (to.1 ≡ from.1)
 
   -- what lines do at a host, at a watch that keeps its waits so
-  abbrev pub HostRunsInTime : {W : Type 0} → WatchTimes W S → LinesDo HostLine (HostAndAhead × W)
-  HostRunsInTime times = InTime HostRuns host_waits times
+  abbrev pub HostRunsInTime : {W : Type 0} → WatchTimes W S → Telling → LinesDo HostLine (LiveSession HostParts S K W)
+  HostRunsInTime times telling = InTime (HostRuns telling) host_waits times

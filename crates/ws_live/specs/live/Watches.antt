@@ -4,6 +4,7 @@ use Rattle.std.specs.Prelude.{◌≡◌, ℕ, Bool, Option, None, Some}
 use Rattle.ws_code.specs.Device.{Devices, one_more}
 use Rattle.ws_end.specs.attached.Attachments.{AttachedParts}
 use Rattle.ws_live.specs.live.LiveText.{LinesDo}
+use Rattle.ws_live.specs.declared.live.LiveSession.{LiveSession}
 use Rattle.ws_live.specs.declared.live.watch.WaitSpan.{WaitSpan}
 
 -- what a watch may tell of a source at which a read has failed: whether that was for want of time, and then whether
@@ -25,15 +26,17 @@ pub record WatchedDevices (S K : Type 0) : Type 1 where
 abbrev pub watched_devices : {S K : Type 0} → Devices S K → WatchTells S → WatchedDevices S K
 watched_devices devices tells = record { devices = devices; tells = tells }
 
--- how a watch keeps its waits: what the beginning of one of a span does to it, where the source is this; and how many
--- have begun
+-- how a watch keeps its waits: what it does to it that they are over; what the beginning of one of a span does, where
+-- the source is this; and how many have begun
 pub record WatchTimes (W S : Type 0) : Type 1 where
+  pub ends : W → W → Type 0
   pub begins : W → S → WaitSpan → W → Type 0
   pub begun : W → ℕ
 
--- this is done, and so many have begun
-abbrev pub watch_times : {W S : Type 0} → (W → S → WaitSpan → W → Type 0) → (W → ℕ) → WatchTimes W S
-watch_times begins begun = record { begins = begins; begun = begun }
+-- these are done, and so many have begun
+abbrev pub watch_times : {W S : Type 0} → (W → W → Type 0) → (W → S → WaitSpan → W → Type 0) → (W → ℕ)
+    → WatchTimes W S
+watch_times ends begins begun = record { ends = ends; begins = begins; begun = begun }
 
 module _ {W S : Type 0} (times : WatchTimes W S) where
   -- one wait more has begun, where the source was this
@@ -45,9 +48,13 @@ module _ {W S : Type 0} (times : WatchTimes W S) where
   HasBegunIf None source from to = to ≡ from
   HasBegunIf (Some span) source from to = HasBegun source span from to
 
--- what lines do at an end, of which so many records are ahead, and a watch: a line that waits so long begins one wait,
--- where it finds the source, and no other does
+-- a session that begins: no record is ahead
+abbrev pub begun_session : {E S K W : Type 0} → AttachedParts E S K → W → LiveSession E S K W
+begun_session attached watch = record { attached = attached; ahead = 0; watch = watch }
+
+-- what lines do at an end of which so many records are ahead, in a session of it: the waits before are over; then a line
+-- that waits so long begins one, where it finds the source, and no other does
 abbrev pub InTime : {L E S K W : Type 0} → LinesDo L (AttachedParts E S K × ℕ) → (L → Option WaitSpan) → WatchTimes W S
-    → LinesDo L ((AttachedParts E S K × ℕ) × W)
-InTime runs waits times line from came to = runs line from.0 came to.0
-    × HasBegunIf times (waits line) from.0.0.source from.1 to.1
+    → LinesDo L (LiveSession E S K W)
+InTime {W = W} runs waits times line from came to = runs line (from.attached, from.ahead) came (to.attached, to.ahead)
+    × ((mid : W) × times.ends from.watch mid × HasBegunIf times (waits line) from.attached.source mid to.watch)

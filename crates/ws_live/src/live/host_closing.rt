@@ -1,25 +1,26 @@
 //! How a send of a host closes, and a wait that a fault ended: at a host of the profile, and at one that takes any
 //! record.
-ghost use Rattle.std.specs.Prelude.{◌≡◌, Bool};
+ghost use Rattle.std.specs.Prelude.{◌≡◌, Bool, Ok};
 ghost use Rattle.ws_live.specs.live.ServeText as Spec;
 ghost use Rattle.ws_text.specs.Printing.{Prints};
 
 use crate::live::watch::Watch;
-use crate::live::{Carried, Closing};
+use crate::live::{Carried, Closing, put_line_behind};
 use ws_code::{Fault, Sink};
-use ws_printing::put_event;
+use ws_printing::{Play, put_event};
 use ws_session::{Acted, Event, SendFault};
-use ws_text::Output;
+use ws_text::{As, Output, Text, put_text, texts};
 
-/// Tells what came of a send: nothing where it went out, and how it was refused.
+/// Tells what came of a send, by a line of this number: nothing where it went out, and how it was refused.
 pub fn put_given<O: Sink>(
     out: &mut O,
     output: Output,
+    line: Option<u64>,
     given: Result<Acted<SendFault>, Fault>,
 ) -> Carried
     ensures outcome { result.outcome ≡ Spec.given_outcome given }
     ensures text { Prints O.writer out.old out.new output result.output
-        (Spec.given_text given) }
+        (Spec.given_text line given) }
 {
     match given {
         Ok(Acted::Done) => Carried {
@@ -27,7 +28,7 @@ pub fn put_given<O: Sink>(
             outcome: Ok(Closing::Done),
         },
         Ok(Acted::Refused(fault)) => Carried {
-            output: put_event(out, output, &Event::SendRefused(fault)),
+            output: put_send_refused(out, output, line, &fault),
             outcome: Ok(Closing::Declined),
         },
         Err(fault) => Carried {
@@ -35,6 +36,20 @@ pub fn put_given<O: Sink>(
             outcome: Err(fault),
         },
     }
+}
+
+fn put_send_refused<O: Sink>(
+    out: &mut O,
+    output: Output,
+    line: Option<u64>,
+    fault: &SendFault,
+) -> Output
+    ensures { Prints O.writer out.old out.new output result
+        (Spec.given_text line (Ok (Acted.Refused fault.now))) }
+{
+    let output = texts!("send refused ", As(fault, Play)).put_to(out, output);
+    let output = put_line_behind(out, output, line);
+    put_text(out, output, "\n")
 }
 
 /// Tells what came of a wait that a fault ended: the byte that was refused, if one was. Where a read failed, the watch

@@ -1,16 +1,21 @@
 //! A line that is carried out again and again.
-ghost use Rattle.std.specs.Prelude.{◌≡◌, [], false, IfOk};
+ghost use Rattle.std.specs.Prelude.{◌≡◌, [], false, IfOk, None};
 ghost use Rattle.ws_live.specs.live.CarryingOn as Spec;
-ghost use Rattle.ws_live.specs.live.LiveText.{line_printing, stops};
+ghost use Rattle.ws_live.specs.live.LiveText.{line_printing, stops, telling_by};
 ghost use Rattle.ws_live.specs.live.Watches.{InTime};
 ghost use Rattle.ws_text.specs.Printed.{IsPrinted};
 
 use crate::live::watch::Watch;
-use crate::live::{Closing, LiveMove, hand_on};
+use crate::live::{Closing, LiveMove, LiveSession, Telling, hand_on};
 use ws_code::{Fault, Sink};
 use ws_printing::{BufferedSink, Paint};
-use ws_session::Attached;
 use ws_text::Output;
+
+// Such a line stands in no script.
+const PLAINLY: Telling = Telling {
+    paint: Paint::Plain,
+    line: None,
+};
 
 /// Carries a line out again and again, and prints what it tells, for as long as it closes with something that was told:
 /// true where it then closes otherwise, and false where a byte is refused. With a line that awaits what is next told it
@@ -21,24 +26,21 @@ use ws_text::Output;
 /// The first fault of the line, as at `carry_lines`; `Write` where it has none and the sink failed; `Read` where
 /// 4,294,967,296 things were told.
 pub fn carry_on<E, S, K, L: LiveMove<E, S, K>, W: Watch<S>, O: Sink>(
-    attached: &mut Attached<E, S, K>,
-    ahead: &mut u64,
-    watch: &mut W,
+    session: &mut LiveSession<E, S, K, W>,
     line: &L,
     out: &mut BufferedSink<O>,
 ) -> Result<bool, Fault>
     // At an end that works, with nothing held back.
-    requires works { attached.old.broken ≡ false }
+    requires works { session.old.attached.broken ≡ false }
     requires empty { out.old.held ≡ [] }
     // What was printed, and how it ended.
     ensures printed { IsPrinted O.writer out.old.sink out.new.sink (Spec.carrying_on
-        (InTime (L.runs W.tells Paint.Plain) L.waits W.times) line.now
-        ((attached.old, ahead.old), watch.old)
-        ((attached.new, ahead.new), watch.new)) result }
+        (InTime (L.runs W.tells (telling_by Paint.Plain None)) L.waits W.times) line.now
+        session.old session.new) result }
     ensures held { out.new.held ≡ [] }
 {
     for _ in 0..4_294_967_296u64 {
-        match carry_once(attached, ahead, watch, line, out) {
+        match carry_once(session, line, out) {
             Ok(closing) => {
                 if !is_told(closing) {
                     return Ok(goes_well(closing));
@@ -52,26 +54,24 @@ pub fn carry_on<E, S, K, L: LiveMove<E, S, K>, W: Watch<S>, O: Sink>(
 
 // Carries a line out, and prints what it tells: how it closed.
 fn carry_once<E, S, K, L: LiveMove<E, S, K>, W: Watch<S>, O: Sink>(
-    attached: &mut Attached<E, S, K>,
-    ahead: &mut u64,
-    watch: &mut W,
+    session: &mut LiveSession<E, S, K, W>,
     line: &L,
     out: &mut BufferedSink<O>,
 ) -> Result<Closing, Fault>
     // At an end that works, with nothing held back.
-    requires works { attached.old.broken ≡ false }
+    requires works { session.old.attached.broken ≡ false }
     requires empty { out.old.held ≡ [] }
     // What was printed, and how it ended.
     ensures printed { IsPrinted O.writer out.old.sink out.new.sink (line_printing
-        (InTime (L.runs W.tells Paint.Plain) L.waits W.times)
-        ((attached.old, ahead.old), watch.old) line.now
-        ((attached.new, ahead.new), watch.new)) result }
+        (InTime (L.runs W.tells (telling_by Paint.Plain None)) L.waits W.times)
+        session.old line.now session.new) result }
     // The end works on unless the session is over, and nothing is held back.
     ensures works { IfOk result (λ closing.
-        stops closing ≡ false → attached.new.broken ≡ false) }
+        stops closing ≡ false → session.new.attached.broken ≡ false) }
     ensures held { out.new.held ≡ [] }
 {
-    let carried = line.carry_out(attached, ahead, watch, Paint::Plain, out, Output::Open);
+    session.watch.end_waits();
+    let carried = line.carry_out(session, PLAINLY, out, Output::Open);
     let output = hand_on(out, carried.output);
     match carried.outcome {
         Ok(closing) => match output {

@@ -1,37 +1,35 @@
 //! The lines of a script, carried out at a host; and what is told behind them.
-ghost use Rattle.std.specs.Prelude.{◌≡◌, [], false, List, ℕ, IfOk};
+ghost use Rattle.std.specs.Prelude.{◌≡◌, [], false, List, ℕ, None, IfOk};
 ghost use Rattle.ws_live.specs.live.ServeText as Spec;
 ghost use Rattle.ws_live.specs.live.CarryingOn.{carrying_on};
-ghost use Rattle.ws_live.specs.live.LiveText.{line_result, stops};
+ghost use Rattle.ws_live.specs.live.LiveText.{line_result, stops, telling_by};
 ghost use Rattle.ws_live.specs.live.Watches.{watched_devices};
-ghost use Rattle.ws_live.specs.declared.live.serve_line.HostLine.TheVariants.{Await};
+ghost use Rattle.ws_script.specs.declared.lines.serve_line.HostLine.TheVariants.{Await};
 ghost use Rattle.ws_text.specs.Printed.{IsPrinted};
 ghost use Rattle.ws_text.specs.Printing.{Prints};
 ghost use Rattle.ws_code.specs.Device.{on_devices};
 
+use crate::live::carried_wire::carry_wire;
 use crate::live::host_closing::{put_given, put_unheard};
 use crate::live::repeated::carry_on;
-use crate::live::serve_line::{AnswerAwaited, HostLine};
 use crate::live::watch::{WaitSpan, Watch};
-use crate::live::wire_line::carry_wire;
-use crate::live::{Carried, Closing, LiveMove, put_bad};
+use crate::live::{Carried, Closing, LiveMove, LiveSession, Telling, put_bad};
 use ws_code::{Fault, Sink, Source};
-use ws_printing::{BufferedSink, Paint, put_screen, put_told};
+use ws_printing::{BufferedSink, Look, Paint, put_screen, put_told};
+use ws_script::{AnswerAwaited, HostLine};
 use ws_session::{Attached, HostEnd, HostEvent};
 use ws_text::Output;
 
 impl<S: Source, K: Sink> LiveMove<HostEnd, S, K> for HostLine {
-    ghost runs = { λ tells paint.
-        Spec.HostRuns (watched_devices (on_devices K.writer S.reader) tells) };
+    ghost runs = { λ tells telling.
+        Spec.HostRuns (watched_devices (on_devices K.writer S.reader) tells) telling };
 
     ghost waits = { Spec.host_waits };
 
     fn carry_out<W: Watch<S>, O: Sink>(
         &self,
-        attached: &mut Attached<HostEnd, S, K>,
-        _ahead: &mut u64,
-        watch: &mut W,
-        _paint: Paint,
+        session: &mut LiveSession<HostEnd, S, K, W>,
+        telling: Telling,
         out: &mut O,
         output: Output,
     ) -> Carried {
@@ -40,23 +38,33 @@ impl<S: Source, K: Sink> LiveMove<HostEnd, S, K> for HostLine {
                 output,
                 outcome: Ok(Closing::Nothing),
             },
-            HostLine::Give(order) => put_given(out, output, attached.act(order)),
+            HostLine::Give(order) => {
+                let given = session.attached.act(order);
+                put_given(out, output, telling.line, given)
+            }
             HostLine::Await => {
-                watch.begin(attached.source(), WaitSpan::Whole);
-                hear_event(attached, watch, out, output)
+                session
+                    .watch
+                    .begin(session.attached.source(), WaitSpan::Whole);
+                hear_event(&mut session.attached, &session.watch, out, output)
             }
             HostLine::AwaitAnswer(awaited) => {
-                let source = attached.source();
-                watch.begin(source, WaitSpan::Whole);
-                hear_answer(attached, watch, awaited, out, output)
+                let source = session.attached.source();
+                session.watch.begin(source, WaitSpan::Whole);
+                hear_answer(&mut session.attached, &session.watch, awaited, out, output)
             }
             HostLine::Show => Carried {
-                output: put_screen(out, output, Paint::Plain, attached.end().screen()),
+                output: put_screen(
+                    out,
+                    output,
+                    Look::on_037(Paint::Plain),
+                    session.attached.end().screen(),
+                ),
                 outcome: Ok(Closing::Done),
             },
             HostLine::Wire(line) => Carried {
                 output,
-                outcome: carry_wire(attached, watch, line),
+                outcome: carry_wire(&mut session.attached, &mut session.watch, line),
             },
             HostLine::Bad(cause) => put_bad(out, output, cause.as_str()),
         }
@@ -154,20 +162,18 @@ fn is_awaited(awaited: &AnswerAwaited, event: &HostEvent) -> bool
 /// 4,294,967,296 reads told nothing, or as many things were told; `Memory` where a growth was refused; `Failed` where
 /// the end was shut before.
 pub fn answer_on<S: Source, K: Sink, W: Watch<S>, O: Sink>(
-    attached: &mut Attached<HostEnd, S, K>,
-    ahead: &mut u64,
-    watch: &mut W,
+    session: &mut LiveSession<HostEnd, S, K, W>,
     out: &mut BufferedSink<O>,
 ) -> Result<bool, Fault>
     // At an end that works, with nothing held back.
-    requires works { attached.old.broken ≡ false }
+    requires works { session.old.attached.broken ≡ false }
     requires empty { out.old.held ≡ [] }
     // What was printed, and how it ended.
     ensures printed { IsPrinted O.writer out.old.sink out.new.sink (carrying_on
-        (Spec.HostRunsInTime (watched_devices (on_devices K.writer S.reader) W.tells) W.times) Await
-        ((attached.old, ahead.old), watch.old)
-        ((attached.new, ahead.new), watch.new)) result }
+        (Spec.HostRunsInTime (watched_devices (on_devices K.writer S.reader) W.tells) W.times
+        (telling_by Paint.Plain None)) Await
+        session.old session.new) result }
     ensures held { out.new.held ≡ [] }
 {
-    carry_on(attached, ahead, watch, &HostLine::Await, out)
+    carry_on(session, &HostLine::Await, out)
 }

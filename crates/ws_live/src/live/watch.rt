@@ -16,11 +16,15 @@ pub enum WaitSpan {
 
 /// What tells the time of the waits for a source. It counts them, up to the greatest value of 64 bits.
 pub trait Watch<S> {
-    // What the beginning of a wait does to it, and how many have begun.
+    // What the end of waits and the beginning of one do to it, and how many have begun.
     ghost times: { WatchTimes Self S };
 
     // What it may tell of a source at which a read has failed.
     ghost tells: { WatchTells S };
+
+    /// The waits before are over: what is written from now on stands in none, before one begins.
+    fn end_waits(&mut self)
+        ensures { times.ends self.old self.new };
 
     /// A wait begins. What is read from the source from now on has its time.
     fn begin(&mut self, source: &S, span: WaitSpan)

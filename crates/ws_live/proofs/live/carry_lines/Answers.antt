@@ -3,6 +3,7 @@ use Rattle.std.specs.Prelude.{Ok}
 use Rattle.ws_code.proofs.DeviceLaws.{went_out_none}
 use Rattle.ws_text.specs.Printed.{IsPrinted}
 use Rattle.ws_live.specs.declared.live.Ran.{Ran}
+use Rattle.ws_script.specs.declared.lines.live_line.NumberedLine.{NumberedLine}
 use Rattle.ws_live.specs.live.LiveText.{HaveRun, WithClosing, account, line_printing, lines_printing, ran_and, ran_by}
 use Rattle.ws_live.specs.live.Watches.{InTime}
 use Rattle.ws_live.proofs.LiveRuns.{goes_on, ends_here, breaks, split_here, taken_here, unstopped}
@@ -25,17 +26,17 @@ returns-in-Err-clause-printed g c =
     let i = c.loop-line.line-index in
     let line = c.line-item.result in
     let asked = c.args.settings in
-    let runs = WithClosing (InTime (g.L.LiveMove.runs g.W.Watch.tells asked.paint) g.L.LiveMove.waits
-    g.W.Watch.times) asked.ready in
-    breaks runs asked.after g.O.Sink.writer ((c.args.attached.now, c.args.ahead.now), c.args.watch.now)
-    ((c.loop-line.attached, c.loop-line.ahead), c.loop-line.watch)
-    ((c.carry_line.new.attached, c.carry_line.new.ahead), c.carry_line.new.watch)
+    let runs = WithClosing (λ told. InTime (g.L.LiveMove.runs g.W.Watch.tells told) g.L.LiveMove.waits
+    g.W.Watch.times) asked in
+    breaks runs asked.after g.O.Sink.writer c.args.session.now
+    c.loop-line.session
+    c.carry_line.new.session
     c.args.out.now.sink c.loop-line.out.sink c.carry_line.new.out.sink
     (take i lines) line c.loop-line.ran so_far.0 so_far.1 so_far.2 (drop (i + 1) lines) lines
     (split_here lines i line c.loop-line-test.true c.line-item.is) c.in-Err.fault
     (subst (IsPrinted g.O.Sink.writer c.loop-line.out.sink c.carry_line.new.out.sink (line_printing runs
-    ((c.loop-line.attached, c.loop-line.ahead), c.loop-line.watch) line
-    ((c.carry_line.new.attached, c.carry_line.new.ahead), c.carry_line.new.watch)))
+    c.loop-line.session line
+    c.carry_line.new.session))
     c.in-Err.is c.carry_line.ensures.printed)
 
 pub returns-then-ran-clause-printed : goal.returns-then-ran-clause-printed
@@ -45,22 +46,22 @@ returns-then-ran-clause-printed g c =
     let i = c.loop-line.line-index in
     let line = c.line-item.result in
     let asked = c.args.settings in
-    let runs = WithClosing (InTime (g.L.LiveMove.runs g.W.Watch.tells asked.paint) g.L.LiveMove.waits
-    g.W.Watch.times) asked.ready in
+    let runs = WithClosing (λ told. InTime (g.L.LiveMove.runs g.W.Watch.tells told) g.L.LiveMove.waits
+    g.W.Watch.times) asked in
     let same : c.and-ran.result ≡ ran_and c.loop-line.ran (ran_by asked.after c.in-Ok.closing) = c.and-ran.ensures
     ∙ ap (λ (r : Ran). ran_and c.loop-line.ran r) c.ran.ensures in
     subst (λ (r : Ran). IsPrinted g.O.Sink.writer c.args.out.now.sink c.carry_line.new.out.sink
-    (lines_printing asked.after runs ((c.args.attached.now, c.args.ahead.now), c.args.watch.now) lines
-    ((c.carry_line.new.attached, c.carry_line.new.ahead), c.carry_line.new.watch)) (Ok r)) (sym same)
-    (ends_here runs asked.after g.O.Sink.writer ((c.args.attached.now, c.args.ahead.now), c.args.watch.now)
-    ((c.loop-line.attached, c.loop-line.ahead), c.loop-line.watch)
-    ((c.carry_line.new.attached, c.carry_line.new.ahead), c.carry_line.new.watch) c.args.out.now.sink
+    (lines_printing asked.after runs c.args.session.now lines
+    c.carry_line.new.session) (Ok r)) (sym same)
+    (ends_here runs asked.after g.O.Sink.writer c.args.session.now
+    c.loop-line.session
+    c.carry_line.new.session c.args.out.now.sink
     c.loop-line.out.sink c.carry_line.new.out.sink
     (take i lines) line c.loop-line.ran so_far.0 so_far.1 so_far.2 (drop (i + 1) lines) lines
     (split_here lines i line c.loop-line-test.true c.line-item.is) c.in-Ok.closing
     (subst (IsPrinted g.O.Sink.writer c.loop-line.out.sink c.carry_line.new.out.sink (line_printing runs
-    ((c.loop-line.attached, c.loop-line.ahead), c.loop-line.watch) line
-    ((c.carry_line.new.attached, c.carry_line.new.ahead), c.carry_line.new.watch)))
+    c.loop-line.session line
+    c.carry_line.new.session))
     c.in-Ok.is c.carry_line.ensures.printed)
     (ap (λ (r : Ran). r.is_over) (sym same) ∙ c.if-ran.true))
 
@@ -71,31 +72,29 @@ loop-line-preserved g c =
     let i = c.loop-line.line-index in
     let line = c.line-item.result in
     let asked = c.args.settings in
-    let runs = WithClosing (InTime (g.L.LiveMove.runs g.W.Watch.tells asked.paint) g.L.LiveMove.waits
-    g.W.Watch.times) asked.ready in
+    let runs = WithClosing (λ told. InTime (g.L.LiveMove.runs g.W.Watch.tells told) g.L.LiveMove.waits
+    g.W.Watch.times) asked in
     let same : c.and-ran.result ≡ ran_and c.loop-line.ran (ran_by asked.after c.in-Ok.closing) = c.and-ran.ensures
     ∙ ap (λ (r : Ran). ran_and c.loop-line.ran r) c.ran.ensures in
     let going = ap (λ (r : Ran). r.is_over) (sym same) ∙ c.if-ran.false in
-    let more = goes_on runs asked.after g.O.Sink.writer ((c.args.attached.now, c.args.ahead.now), c.args.watch.now)
-    ((c.loop-line.attached, c.loop-line.ahead), c.loop-line.watch)
-    ((c.carry_line.new.attached, c.carry_line.new.ahead), c.carry_line.new.watch) c.args.out.now.sink
+    let more = goes_on runs asked.after g.O.Sink.writer c.args.session.now
+    c.loop-line.session
+    c.carry_line.new.session c.args.out.now.sink
     c.loop-line.out.sink
     c.carry_line.new.out.sink (take i lines) line c.loop-line.ran so_far.0 so_far.1 so_far.2 c.in-Ok.closing
     (subst (IsPrinted g.O.Sink.writer c.loop-line.out.sink c.carry_line.new.out.sink (line_printing runs
-    ((c.loop-line.attached, c.loop-line.ahead), c.loop-line.watch) line
-    ((c.carry_line.new.attached, c.carry_line.new.ahead), c.carry_line.new.watch)))
+    c.loop-line.session line
+    c.carry_line.new.session))
     c.in-Ok.is c.carry_line.ensures.printed) going in
     let well = ap (λ (r : Ran). r.all_well) (sym same) in
     let next = taken_here lines i line c.loop-line-test.true c.line-item.is in (
       more.0,
-      subst (λ (b : Bool). HaveRun asked.after runs ((c.args.attached.now, c.args.ahead.now), c.args.watch.now)
+      subst (λ (b : Bool). HaveRun asked.after runs c.args.session.now
           (take (i + 1) lines) (account b more.0)
-          ((c.carry_line.new.attached, c.carry_line.new.ahead), c.carry_line.new.watch)) well
-          (subst (λ (z : List g.row.L.Denot). HaveRun asked.after runs (
-            (c.args.attached.now, c.args.ahead.now),
-            c.args.watch.now,
-          ) z (account (ran_and c.loop-line.ran (ran_by asked.after c.in-Ok.closing)).all_well more.0)
-          ((c.carry_line.new.attached, c.carry_line.new.ahead), c.carry_line.new.watch)) next more.1),
+          c.carry_line.new.session) well
+          (subst (λ (z : List (NumberedLine g.row.L.Denot)). HaveRun asked.after runs c.args.session.now z
+          (account (ran_and c.loop-line.ran (ran_by asked.after c.in-Ok.closing)).all_well more.0)
+          c.carry_line.new.session) next more.1),
       more.2,
       c.if-ran.false,
       c.in-Ok.ensures.works (unstopped asked.after c.in-Ok.closing going),

@@ -7,8 +7,8 @@ use Rattle.ws_live.proofs.live.carry_lines.Given as goal
 -- the lines so far, of which none stopped the session
 abbrev pub invariant-loop-line : goal.invariant-loop-line
 invariant-loop-line g l = (text : List ℕ)
-    × HaveRun l.settings.after (WithClosing (InTime (g.L.LiveMove.runs g.W.Watch.tells l.settings.paint)
-    g.L.LiveMove.waits g.W.Watch.times) l.settings.ready) ((l.fn.attached, l.fn.ahead), l.fn.watch)
-    (take l.line-index l.lines) (account l.ran.all_well text) ((l.attached, l.ahead), l.watch)
+    × HaveRun l.settings.after (WithClosing (λ told. InTime (g.L.LiveMove.runs g.W.Watch.tells told)
+    g.L.LiveMove.waits g.W.Watch.times) l.settings) l.fn.session
+    (take l.line-index l.lines) (account l.ran.all_well text) l.session
     × WentOut g.O.Sink.writer l.fn.out.sink l.out.sink text × (l.ran.is_over ≡ false)
-    × (l.attached.broken ≡ false) × (l.out.held ≡ [])
+    × (l.session.attached.broken ≡ false) × (l.out.held ≡ [])

@@ -7,6 +7,6 @@ pub returns : goal.returns
 returns g c = (
   _,
   refl,
-  prints_both (prints_same (ap (screen_text c.args.paint) c.screen.ensures.screen) c.put_to-output.ensures)
+  prints_both (prints_same (ap (screen_text c.args.look) c.screen.ensures.screen) c.put_to-output.ensures)
       c.put_behind.ensures,
 )

@@ -1,7 +1,7 @@
-use Rattle.std.specs.Str.{encode_utf8_all}
 use Rattle.std.specs.Str.Iter.{HasSubslice}
 use Rattle.std.proofs.Common.{sym, ◌∙◌, arith, append_assoc}
-use Rattle.ws_screen.specs.Lines.{row_chars}
+use Rattle.ws_printing.specs.ShownOnPage.{row_on_page}
+use Rattle.ws_printing.specs.ShownTexts.{text_of_shown}
 use Rattle.ws_printing.proofs.ShownTexts.{below_next}
 use Rattle.ws_printing.proofs.shown_text.shows.Goals as goal
 
@@ -22,7 +22,7 @@ returns-then-row_shows-clause-shown c = λ yes.
 
 pub loop-row-preserved : goal.loop-row-preserved
 loop-row-preserved c =
-    below_next (λ row. HasSubslice (encode_utf8_all (row_chars c.args.screen.now.cells row)) c.args.text.now)
+    below_next (λ row. HasSubslice (text_of_shown (row_on_page c.args.page c.args.screen.now.cells row)) c.args.text.now)
     c.loop-row.row c.loop-row.invariant (c.row_shows.ensures.unshown c.if-row_shows.false)
 
 pub returns-clause-unshown : goal.returns-clause-unshown

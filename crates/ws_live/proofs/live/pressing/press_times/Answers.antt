@@ -8,19 +8,21 @@ use Rattle.ws_text.proofs.Prints.{prints_both}
 use Rattle.ws_live.specs.declared.live.Closing.{Closing}
 use Rattle.ws_live.specs.live.ConnectText.{KeyRuns}
 use Rattle.ws_live.specs.live.LiveText.{line_result}
-use Rattle.ws_live.specs.live.Operating.{keyed}
+use Rattle.ws_live.specs.live.Operating.{live_station}
 use Rattle.ws_live.proofs.StrokeRuns.{cut_times, prints_nothing, until_more, until_one}
 use Rattle.ws_live.proofs.live.pressing.press_times.Goals as goal
 
 pub returns-then-not-is_done-clause-runs : goal.returns-then-not-is_done-clause-runs
 returns-then-not-is_done-clause-runs g c =
+    let at = live_station g.E.End.behaviour g.E.Keyed.keyed g.E.LiveStation.typing g.E.LiveStation.seen
+    g.E.Display.StationDisplay.does.shown g.E.Display.OperatedDisplay.operated g.E.Named.NamedKey.words in
+    let on = on_devices g.K.Sink.writer g.S.Source.reader in
     let so_far = c.loop.invariant in
     let one = c.press_key-carried.ensures.runs in
     let i = c.loop.counter in
     let key = c.args.key in (
       one.0,
-      until_one (keyed g.D.Commands.Code.rules g.D.StationDisplay.does (on_devices g.K.Sink.writer g.S.Source.reader)
-          g.D.Key.NamedKey.words) (replicate i key) (replicate (c.args.times - (i + 1)) key)
+      until_one at on c.args.line (replicate i key) (replicate (c.args.times - (i + 1)) key)
           (replicate c.args.times key)
           key c.args.attached.now c.loop.attached c.press_key-carried.new.attached
           (line_result c.press_key-carried.result.outcome one.0) (cut_times c.args.times i key c.loop-test.true)
@@ -31,19 +33,19 @@ returns-then-not-is_done-clause-runs g c =
 
 pub loop-preserved : goal.loop-preserved
 loop-preserved g c =
+    let at = live_station g.E.End.behaviour g.E.Keyed.keyed g.E.LiveStation.typing g.E.LiveStation.seen
+    g.E.Display.StationDisplay.does.shown g.E.Display.OperatedDisplay.operated g.E.Named.NamedKey.words in
+    let on = on_devices g.K.Sink.writer g.S.Source.reader in
     let so_far = c.loop.invariant in
     let one = c.press_key-carried.ensures.runs in
     let i = c.loop.counter in
     let key = c.args.key in
     let to = c.press_key-carried.new.attached in
     let done = c.is_done.ensures.done c.if-not-is_done.false in
-    let quiet = prints_nothing (keyed g.D.Commands.Code.rules g.D.StationDisplay.does
-    (on_devices g.K.Sink.writer g.S.Source.reader) g.D.Key.NamedKey.words) key c.loop.attached to one.0
-    (subst (λ (o : Result Closing Fault). KeyRuns (keyed g.D.Commands.Code.rules g.D.StationDisplay.does
-    (on_devices g.K.Sink.writer g.S.Source.reader) g.D.Key.NamedKey.words) key c.loop.attached
+    let quiet = prints_nothing at on c.args.line key c.loop.attached to one.0
+    (subst (λ (o : Result Closing Fault). KeyRuns at on c.args.line key c.loop.attached
     (line_result o one.0) to) done one.1) in (
-      until_more (keyed g.D.Commands.Code.rules g.D.StationDisplay.does (on_devices g.K.Sink.writer
-          g.S.Source.reader) g.D.Key.NamedKey.words) (replicate i key) (replicate
+      until_more at on c.args.line (replicate i key) (replicate
           (i + 1) key) key c.args.attached.now c.loop.attached to
           (line_result c.press_key-carried.result.outcome one.0) (replicate_more i key) so_far.0 done one.1,
       prints_both so_far.1 (subst (λ (z : List ℕ). Prints g.O.Sink.writer c.loop.out

@@ -5,13 +5,16 @@ use Rattle.ws_text.specs.Printing.{Prints}
 use Rattle.ws_live.specs.declared.live.Closing.TheVariants.{Done}
 use Rattle.ws_live.specs.live.ConnectText.{KeysUntil}
 use Rattle.ws_live.specs.live.LiveText.{line_result}
-use Rattle.ws_live.specs.live.Operating.{keyed}
+use Rattle.ws_live.specs.live.Operating.{live_station}
 use Rattle.ws_live.proofs.live.pressing.press_until.Given as goal
 
 -- the keys so far were taken, and printed nothing
 abbrev pub invariant-loop-key : goal.invariant-loop-key
-invariant-loop-key g l = KeysUntil (keyed g.D.Commands.Code.rules g.D.StationDisplay.does
-    (on_devices g.K.Sink.writer g.S.Source.reader) g.D.Key.NamedKey.words) (take l.key-index l.keys) l.fn.attached
+invariant-loop-key g l =
+    let at = live_station g.E.End.behaviour g.E.Keyed.keyed g.E.LiveStation.typing g.E.LiveStation.seen
+    g.E.Display.StationDisplay.does.shown g.E.Display.OperatedDisplay.operated g.E.Named.NamedKey.words in
+    let on = on_devices g.K.Sink.writer g.S.Source.reader in
+    KeysUntil at on l.line (take l.key-index l.keys) l.fn.attached
     (line_result (Ok Done) []) l.attached
     × Prints g.O.Sink.writer l.fn.out l.out l.fn.output l.output []
     × (l.attached.broken ≡ false)

@@ -1,3 +1,5 @@
+use Rattle.ws_live.specs.live.LiveText.{telling_by}
+use Rattle.std.specs.Prelude.{None}
 use Rattle.std.proofs.Common.{◌≡◌, [], true, false, refl, sym, ◌∙◌, subst, arith}
 use Rattle.ws_code.specs.Device.{most_reads}
 use Rattle.ws_code.proofs.DeviceLaws.{went_out_none}
@@ -21,56 +23,47 @@ loop-init g c = (
 pub returns-then-not-is_told-clause-printed : goal.returns-then-not-is_told-clause-printed
 returns-then-not-is_told-clause-printed g c =
     let so_far = c.loop.invariant in
-    let runs = InTime (g.L.LiveMove.runs g.W.Watch.tells Plain) g.L.LiveMove.waits g.W.Watch.times in
+    let runs = InTime (g.L.LiveMove.runs g.W.Watch.tells (telling_by Plain None)) g.L.LiveMove.waits g.W.Watch.times in
     let untold : is_told c.in-Ok.closing ≡ false = sym c.is_told.ensures ∙ c.if-not-is_told.true in
-    none_told runs c.args.line.now g.O.Sink.writer ((c.args.attached.now, c.args.ahead.now), c.args.watch.now)
-    ((c.loop.attached, c.loop.ahead), c.loop.watch) (
-      (c.carry_once.new.attached, c.carry_once.new.ahead),
-      c.carry_once.new.watch,
-    ) c.args.out.now.sink c.loop.out.sink
+    none_told runs c.args.line.now g.O.Sink.writer c.args.session.now
+    c.loop.session c.carry_once.new.session c.args.out.now.sink c.loop.out.sink
     c.carry_once.new.out.sink c.loop.counter so_far.0 so_far.1 so_far.2 c.in-Ok.closing c.goes_well.result
     (subst (IsPrinted g.O.Sink.writer c.loop.out.sink c.carry_once.new.out.sink
-    (line_printing runs ((c.loop.attached, c.loop.ahead), c.loop.watch) c.args.line.now
-    ((c.carry_once.new.attached, c.carry_once.new.ahead), c.carry_once.new.watch))) c.in-Ok.is
+    (line_printing runs c.loop.session c.args.line.now
+    c.carry_once.new.session)) c.in-Ok.is
     c.carry_once.ensures.printed) untold c.goes_well.ensures
 
 pub returns-in-Err-clause-printed : goal.returns-in-Err-clause-printed
 returns-in-Err-clause-printed g c =
     let so_far = c.loop.invariant in
-    let runs = InTime (g.L.LiveMove.runs g.W.Watch.tells Plain) g.L.LiveMove.waits g.W.Watch.times in
-    once_fails runs c.args.line.now g.O.Sink.writer ((c.args.attached.now, c.args.ahead.now), c.args.watch.now)
-    ((c.loop.attached, c.loop.ahead), c.loop.watch) (
-      (c.carry_once.new.attached, c.carry_once.new.ahead),
-      c.carry_once.new.watch,
-    ) c.args.out.now.sink c.loop.out.sink
+    let runs = InTime (g.L.LiveMove.runs g.W.Watch.tells (telling_by Plain None)) g.L.LiveMove.waits g.W.Watch.times in
+    once_fails runs c.args.line.now g.O.Sink.writer c.args.session.now
+    c.loop.session c.carry_once.new.session c.args.out.now.sink c.loop.out.sink
     c.carry_once.new.out.sink c.loop.counter so_far.0 so_far.1 so_far.2 c.in-Err.fault
     (subst (IsPrinted g.O.Sink.writer c.loop.out.sink c.carry_once.new.out.sink
-    (line_printing runs ((c.loop.attached, c.loop.ahead), c.loop.watch) c.args.line.now
-    ((c.carry_once.new.attached, c.carry_once.new.ahead), c.carry_once.new.watch))) c.in-Err.is
+    (line_printing runs c.loop.session c.args.line.now
+    c.carry_once.new.session)) c.in-Err.is
     c.carry_once.ensures.printed)
 
 pub loop-preserved : goal.loop-preserved
 loop-preserved g c =
     let so_far = c.loop.invariant in
-    let runs = InTime (g.L.LiveMove.runs g.W.Watch.tells Plain) g.L.LiveMove.waits g.W.Watch.times in
+    let runs = InTime (g.L.LiveMove.runs g.W.Watch.tells (telling_by Plain None)) g.L.LiveMove.waits g.W.Watch.times in
     let told : is_told c.in-Ok.closing ≡ true = sym c.is_told.ensures ∙ c.if-not-is_told.false in
-    let more = one_told runs c.args.line.now g.O.Sink.writer ((c.args.attached.now, c.args.ahead.now), c.args.watch.now)
-    ((c.loop.attached, c.loop.ahead), c.loop.watch) (
-      (c.carry_once.new.attached, c.carry_once.new.ahead),
-      c.carry_once.new.watch,
-    ) c.args.out.now.sink c.loop.out.sink
+    let more = one_told runs c.args.line.now g.O.Sink.writer c.args.session.now
+    c.loop.session c.carry_once.new.session c.args.out.now.sink c.loop.out.sink
     c.carry_once.new.out.sink c.loop.counter so_far.0 so_far.1 so_far.2 c.in-Ok.closing
     (subst (IsPrinted g.O.Sink.writer c.loop.out.sink c.carry_once.new.out.sink
-    (line_printing runs ((c.loop.attached, c.loop.ahead), c.loop.watch) c.args.line.now
-    ((c.carry_once.new.attached, c.carry_once.new.ahead), c.carry_once.new.watch))) c.in-Ok.is
+    (line_printing runs c.loop.session c.args.line.now
+    c.carry_once.new.session)) c.in-Ok.is
     c.carry_once.ensures.printed) told in
     (more.0, more.1, more.2, c.in-Ok.ensures.works (told_goes c.in-Ok.closing told), c.carry_once.ensures.held)
 
 pub returns-clause-printed : goal.returns-clause-printed
 returns-clause-printed g c =
     let so_far = c.loop.invariant in
-    let runs = InTime (g.L.LiveMove.runs g.W.Watch.tells Plain) g.L.LiveMove.waits g.W.Watch.times in
+    let runs = InTime (g.L.LiveMove.runs g.W.Watch.tells (telling_by Plain None)) g.L.LiveMove.waits g.W.Watch.times in
     let all : c.loop.counter ≡ most_reads = omega (arith, c.loop-test.false, c.loop.auto.counter-end) in
-    too_much_told runs c.args.line.now g.O.Sink.writer ((c.args.attached.now, c.args.ahead.now), c.args.watch.now)
-    ((c.loop.attached, c.loop.ahead), c.loop.watch) c.args.out.now.sink c.loop.out.sink so_far.0 c.loop.counter
+    too_much_told runs c.args.line.now g.O.Sink.writer c.args.session.now
+    c.loop.session c.args.out.now.sink c.loop.out.sink so_far.0 c.loop.counter
     so_far.1 so_far.2 all

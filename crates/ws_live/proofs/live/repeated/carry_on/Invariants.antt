@@ -1,4 +1,5 @@
-use Rattle.std.specs.Prelude.{replicate}
+use Rattle.ws_live.specs.live.LiveText.{telling_by}
+use Rattle.std.specs.Prelude.{replicate, None}
 use Rattle.std.proofs.Common.{◌≡◌, ℕ, List, [], true, false}
 use Rattle.ws_code.specs.Device.{WentOut}
 use Rattle.ws_printing.specs.declared.paint.Paint.TheVariants.{Plain}
@@ -10,7 +11,8 @@ use Rattle.ws_live.proofs.live.repeated.carry_on.Given as goal
 -- so many things were told and printed
 abbrev pub invariant-loop : goal.invariant-loop
 invariant-loop g l = (text : List ℕ)
-    × HaveRun GoOn (InTime (g.L.LiveMove.runs g.W.Watch.tells Plain) g.L.LiveMove.waits g.W.Watch.times)
-    ((l.fn.attached, l.fn.ahead), l.fn.watch) (replicate l.counter l.line) (account true text)
-    ((l.attached, l.ahead), l.watch) × WentOut g.O.Sink.writer l.fn.out.sink l.out.sink text
-    × (l.attached.broken ≡ false) × (l.out.held ≡ [])
+    × HaveRun GoOn (InTime (g.L.LiveMove.runs g.W.Watch.tells (telling_by Plain None)) g.L.LiveMove.waits
+    g.W.Watch.times)
+    l.fn.session (replicate l.counter l.line) (account true text)
+    l.session × WentOut g.O.Sink.writer l.fn.out.sink l.out.sink text
+    × (l.session.attached.broken ≡ false) × (l.out.held ≡ [])

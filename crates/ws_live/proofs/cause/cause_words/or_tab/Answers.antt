@@ -1,7 +1,0 @@
-use Rattle.std.proofs.Common.{◌∷◌, []}
-use Rattle.ws_live.proofs.CauseTexts.{stands_both}
-use Rattle.ws_live.proofs.cause.cause_words.or_tab.Goals as goal
-
-pub returns-then-has_tab : goal.returns-then-has_tab
-returns-then-has_tab c = λ vocabulary line stands is. stands_both line c.args.word.now (9 ∷ []) stands
-    (c.has_tab.ensures c.if-has_tab.true)

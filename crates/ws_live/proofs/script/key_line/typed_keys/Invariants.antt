@@ -1,8 +1,0 @@
-use Rattle.std.proofs.Common.{◌≡◌, map}
-use Rattle.ws_live.specs.script.Script.{typed_key}
-use Rattle.ws_live.proofs.script.key_line.typed_keys.Given as goal
-
--- a key for each character so far
-abbrev pub invariant-loop-character : goal.invariant-loop-character
-invariant-loop-character g l = l.keys.items
-    ≡ map (λ character. g.Q.NamedKey.words.profile (typed_key l.inserts character)) l.yielded

@@ -1,8 +1,0 @@
-use Rattle.std.proofs.Common.{◌≡◌, ◌++◌, map}
-use Rattle.ws_session.specs.declared.world.Move.TheVariants.{Key as Press}
-use Rattle.ws_live.specs.script.Script.{typed_key}
-use Rattle.ws_live.proofs.script.script_line.type_text.Given as goal
-
--- a key for each character so far
-abbrev pub invariant-loop-character : goal.invariant-loop-character
-invariant-loop-character l = l.moves.items ≡ l.fn.moves.items ++ map (λ c. Press (typed_key l.inserts c)) l.yielded

@@ -1,4 +1,0 @@
-pub mod CauseTexts
-pub mod Causes
-pub mod ToldCauses
-pub mod Vocabularies

@@ -1,0 +1,116 @@
+-- What bytes show on a code page, and on page 037.
+
+use Rattle.std.specs.Prelude.{◌==◌, ◌&&◌, ◌||◌, if◌then◌else◌, nat_le, nat_lt, unwrap_or, is_some}
+use Rattle.std.proofs.Common.{◌≡◌, ℕ, ◌≤◌, Bool, true, false, Option, Some, None, slice_index}
+use Rattle.std.proofs.Common.{refl, ap, ◌∙◌, arith}
+use borrow.Author.Tests.{ltb-true, ne_eqb}
+use Rattle.ws_code.specs.CodePage.{changes_of, char_on, national_char}
+use Rattle.ws_code.specs.Ebcdic.{char_of}
+use Rattle.ws_code.specs.declared.code_page.CodePage.{CodePage}
+use Rattle.ws_code.proofs.OneToOne.{char_bounds}
+use Rattle.ws_code.proofs.PageLaws.{one_to_one}
+use Rattle.ws_stream.specs.FieldOrder.{is_attribute}
+use Rattle.ws_screen.specs.Attributes.{is_hidden}
+use Rattle.ws_screen.specs.Lines.{attribute_at, shown_under}
+use Rattle.ws_screen.specs.declared.lines.TheConstants.{DUP}
+use Rattle.ws_screen.specs.declared.shown.Shown.{Shown}
+use Rattle.ws_printing.specs.ShownOnPage.{on_page, page_037, ShowsAsScreen}
+use Rattle.ws_printing.specs.ShownTexts.{IsOnlyFor}
+
+-- page 037 has the characters that it has
+char_on_037 : (b : ℕ) → char_on page_037 b ≡ char_of b
+unfolding char_on national_char changes_of
+char_on_037 b = refl
+
+-- a byte of 40 and more is no attribute
+no_attribute : (b : ℕ) → 0x40 ≤ b → is_attribute b ≡ false
+no_attribute b low = go (nat_le 0x20 b) (nat_lt b 0x40) refl
+  where
+    go : (t u : Bool) → nat_lt b 0x40 ≡ u → (t && u) ≡ false
+    go t true q = absurd (omega (arith, low, ltb-true b 0x40 q))
+    go true false q = refl
+    go false false q = refl
+
+same_kept : (hidden : Bool) (c : ℕ) → (if hidden then c else c) ≡ c
+same_kept true c = refl
+same_kept false c = refl
+
+abbrev seen : ℕ → ℕ → Shown
+seen character attribute = record { character = character; attribute = attribute }
+
+seen_hidden : (hidden : Bool) (x attribute : ℕ)
+    → seen (if hidden then (if hidden then 0x20 else x) else x) attribute ≡ seen (if hidden then 0x20 else x) attribute
+seen_hidden true x attribute = refl
+seen_hidden false x attribute = refl
+
+-- under an attribute a byte shows on 037 what the screen says
+as_screen : (a b : ℕ) → on_page page_037 b (shown_under a b) ≡ shown_under a b
+as_screen a b = rw (char_on_037 b) (go (char_of b) refl)
+  where
+    go : (own : Option ℕ) → char_of b ≡ own
+        → seen (if is_hidden (shown_under a b).attribute then (shown_under a b).character
+        else unwrap_or own (shown_under a b).character) (shown_under a b).attribute ≡ shown_under a b
+    go None p = ap (λ c. seen c (shown_under a b).attribute)
+        (same_kept (is_hidden (shown_under a b).attribute) (shown_under a b).character)
+    go (Some x) p =
+        let low : 0x40 ≤ b = (char_bounds b x p).0 in
+        rw (
+          no_attribute b low,
+          ne_eqb b 0 (λ e. absurd (omega (arith, low, e))),
+          ne_eqb b DUP (λ e. absurd (omega (arith, low, e))),
+          p,
+        ) (seen_hidden (is_hidden a) x a)
+
+pub shows_as_screen : ShowsAsScreen
+shows_as_screen cells cell = as_screen (attribute_at cells cell) (slice_index cells cell)
+
+-- a byte that has no character on a page has none on 037
+none_of_037 : (page : CodePage) (b : ℕ) → char_on page b ≡ None → char_of b ≡ None
+none_of_037 page b none = go (char_of b) refl
+  where
+    go : (own : Option ℕ) → char_of b ≡ own → own ≡ None
+    go None p = refl
+    go (Some x) p =
+        let at : _ = char_bounds b x p in
+        let has : _ = (one_to_one page).has b in
+        absurd (clash none (has.1 (at.0, at.1)))
+      where
+        clash : {o : Option ℕ} → o ≡ None → is_some o ≡ true → ⊥
+        clash e some = cc
+
+-- a byte that shows such a character on the page is the only one that does
+pub shown_byte : (page : CodePage) (a v c byte : ℕ) → IsOnlyFor page c byte
+    → (on_page page v (shown_under a v)).character ≡ c → v ≡ byte
+shown_byte page a v c byte only e = go (is_attribute v) e
+  where
+    clash : {o : Option ℕ} {x : ℕ} → o ≡ None → o ≡ Some x → ⊥
+    clash none some = cc
+
+    -- an attribute's own cell isn't hidden
+    marked : (hidden zero dup : Bool) (own old : Option ℕ) → char_on page v ≡ own
+        → unwrap_or own (if hidden then 0x20
+        else (if zero || true then 0x20 else (if dup then 0x2A else unwrap_or old 0x2E))) ≡ c → v ≡ byte
+    marked hidden zero dup (Some x) old p e = only.2 v (p ∙ ap (λ z. Some z) e)
+    marked true zero dup None old p e = absurd (omega (arith, only.0, e))
+    marked false true dup None old p e = absurd (omega (arith, only.0, e))
+    marked false false dup None old p e = absurd (omega (arith, only.0, e))
+
+    other : (hidden zero dup : Bool) (own old : Option ℕ) → char_on page v ≡ own → char_of v ≡ old
+        → (if hidden then (if hidden then 0x20
+        else (if zero || false then 0x20 else (if dup then 0x2A else unwrap_or old 0x2E)))
+        else unwrap_or own (if hidden then 0x20
+        else (if zero || false then 0x20 else (if dup then 0x2A else unwrap_or old 0x2E)))) ≡ c → v ≡ byte
+    other true zero dup own old p q e = absurd (omega (arith, only.0, e))
+    other false zero dup (Some x) old p q e = only.2 v (p ∙ ap (λ z. Some z) e)
+    other false true dup None old p q e = absurd (omega (arith, only.0, e))
+    other false false true None old p q e = absurd (omega (arith, only.0, e))
+    other false false false None None p q e = absurd (omega (arith, only.0, e))
+    other false false false None (Some x) p q e = absurd (clash (none_of_037 page v p) q)
+
+    go : (attribute : Bool) → (if is_hidden (if attribute then 0x20 else a) then (if is_hidden a then 0x20
+        else (if (v == 0) || attribute then 0x20 else (if v == DUP then 0x2A else unwrap_or (char_of v) 0x2E)))
+        else unwrap_or (char_on page v) (if is_hidden a then 0x20
+        else (if (v == 0) || attribute then 0x20 else (if v == DUP then 0x2A else unwrap_or (char_of v) 0x2E)))) ≡ c
+        → v ≡ byte
+    go true e = marked (is_hidden a) (v == 0) (v == DUP) (char_on page v) (char_of v) refl e
+    go false e = other (is_hidden a) (v == 0) (v == DUP) (char_on page v) (char_of v) refl refl e

@@ -1,0 +1,64 @@
+use Rattle.std.proofs.Common.{◌≡◌, ◌++◌, ◌<◌, ◌^◌, ℕ, List, [], length, ap, sym, ◌∙◌, subst, arith, rules, append_assoc, append-nil, length-append}
+use Rattle.std.proofs.lemmas.List.{nil_from_length}
+use Rattle.ws_record.specs.Refusal.{IsRefused}
+use Rattle.ws_record.proofs.Receivers.{refused_append}
+use Rattle.ws_printing.specs.Checking.{Counts}
+use Rattle.ws_printing.proofs.check.verdict_of.Goals as goal
+
+-- a piece of what is left goes on after what was before
+parts : (bytes before rest piece left : List ℕ) → before ++ rest ≡ bytes → rest ≡ piece ++ left
+    → (before ++ piece) ++ left ≡ bytes
+parts bytes before rest piece left e f = append_assoc before piece left ∙ ap (λ (l : List ℕ). before ++ l) (sym f) ∙ e
+
+front_fits : (bytes front left : List ℕ) → front ++ left ≡ bytes → length bytes < 2 ^ 64 → length front < 2 ^ 64
+front_fits bytes front left e short = omega (
+  arith,
+  short,
+  ap (λ (l : List ℕ). length l) e,
+  length-append front left,
+)
+
+pub loop-piece-init : goal.loop-piece-init
+loop-piece-init g c = (search rules, tt, search rules, [], search rules, search rules)
+
+pub returns-in-Some-take : goal.returns-in-Some-take
+returns-in-Some-take g c =
+    let bytes = c.args.bytes.now in
+    let before = c.loop-piece.invariant.3 in
+    let piece = c.in-Some.piece.now in
+    let all = parts bytes before _ piece _ c.loop-piece.invariant.5 c.in-Some.ensures.steps.1.0 in
+    rw c.verdict.ensures (subst (λ (l : List ℕ). IsRefused g.B.Code.rules l c.in-Some-take.refusal.place
+    c.in-Some-take.refusal.reason) all (refused_append g.B.Code.rules (before ++ piece) _ _ _
+    (c.in-Some-take.ensures before c.loop-piece.invariant.4 (omega (
+      arith,
+      front_fits bytes (before ++ piece) _ all (omega arith),
+      length-append before piece,
+    )))))
+
+pub loop-piece-preserved : goal.loop-piece-preserved
+loop-piece-preserved g c =
+    let bytes = c.args.bytes.now in
+    let before = c.loop-piece.invariant.3 in
+    let piece = c.in-Some.piece.now in
+    let all = parts bytes before _ piece _ c.loop-piece.invariant.5 c.in-Some.ensures.steps.1.0 in (
+      search rules,
+      tt,
+      c.in-Some.ensures.steps.0 ∙ c.loop-piece.invariant.2,
+      before ++ piece,
+      c.in-None-take.ensures before c.loop-piece.invariant.4 (omega (
+        arith,
+        front_fits bytes (before ++ piece) _ all (omega arith),
+        length-append before piece,
+      )),
+      all,
+    )
+
+pub returns : goal.returns
+returns g c =
+    let bytes = c.args.bytes.now in
+    let before = c.loop-piece.invariant.3 in
+    let none = nil_from_length _ c.in-None.ensures.steps.1.0 in
+    let all : before ≡ bytes = sym (append-nil before) ∙ ap (λ (l : List ℕ). before ++ l) (sym none)
+    ∙ c.loop-piece.invariant.5 in
+    c.finish.ensures bytes (subst (λ (l : List ℕ). Counts g.B.Code.rules c.loop-piece.checker.live
+    c.loop-piece.checker.tally l) all c.loop-piece.invariant.4) (omega arith)

@@ -1,0 +1,3 @@
+pub mod lines
+pub mod cause
+pub mod asked

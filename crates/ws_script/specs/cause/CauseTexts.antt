@@ -1,0 +1,39 @@
+-- A cause in words.
+
+use Rattle.std.specs.Prelude.{ℕ, List, codes}
+use Rattle.ws_script.specs.declared.cause.Cause.{Cause}
+use Rattle.ws_script.specs.declared.cause.Cause.TheVariants.{NotUtf8, Tab, TwoBlanks, BlankInFront, BlankAtEnd, UnknownWord}
+use Rattle.ws_script.specs.declared.cause.Cause.TheVariants.{Unexpected, UnknownKey, NoNumber, OutOfRange, NoHex}
+use Rattle.ws_script.specs.declared.cause.Cause.TheVariants.{OtherLength, NoByte, Missing, TooMany, Misplaced, Apart, Other}
+use Rattle.ws_script.specs.declared.cause.Cause.TheVariants.{Illegal, NoBody}
+use Rattle.ws_script.specs.declared.cause.AskedByte.{AskedByte}
+use Rattle.ws_script.specs.declared.cause.AskedByte.TheVariants.{CellByte, Attribute, Key}
+
+-- what is said of a byte that isn't what is asked
+abbrev pub saying_asked : AskedByte → List ℕ
+saying_asked CellByte = codes "an order's code"
+saying_asked Attribute = codes "no attribute, 20 to 3F,"
+saying_asked Key = codes "no key"
+
+-- what is said, before the word at fault and numbers
+abbrev pub saying : Cause → List ℕ
+saying NotUtf8 = codes "not UTF-8"
+saying Tab = codes "a tab"
+saying TwoBlanks = codes "two blanks between words"
+saying BlankInFront = codes "a blank in front"
+saying BlankAtEnd = codes "a blank at the end"
+saying (UnknownWord word) = codes "unknown word"
+saying (Unexpected word) = codes "unexpected word"
+saying (UnknownKey word) = codes "unknown key"
+saying (NoNumber word) = codes "no number"
+saying (NoHex word) = codes "no hex"
+saying (Illegal word asked) = saying_asked asked
+saying (NoByte character) = codes "no byte in code page 037 for"
+saying (NoBody hex) = codes "no body"
+saying (Missing word) = codes "a word is missing behind"
+saying (TooMany word) = codes "one word too many"
+saying (Misplaced word) = codes "it can't stand there,"
+saying Apart = codes "two blanks in front"
+saying (OutOfRange word least most) = codes "not from "
+saying (OtherLength word digits) = codes "not "
+saying Other = codes "it isn't a line of this script"

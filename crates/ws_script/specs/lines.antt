@@ -1,0 +1,5 @@
+pub mod ConnectLines
+pub mod LiveScript
+pub mod ServeLines
+pub mod Stroking
+pub mod WireLines

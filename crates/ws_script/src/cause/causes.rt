@@ -1,0 +1,115 @@
+//! Why a line of a script, or of items as text, is bad.
+ghost use Rattle.std.specs.Prelude.{◌≡◌, ◌∷◌, [], List, ℕ, true, None, MatchOption};
+ghost use Rattle.ws_script.specs.cause.Causes as Spec;
+ghost use Rattle.ws_script.specs.cause.Causes.{HasFirst, IsCause, IsCauseOf, IsTextOf};
+ghost use Rattle.ws_script.specs.cause.Causes.{SaysUnits, StandsIn};
+ghost use Rattle.ws_script.specs.cause.Vocabularies.{vocabulary_words};
+ghost use Rattle.ws_script.specs.declared.cause.vocabulary.Vocabulary.{Vocabulary as AVocabulary};
+ghost use Rattle.ws_text.specs.Names.{look_up};
+
+use crate::asked::sender::Sender;
+use crate::cause::Cause;
+use crate::cause::cause_words::{first_word, has_tab, wrong_words};
+use crate::cause::vocabulary::{Vocabulary, shape_of};
+use crate::cause::word_kind::kinds_of;
+use std::str;
+use ws_extended::{ExtendedAnswers, ExtendedCommands};
+use ws_stream::{Answers, Commands};
+use ws_text::finds_units;
+
+/// Why a line, which is bad, is bad: one of this kind, or behind two blanks a unit of a record.
+pub fn cause_of<'a>(line: &'a [u8], vocabulary: Vocabulary) -> Cause<'a>
+    ensures { IsCauseOf vocabulary line.now result }
+{
+    let Ok(text) = str::from_utf8(line) else {
+        return Cause::NotUtf8;
+    };
+    match text.strip_prefix("  ") {
+        None => match vocabulary {
+            Vocabulary::Elements(_) => Cause::Other,
+            _ => cause_in(line, text, vocabulary),
+        },
+        Some(words) => match units_of(vocabulary) {
+            None => Cause::Apart,
+            Some(units) => cause_in(line, words, units),
+        },
+    }
+}
+
+// The units of a record in lines of this kind.
+fn units_of(vocabulary: Vocabulary) -> Option<Vocabulary>
+    ensures { result ≡ Spec.units_of vocabulary }
+{
+    match vocabulary {
+        Vocabulary::Host => Some(Vocabulary::Elements(Sender::Host)),
+        Vocabulary::AnyHost => Some(Vocabulary::Elements(Sender::ExtendedHost)),
+        Vocabulary::Items(sender) => Some(Vocabulary::Elements(sender)),
+        Vocabulary::Station | Vocabulary::ExtendedStation | Vocabulary::Elements(_) => None,
+    }
+}
+
+// Why a line with this text is bad.
+fn cause_in<'a>(line: &[u8], text: &'a str, vocabulary: Vocabulary) -> Cause<'a>
+    requires { IsTextOf vocabulary line.now text.now }
+    ensures { IsCause vocabulary line.now result }
+{
+    let (first, rest) = first_word(text);
+    if first.is_empty() {
+        return no_first(rest);
+    }
+    let Some(shape) = shape_of(vocabulary, first) else {
+        return unknown(first);
+    };
+    match wrong_words(vocabulary, kinds_of(shape, rest), first, rest) {
+        Some(cause) => cause,
+        None => well_worded(line, vocabulary, first),
+    }
+}
+
+// Why a line is bad whose text begins with no word.
+fn no_first<'a>(rest: Option<&str>) -> Cause<'a>
+    ensures { (vocabulary : AVocabulary) (line text : List ℕ) → IsTextOf vocabulary line text
+        → MatchOption rest.entry (text ≡ []) (λ behind. text ≡ 32 ∷ behind.now)
+        → IsCause vocabulary line result }
+{
+    match rest {
+        Some(_) => Cause::BlankInFront,
+        None => Cause::Other,
+    }
+}
+
+// Why a line is bad whose first word no such line has.
+fn unknown<'a>(first: &'a str) -> Cause<'a>
+    ensures { (vocabulary : AVocabulary) (line : List ℕ) → HasFirst vocabulary line first.now
+        → StandsIn line first.now → look_up first.now (vocabulary_words vocabulary) ≡ None
+        → IsCause vocabulary line result }
+{
+    if has_tab(first) {
+        Cause::Tab
+    } else {
+        Cause::UnknownWord(first)
+    }
+}
+
+// Why a line is bad each of whose words may stand there.
+fn well_worded<'a>(line: &[u8], vocabulary: Vocabulary, first: &'a str) -> Cause<'a>
+    requires { HasFirst vocabulary line.now first.now }
+    ensures { IsCause vocabulary line.now result }
+{
+    match vocabulary {
+        Vocabulary::Elements(sender) if says_units(sender, line) => Cause::Misplaced(first),
+        _ => Cause::Other,
+    }
+}
+
+// Whether a line says units of a sender, wherever these can stand.
+fn says_units(sender: Sender, line: &[u8]) -> bool
+    ensures { result ≡ true → SaysUnits sender line.now }
+{
+    match sender {
+        Sender::Host => finds_units::<Commands>(line),
+        Sender::ExtendedHost => finds_units::<ExtendedCommands>(line),
+        Sender::Station => finds_units::<Answers>(line),
+        Sender::ExtendedStation => finds_units::<ExtendedAnswers>(line),
+    }
+}

@@ -1,0 +1,4 @@
+pub mod ExtendedRecords
+pub mod ReadSteps
+pub mod Tracings
+pub mod BothTraced

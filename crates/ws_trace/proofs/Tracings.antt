@@ -1,0 +1,157 @@
+use Rattle.std.proofs.Common.{◌≡◌, ℕ, ◌+◌, List, [], ◌∷◌, ◌++◌, inl, inr, Option, None, Some, map}
+use Rattle.std.proofs.Common.{refl, sym, ap, ◌∙◌, subst, append_assoc}
+use Rattle.std.specs.Prelude.{Result, Ok, Err, OnOk}
+use Rattle.std.specs.List.{flat_map, AllByRecursion}
+use Rattle.std.proofs.lemmas.List.{append-nil}
+use Rattle.ws_code.specs.Code.{Rules}
+use Rattle.ws_code.specs.declared.reason.Reason.{Reason}
+use Rattle.ws_code.proofs.Lists.{AllByRecursion-append, AllByRecursion-last}
+use Rattle.ws_telnet.specs.Streams.{command_of}
+use Rattle.ws_telnet.specs.declared.token.Telnet.{Telnet}
+use Rattle.ws_telnet.specs.declared.token.Token.{Token}
+use Rattle.ws_telnet.specs.declared.token.Token.TheVariants.{Data, Eor, Telnet as TelnetToken}
+use Rattle.ws_record.specs.Grammar.{Holds, IsStretch, commands}
+use Rattle.ws_record.specs.declared.record.Item.{Item}
+use Rattle.ws_record.specs.declared.record.Item.TheVariants.{Record as RecordItem, Telnet as TelnetItem}
+use Rattle.ws_record.specs.declared.record.Record.{Record}
+use Rattle.ws_trace.specs.Ends.{Tracing, EndAt, AreHeard, IsHeardByte, IsWholeItem, entries_at, carry_fault, made_of, told_with}
+use Rattle.ws_trace.specs.Reading.{StreamStanding, IsNextByte, told_of_passed}
+use Rattle.ws_trace.specs.Reading.StreamStanding.{Reads, Passes}
+use Rattle.ws_trace.specs.Readers.{ReaderParts, IsNextOf}
+use Rattle.ws_trace.specs.Tracers.{TracerParts, IsAdded, IsWholeCame, Tracks}
+use Rattle.ws_trace.specs.declared.entry.Entry.{Entry}
+use Rattle.ws_trace.specs.declared.told.Told.{Told}
+use Rattle.ws_trace.specs.declared.told.Told.TheVariants.{Whole, Refused}
+
+-- The records that bytes hold have whole bodies.
+
+module _ {Place U : Type 0} where
+  telnets_whole : (rules : Rules Place U) (ts : List Telnet) → AllByRecursion (IsWholeItem rules) (map TelnetItem ts)
+  telnets_whole rules [] = tt
+  telnets_whole rules (t ∷ ts) = (tt, telnets_whole rules ts)
+
+  stretches_whole : (rules : Rules Place U) (ss : List (List Token × Record U)) → AllByRecursion (IsStretch rules) ss
+      → AllByRecursion (IsWholeItem rules) (flat_map (λ s. commands s.0 ++ RecordItem s.1 ∷ []) ss)
+  stretches_whole rules [] h = tt
+  stretches_whole rules (s ∷ ss) h =
+      AllByRecursion-append (IsWholeItem rules) (commands s.0 ++ RecordItem s.1 ∷ []) _
+      (AllByRecursion-append (IsWholeItem rules) (commands s.0) (RecordItem s.1 ∷ [])
+      (telnets_whole rules (flat_map command_of s.0)) (h.0.is_record.body.chain, tt))
+      (stretches_whole rules ss h.1)
+
+  pub last_whole : (rules : Rules Place U) (bytes : List ℕ) (items : List (Item U)) (item : Item U)
+      → (so_far begun : List ℕ) × Holds rules bytes (items ++ item ∷ []) so_far begun → IsWholeItem rules item
+  last_whole rules bytes items item h =
+      AllByRecursion-last (IsWholeItem rules) items item (subst (AllByRecursion (IsWholeItem rules)) (sym h.2.are_items)
+      (AllByRecursion-append (IsWholeItem rules) _ (commands h.2.rest) (stretches_whole rules h.2.stretches h.2.each)
+      (telnets_whole rules (flat_map command_of h.2.rest))))
+
+  passed_whole : (rules : Rules Place U) (token : Token) → IsWholeCame rules (told_of_passed token)
+  passed_whole rules (Data b) = tt
+  passed_whole rules Eor = tt
+  passed_whole rules (TelnetToken t) = tt
+
+  pub came_whole : (rules : Rules Place U) (at : StreamStanding U) (byte : ℕ) (came : Option (Told U))
+      (next : StreamStanding U) → IsNextByte rules at byte came next → IsWholeCame rules came
+  came_whole rules (Reads bytes items) byte None next h = tt
+  came_whole rules (Reads bytes items) byte (Some (Whole item)) next h =
+      last_whole rules (bytes ++ byte ∷ []) items item h.1.0
+  came_whole rules (Reads bytes items) byte (Some (Refused reason)) next h = tt
+  came_whole rules (Passes begun) byte came next (inl h) = subst (IsWholeCame rules) (sym h.0) tt
+  came_whole rules (Passes begun) byte came next (inr (inl h)) =
+      subst (IsWholeCame rules) (sym h.1) (passed_whole rules h.0)
+  came_whole rules (Passes begun) byte came next (inr (inr h)) = subst (IsWholeCame rules) (sym h.0) tt
+
+-- a fact where something was done, from another
+pub on_ok : {X E : Type 0} {P Q : Type 0} (r : Result X E) → OnOk r P → (P → Q) → OnOk r Q
+on_ok (Ok v) p f = f p
+on_ok (Err e) p f = tt
+
+-- What bytes add.
+
+module _ {Place U State : Type 0} (rules : Rules Place U) (end : Tracing U State) (time : ℕ) where
+  -- the entries of a byte
+  abbrev pub EntriesOf : EndAt U State → Option (Told U) → List Entry
+  EntriesOf at came = entries_at end.as_told time at.taken (told_with came (carry_fault end at.state came))
+
+  -- a byte more
+  heard_more : (at mid next : EndAt U State) (bytes : List ℕ) (entries : List Entry) (byte : ℕ)
+      (came : Option (Told U)) → AreHeard rules end time at bytes entries mid → IsHeardByte rules end mid byte came next
+      → AreHeard rules end time at (bytes ++ byte ∷ []) (entries ++ EntriesOf mid came) next
+  heard_more at mid next [] entries byte came h one = (
+    came,
+    next,
+    [],
+    subst (λ (z : EndAt U State). IsHeardByte rules end z byte came next) h.1 one,
+    (refl, refl),
+    ap (λ z. z ++ EntriesOf mid came) h.0 ∙ ap (λ (z : EndAt U State). EntriesOf z came) h.1
+        ∙ sym (append-nil (EntriesOf at came)),
+  )
+  heard_more at mid next (b ∷ bytes) entries byte came h one = (
+    h.0,
+    h.1,
+    h.2 ++ EntriesOf mid came,
+    h.3,
+    heard_more h.1 mid next bytes h.2 byte came h.4 one,
+    ap (λ z. z ++ EntriesOf mid came) h.5 ∙ append_assoc (EntriesOf at h.0) h.2 (EntriesOf mid came),
+  )
+
+  -- what a byte adds after others
+  pub added_more : {at : EndAt U State} {bytes : List ℕ} {before mid after : List Entry} {byte : ℕ}
+      {IsThere IsNext : EndAt U State → Type 0} → (a : IsAdded rules end time at bytes before mid IsThere)
+      → IsAdded rules end time a.next (byte ∷ []) mid after IsNext
+      → IsAdded rules end time at (bytes ++ byte ∷ []) before after IsNext
+  added_more {at} {bytes} {before} {mid} {after} {byte} {IsThere} {IsNext} a b = record {
+    next = b.next;
+    added = a.added ++ EntriesOf a.next b.heard.0;
+    heard = heard_more at a.next b.next bytes a.added byte b.heard.0 a.heard
+        (subst (λ (z : EndAt U State). IsHeardByte rules end a.next byte b.heard.0 z) (sym b.heard.4.1) b.heard.3);
+    there = b.there;
+    entries = b.entries ∙ ap (λ z. mid ++ z) (b.heard.5 ∙ ap (λ z. EntriesOf a.next b.heard.0 ++ z) b.heard.4.0
+        ∙ append-nil (EntriesOf a.next b.heard.0)) ∙ ap (λ z. z ++ EntriesOf a.next b.heard.0) a.entries
+        ∙ append_assoc before a.added (EntriesOf a.next b.heard.0);
+  }
+
+  -- none adds nothing
+  pub added_none : (at : EndAt U State) (entries : List Entry) (IsThere : EndAt U State → Type 0) → IsThere at
+      → IsAdded rules end time at [] entries entries IsThere
+  added_none at entries IsThere there = record {
+    next = at;
+    added = [];
+    heard = (refl, refl);
+    there = there;
+    entries = sym (append-nil entries);
+  }
+
+  -- one that a reader has taken
+  module _ {Made : Type 0} (is_made : State → Made → Type 0) where
+    pub added_one : (old : TracerParts Place U Made) (reader : ReaderParts Place U) (made : Made) (at : EndAt U State)
+        (byte : ℕ) (came : Option (Told U)) (refused : Option Reason) (before after : List Entry)
+        → Tracks rules is_made old at → IsNextOf rules old.reader reader byte came
+        → ((state : State) → is_made state old.made → refused ≡ carry_fault end state came)
+        → ((state : State) → is_made state old.made → is_made (made_of end state came) made)
+        → after ≡ before ++ entries_at end.as_told time old.taken (told_with came refused) → (taken : ℕ)
+        → taken ≡ old.taken + 1 → IsAdded rules end time at (byte ∷ []) before after
+        (Tracks rules is_made (record { reader = reader; made = made; taken = taken }))
+    added_one old reader made at byte came refused before after t on why makes is taken one =
+        let stood = on at.standing t.stands in
+        let next : EndAt U State = record {
+          standing = stood.0;
+          state = made_of end at.state came;
+          taken = at.taken + 1;
+        } in record {
+          next = next;
+          added = EntriesOf at came;
+          heard = (
+            came,
+            next,
+            [],
+            record { read = stood.1; made = refl; counted = refl },
+            (refl, refl),
+            sym (append-nil (EntriesOf at came)),
+          );
+          there = record { stands = stood.2; made = makes at.state t.made; counted = one ∙ ap (λ n. n + 1) t.counted };
+          entries = is ∙ ap (λ n. before ++ entries_at end.as_told time n (told_with came refused)) t.counted
+              ∙ ap (λ (o : Option Reason). before ++ entries_at end.as_told time at.taken (told_with came o))
+              (why at.state t.made);
+        }

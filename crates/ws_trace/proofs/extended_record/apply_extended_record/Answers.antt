@@ -1,0 +1,12 @@
+use Rattle.std.proofs.Common.{List, subst}
+use Rattle.ws_extended.specs.ExtendedStates.{state_after_all, state_after_end}
+use Rattle.ws_extended.specs.ExtendedViews.{Shows}
+use Rattle.ws_extended.specs.declared.extended_element.ExtendedElement.{ExtendedElement}
+use Rattle.ws_trace.proofs.extended_record.apply_extended_record.Goals as goal
+
+pub returns-clause-after : goal.returns-clause-after
+returns-clause-after c = λ state shows.
+    let after = state_after_all state c.args.record_.now.body in
+    c.act.ensures.after (state_after_end after) (c.end_write.ensures.ended after
+    (subst (λ (es : List ExtendedElement). Shows (state_after_all state es) c.apply_elements.new.display)
+    c.as_slice-2.ensures (c.in_default-apply_elements.ensures.after state shows)))

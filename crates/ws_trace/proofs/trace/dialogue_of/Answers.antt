@@ -1,0 +1,31 @@
+use Rattle.std.proofs.Common.{◌++◌, ◌∷◌, [], List, take, sym, ap, ◌∙◌, subst}
+use Rattle.std.proofs.lemmas.List.{take_all, take_more}
+use Rattle.ws_trace.specs.declared.piece.Piece.{Piece}
+use Rattle.ws_trace.specs.Dialogues.{AreAllHeard, both_begin}
+use Rattle.ws_trace.proofs.BothTraced.{host_more, station_more}
+use Rattle.ws_trace.proofs.trace.dialogue_of.Goals.{in-Host+in_ok-take_all-in-Host, in-Station+in_ok-take_all-in-Station}
+use Rattle.ws_trace.proofs.trace.dialogue_of.Goals as goal
+
+pub loop-piece-preserved : goal.loop-piece-preserved
+loop-piece-preserved c =
+    let xs = c.args.pieces.now in
+    let i = c.loop-piece.piece-index in
+    let x = c.piece-item.result in
+    rw (take_more xs i x c.loop-piece-test.true ∙ ap (λ (y : Piece). take i xs ++ y ∷ []) (sym c.piece-item.is))
+    (elim c.match-piece.branch [
+      | in-Host+in_ok-take_all-in-Host w ↦ rw (w.host-is, w.station-is, w.entries-is) (host_more x w.in-Host.is
+          c.loop-piece.invariant (rw c.as_slice-bytes.ensures.value at
+          w.in_ok-take_all-in-Host.ensures.heard))
+      | in-Station+in_ok-take_all-in-Station w ↦ rw (w.host-is, w.station-is, w.entries-is) (station_more x
+          w.in-Station.is c.loop-piece.invariant (rw c.as_slice-bytes.ensures.value at
+          w.in_ok-take_all-in-Station.ensures.heard))
+    ])
+
+pub returns-clause-dialogue : goal.returns-clause-dialogue
+returns-clause-dialogue c = let t = c.loop-piece.invariant in record {
+  at = t.at;
+  heard = subst (λ (z : List Piece). AreAllHeard both_begin z c.loop-piece.entries.items t.at)
+      (take_all c.loop-piece.piece-index c.args.pieces.now c.loop-piece-test.false) t.heard;
+  host = c.finish-host.ensures t.at.host t.host_is;
+  station = c.finish-station.ensures t.at.station t.station_is;
+}

@@ -1,0 +1,15 @@
+use Rattle.ws_trace.proofs.Tracings.{added_one, came_whole, on_ok}
+use Rattle.ws_trace.proofs.tracer.Tracer.take.Goals as goal
+
+pub carry_out-refused-requires-clause-whole : goal.carry_out-refused-requires-clause-whole
+carry_out-refused-requires-clause-whole g c =
+    let t = rw (← c.self.view_is) at c.requires.1 in
+    let n = c.in_ok-came.ensures.next c.requires.0.standing t.stands in
+    came_whole g.B.Code.rules c.requires.0.standing c.args.byte c.in_ok-came.came n.0 n.1
+
+pub returns-clause-heard : goal.returns-clause-heard
+returns-clause-heard g c = rw (← c.self.view_is) (on_ok c.add_all.result c.add_all.ensures.added (λ is at t.
+    added_one g.B.Code.rules g.B.Traced.tracing c.args.milliseconds g.B.Traced.is_made _ c.take.new.self
+    c.carry_out-refused.new.made at c.args.byte c.in_ok-came.came c.carry_out-refused.result c.args.entries.now.items
+    c.add_all.new.entries.items t c.in_ok-came.ensures.next c.carry_out-refused.ensures.fault
+    c.carry_out-refused.ensures.after is c.in-Some.taken c.in-Some.ensures.1))

@@ -1,0 +1,77 @@
+-- What is told of an end's stream: each item, and each refusal. An item is carried out on what the items before it
+-- made, or is refused by that.
+
+use Rattle.std.specs.Prelude.{◌≡◌, ℕ, ◌+◌, List, [], ◌∷◌, ◌++◌, Option, None, Some, map}
+use Rattle.ws_code.specs.Code.{Rules, IsChain}
+use Rattle.ws_code.specs.declared.reason.Reason.{Reason}
+use Rattle.ws_record.specs.declared.record.Item.{Item}
+use Rattle.ws_record.specs.declared.record.Item.TheVariants.{Record as RecordItem, Telnet as TelnetItem}
+use Rattle.ws_trace.specs.Reading.{StreamStanding, IsNextByte}
+use Rattle.ws_trace.specs.Reading.StreamStanding.{Reads}
+use Rattle.ws_trace.specs.declared.told.Told.{Told}
+use Rattle.ws_trace.specs.declared.told.Told.TheVariants.{Whole, Refused}
+use Rattle.ws_trace.specs.declared.entry.EndTold.{EndTold}
+use Rattle.ws_trace.specs.declared.entry.Entry.{Entry}
+
+-- What is known of an end: what there is before its first item, why an item isn't carried out on that, and what it
+-- becomes.
+pub record Tracing (U State : Type 0) : Type 0 where
+  pub first : State
+  pub fault : State → Item U → Option Reason
+  pub after : State → Item U → State
+  pub as_told : Told U → EndTold
+
+-- Where an end's stream is: where it stands, what the items before made, and the place of its next byte.
+pub record EndAt (U State : Type 0) : Type 0 where
+  pub standing : StreamStanding U
+  pub state : State
+  pub taken : ℕ
+
+-- the units of a record's body may stand one after another
+abbrev pub IsWholeItem : {Place U : Type 0} → Rules Place U → Item U → Type 0
+IsWholeItem rules (RecordItem r) = IsChain rules rules.first r.body
+IsWholeItem rules (TelnetItem telnet) = Unit {0}
+
+-- what is told where this came of a byte, and was refused as a whole
+abbrev pub told_with : {U : Type 0} → Option (Told U) → Option Reason → List (Told U)
+told_with None refused = []
+told_with (Some told) None = told ∷ []
+told_with (Some told) (Some reason) = told ∷ Refused reason ∷ []
+
+-- what was made, unless it was refused
+abbrev pub made_unless : {State : Type 0} → State → State → Option Reason → State
+made_unless before after None = after
+made_unless before after (Some reason) = before
+
+-- the entries of one byte
+abbrev pub entries_at : {U : Type 0} → (Told U → EndTold) → ℕ → ℕ → List (Told U) → List Entry
+entries_at as_told time place told =
+    map (λ t. record { milliseconds = time; place = place; told = as_told t }) told
+
+module _ {U State : Type 0} (end : Tracing U State) where
+  -- before the first byte
+  abbrev pub end_begins : EndAt U State
+  end_begins = record { standing = Reads [] []; state = end.first; taken = 0 }
+
+  -- why what came of a byte isn't carried out, and what is made of it
+  abbrev pub carry_fault : State → Option (Told U) → Option Reason
+  carry_fault state (Some (Whole item)) = end.fault state item
+  carry_fault state came = None
+
+  abbrev pub made_of : State → Option (Told U) → State
+  made_of state (Some (Whole item)) = made_unless state (end.after state item) (end.fault state item)
+  made_of state came = state
+
+module _ {Place U State : Type 0} (rules : Rules Place U) (end : Tracing U State) where
+  -- what a byte ends, and where the stream is then
+  pub record IsHeardByte (at : EndAt U State) (byte : ℕ) (came : Option (Told U)) (next : EndAt U State) : Type 0 where
+    pub read : IsNextByte rules at.standing byte came next.standing
+    pub made : next.state ≡ made_of end at.state came
+    pub counted : next.taken ≡ at.taken + 1
+
+  -- bytes that came at a time, one after another: the entries of each, and where the stream is after them
+  abbrev pub AreHeard : ℕ → EndAt U State → List ℕ → List Entry → EndAt U State → Type 0
+  AreHeard time at [] entries next = (entries ≡ []) × (next ≡ at)
+  AreHeard time at (byte ∷ bytes) entries next = (came : Option (Told U)) × (mid : EndAt U State) × (rest : List Entry)
+      × IsHeardByte at byte came mid × AreHeard time mid bytes rest next
+      × (entries ≡ entries_at end.as_told time at.taken (told_with came (carry_fault end at.state came)) ++ rest)

@@ -1,0 +1,9 @@
+pub mod Reading
+pub mod Readers
+pub mod Ends
+pub mod BothEnds
+pub mod Counts
+pub mod Tracers
+pub mod Dialogues
+pub mod TraceText
+pub mod StreamsSent

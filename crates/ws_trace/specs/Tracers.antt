@@ -1,0 +1,37 @@
+-- What a tracer keeps, where its stream is, and what bytes add to it.
+
+use Rattle.std.specs.Prelude.{◌≡◌, ℕ, List, ◌++◌, Option, Some}
+use Rattle.ws_code.specs.Code.{Rules}
+use Rattle.ws_trace.specs.Ends.{EndAt, Tracing, AreHeard, IsWholeItem}
+use Rattle.ws_trace.specs.Readers.{ReaderParts, StandsThere}
+use Rattle.ws_trace.specs.declared.entry.Entry.{Entry}
+use Rattle.ws_trace.specs.declared.told.Told.{Told}
+use Rattle.ws_trace.specs.declared.told.Told.TheVariants.{Whole}
+
+-- What a tracer keeps: a reader, what the items made, and how many bytes it has taken.
+pub record TracerParts (Place U Made : Type 0) : Type 0 where
+  pub reader : ReaderParts Place U
+  pub made : Made
+  pub taken : ℕ
+
+-- what came of a byte is a whole item, if it is one
+abbrev pub IsWholeCame : {Place U : Type 0} → Rules Place U → Option (Told U) → Type 0
+IsWholeCame rules (Some (Whole item)) = IsWholeItem rules item
+IsWholeCame rules came = Unit {0}
+
+module _ {Place U Made State : Type 0} (rules : Rules Place U) where
+  -- a tracer's stream is there, where this says what was made
+  pub record Tracks (is_made : State → Made → Type 0) (tracer : TracerParts Place U Made) (at : EndAt U State)
+      : Type 0 where
+    pub stands : StandsThere rules tracer.reader at.standing
+    pub made : is_made at.state tracer.made
+    pub counted : tracer.taken ≡ at.taken
+
+-- what bytes add to the entries before them, and where the stream is after them
+pub record IsAdded {Place U State : Type 0} (rules : Rules Place U) (end : Tracing U State) (time : ℕ) (at : EndAt U State)
+    (bytes : List ℕ) (before after : List Entry) (IsThere : EndAt U State → Type 0) : Type 0 where
+  pub next : EndAt U State
+  pub added : List Entry
+  pub heard : AreHeard rules end time at bytes added next
+  pub there : IsThere next
+  pub entries : after ≡ before ++ added

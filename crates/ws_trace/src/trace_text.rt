@@ -1,0 +1,205 @@
+//! A dialogue as text: each item and each refusal with its sender, and with its time or without it, and at the end a
+//! line for each end.
+ghost use Rattle.std.specs.Prelude.{◌≡◌, ◌++◌};
+ghost use Rattle.ws_text.specs.ItemLines.{item_lines};
+ghost use Rattle.ws_text.specs.Printing.{Prints};
+ghost use Rattle.ws_trace.specs.StreamsSent.{sent_in};
+ghost use Rattle.ws_trace.specs.TraceText as Spec;
+
+use crate::dialogue::tally_of;
+use crate::{Dialogue, EndCount, EndTold, Entry, Told, TracedEnd};
+use ws_code::{Reason, Sink};
+use ws_printing::PlaceAndReason;
+use ws_text::{EachAs, HexBehindBlank, Listed, Number, Output, Text, TextAs, put_item, texts};
+
+/// What stands before each item and each refusal: its time and its sender, or its sender alone.
+#[derive(Clone, Copy, Debug, PartialEq, Eq)]
+pub enum Heads {
+    Timed,
+    Untimed,
+}
+
+/// The streams of both ends, the time of the first piece, and what stands before each item.
+#[derive(Clone, Copy)]
+pub(crate) struct Streams<'a> {
+    pub(crate) heads: Heads,
+    pub(crate) begun: u64,
+    pub(crate) host: &'a [u8],
+    pub(crate) station: &'a [u8],
+}
+
+/// Writes a dialogue of these streams.
+pub(crate) fn put_dialogue<S: Sink>(
+    sink: &mut S,
+    output: Output,
+    dialogue: &Dialogue,
+    streams: Streams<'_>,
+) -> Output
+    ensures { Prints S.writer sink.old sink.new output result
+        (Spec.dialogue_lines streams.entry.heads (sent_in streams.entry) dialogue.now) }
+{
+    let entries = dialogue.entries.as_slice();
+    let output = EachAs(entries, streams).put_to(sink, output);
+    let output = put_end(sink, output, TracedEnd::Host, dialogue.host, entries);
+    put_end(sink, output, TracedEnd::Station, dialogue.station, entries)
+}
+
+// Writes the line of an end.
+fn put_end<S: Sink>(
+    sink: &mut S,
+    output: Output,
+    end: TracedEnd,
+    count: EndCount,
+    entries: &[Entry],
+) -> Output
+    ensures { Prints S.writer sink.old sink.new output result
+        (Spec.end_line end count entries.now) }
+{
+    let tally = tally_of(entries, end);
+    texts!(
+        end.name(),
+        ": ",
+        Number(count.bytes),
+        " bytes, ",
+        Number(tally.records as u64),
+        " records, ",
+        Number(tally.refusals as u64),
+        " refused",
+        if count.is_whole {
+            "\n"
+        } else {
+            ", truncated\n"
+        }
+    )
+    .put_to(sink, output)
+}
+
+impl TextAs<Streams<'_>> for Entry {
+    ghost text_as = { λ streams entry. Spec.entry_text streams.heads (sent_in streams) entry };
+
+    fn put_as<S: Sink>(&self, streams: &Streams<'_>, sink: &mut S, output: Output) -> Output {
+        let time = self.milliseconds.saturating_sub(streams.begun);
+        match &self.told {
+            EndTold::Host(told) => {
+                let head = Head(streams.heads, time, TracedEnd::Host);
+                put_entry(sink, output, head, self.place, told, streams.host)
+            }
+            EndTold::Station(told) => {
+                let head = Head(streams.heads, time, TracedEnd::Station);
+                put_entry(sink, output, head, self.place, told, streams.station)
+            }
+        }
+    }
+}
+
+// What stands before an item that came after so many milliseconds, and who sends it.
+#[derive(Clone, Copy)]
+struct Head(Heads, u64, TracedEnd);
+
+impl Text for Head {
+    ghost text = { λ h. Spec.entry_head h.0 h.1 h.2 };
+
+    fn put_to<S: Sink>(&self, sink: &mut S, output: Output) -> Output {
+        match self.0 {
+            Heads::Timed => Moment(self.1, self.2).put_to(sink, output),
+            Heads::Untimed => texts!(self.2.name(), " ").put_to(sink, output),
+        }
+    }
+}
+
+// So many milliseconds as seconds, and who sends.
+#[derive(Clone, Copy)]
+struct Moment(u64, TracedEnd);
+
+impl Text for Moment {
+    ghost text = { λ m. Spec.moment_text m.0 m.1 };
+
+    fn put_to<S: Sink>(&self, sink: &mut S, output: Output) -> Output {
+        texts!(
+            "+",
+            Number(self.0 / 1000),
+            ".",
+            Number(self.0 / 100 % 10),
+            Number(self.0 / 10 % 10),
+            Number(self.0 % 10),
+            " ",
+            self.1.name(),
+            " "
+        )
+        .put_to(sink, output)
+    }
+}
+
+// Writes what is told after this head, of the byte at the place of the stream.
+fn put_entry<S: Sink, U: Listed>(
+    sink: &mut S,
+    output: Output,
+    head: Head,
+    place: u64,
+    told: &Told<U>,
+    stream: &[u8],
+) -> Output
+    ensures { Prints S.writer sink.old sink.new output result
+        (Spec.entry_head head.0 head.1 head.2
+        ++ Spec.told_at_text (item_lines U.lines_of) place told.now stream.now) }
+{
+    let output = head.put_to(sink, output);
+    put_told(sink, output, place, told, stream)
+}
+
+// Writes the lines of an item, or those of a refusal, whose byte is at the place of the stream.
+fn put_told<S: Sink, U: Listed>(
+    sink: &mut S,
+    output: Output,
+    place: u64,
+    told: &Told<U>,
+    stream: &[u8],
+) -> Output
+    ensures { Prints S.writer sink.old sink.new output result
+        (Spec.told_at_text (item_lines U.lines_of) place told.now stream.now) }
+{
+    match told {
+        Told::Whole(item) => put_item(sink, output, place, item),
+        Told::Refused(reason) => put_refusal(sink, output, place, *reason, stream),
+    }
+}
+
+// Writes where a byte is refused and why, and the bytes round it.
+fn put_refusal<S: Sink>(
+    sink: &mut S,
+    output: Output,
+    place: u64,
+    reason: Reason,
+    stream: &[u8],
+) -> Output
+    ensures { Prints S.writer sink.old sink.new output result
+        (Spec.refusal_lines place reason stream.now) }
+{
+    texts!(
+        "refused at ",
+        PlaceAndReason(place, reason),
+        "  ",
+        reason.text(),
+        "\n  bytes",
+        HexBehindBlank(eight_before(place, stream)),
+        HexBehindBlank(eight_from(place, stream)),
+        "\n"
+    )
+    .put_to(sink, output)
+}
+
+// The eight bytes before a place of a stream, or as many as there are.
+fn eight_before(place: u64, stream: &[u8]) -> &[u8]
+    ensures { result.now ≡ Spec.eight_before place stream.now }
+{
+    let front = stream.split_at(stream.len().min(place as usize)).0;
+    front.split_at(front.len().saturating_sub(8)).1
+}
+
+// The eight bytes from a place of a stream on, or as many as there are.
+fn eight_from(place: u64, stream: &[u8]) -> &[u8]
+    ensures { result.now ≡ Spec.eight_from place stream.now }
+{
+    let rest = stream.split_at(stream.len().min(place as usize)).1;
+    rest.split_at(rest.len().min(8)).0
+}
