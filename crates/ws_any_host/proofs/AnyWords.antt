@@ -9,13 +9,13 @@ use Rattle.ws_record.specs.declared.record.Record.{Record}
 use Rattle.ws_record.proofs.Reading.{opcode_same}
 use Rattle.ws_text.specs.Words.{IsHex}
 use Rattle.ws_text.specs.declared.items.TextFault.TheVariants as items
-use Rattle.ws_live.specs.declared.live.wire_line.WireLine.{WireLine}
-use Rattle.ws_live.specs.declared.live.wire_line.WireLine.TheVariants.{Raw, Pause, Close}
-use Rattle.ws_live.specs.declared.script.ScriptFault.TheVariants.{Line}
-use Rattle.ws_live.specs.live.LiveScript.{IsBlockFault}
-use Rattle.ws_live.specs.live.WireLines.{MeansWire}
-use Rattle.ws_live.specs.script.ScriptFaults.{has_no_blank}
-use Rattle.ws_live.proofs.ScriptWords.{blank_inside, split_unique, digits_have_no_blank}
+use Rattle.ws_script.specs.declared.lines.wire_line.WireLine.{WireLine}
+use Rattle.ws_script.specs.declared.lines.wire_line.WireLine.TheVariants.{Raw, Pause, Close}
+use Rattle.ws_printing.specs.declared.script.ScriptFault.TheVariants.{Line}
+use Rattle.ws_script.specs.lines.LiveScript.{IsBlockFault}
+use Rattle.ws_script.specs.lines.WireLines.{MeansWire}
+use Rattle.ws_printing.specs.script.ScriptFaults.{has_no_blank}
+use Rattle.ws_printing.proofs.ScriptWords.{blank_inside, split_unique, digits_have_no_blank}
 use Rattle.ws_any_host.specs.AnyLines.{AreExtendedBadAt, any_language, IsOpcode, IsSendText, IsWordFault}
 use Rattle.ws_any_host.specs.AnyLines.{MeansAnyLine, OpensAnyBlock, SayBytes, SendsAnyOpcodeAlone}
 use Rattle.ws_any_host.specs.declared.any_line.AnyLine.{AnyLine}

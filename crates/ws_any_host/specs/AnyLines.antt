@@ -13,10 +13,10 @@ use Rattle.ws_text.specs.ExtendedWords.{extended_wording}
 use Rattle.ws_text.specs.Words.{IsNumber, IsHex}
 use Rattle.ws_text.specs.declared.items.TextFault.{TextFault}
 use Rattle.ws_text.specs.declared.items.TextFault.TheVariants as items
-use Rattle.ws_live.specs.script.KeyNames.{aid_named}
-use Rattle.ws_live.specs.live.LiveScript.{LineLanguage}
-use Rattle.ws_live.specs.live.ServeLines.{IsIdle}
-use Rattle.ws_live.specs.live.WireLines.{IsWireBegun, MeansWire}
+use Rattle.ws_printing.specs.script.KeyNames.{aid_named}
+use Rattle.ws_script.specs.lines.LiveScript.{LineLanguage}
+use Rattle.ws_script.specs.lines.ServeLines.{IsIdle}
+use Rattle.ws_script.specs.lines.WireLines.{IsWireBegun, MeansWire}
 use Rattle.ws_any_host.specs.declared.any_line.AnyLine.{AnyLine}
 use Rattle.ws_any_host.specs.declared.any_line.AnyLine.TheVariants.{Nothing, Send, Await, AwaitKey, Wire, Bad}
 

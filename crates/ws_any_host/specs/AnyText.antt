@@ -17,8 +17,10 @@ use Rattle.ws_text.specs.ItemLines.{hex_behind_blank}
 use Rattle.ws_live.specs.live.LiveText.{LineResult, LinesDo, bad_outcome, bad_text, line_result}
 use Rattle.ws_live.specs.live.ServeText.{given_outcome, given_text, unheard_outcome, unheard_text}
 use Rattle.ws_live.specs.live.Watches.{InTime, WatchTimes, WatchedDevices}
-use Rattle.ws_live.specs.live.WireLines.{WireRuns}
+use Rattle.ws_live.specs.live.WireRuns.{WireRuns}
 use Rattle.ws_live.specs.declared.live.Closing.TheVariants.{Nothing, Done, Ended}
+use Rattle.ws_live.specs.declared.live.LiveSession.{LiveSession}
+use Rattle.ws_live.specs.declared.live.Telling.{Telling}
 use Rattle.ws_live.specs.declared.live.watch.WaitSpan.{WaitSpan}
 use Rattle.ws_live.specs.declared.live.watch.WaitSpan.TheVariants.{Whole}
 use Rattle.ws_any_host.specs.AnyReached.{AnyParts, any_behaviour, any_judged}
@@ -112,16 +114,16 @@ module _ {S K : Type 0} (on : WatchedDevices S K) where
         ⊎ ((length told ≡ most_reads) × (to ≡ mid) × (came.outcome ≡ Err fault.Read) × (last ≡ [])))
     pub all : came.text ≡ flat_map any_event_text told ++ last
 
-  -- what a line comes to at such a host
-  abbrev pub AnyDoes : LinesDo AnyLine WatchedAnyHost
-  AnyDoes NoLine from came to = (to ≡ from) × (came.outcome ≡ Ok Nothing) × (came.text ≡ [])
-  AnyDoes (Send r) from came to = (given : Result (Acted SendFault) Fault) × (from.broken ≡ false)
+  -- what a line of this number comes to at such a host
+  abbrev pub AnyDoes : Option ℕ → LinesDo AnyLine WatchedAnyHost
+  AnyDoes number NoLine from came to = (to ≡ from) × (came.outcome ≡ Ok Nothing) × (came.text ≡ [])
+  AnyDoes number (Send r) from came to = (given : Result (Acted SendFault) Fault) × (from.broken ≡ false)
       × HasActed on.devices (any_judged r) from to given
-      × (came.outcome ≡ given_outcome given) × (came.text ≡ given_text given)
-  AnyDoes Await from came to = AnyHearsOne from came to
-  AnyDoes (AwaitKey aid) from came to = HearsKey aid from came to
-  AnyDoes (Wire line) from came to = WireRuns on.devices.writer line from came.outcome to × (came.text ≡ [])
-  AnyDoes (Bad cause) from came to = (to ≡ from) × (came.outcome ≡ bad_outcome)
+      × (came.outcome ≡ given_outcome given) × (came.text ≡ given_text number given)
+  AnyDoes number Await from came to = AnyHearsOne from came to
+  AnyDoes number (AwaitKey aid) from came to = HearsKey aid from came to
+  AnyDoes number (Wire line) from came to = WireRuns on.devices.writer line from came.outcome to × (came.text ≡ [])
+  AnyDoes number (Bad cause) from came to = (to ≡ from) × (came.outcome ≡ bad_outcome)
       × (came.text ≡ bad_text (string_bytes cause))
 
   -- such a host, of which so many records are ahead, which none of its lines takes
@@ -129,9 +131,9 @@ module _ {S K : Type 0} (on : WatchedDevices S K) where
   AnyHostAndAhead = WatchedAnyHost × ℕ
 
   -- what a line comes to at it
-  abbrev pub AnyRuns : LinesDo AnyLine AnyHostAndAhead
-  AnyRuns line from came to = AnyDoes line from.0 came to.0 × (to.1 ≡ from.1)
+  abbrev pub AnyRuns : Telling → LinesDo AnyLine AnyHostAndAhead
+  AnyRuns telling line from came to = AnyDoes telling.line line from.0 came to.0 × (to.1 ≡ from.1)
 
   -- what lines do at such a host, at a watch that keeps its waits so
-  abbrev pub AnyRunsInTime : {W : Type 0} → WatchTimes W S → LinesDo AnyLine (AnyHostAndAhead × W)
-  AnyRunsInTime times = InTime AnyRuns any_waits times
+  abbrev pub AnyRunsInTime : {W : Type 0} → WatchTimes W S → Telling → LinesDo AnyLine (LiveSession AnyParts S K W)
+  AnyRunsInTime times telling = InTime (AnyRuns telling) any_waits times

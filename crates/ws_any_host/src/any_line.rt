@@ -2,8 +2,8 @@
 ghost use Rattle.std.specs.Prelude.{◌≡◌, ◌++◌, [], ◌<◌, ℕ, List as Seq, true, length, codes, IfOk, IfErr, MatchOption};
 ghost use Rattle.ws_code.specs.Code.{spelling_of};
 ghost use Rattle.ws_extended.specs.ExtendedElements.{extended_rules};
-ghost use Rattle.ws_live.specs.live.LiveScript.{IsBlockFault};
-ghost use Rattle.ws_live.specs.script.ScriptFaults.{IsLineFault, IsNoComment, has_no_blank};
+ghost use Rattle.ws_script.specs.lines.LiveScript.{IsBlockFault};
+ghost use Rattle.ws_printing.specs.script.ScriptFaults.{IsLineFault, IsNoComment, has_no_blank};
 ghost use Rattle.ws_text.specs.Words.{IsHex};
 ghost use Rattle.std.specs.Str.Lines.{lines};
 ghost use Rattle.ws_any_host.specs.AnyLines as Spec;
@@ -14,8 +14,8 @@ use std::alloc::{AllocError, Global};
 use std::str;
 use ws_code::{Aid, Body, List};
 use ws_extended::{ExtendedCommands, ExtendedElement};
-use ws_live::{LiveLine, ScriptFault, WireLine, aid_named, read_wire};
 use ws_record::{Opcode, Record};
+use ws_script::{LiveLine, ScriptFault, WireLine, aid_named, read_wire};
 use ws_text::{TextFault, read_elements, read_number};
 
 /// A line of a script for a host that takes any record.

@@ -10,24 +10,23 @@ use crate::any_text::put_any_event;
 use crate::{AnyEvent, AnyHost, AnyLine};
 use ws_code::{Aid, Fault, Sink, Source};
 use ws_live::{
-    Carried, Closing, LiveMove, Paint, WaitSpan, Watch, carry_wire, put_bad, put_given, put_unheard,
+    Carried, Closing, LiveMove, LiveSession, Telling, WaitSpan, Watch, carry_wire, put_bad,
+    put_given, put_unheard,
 };
 use ws_record::Opcode;
 use ws_session::Attached;
 use ws_text::Output;
 
 impl<S: Source, K: Sink> LiveMove<AnyHost, S, K> for AnyLine {
-    ghost runs = { λ tells paint.
-        Spec.AnyRuns (watched_devices (on_devices K.writer S.reader) tells) };
+    ghost runs = { λ tells telling.
+        Spec.AnyRuns (watched_devices (on_devices K.writer S.reader) tells) telling };
 
     ghost waits = { Spec.any_waits };
 
     fn carry_out<W: Watch<S>, O: Sink>(
         &self,
-        attached: &mut Attached<AnyHost, S, K>,
-        _ahead: &mut u64,
-        watch: &mut W,
-        _paint: Paint,
+        session: &mut LiveSession<AnyHost, S, K, W>,
+        telling: Telling,
         out: &mut O,
         output: Output,
     ) -> Carried {
@@ -36,19 +35,24 @@ impl<S: Source, K: Sink> LiveMove<AnyHost, S, K> for AnyLine {
                 output,
                 outcome: Ok(Closing::Nothing),
             },
-            AnyLine::Send(record) => put_given(out, output, attached.act(record)),
+            AnyLine::Send(record) => {
+                let given = session.attached.act(record);
+                put_given(out, output, telling.line, given)
+            }
             AnyLine::Await => {
-                watch.begin(attached.source(), WaitSpan::Whole);
-                hear_event(attached, watch, out, output)
+                session
+                    .watch
+                    .begin(session.attached.source(), WaitSpan::Whole);
+                hear_event(&mut session.attached, &session.watch, out, output)
             }
             AnyLine::AwaitKey(aid) => {
-                let source = attached.source();
-                watch.begin(source, WaitSpan::Whole);
-                hear_key(attached, watch, *aid, out, output)
+                let source = session.attached.source();
+                session.watch.begin(source, WaitSpan::Whole);
+                hear_key(&mut session.attached, &session.watch, *aid, out, output)
             }
             AnyLine::Wire(line) => Carried {
                 output,
-                outcome: carry_wire(attached, watch, line),
+                outcome: carry_wire(&mut session.attached, &mut session.watch, line),
             },
             AnyLine::Bad(cause) => put_bad(out, output, cause.as_str()),
         }

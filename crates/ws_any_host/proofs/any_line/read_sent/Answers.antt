@@ -1,6 +1,6 @@
 use Rattle.std.proofs.Common.{refl}
 use Rattle.ws_text.specs.Words.{IsHex}
-use Rattle.ws_live.proofs.Scripts.{fault_on}
+use Rattle.ws_printing.proofs.Scripts.{fault_on}
 use Rattle.ws_any_host.specs.AnyLines.{IsSendText}
 use Rattle.ws_any_host.proofs.AnyWords.{two_words}
 use Rattle.ws_any_host.proofs.any_line.read_sent.Goals as goal

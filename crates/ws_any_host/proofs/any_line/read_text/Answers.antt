@@ -1,6 +1,6 @@
 use Rattle.std.proofs.Common.{sym, ◌∙◌, inl}
-use Rattle.ws_live.proofs.ScriptWords.{is_no_comment}
-use Rattle.ws_live.proofs.Scripts.{fault_on}
+use Rattle.ws_printing.proofs.ScriptWords.{is_no_comment}
+use Rattle.ws_printing.proofs.Scripts.{fault_on}
 use Rattle.ws_any_host.specs.AnyLines.{IsSendText, MeansAnyLine}
 use Rattle.ws_any_host.proofs.AnyWords.{sends_only}
 use Rattle.ws_any_host.proofs.any_line.read_text.Goals as goal

@@ -1,4 +1,4 @@
-use Rattle.ws_live.proofs.ScriptWords.{split_at_blank}
+use Rattle.ws_printing.proofs.ScriptWords.{split_at_blank}
 use Rattle.ws_any_host.proofs.any_line.split_word.Goals as goal
 
 pub returns : goal.returns

@@ -1,6 +1,6 @@
 use Rattle.std.specs.Prelude.{min}
 use Rattle.std.proofs.Common.{◌+◌, ◌-◌, ◌^◌, refl, sym, ap, ◌∙◌, inl, inr}
-use Rattle.ws_live.proofs.ServeWords.{some_text}
+use Rattle.ws_script.proofs.ServeWords.{some_text}
 use Rattle.ws_any_host.specs.AnyLines.{sent}
 use Rattle.ws_any_host.specs.declared.any_line.AnyLine.TheVariants.{Send}
 use Rattle.ws_any_host.proofs.AnyWords.{bad_words, no_words}
