@@ -1,18 +1,21 @@
 -- What a session printed by its lines, and behind them by one that is carried on.
 
-use Rattle.std.specs.Prelude.{Result, Ok, Err, IfOk}
+use Rattle.std.specs.Prelude.{Result, Ok, Err, IfOk, None}
 use Rattle.std.proofs.Common.{◌≡◌, ℕ, List, [], ◌++◌, Bool, true, false, ◌&&◌, inl, inr, refl, sym, ap, ◌∙◌, subst}
 use Rattle.std.proofs.lemmas.Bool.{false≢true}
 use Rattle.ws_code.specs.Device.{Writer, WentOut}
 use Rattle.ws_code.specs.declared.fault.Fault.{Fault}
 use Rattle.ws_code.proofs.DeviceLaws.{went_out_none, went_out_both}
 use Rattle.ws_text.specs.Printed.{Printing, IsPrinted}
-use Rattle.ws_live.specs.asked.RunFaults.{told_fault}
-use Rattle.ws_live.specs.declared.asked.fault.ToldFault.{ToldFault}
+use Rattle.ws_script.specs.asked.RunFaults.{told_fault}
+use Rattle.ws_script.specs.declared.asked.fault.ToldFault.{ToldFault}
 use Rattle.ws_live.specs.declared.live.LineSettings.{LineSettings}
 use Rattle.ws_live.specs.declared.live.Ran.{Ran}
+use Rattle.ws_live.specs.declared.live.Telling.{Telling}
+use Rattle.ws_printing.specs.declared.paint.Paint.TheVariants.{Plain}
+use Rattle.ws_script.specs.declared.lines.live_line.NumberedLine.{NumberedLine}
 use Rattle.ws_live.specs.live.CarryingOn.{carrying_on}
-use Rattle.ws_live.specs.live.LiveText.{Account, IsLiveText, IsOverAt, LinesDo, account}
+use Rattle.ws_live.specs.live.LiveText.{Account, IsLiveText, IsOverAt, LinesDo, account, telling_by}
 use Rattle.ws_network.specs.SessionPrinting.{HaveLedTo, IsPrintedBehind, IsTextAndOn, SessionLines, all_lines}
 use Rattle.ws_network.specs.SessionPrinting.{prints_closed, serve_printing, session_lines, session_printing}
 
@@ -66,8 +69,12 @@ module _ {L P O : Type 0} (session : SessionLines L P) (printer : Writer O) (has
       → IsPrinted printer old new Session outcome → IsPrinted printer old new Judged (Err told)
   judged_badly outcome told is printed = subst (IsPrinted printer old new Session) is printed
 
-module _ {L P O : Type 0} (does : LinesDo L P) (on : L) (settings : LineSettings)
-    (printer : Writer O) (from : P) (lines : List L) (has_script : Bool) where
+module _ {L P O : Type 0} (does : Telling → LinesDo L P) (on : L) (settings : LineSettings)
+    (printer : Writer O) (from : P) (lines : List (NumberedLine L)) (has_script : Bool) where
+  -- what one does that stands after the lines
+  abbrev Later : LinesDo L P
+  Later = does (telling_by Plain None)
+
   -- the session that comes to there
   abbrev SessionAt : P → SessionLines L P
   SessionAt to = session_lines does settings from lines to
@@ -126,16 +133,16 @@ module _ {L P O : Type 0} (does : LinesDo L P) (on : L) (settings : LineSettings
           )
 
       pub goes_on_well : (answered : Result Bool Fault) (well all_well : Bool) → answered ≡ Ok well
-          → IsPrinted printer between new (carrying_on does on mid to) answered → ran.all_well && well ≡ all_well
+          → IsPrinted printer between new (carrying_on Later on mid to) answered → ran.all_well && well ≡ all_well
           → IsPrintedBehind printer old new (Served to) (Ok all_well)
       goes_on_well answered well all_well so behind both =
           let s = through in
-          let c : IsPrinted printer between new (carrying_on does on mid to) (Ok well) = subst
-          (IsPrinted printer between new (carrying_on does on mid to)) so behind in
+          let c : IsPrinted printer between new (carrying_on Later on mid to) (Ok well) = subst
+          (IsPrinted printer between new (carrying_on Later on mid to)) so behind in
           (s.0, between, s.2, (c.0, inr (ran.all_well, mid, s.1, (well, c.1, sym both)), c.2))
 
       fails_behind_lines : (why : Fault) (told : ToldFault) → told ≡ told_fault why
-          → IsPrinted printer between new (carrying_on does on mid to) (Err why)
+          → IsPrinted printer between new (carrying_on Later on mid to) (Err why)
           → IsPrintedBehind printer old new (Served to) (Err told)
       fails_behind_lines why told same (inl c) = let s = through in
           (s.0, between, s.2, inl (c.0, inr (ran.all_well, mid, s.1, (why, c.1, same)), c.2))
@@ -143,10 +150,10 @@ module _ {L P O : Type 0} (does : LinesDo L P) (on : L) (settings : LineSettings
           (s.0, between, s.2, inr (c.0, inr (ran.all_well, mid, s.1, (why, c.1, same)), c.2))
 
       pub goes_on_badly : (answered : Result Bool Fault) (why : Fault) (told : ToldFault) → answered ≡ Err why
-          → IsPrinted printer between new (carrying_on does on mid to) answered → told ≡ told_fault why
+          → IsPrinted printer between new (carrying_on Later on mid to) answered → told ≡ told_fault why
           → IsPrintedBehind printer old new (Served to) (Err told)
       goes_on_badly answered why told so behind same =
-          fails_behind_lines why told same (subst (IsPrinted printer between new (carrying_on does on mid to)) so
+          fails_behind_lines why told same (subst (IsPrinted printer between new (carrying_on Later on mid to)) so
           behind)
 
     -- what was printed where it ended well
@@ -170,16 +177,16 @@ module _ {L P O : Type 0} (does : LinesDo L P) (on : L) (settings : LineSettings
           went_out_both printer old s.1 new s.0 e.0 s.2 e.2,
         )
 
-module _ {L P O : Type 0} (does : LinesDo L P) (settings : LineSettings)
-    (printer : Writer O) (from to : P) (has_script : Bool) (old new : O) (Read : List L → Type 0) where
+module _ {L P O : Type 0} (does : Telling → LinesDo L P) (settings : LineSettings)
+    (printer : Writer O) (from to : P) (has_script : Bool) (old new : O) (Read : List (NumberedLine L) → Type 0) where
   -- the session of these lines
-  abbrev SessionOf : List L → SessionLines L P
+  abbrev SessionOf : List (NumberedLine L) → SessionLines L P
   SessionOf lines = session_lines does settings from lines to
 
   pub served_well : (on : L) (outcome : Result Bool ToldFault)
-      → (lines : List L) × Read lines
+      → (lines : List (NumberedLine L)) × Read lines
       × IsPrintedBehind printer old new (serve_printing (SessionOf lines) has_script on) outcome
-      → IfOk outcome (λ all_well. (lines : List L) × (text : List ℕ) × Read lines
+      → IfOk outcome (λ all_well. (lines : List (NumberedLine L)) × (text : List ℕ) × Read lines
       × IsTextAndOn (SessionOf lines) on (account all_well text) × WentOut printer old new text)
   served_well on (Ok all_well) s =
       let e = well_printed does on settings printer from s.0 has_script to old new all_well s.2 in
@@ -187,9 +194,9 @@ module _ {L P O : Type 0} (does : LinesDo L P) (settings : LineSettings)
   served_well on (Err told) s = tt
 
   pub connected_well : (outcome : Result Bool ToldFault)
-      → (lines : List L) × Read lines × IsPrinted printer old new
+      → (lines : List (NumberedLine L)) × Read lines × IsPrinted printer old new
       (session_printing (SessionOf lines) has_script (λ ran all_well. all_well ≡ ran.all_well)) outcome
-      → IfOk outcome (λ all_well. (lines : List L) × (text : List ℕ) × Read lines
+      → IfOk outcome (λ all_well. (lines : List (NumberedLine L)) × (text : List ℕ) × Read lines
       × ((is_over : Bool)
       × IsLiveText settings.after (prints_closed (SessionOf lines)) from lines is_over (account all_well text) to)
       × WentOut printer old new text)

@@ -1,15 +1,33 @@
--- The lines of standard input, and why there is none more.
+-- The lines of standard input, and why there is none more; and the words that can be typed besides.
 
-use Rattle.std.specs.Prelude.{◌≡◌, ℕ, ◌+◌, ◌-◌, ◌^◌, List, ◌∷◌, ◌⊎◌, Bool, true, false, String, string_bytes, min}
+use Rattle.std.specs.Prelude.{◌≡◌, ℕ, ◌+◌, ◌-◌, ◌^◌, List, [], ◌∷◌, ◌⊎◌, Bool, true, false, String, string_bytes, min}
+use Rattle.std.specs.Prelude.{codes}
 use Rattle.std.specs.Global.{Global}
 use Rattle.std_io.specs.declared.io.kind.ErrorKind.{ErrorKind}
 use Rattle.std_io.specs.declared.io.kind.ErrorKind.TheVariants.{OutOfMemory}
-use Rattle.ws_live.specs.cause.ToldCauses.{TellsCause}
-use Rattle.ws_live.specs.live.LiveScript.{IsBadBlock, LineLanguage}
-use Rattle.ws_live.specs.declared.asked.fault.RunFault.TheVariants.{Read, Memory}
-use Rattle.ws_live.specs.declared.asked.fault.ToldFault.{ToldFault}
-use Rattle.ws_live.specs.declared.asked.fault.ToldFault.TheVariants.{Run, Line}
-use Rattle.ws_live.specs.declared.cause.vocabulary.Vocabulary.{Vocabulary}
+use Rattle.ws_script.specs.cause.ToldCauses.{TellsCause}
+use Rattle.ws_script.specs.lines.LiveScript.{IsBadBlock, LineLanguage}
+use Rattle.ws_script.specs.declared.asked.fault.RunFault.TheVariants.{Read, Memory}
+use Rattle.ws_script.specs.declared.asked.fault.ToldFault.{ToldFault}
+use Rattle.ws_script.specs.declared.asked.fault.ToldFault.TheVariants.{Run, Line}
+use Rattle.ws_script.specs.declared.cause.vocabulary.Vocabulary.{Vocabulary}
+use Rattle.ws_network.specs.declared.input_lines.Next.{Next}
+use Rattle.ws_network.specs.declared.input_lines.Next.TheVariants as comes
+use Rattle.ws_network.specs.declared.input_lines.TypedWord.{TypedWord}
+use Rattle.ws_network.specs.declared.input_lines.TypedWord.TheVariants.{Help, Quit}
+
+-- what is known of standard input: how many lines of it were taken, and whether they are typed at a terminal
+pub record InputState : Type 0 where
+  pub taken : ℕ
+  pub is_typed : Bool
+
+-- no line was taken
+abbrev pub untaken : Bool → InputState
+untaken typed = record { taken = 0; is_typed = typed }
+
+-- the words that stand for no line, where lines are typed
+abbrev pub typed_words : List (List ℕ × TypedWord)
+typed_words = (codes "help", Help) ∷ (codes "quit", Quit) ∷ []
 
 -- why no line was to be had, by the kind of the error
 abbrev pub unread_fault : ErrorKind → ToldFault
@@ -49,3 +67,12 @@ module _ {L : Type 0} (language : LineLanguage L) where
     TellsBadLine before (Line number cause) = (at : ℕ) × TellsWhyBad at (string_bytes cause)
         × (number ≡ min (before + at) (2 ^ 64 - 1))
     TellsBadLine before told = Unit {0}
+
+    -- What comes of standard input: a line that was read; or where lines are typed alone, a word, or a bad line, which
+    -- is told by its number and its cause, as it would be where it ends a session.
+    abbrev pub IsNextInput : Bool → InputState → Next L → Type 0
+    IsNextInput ready input (comes.Line line) = IsNextLine ready line
+    IsNextInput ready input (comes.Bad number cause) = (input.is_typed ≡ true) × (ready ≡ false)
+        × TellsBadLine input.taken (Line number cause)
+    IsNextInput ready input (comes.Word word) = input.is_typed ≡ true
+    IsNextInput ready input comes.End = Unit {0}

@@ -3,14 +3,14 @@
 use Rattle.std.specs.Prelude.{ℕ, List, Bool, true, false, Option}
 use Rattle.std.specs.Borrow.{Bor}
 use Rattle.ws_any_host.specs.AnyLines.{any_language}
-use Rattle.ws_live.specs.live.ServeLines.{host_language}
+use Rattle.ws_script.specs.lines.ServeLines.{host_language}
 use Rattle.ws_printing.specs.Printouts.{Printout}
 use Rattle.ws_network.specs.AnySessions.{IsAnyServed}
 use Rattle.ws_network.specs.ManySessions.{HasServedBy}
 use Rattle.ws_network.specs.Sessions.{HasConnected, IsServed}
-use Rattle.ws_live.specs.declared.asked.session_asked.SessionAsked.{SessionAsked}
-use Rattle.ws_live.specs.declared.asked.session_asked.SessionAsked.TheVariants.{Connect, Serve}
-use Rattle.ws_live.specs.declared.asked.session_asked.ServeAsked.{ServeAsked}
+use Rattle.ws_live.specs.declared.session_asked.SessionAsked.{SessionAsked}
+use Rattle.ws_live.specs.declared.session_asked.SessionAsked.TheVariants.{Connect, Serve}
+use Rattle.ws_live.specs.declared.session_asked.ServeAsked.{ServeAsked}
 
 -- the script that is named for a live session, if one is
 abbrev pub script_of : SessionAsked → Option (Bor (List ℕ))

@@ -1,21 +1,31 @@
 -- What a live session prints, by its lines and what stands after them, and how it ends; a fault is the program's own.
 
 use Rattle.std.specs.Borrow.{Bor}
-use Rattle.std.specs.Prelude.{◌≡◌, ℕ, List, [], ◌++◌, ◌⊎◌, Bool, true, false, ◌&&◌, Option, MatchOption, Result, Ok, Err}
+use Rattle.std.specs.Prelude.{◌≡◌, ℕ, List, [], ◌∷◌, ◌++◌, ◌⊎◌, Bool, true, false, ◌&&◌, Option, None, MatchOption}
+use Rattle.std.specs.Prelude.{Result, Ok, Err}
 use Rattle.ws_code.specs.Device.{Writer, WentOut}
 use Rattle.ws_code.specs.declared.fault.Fault.{Fault}
 use Rattle.ws_text.specs.Printed.{Printing, IsPrinted}
-use Rattle.ws_live.specs.asked.RunFaults.{told_fault}
+use Rattle.ws_script.specs.asked.RunFaults.{told_fault}
 use Rattle.ws_live.specs.live.CarryingOn.{IsCarriedText, carrying_on}
 use Rattle.ws_live.specs.live.LiveText.{Account, HaveRun, IsOverAt, LinesDo, WithClosing, account, lines_printing}
-use Rattle.ws_live.specs.declared.asked.fault.ToldFault.{ToldFault}
+use Rattle.ws_live.specs.live.LiveText.{telling_by}
+use Rattle.ws_printing.specs.declared.paint.Paint.TheVariants.{Plain}
+use Rattle.ws_script.specs.declared.lines.live_line.NumberedLine.{NumberedLine}
+use Rattle.ws_script.specs.declared.asked.fault.ToldFault.{ToldFault}
 use Rattle.ws_live.specs.declared.live.LineSettings.{LineSettings}
 use Rattle.ws_live.specs.declared.live.Ran.{Ran}
+use Rattle.ws_live.specs.declared.live.Telling.{Telling}
 use Rattle.ws_network.specs.InputLines.{IsInputFault}
 
--- the lines are those of a script, where there is one
-abbrev pub AreScripted : {L : Type 0} → Option (Bor (List L)) → List L → Type 0
-AreScripted script lines = MatchOption script (Unit {0}) (λ asked. lines ≡ asked.now)
+-- none of the lines has a number
+abbrev pub AreUnnumbered : {L : Type 0} → List (NumberedLine L) → Type 0
+AreUnnumbered [] = Unit {0}
+AreUnnumbered (line ∷ more) = (line.number ≡ None) × AreUnnumbered more
+
+-- the lines are those of a script, where there is one; those of standard input have no numbers
+abbrev pub AreScripted : {L : Type 0} → Option (Bor (List (NumberedLine L))) → List (NumberedLine L) → Type 0
+AreScripted script lines = MatchOption script (AreUnnumbered lines) (λ asked. lines ≡ asked.now)
 
 -- what is told of lines is whether all went well
 abbrev pub TellsWell : Ran → Bool → Type 0
@@ -44,22 +54,27 @@ IsPrintedBehind {S} writer from to printing outcome = (first : List ℕ) × (bet
 
 -- the lines of a session, which lead from there to there, with what each does; and how they are carried out
 pub record SessionLines (L P : Type 0) : Type 1 where
-  pub does : LinesDo L P
+  pub does : Telling → LinesDo L P
   pub settings : LineSettings
   pub from : P
-  pub lines : List L
+  pub lines : List (NumberedLine L)
   pub to : P
 
 -- the lines of a session by what each does: carried out so, from there, these, to there
-abbrev pub session_lines : {L P : Type 0} → LinesDo L P → LineSettings → P → List L → P → SessionLines L P
+abbrev pub session_lines : {L P : Type 0} → (Telling → LinesDo L P) → LineSettings → P → List (NumberedLine L) → P
+    → SessionLines L P
 session_lines does settings from lines to =
     record { does = does; settings = settings; from = from; lines = lines; to = to }
 
 -- a session by its lines, of a script or of standard input
 module _ {L P : Type 0} (session : SessionLines L P) where
   -- what each line does with what ends its output
-  abbrev pub prints_closed : LinesDo L P
-  prints_closed = WithClosing session.does session.settings.ready
+  abbrev pub prints_closed : LinesDo (NumberedLine L) P
+  prints_closed = WithClosing session.does session.settings
+
+  -- what one does that stands after them: it has no number
+  abbrev pub does_after : LinesDo L P
+  does_after = session.does (telling_by Plain None)
 
   -- what the lines print
   abbrev pub all_lines : Printing Ran Fault
@@ -92,14 +107,14 @@ module _ {L P : Type 0} (session : SessionLines L P) where
   abbrev pub IsTextAndOn : L → Account → Type 0
   IsTextAndOn on came =
       ((so_far : Account) × (mid : P) × (behind : Account) × HaveLedTo so_far mid
-      × IsCarriedText session.does on mid behind session.to
+      × IsCarriedText does_after on mid behind session.to
       × (came.all_well ≡ so_far.all_well && behind.all_well) × (came.text ≡ so_far.text ++ behind.text))
       ⊎ IsOverAt session.settings.after prints_closed session.from session.lines came session.to
 
   -- what is printed by the one that is carried on, after lines that went so well
   abbrev pub answering_on : L → Bool → P → Printing Bool ToldFault
   answering_on on well mid = told_as (λ on_well all_well. all_well ≡ well && on_well)
-      (carrying_on session.does on mid session.to)
+      (carrying_on does_after on mid session.to)
 
   -- what is printed by lines that end the session
   abbrev pub ending_lines : Bool → Printing Bool ToldFault

@@ -2,8 +2,8 @@
 
 use Rattle.ws_code.specs.declared.fault.Fault.{Fault}
 use Rattle.ws_code.specs.declared.fault.Fault.TheVariants as device
-use Rattle.ws_live.specs.declared.asked.fault.RunFault.{RunFault}
-use Rattle.ws_live.specs.declared.asked.fault.RunFault.TheVariants.{Read, Memory, Write, NoConnection}
+use Rattle.ws_script.specs.declared.asked.fault.RunFault.{RunFault}
+use Rattle.ws_script.specs.declared.asked.fault.RunFault.TheVariants.{Read, Memory, Write, NoConnection}
 use Rattle.ws_network.specs.declared.tcp.TcpFault.{TcpFault}
 use Rattle.ws_network.specs.declared.tcp.TcpFault.TheVariants as tcp
 

@@ -66,7 +66,7 @@ timed_tells = watch_tells (λ reads late. late ≡ was_late reads) (λ reads qui
 abbrev pub timed : WatchedDevices ConnectionReads ConnectionWrites
 timed = watched_devices timed_devices timed_tells
 
--- What the beginning of a wait does at a timer isn't known, but for the number of those that have begun: no contract
--- says what a clock tells.
+-- That waits are over begins none. What the beginning of one does at a timer isn't known, but for the number of those
+-- that have begun: no contract says what a clock tells.
 abbrev pub timed_waits : WatchTimes ℕ ConnectionReads
-timed_waits = watch_times (λ from reads span to. Unit {0}) (λ begun. begun)
+timed_waits = watch_times (λ from to. to ≡ from) (λ from reads span to. Unit {0}) (λ begun. begun)

@@ -2,8 +2,8 @@
 ghost use Rattle.std.specs.Iterator.{IsFinite};
 ghost use Rattle.std.specs.Prelude.{◌≡◌};
 ghost use Rattle.std_io.specs.IoError.{error_kind};
-ghost use Rattle.ws_live.specs.asked.RunFaults.{unconnected_by};
-ghost use Rattle.ws_live.specs.declared.asked.fault.ToldFault.TheVariants as told;
+ghost use Rattle.ws_script.specs.asked.RunFaults.{unconnected_by};
+ghost use Rattle.ws_script.specs.declared.asked.fault.ToldFault.TheVariants as told;
 
 use crate::timer::Timer;
 use crate::turns::{by_turns, share};
@@ -11,7 +11,7 @@ use std::alloc::{AllocError, Global};
 use std::io;
 use std::net::{Net, SocketAddr, TcpStream, ToSocketAddrs};
 use std::time::Clock;
-use ws_live::{HostPort, RunFault, ToldFault, Unconnected, no_connection};
+use ws_script::{HostPort, RunFault, ToldFault, Unconnected, no_connection};
 
 /// Tries the addresses of a host one after another, for as long as the wait lasts. Each has its part of what is left of
 /// it then, so that one that doesn't answer leaves time for the others.

@@ -1,15 +1,15 @@
-//! The files of a live session: its script, and its recording.
+//! The script of a live session.
 ghost use Rattle.std.specs.Prelude.{◌≡◌, ℕ, List, true, IfOk, IfErr, MatchOption};
 ghost use Rattle.std.specs.Option.{is_none};
-ghost use Rattle.ws_live.specs.live.LiveScript.{AreLiveLines};
+ghost use Rattle.ws_script.specs.lines.LiveScript.{AreLiveLines};
 ghost use Rattle.ws_network.specs.ScriptFiles.{IsFileFault};
 
 use crate::input_lines::unread_line;
-use crate::recording::make_file;
 use std::fs;
-use std::fs::File;
 use std::rt::Files;
-use ws_live::{LiveLine, RunFault, ScriptFault, ToldFault, Vocabulary, bad_line, read_lines};
+use ws_script::{
+    LiveLine, NumberedLine, RunFault, ScriptFault, ToldFault, Vocabulary, bad_line, read_lines,
+};
 
 /// The lines of a script, where one is named.
 ///
@@ -21,9 +21,9 @@ pub(crate) fn read_script_file<R: Files + AllocGlobal, L: LiveLine>(
     rt: &R,
     script: Option<&str>,
     vocabulary: Vocabulary,
-) -> Result<Option<Vec<L>>, ToldFault>
-    ensures lines { IfOk result (λ read. MatchOption read (is_none script.entry ≡ true) (λ lines.
-        (file : List ℕ) × AreLiveLines L.language file lines.items)) }
+) -> Result<Option<Vec<NumberedLine<L>>>, ToldFault>
+    ensures lines { IfOk result (λ read. MatchOption read (is_none script.entry ≡ true)
+        (λ lines. (file : List ℕ) × AreLiveLines L.language file lines.items)) }
     ensures named { IfOk result (λ read. is_none read ≡ is_none script.entry) }
     ensures fault { IfErr result (IsFileFault L.language vocabulary) }
 {
@@ -51,20 +51,5 @@ pub(crate) fn lines_of<L>(script: &Option<Vec<L>>) -> Option<&[L]>
     match script {
         Some(lines) => Some(lines.as_slice()),
         None => None,
-    }
-}
-
-/// The file of a recording, where one is named.
-///
-/// # Errors
-///
-/// As `make_file`.
-pub(crate) fn make_record<R: AllocGlobal + Files<File = File>>(
-    rt: &R,
-    record: Option<&str>,
-) -> Result<Option<File>, RunFault> {
-    match record {
-        Some(name) => Ok(Some(make_file(rt, name)?)),
-        None => Ok(None),
     }
 }

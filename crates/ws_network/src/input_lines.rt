@@ -1,45 +1,77 @@
-//! The lines of standard input, one by one, as those of a script's file are read.
-ghost use Rattle.std.specs.Prelude.{◌≡◌, ℕ, OnOk, IfOk, IfErr, IfSome};
+//! The lines of standard input, one by one, as those of a script's file are read. Where they are typed at a terminal,
+//! some more words can be.
+ghost use Rattle.std.specs.Prelude.{◌≡◌, true, OnOk, IfOk, IfErr};
 ghost use Rattle.std.specs.Str.Lines.{lines};
 ghost use Rattle.ws_code.specs.Device.{one_more};
-ghost use Rattle.ws_network.specs.InputLines.{IsInputFault, TellsBadLine, IsNextLine, IsUnreadFault, unread_fault};
+ghost use Rattle.ws_network.specs.InputLines.{InputState, typed_words, untaken};
+ghost use Rattle.ws_network.specs.InputLines.{IsInputFault, TellsBadLine, IsNextInput, IsUnreadFault, unread_fault};
+ghost use Rattle.ws_text.specs.Names.{look_up};
 
 use std::alloc::Global;
 use std::io::{BufRead, ErrorKind};
 use std::marker::Model;
-use ws_live::{
+use ws_script::{
     LiveLine, RunFault, ScriptFault, ToldFault, Vocabulary, cause_in_block, cause_text, is_indented,
 };
 use ws_text::first_line;
 
-/// Reads the next line of standard input with those that belong to it; `None` behind the last. Where the session tells
-/// when it is ready, what stands for a bad line comes in its place.
+/// What comes of standard input.
+#[derive(Drop)]
+pub(crate) enum Next<L> {
+    /// A line, with those that belong to it.
+    Line(L),
+    /// A line that is bad, or with one that belongs to it, by its number counted from 1 and its cause. It comes where
+    /// lines are typed alone.
+    Bad { number: u64, cause: String },
+    /// A word that asks for something else. It comes where lines are typed alone.
+    Word(TypedWord),
+    /// There is none more.
+    End,
+}
+
+/// A word that stands for no line.
+#[derive(Clone, Copy, PartialEq, Eq)]
+pub(crate) enum TypedWord {
+    /// Prints which lines there are.
+    Help,
+    /// Ends the session.
+    Quit,
+}
+
+/// Reads the next line of standard input with those that belong to it. Where the session tells when it is ready, what
+/// stands for a bad line comes in its place.
 ///
 /// # Errors
 ///
-/// `Line` where it is bad with those that belong to it, and the session doesn't tell when it is ready; `Read` where
-/// standard input can't be read, `Memory` where a growth was refused.
+/// `Line` where it is bad with those that belong to it, no line is typed, and the session doesn't tell when it is ready;
+/// `Read` where standard input can't be read, `Memory` where a growth was refused.
 pub(crate) fn next_line<B: BufRead + Drop, L: LiveLine>(
     input: &mut InputLines<B>,
     vocabulary: Vocabulary,
     ready: bool,
-) -> Result<Option<L>, ToldFault>
-    ensures line { IfOk result (λ next. IfSome next
-        (IsNextLine L.language vocabulary ready)) }
+) -> Result<Next<L>, ToldFault>
+    ensures line { IfOk result (IsNextInput L.language vocabulary ready input.old) }
     ensures fault { IfErr result (IsInputFault ready) }
-    ensures bad { IfErr result (TellsBadLine L.language vocabulary input.old) }
+    ensures bad { IfErr result (TellsBadLine L.language vocabulary input.old.taken) }
+    ensures typed { input.old.is_typed ≡ true → IfErr result IsUnreadFault }
 {
     let before = input.number;
+    let is_typed = input.is_typed;
     let Some(raw) = input.take()? else {
-        return Ok(None);
+        return Ok(Next::End);
     };
     let line = without_end(raw.as_slice());
+    if is_typed {
+        if let Some(word) = typed_word(line) {
+            return Ok(Next::Word(word));
+        }
+    }
     let mut inside = Vec::new(input.alloc);
     if L::opens(line) {
         input.gather(&mut inside)?;
     }
     match L::read(input.alloc, line, inside.as_slice()) {
-        Ok(line) => Ok(Some(line)),
+        Ok(line) => Ok(Next::Line(line)),
         Err(ScriptFault::Memory) => Err(ToldFault::Run(RunFault::Memory)),
         Err(ScriptFault::Line(at)) => {
             let why = cause_in_block(line, inside.as_slice(), at, vocabulary);
@@ -47,11 +79,25 @@ pub(crate) fn next_line<B: BufRead + Drop, L: LiveLine>(
                 return Err(ToldFault::Run(RunFault::Memory));
             };
             if ready {
-                return Ok(Some(L::bad(cause)));
+                return Ok(Next::Line(L::bad(cause)));
             }
             let number = before.saturating_add(at);
+            if is_typed {
+                return Ok(Next::Bad { number, cause });
+            }
             Err(ToldFault::Line { number, cause })
         }
+    }
+}
+
+// The word that a line is.
+fn typed_word(line: &[u8]) -> Option<TypedWord>
+    ensures { result ≡ look_up line.now typed_words }
+{
+    match line {
+        [b'h', b'e', b'l', b'p'] => Some(TypedWord::Help),
+        [b'q', b'u', b'i', b't'] => Some(TypedWord::Quit),
+        _ => None,
     }
 }
 
@@ -68,11 +114,14 @@ fn without_end(raw: &[u8]) -> &[u8] {
     }
 }
 
-/// The lines of standard input, one by one. It is seen as the number of those that were taken.
+/// The lines of standard input, one by one. It is seen as the number of those that were taken, and whether they are
+/// typed.
 #[derive(Drop)]
 pub(crate) struct InputLines<B> {
     reader: B,
     alloc: Global,
+    // Whether they are typed at a terminal, by someone who reads what is told of each.
+    is_typed: bool,
     // One that was read to see that it belongs to none before it.
     ahead: Option<Vec<u8>>,
     // How many were taken.
@@ -82,28 +131,39 @@ pub(crate) struct InputLines<B> {
 }
 
 impl<B> Model for InputLines<B> {
-    ghost Value = { ℕ };
+    ghost Value = { InputState };
 
-    ghost view = { λ input. input.number };
+    ghost view = { λ input. record { taken = input.number; is_typed = input.is_typed } };
 }
 
 impl<B: BufRead + Drop> InputLines<B> {
     /// None was taken.
-    pub(crate) fn new(alloc: Global, reader: B) -> Self
-        ensures { result ≡ 0 }
+    pub(crate) fn new(alloc: Global, reader: B, is_typed: bool) -> Self
+        ensures { result ≡ untaken is_typed }
     {
         InputLines {
             reader,
             alloc,
+            is_typed,
             ahead: None,
             number: 0,
             is_over: false,
         }
     }
 
+    /// Whether the next line is asked of who types it, and hasn't been read already.
+    pub(crate) fn is_asking(&self) -> bool {
+        self.is_typed && self.ahead.is_none() && !self.is_over
+    }
+
+    /// Whether the end of what is typed has come.
+    pub(crate) fn is_typed_out(&self) -> bool {
+        self.is_typed && self.is_over
+    }
+
     // Takes the next line, with its line feed.
     fn take(&mut self) -> Result<Option<Vec<u8>>, ToldFault>
-        ensures taken { OnOk result (self.new ≡ one_more self.old) }
+        ensures taken { OnOk result (self.new.taken ≡ one_more self.old.taken) }
         ensures fault { IfErr result IsUnreadFault }
     {
         let line = match self.ahead.take() {

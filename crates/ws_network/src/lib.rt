@@ -6,6 +6,7 @@ mod any_input;
 mod connecting;
 mod files;
 mod input_lines;
+mod line_help;
 mod listening;
 mod live_input;
 mod live_session;
@@ -17,5 +18,6 @@ mod timed_source;
 mod timer;
 mod turns;
 
+pub use line_help::{CONNECT_HELP, SERVE_HELP};
 pub use live_session::run_live;
 pub use tcp::{TcpFault, play_tcp};

@@ -7,7 +7,9 @@ use crate::connecting::{failed, settled};
 use std::io::ErrorKind;
 use std::net::{Net, TcpListener, TcpStream};
 use ws_code::Sink;
-use ws_live::{BufferedSink, HostPort, RunFault, ToldFault, Unconnected, hand_on, no_connection};
+use ws_live::hand_on;
+use ws_printing::BufferedSink;
+use ws_script::{HostPort, RunFault, ToldFault, Unconnected, no_connection};
 use ws_text::{Output, put_text};
 
 /// Listens at an address, tells that it does, and takes one station. No other waits behind it: nobody listens any more.

@@ -1,29 +1,35 @@
 //! The lines of a live session: those of a script, or of standard input one by one.
-ghost use Rattle.std.specs.Prelude.{◌≡◌, [], List, false, IfOk};
+ghost use Rattle.std.specs.Prelude.{◌≡◌, [], List, false, IfOk, IfErr, IfSome};
 ghost use Rattle.std.specs.Option.{is_some};
 ghost use Rattle.ws_code.specs.Device.{on_devices};
 ghost use Rattle.ws_live.specs.live.ConnectText.{StationRunsInTime};
-ghost use Rattle.ws_live.specs.live.Operating.{live_display};
+ghost use Rattle.ws_live.specs.live.Operating.{live_station};
 ghost use Rattle.ws_live.specs.live.Watches.{InTime, watched_devices};
-ghost use Rattle.ws_live.specs.live.LiveText as Spec;
-ghost use Rattle.ws_network.specs.SessionPrinting.{AreScripted, TellsWell, IsPrintedBehind, serve_printing};
-ghost use Rattle.ws_network.specs.SessionPrinting.{session_lines, session_printing};
+ghost use Rattle.ws_network.specs.InputLines.{IsInputFault, IsNextLine};
+ghost use Rattle.ws_network.specs.SessionPrinting.{AreScripted, AreUnnumbered, TellsWell, IsPrintedBehind};
+ghost use Rattle.ws_network.specs.SessionPrinting.{serve_printing, session_lines, session_printing};
 ghost use Rattle.ws_live.specs.live.ServeText.{HostRunsInTime};
-ghost use Rattle.ws_live.specs.declared.live.connect_line.StationLine.{StationLine as ALine};
-ghost use Rattle.ws_live.specs.declared.live.serve_line.HostLine.{HostLine as AHostLine};
-ghost use Rattle.ws_live.specs.declared.live.serve_line.HostLine.TheVariants.{Await};
+ghost use Rattle.ws_script.specs.declared.lines.live_line.NumberedLine.{NumberedLine as ANumbered};
+ghost use Rattle.ws_script.specs.declared.lines.connect_line.StationLine.{StationLine as ALine};
+ghost use Rattle.ws_script.specs.declared.lines.serve_line.HostLine.{HostLine as AHostLine};
+ghost use Rattle.ws_script.specs.declared.lines.serve_line.HostLine.TheVariants.{Await};
 ghost use Rattle.ws_text.specs.Printed.{IsPrinted};
 
-use crate::input_lines::{InputLines, next_line};
-use crate::timer::LineWatch;
-use std::io::BufReader;
+use crate::input_lines::{InputLines, Next, TypedWord, next_line};
+use crate::line_help::put_line_help;
+use std::io::{BufRead, BufReader, IsTerminal};
 use std::rt::Runtime;
-use ws_code::{Fault, Sink, Source};
+use ws_code::{Sink, Source};
 use ws_live::{
-    BufferedSink, Closing, HostLine, LineSettings, LiveMove, NamedKey, OperatedDisplay, Ran,
-    RunFault, StationLine, ToldFault, Vocabulary, answer_on, carry_line,
+    AfterUnwell, ConnectAsked, LineSettings, LiveMove, LiveSession, LiveStation, Ran, Watch,
+    answer_on, carry_line, carry_lines,
 };
-use ws_session::{Attached, HostEnd, StationOn};
+use ws_printing::BufferedSink;
+use ws_script::{
+    HostLine, HostPort, LiveLine, NamedKey, NumberedLine, RunFault, StationLine, ToldFault,
+    Vocabulary,
+};
+use ws_session::HostEnd;
 
 /// Carries out the lines of a script at a station, or without one those of standard input: true where all went well.
 ///
@@ -31,38 +37,37 @@ use ws_session::{Attached, HostEnd, StationOn};
 ///
 /// As `carry_line`. Without a script also `Read` where standard input can't be read, `Line` where a line of it is bad,
 /// unless the session tells when it is ready, and `Memory` where a growth was refused in reading it.
-pub(crate) fn carry_at_station<D, R, S, K, W, O>(
+pub(crate) fn carry_at_station<E, R, S, K, W, O>(
     rt: &R,
-    attached: &mut Attached<StationOn<D>, S, K>,
-    ahead: &mut u64,
-    watch: &mut W,
-    script: Option<&[StationLine<D::Key>]>,
+    session: &mut LiveSession<E, S, K, W>,
+    script: Option<&[NumberedLine<StationLine<E::Named>>]>,
     vocabulary: Vocabulary,
     settings: LineSettings,
     out: &mut BufferedSink<O>,
 ) -> Result<bool, ToldFault>
 where
-    D: OperatedDisplay,
-    D::Key: NamedKey,
+    E: LiveStation,
+    E::Named: NamedKey,
     R: Runtime + AllocGlobal,
+    R::Reader: IsTerminal,
     S: Source,
     K: Sink,
-    W: LineWatch<S>,
+    W: Watch<S>,
     O: Sink,
-    requires works { attached.old.broken ≡ false }
+    requires works { session.old.attached.broken ≡ false }
     requires empty { out.old.held ≡ [] }
-    ensures printed { (lines : List (ALine D.Key))
+    ensures printed { (lines : List (ANumbered (ALine E.Named)))
         × AreScripted script.entry lines
         × IsPrinted O.writer out.old.sink out.new.sink (session_printing (session_lines
-        (StationRunsInTime (live_display D.Commands.rules D.does D.operated D.Key.words)
-        (watched_devices (on_devices K.writer S.reader) W.tells) W.times settings.paint) settings
-        ((attached.old, ahead.old), watch.old) lines ((attached.new, ahead.new), watch.new))
+        (StationRunsInTime
+        (live_station E.behaviour E.keyed E.typing E.seen E.Display.does.shown
+        E.Display.operated E.Named.words)
+        (watched_devices (on_devices K.writer S.reader) W.tells) W.times) settings
+        session.old lines session.new)
         (is_some script.entry) TellsWell) result }
     ensures held { out.new.held ≡ [] }
 {
-    match carry_session(
-        rt, attached, ahead, watch, script, vocabulary, settings, out,
-    ) {
+    match carry_session(rt, session, script, vocabulary, settings, out) {
         Ok(ran) => Ok(ran.all_well),
         Err(fault) => Err(fault),
     }
@@ -76,48 +81,38 @@ where
 /// As `carry_at_station`; behind the lines as `answer_on`.
 pub(crate) fn carry_at_host<R, S, K, W, O>(
     rt: &R,
-    attached: &mut Attached<HostEnd, S, K>,
-    ahead: &mut u64,
-    watch: &mut W,
-    script: Option<&[HostLine]>,
+    session: &mut LiveSession<HostEnd, S, K, W>,
+    script: Option<&[NumberedLine<HostLine>]>,
     settings: LineSettings,
     out: &mut BufferedSink<O>,
 ) -> Result<bool, ToldFault>
 where
     R: Runtime + AllocGlobal,
+    R::Reader: IsTerminal,
     S: Source,
     K: Sink,
-    W: LineWatch<S>,
+    W: Watch<S>,
     O: Sink,
     // At an end that works, with nothing held back.
-    requires works { attached.old.broken ≡ false }
+    requires works { session.old.attached.broken ≡ false }
     requires empty { out.old.held ≡ [] }
     // What was printed, and how it ended.
-    ensures printed { (lines : List AHostLine)
+    ensures printed { (lines : List (ANumbered AHostLine))
         × AreScripted script.entry lines
         × IsPrintedBehind O.writer out.old.sink out.new.sink (serve_printing (session_lines
         (HostRunsInTime (watched_devices (on_devices K.writer S.reader) W.tells) W.times) settings
-        ((attached.old, ahead.old), watch.old) lines ((attached.new, ahead.new), watch.new))
+        session.old lines session.new)
         (is_some script.entry) Await) result }
     ensures held { out.new.held ≡ [] }
 {
-    let ran = match carry_session(
-        rt,
-        attached,
-        ahead,
-        watch,
-        script,
-        Vocabulary::Host,
-        settings,
-        out,
-    ) {
+    let ran = match carry_session(rt, session, script, Vocabulary::Host, settings, out) {
         Ok(ran) => ran,
         Err(fault) => return Err(fault),
     };
     if ran.is_over {
         return Ok(ran.all_well);
     }
-    match answer_on(attached, ahead, watch, out) {
+    match answer_on(session, out) {
         Ok(is_well) => Ok(ran.all_well && is_well),
         Err(fault) => Err(ToldFault::from(fault)),
     }
@@ -130,106 +125,66 @@ where
 /// As `carry_at_station`.
 pub(crate) fn carry_session<R, E, S, K, L, W, O>(
     rt: &R,
-    attached: &mut Attached<E, S, K>,
-    ahead: &mut u64,
-    watch: &mut W,
-    script: Option<&[L]>,
+    session: &mut LiveSession<E, S, K, W>,
+    script: Option<&[NumberedLine<L>]>,
     vocabulary: Vocabulary,
     settings: LineSettings,
     out: &mut BufferedSink<O>,
 ) -> Result<Ran, ToldFault>
 where
     R: Runtime + AllocGlobal,
+    R::Reader: IsTerminal,
     L: LiveMove<E, S, K>,
-    W: LineWatch<S>,
+    W: Watch<S>,
     O: Sink,
     // At an end that works, with nothing held back.
-    requires works { attached.old.broken ≡ false }
+    requires works { session.old.attached.broken ≡ false }
     requires empty { out.old.held ≡ [] }
     // What was printed, and how it ended.
-    ensures printed { (lines : List L)
+    ensures printed { (lines : List (ANumbered L))
         × AreScripted script.entry lines
         × IsPrinted O.writer out.old.sink out.new.sink (session_printing
-        (session_lines (InTime (L.runs W.tells settings.paint) L.waits W.times) settings
-        ((attached.old, ahead.old), watch.old) lines ((attached.new, ahead.new), watch.new))
+        (session_lines (λ telling. InTime (L.runs W.tells telling) L.waits W.times) settings
+        session.old lines session.new)
         (is_some script.entry) (λ ran told. told ≡ ran)) result }
     // The end works on unless the session is over, and nothing is held back.
-    ensures works { IfOk result (λ ran. ran.is_over ≡ false → attached.new.broken ≡ false) }
+    ensures works { IfOk result (λ ran.
+        ran.is_over ≡ false → session.new.attached.broken ≡ false) }
     ensures held { out.new.held ≡ [] }
 {
     match script {
-        Some(lines) => Ok(carry_script(attached, ahead, watch, lines, settings, out)?),
-        None => {
-            carry_input::<R, E, S, K, L, W, O>(
-                rt, attached, ahead, watch, vocabulary, settings, out,
-            )
-        },
+        Some(lines) => Ok(carry_lines(session, lines, settings, out)?),
+        None => { carry_input::<R, E, S, K, L, W, O>(rt, session, vocabulary, settings, out) },
     }
-}
-
-// Carries out the lines of a script.
-fn carry_script<E, S, K, L: LiveMove<E, S, K>, W: LineWatch<S>, O: Sink>(
-    attached: &mut Attached<E, S, K>,
-    ahead: &mut u64,
-    watch: &mut W,
-    lines: &[L],
-    settings: LineSettings,
-    out: &mut BufferedSink<O>,
-) -> Result<Ran, Fault>
-    // At an end that works, with nothing held back.
-    requires works { attached.old.broken ≡ false }
-    requires empty { out.old.held ≡ [] }
-    // What was printed, and how it ended.
-    ensures printed { IsPrinted O.writer out.old.sink out.new.sink (Spec.lines_printing
-        settings.after
-        (Spec.WithClosing (InTime (L.runs W.tells settings.paint) L.waits W.times) settings.ready)
-        ((attached.old, ahead.old), watch.old) lines.now
-        ((attached.new, ahead.new), watch.new)) result }
-    // The end works on unless the session is over, and nothing is held back.
-    ensures works { IfOk result (λ ran. ran.is_over ≡ false → attached.new.broken ≡ false) }
-    ensures held { out.new.held ≡ [] }
-{
-    let mut ran = Ran::none();
-    for line in lines {
-        let closing = match carry_next(attached, ahead, watch, line, settings, out) {
-            Ok(closing) => closing,
-            Err(fault) => return Err(fault),
-        };
-        ran = ran.and(closing.ran(settings.after));
-        if ran.is_over {
-            return Ok(ran);
-        }
-    }
-    Ok(ran)
 }
 
 // Carries out each line of standard input, with those that belong to it, before it reads the next, but for the line
-// that ends these.
+// that ends these. It tells no number: who writes them reads what each tells before the next.
 fn carry_input<R, E, S, K, L, W, O>(
     rt: &R,
-    attached: &mut Attached<E, S, K>,
-    ahead: &mut u64,
-    watch: &mut W,
+    session: &mut LiveSession<E, S, K, W>,
     vocabulary: Vocabulary,
     settings: LineSettings,
     out: &mut BufferedSink<O>,
 ) -> Result<Ran, ToldFault>
 where
     R: Runtime + AllocGlobal,
+    R::Reader: IsTerminal,
     L: LiveMove<E, S, K>,
-    W: LineWatch<S>,
+    W: Watch<S>,
     O: Sink,
     // At an end that works, with nothing held back.
-    requires works { attached.old.broken ≡ false }
+    requires works { session.old.attached.broken ≡ false }
     requires empty { out.old.held ≡ [] }
     // What was printed, and how it ended.
-    ensures printed { (lines : List L)
+    ensures printed { (lines : List (ANumbered L)) × AreUnnumbered lines
         × IsPrinted O.writer out.old.sink out.new.sink (session_printing
-        (session_lines (InTime (L.runs W.tells settings.paint) L.waits W.times) settings
-        ((attached.old, ahead.old), watch.old) lines ((attached.new, ahead.new), watch.new))
+        (session_lines (λ telling. InTime (L.runs W.tells telling) L.waits W.times) settings
+        session.old lines session.new)
         false (λ ran told. told ≡ ran)) result }
     // The end works on unless the session is over, and nothing is held back.
-    ensures works { IfOk result (λ ran. ran.is_over ≡ false → attached.new.broken ≡ false) }
+    ensures works { IfOk result (λ ran.
+        ran.is_over ≡ false → session.new.attached.broken ≡ false) }
     ensures held { out.new.held ≡ [] }
 {
     let mut ran = Ran::none();
@@ -237,12 +192,10 @@ where
     let Ok(reader) = BufReader::new(rt.alloc(), rt.reader()) else {
         return Err(ToldFault::Run(RunFault::Memory));
     };
-    let mut input = InputLines::new(rt.alloc(), reader);
+    let mut input = InputLines::new(rt.alloc(), reader, is_typed(rt, settings));
     for _ in 0..u64::MAX {
-        let next = match next_line::<BufReader<R::Reader>, L>(
-            &mut input,
-            vocabulary,
-            settings.ready,
+        let next = match line_to_do::<R, BufReader<R::Reader>, L>(
+            rt, &mut input, vocabulary, settings,
         ) {
             Ok(next) => next,
             Err(fault) => return Err(fault),
@@ -250,7 +203,8 @@ where
         let Some(line) = next else {
             return Ok(ran);
         };
-        let closing = match carry_next(attached, ahead, watch, &line, settings, out) {
+        let line = NumberedLine { number: None, line };
+        let closing = match carry_line(session, &line, settings, out) {
             Ok(closing) => closing,
             Err(fault) => return Err(ToldFault::from(fault)),
         };
@@ -262,28 +216,71 @@ where
     Ok(ran)
 }
 
-// Carries out the line behind those that were carried out, whose waits are over.
-fn carry_next<E, S, K, L: LiveMove<E, S, K>, W: LineWatch<S>, O: Sink>(
-    attached: &mut Attached<E, S, K>,
-    ahead: &mut u64,
-    watch: &mut W,
-    line: &L,
-    settings: LineSettings,
-    out: &mut BufferedSink<O>,
-) -> Result<Closing, Fault>
-    // At an end that works, with nothing held back.
-    requires works { attached.old.broken ≡ false }
-    requires empty { out.old.held ≡ [] }
-    // What was printed, and how it ended.
-    ensures printed { IsPrinted O.writer out.old.sink out.new.sink (Spec.line_printing
-        (Spec.WithClosing (InTime (L.runs W.tells settings.paint) L.waits W.times) settings.ready)
-        ((attached.old, ahead.old), watch.old) line.now
-        ((attached.new, ahead.new), watch.new)) result }
-    // The end works on unless the session is over, and nothing is held back.
-    ensures works { IfOk result (λ closing.
-        Spec.stops closing ≡ false → attached.new.broken ≡ false) }
-    ensures held { out.new.held ≡ [] }
+/// Whether the lines are typed by someone who reads what each tells: standard input is a terminal, no program drives the
+/// session, and it isn't to stop after a bad line.
+pub(crate) fn is_typed<R: Runtime>(rt: &R, settings: LineSettings) -> bool
+where
+    R::Reader: IsTerminal,
 {
-    watch.end_waits();
-    carry_line(attached, ahead, watch, line, settings, out)
+    let goes_on = matches!(settings.after, AfterUnwell::GoOn);
+    !settings.ready && goes_on && rt.reader().is_terminal()
+}
+
+/// Tells on standard error to whom there is a connection, where lines are typed at it.
+pub(crate) fn tell_connected<R: Runtime>(rt: &R, asked: &ConnectAsked<'_>)
+where
+    R::Reader: IsTerminal,
+{
+    if asked.script.is_some() || !is_typed(rt, asked.settings) {
+        return;
+    }
+    let HostPort { host, port } = asked.host;
+    let _ = if host.contains(':') {
+        eprintln!(rt; "connected to [{host}]:{port}")
+    } else {
+        eprintln!(rt; "connected to {host}:{port}")
+    };
+}
+
+// The next line of standard input that is to be carried out; `None` where there is none more. Lines that are typed are
+// asked for, and of a bad one the cause is told, both on standard error; then the next is read.
+fn line_to_do<R: Runtime, B: BufRead + Drop, L: LiveLine>(
+    rt: &R,
+    input: &mut InputLines<B>,
+    vocabulary: Vocabulary,
+    settings: LineSettings,
+) -> Result<Option<L>, ToldFault>
+    ensures line { IfOk result (λ next. IfSome next
+        (IsNextLine L.language vocabulary settings.ready)) }
+    ensures fault { IfErr result (IsInputFault settings.ready) }
+{
+    for _ in 0..u64::MAX {
+        if input.is_asking() {
+            let _ = eprint!(rt; "t5250> ");
+        }
+        let next = match next_line::<B, L>(input, vocabulary, settings.ready) {
+            Ok(next) => next,
+            Err(fault) => return Err(fault),
+        };
+        match next {
+            Next::Line(line) => return Ok(Some(line)),
+            Next::Bad { number: _, cause } => {
+                let _ = eprintln!(rt; "bad line: {cause}");
+            }
+            Next::Word(TypedWord::Help) => put_line_help(rt, vocabulary),
+            Next::Word(TypedWord::Quit) => return Ok(None),
+            Next::End => {
+                end_asking(rt, input);
+                return Ok(None);
+            }
+        }
+    }
+    Ok(None)
+}
+
+// Ends the row on which the end of what is typed came.
+fn end_asking<R: Runtime, B: BufRead + Drop>(rt: &R, input: &InputLines<B>) {
+    if input.is_typed_out() {
+        let _ = eprintln!(rt);
+    }
 }

@@ -1,33 +1,41 @@
 //! Live sessions over a connection: the sockets and the script. What the lines do at an end, and what they print, is
 //! said where they are carried out.
-ghost use Rattle.std.specs.Prelude.{◌≡◌, [], Some, IfOk, IsErr};
-ghost use Rattle.std.specs.Option.{is_none};
-ghost use Rattle.ws_live.specs.asked.OpenStreams.{missing};
-ghost use Rattle.ws_live.specs.live.Operating.{live_display};
+ghost use Rattle.std.specs.Prelude.{◌≡◌, [], None, Some, IfOk, IsErr};
+ghost use Rattle.std.specs.Option.{is_none, option_map};
+ghost use Rattle.ws_identity.specs.Environ.{new_environ};
+ghost use Rattle.ws_end.specs.station.StationTransitions.{new_state_on};
+ghost use Rattle.ws_entry.specs.Following.{on_entry};
+ghost use Rattle.ws_lasting.specs.Footings.{StandsAt};
+ghost use Rattle.ws_lasting.specs.Lasting.{new_footing};
+ghost use Rattle.ws_script.specs.asked.OpenStreams.{missing};
+ghost use Rattle.ws_live.specs.live.Operating.{live_station};
 ghost use Rattle.ws_printing.specs.Printouts.{printout};
-ghost use Rattle.ws_live.specs.declared.asked.fault.RunFault.{RunFault as AFault};
+ghost use Rattle.ws_script.specs.declared.asked.fault.RunFault.{RunFault as AFault};
 ghost use Rattle.ws_network.specs.LiveSessions.{HasServedAs, HasRunLive, script_of};
 ghost use Rattle.ws_network.specs.Sessions.{HasConnected, HasConnectedOn};
 
 use crate::connecting::connect_to;
-use crate::files::{lines_of, make_record, read_script_file};
-use crate::live_input::carry_at_station;
-use crate::recording::{PieceSender, Recording};
+use crate::files::{lines_of, read_script_file};
+use crate::live_input::{carry_at_station, tell_connected};
+use crate::recording::{PieceSender, RecordFile, Recording};
 use crate::serving::serve_lines;
 use crate::timed_sink::TimedSink;
 use crate::timed_source::{TimedSource, close};
 use crate::timer::{TimedWatch, Timer};
 use std::fs::File;
+use std::io::IsTerminal;
 use std::net::{Net, TcpListener, TcpStream};
 use std::rt::{Files, Runtime};
 use std::time::Duration;
 use ws_any_host::AnyLine;
 use ws_code::Sink;
-use ws_extended_station::ExtendedDisplay;
-use ws_live::{
-    BufferedSink, ConnectAsked, HostLine, NamedKey, OpenStreams, OperatedDisplay, ServeAsked,
-    SessionAsked, StationLine, ToldFault, Vocabulary,
-};
+use ws_entry::EntryDisplay;
+use ws_identity::Identity;
+use ws_lasting::LastingStation;
+use ws_live::{ConnectAsked, LiveSession, LiveStation, ServeAsked, SessionAsked};
+use ws_nego::TerminalType;
+use ws_printing::BufferedSink;
+use ws_script::{HostLine, NamedKey, OpenStreams, StationLine, ToldFault, Vocabulary};
 use ws_session::{Attached, ProfileDisplay, StationOn};
 
 /// Carries a live session out: true where all went well.
@@ -35,8 +43,9 @@ use ws_session::{Attached, ProfileDisplay, StationOn};
 /// # Errors
 ///
 /// In this order: `Read` where a script is named that can't be read, and `Line` and `Memory` as `read_lines` has them;
-/// `Read` where standard input is to be read and is closed, and `Write` where standard output is; `Write` where the file
-/// of a recording can't be made; `NoConnection`. Then those met in running, `Write` too where that file can't be written.
+/// `Read` where standard input is to be read and is closed, and `Write` where standard output is; `Write` where the
+/// folder of a recording isn't there; `NoConnection`. Then those met in running, `Write` too where the file of a
+/// recording, which is made at the first byte, can't be made or written.
 pub fn run_live<R, O>(
     rt: &R,
     asked: SessionAsked<'_>,
@@ -45,6 +54,7 @@ pub fn run_live<R, O>(
 ) -> Result<bool, ToldFault>
 where
     R: Runtime + AllocGlobal + Files<File = File> + Net<Listener = TcpListener, Stream = TcpStream>,
+    R::Reader: IsTerminal,
     O: Sink,
     requires empty { out.old.held ≡ [] }
     ensures ran { IfOk result
@@ -54,7 +64,7 @@ where
         → IsErr result × (out.new.sink ≡ out.old.sink) }
 {
     match asked {
-        SessionAsked::Connect(asked) => connect(rt, &asked, streams, out),
+        SessionAsked::Connect(asked) => connect(rt, asked, streams, out),
         SessionAsked::Serve(asked) => serve(rt, &asked, streams, out),
     }
 }
@@ -62,68 +72,83 @@ where
 // A station at a host.
 fn connect<R, O>(
     rt: &R,
-    asked: &ConnectAsked<'_>,
+    asked: ConnectAsked<'_>,
     streams: OpenStreams,
     out: &mut BufferedSink<O>,
 ) -> Result<bool, ToldFault>
 where
     R: Runtime + AllocGlobal + Files<File = File> + Net<Listener = TcpListener, Stream = TcpStream>,
+    R::Reader: IsTerminal,
     O: Sink,
     requires empty { out.old.held ≡ [] }
     ensures ran { IfOk result
-        (HasConnected (printout O.writer out.old.sink out.new.sink) asked.now) }
-    ensures closed { (why : AFault) → missing streams (is_none asked.now.script) ≡ Some why
+        (HasConnected (printout O.writer out.old.sink out.new.sink) asked.entry) }
+    ensures closed { (why : AFault) → missing streams (is_none asked.entry.script) ≡ Some why
         → IsErr result × (out.new.sink ≡ out.old.sink) }
 {
+    let mut asked = asked;
+    let identity = asked.identity.take();
     if asked.extended {
-        connect_on::<ExtendedDisplay, R, O>(rt, asked, streams, out)
+        let station = entry_station(asked.terminal, identity);
+        connect_on(rt, &asked, station, streams, out)
     } else {
-        connect_on::<ProfileDisplay, R, O>(rt, asked, streams, out)
+        let station = StationOn::<ProfileDisplay>::new(asked.terminal);
+        connect_on(rt, &asked, station, streams, out)
     }
 }
 
-// The same on this display.
-fn connect_on<D, R, O>(
+// A new station of this terminal, as live hosts use it, with an identity or without.
+fn entry_station(terminal: TerminalType, identity: Option<Identity>) -> LastingStation<EntryDisplay>
+    ensures stands { StandsAt on_entry result
+        (new_footing (new_state_on on_entry.does terminal) (option_map new_environ identity)) }
+    ensures counts { result.counts ≡ record { carried_out = 0; refused = 0; last = None } }
+    ensures taken { result.taken ≡ 0 }
+{
+    match identity {
+        Some(identity) => LastingStation::with_identity(terminal, identity),
+        None => LastingStation::new(terminal),
+    }
+}
+
+// The same by this station.
+fn connect_on<E, R, O>(
     rt: &R,
     asked: &ConnectAsked<'_>,
+    station: E,
     streams: OpenStreams,
     out: &mut BufferedSink<O>,
 ) -> Result<bool, ToldFault>
 where
-    D: OperatedDisplay,
-    D::Key: NamedKey,
+    E: LiveStation,
+    E::Named: NamedKey,
     R: Runtime + AllocGlobal + Files<File = File> + Net<Listener = TcpListener, Stream = TcpStream>,
+    R::Reader: IsTerminal,
     O: Sink,
     requires empty { out.old.held ≡ [] }
     ensures ran { IfOk result (HasConnectedOn (printout O.writer out.old.sink out.new.sink)
-        (live_display D.Commands.rules D.does D.operated D.Key.words) asked.now) }
+        (live_station E.behaviour E.keyed E.typing E.seen E.Display.does.shown
+        E.Display.operated E.Named.words)
+        station asked.now) }
     ensures closed { (why : AFault) → missing streams (is_none asked.now.script) ≡ Some why
         → IsErr result × (out.new.sink ≡ out.old.sink) }
 {
     let vocabulary = vocabulary_of(asked);
-    let script = read_script_file::<R, StationLine<D::Key>>(rt, asked.script, vocabulary)?;
+    let script = read_script_file::<R, StationLine<E::Named>>(rt, asked.script, vocabulary)?;
     streams.suffice(script.is_none())?;
-    let file = make_record(rt, asked.record)?;
+    let file = RecordFile::new(rt, asked.record)?;
     let limit = Duration::from_secs(u64::from(asked.wait));
     let timer = Timer::new(rt, limit);
     let stream = connect_to(rt, rt.alloc(), asked.host, &timer)?;
-    let recording = Recording::new(rt, file.as_ref());
-    let mut attached = Attached::new(
-        StationOn::<D>::new(asked.terminal),
+    tell_connected(rt, asked);
+    let recording = Recording::new(rt, &file);
+    let attached = Attached::new(
+        station,
         TimedSource::new(&stream, &timer, &recording, PieceSender::Host),
         TimedSink::new(&stream, &timer, &recording, PieceSender::Station),
     );
-    let mut ahead = 0u64;
-    let outcome = carry_at_station(
-        rt,
-        &mut attached,
-        &mut ahead,
-        &mut TimedWatch::new(&timer),
-        lines_of(&script),
-        vocabulary,
-        asked.settings,
-        out,
-    );
+    let mut session = LiveSession::new(attached, TimedWatch::new(&timer));
+    let lines = lines_of(&script);
+    let outcome = carry_at_station(rt, &mut session, lines, vocabulary, asked.settings, out);
     close(rt, &stream, &recording, PieceSender::Host);
     recording.judge(outcome)
 }
@@ -146,6 +171,7 @@ fn serve<R, O>(
 ) -> Result<bool, ToldFault>
 where
     R: Runtime + AllocGlobal + Files<File = File> + Net<Listener = TcpListener, Stream = TcpStream>,
+    R::Reader: IsTerminal,
     O: Sink,
     requires empty { out.old.held ≡ [] }
     ensures ran { IfOk result (HasServedAs (printout O.writer out.old.sink out.new.sink)

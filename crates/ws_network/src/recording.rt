@@ -1,19 +1,21 @@
 //! Recordings of what both ends sent: a line `MILLISECONDS host|station HEX` for each piece.
 ghost use Rattle.std.specs.Prelude.{◌≡◌, ◌⊎◌, IfOk, IfErr, Ok, Err};
-ghost use Rattle.ws_live.specs.declared.asked.fault.RunFault.TheVariants as run;
-ghost use Rattle.ws_live.specs.declared.asked.fault.ToldFault.TheVariants as told;
+ghost use Rattle.ws_script.specs.declared.asked.fault.RunFault.TheVariants as run;
+ghost use Rattle.ws_script.specs.declared.asked.fault.ToldFault.TheVariants as told;
 ghost use Rattle.ws_network.specs.Recordings as Spec;
 ghost use Rattle.ws_text.specs.Printing.{Prints};
 
-use std::cell::Cell;
+use std::cell::{Cell, OnceCell};
 use std::fs::{File, OpenOptions};
 use std::io::ErrorKind;
 use std::os::unix::fs::OpenOptionsExt;
-use std::rt::Files;
-use std::time::{Clock, Instant};
+use std::rt::{Files, Runtime};
+use std::time::Instant;
 use std::{fs, io};
 use ws_code::{Sink, WriteSink};
-use ws_live::{BufferedSink, RunFault, ToldFault, hand_on};
+use ws_live::hand_on;
+use ws_printing::BufferedSink;
+use ws_script::{RunFault, ToldFault};
 use ws_text::{Output, put_hex, put_number, put_text};
 
 // How many names are tried for a file that isn't there yet.
@@ -26,22 +28,62 @@ pub enum PieceSender {
     Station,
 }
 
-/// What is recorded of a connection, which begins with it. Without a file nothing is.
+/// The file of a recording, where one is asked for. It is made when the first piece is to be recorded.
 #[derive(Drop)]
-pub(crate) struct Recording<'a, C> {
-    clock: &'a C,
-    file: Option<&'a File>,
+pub(crate) struct RecordFile<'a> {
+    name: Option<&'a str>,
+    made: OnceCell<File>,
+}
+
+impl<'a> RecordFile<'a> {
+    /// One of this name, or of a name like it; without a name none is made.
+    ///
+    /// # Errors
+    ///
+    /// `Write` where the name's folder isn't there.
+    pub(crate) fn new<R: Files>(rt: &R, name: Option<&'a str>) -> Result<Self, RunFault> {
+        if let Some(name) = name
+            && !has_folder(rt, name)
+        {
+            return Err(RunFault::Write);
+        }
+        Ok(RecordFile {
+            name,
+            made: OnceCell::new(),
+        })
+    }
+
+    // The file, where one is asked for. That it is made is told on standard error, with its name.
+    fn get<R: Runtime + AllocGlobal + Files<File = File>>(
+        &self,
+        rt: &R,
+    ) -> Result<Option<&File>, RunFault> {
+        let Some(name) = self.name else {
+            return Ok(None);
+        };
+        if self.made.get().is_none() {
+            let _ = self.made.set(make_file(rt, name)?);
+        }
+        Ok(self.made.get())
+    }
+}
+
+/// What is recorded of a connection, which begins with it.
+#[derive(Drop)]
+pub(crate) struct Recording<'a, R> {
+    rt: &'a R,
+    file: &'a RecordFile<'a>,
     begun: Option<Instant>,
     has_failed: Cell<bool>,
 }
 
-impl<'a, C: Clock> Recording<'a, C> {
+impl<'a, R: Runtime + AllocGlobal + Files<File = File>> Recording<'a, R> {
     /// A recording in this file of a connection that begins now.
-    pub(crate) fn new(clock: &'a C, file: Option<&'a File>) -> Self {
+    pub(crate) fn new(rt: &'a R, file: &'a RecordFile<'a>) -> Self {
         Recording {
-            clock,
+            rt,
             file,
-            begun: Instant::now(clock).ok(),
+            begun: Instant::now(rt).ok(),
             has_failed: Cell::new(false),
         }
     }
@@ -66,17 +108,12 @@ impl<'a, C: Clock> Recording<'a, C> {
     ///
     /// # Errors
     ///
-    /// `WriteZero` where the file couldn't be written; `judge` answers `Write` from then on.
+    /// `WriteZero` where the file couldn't be made or written; `judge` answers `Write` from then on.
     pub(crate) fn keep(&self, sender: PieceSender, bytes: &[u8]) -> io::Result<()> {
-        let Some(file) = self.file else {
-            return Ok(());
-        };
         if bytes.is_empty() {
             return Ok(());
         }
-        let mut out = BufferedSink::new(WriteSink::new(file));
-        let output = put_piece(&mut out, Output::Open, self.milliseconds(), sender, bytes);
-        match hand_on(&mut out, output) {
+        match self.write(sender, bytes) {
             Output::Open => Ok(()),
             Output::Failed => {
                 self.has_failed.set(true);
@@ -85,9 +122,22 @@ impl<'a, C: Clock> Recording<'a, C> {
         }
     }
 
+    // Writes the line of a piece into the file, where there is to be one.
+    fn write(&self, sender: PieceSender, bytes: &[u8]) -> Output {
+        match self.file.get(self.rt) {
+            Ok(Some(file)) => {
+                let mut out = BufferedSink::new(WriteSink::new(file));
+                let output = put_piece(&mut out, Output::Open, self.milliseconds(), sender, bytes);
+                hand_on(&mut out, output)
+            }
+            Ok(None) => Output::Open,
+            Err(_) => Output::Failed,
+        }
+    }
+
     // How many milliseconds ago the connection began; 0 where the clock can't tell.
     fn milliseconds(&self) -> u64 {
-        let (Some(begun), Ok(now)) = (self.begun, Instant::now(self.clock)) else {
+        let (Some(begun), Ok(now)) = (self.begun, Instant::now(self.rt)) else {
             return 0;
         };
         match now.checked_duration_since(begun) {
@@ -123,37 +173,43 @@ fn sender_word(sender: PieceSender) -> &'static str
     }
 }
 
-/// Makes the file of a recording, which its owner alone can read: of this name, or where a file has it already of this
-/// and `-1`, `-2` and so on. What is no plain file, as a pipe, is written as it is.
-///
-/// # Errors
-///
-/// `Write` where it can't be made or opened, also where all of 10,000 names are taken; `Memory` where a growth was
-/// refused.
-pub(crate) fn make_file<R: AllocGlobal + Files<File = File>>(
+// Makes the file of a recording, which its owner alone can read: of this name, or where a file has it already of this
+// and `-1`, `-2` and so on. What is no plain file, as a pipe, is written as it is. `Write` where it can't be made or
+// opened, also where all of 10,000 names are taken; `Memory` where a growth was refused.
+fn make_file<R: Runtime + AllocGlobal + Files<File = File>>(
     rt: &R,
     name: &str,
 ) -> Result<File, RunFault> {
     if is_special(rt, name) {
-        return opened(File::options().write(true).open(rt, name));
+        return told(rt, name, File::options().write(true).open(rt, name));
     }
     let mut made = new_file(rt, name);
+    if !is_taken(&made) {
+        return told(rt, name, made);
+    }
     for number in 1..NAMES_TRIED {
-        match made {
-            Err(error) if error.kind() == ErrorKind::AlreadyExists => {}
-            file => return opened(file),
-        }
         let Ok(next) = format!(in rt.alloc(); "{name}-{number}") else {
             return Err(RunFault::Memory);
         };
         made = new_file(rt, next.as_str());
+        if !is_taken(&made) {
+            return told(rt, next.as_str(), made);
+        }
     }
-    opened(made)
+    Err(RunFault::Write)
 }
 
-fn opened(outcome: io::Result<File>) -> Result<File, RunFault> {
+fn is_taken(outcome: &io::Result<File>) -> bool {
+    matches!(outcome, Err(error) if error.kind() == ErrorKind::AlreadyExists)
+}
+
+// The file of this name, which is told on standard error where it was opened.
+fn told<R: Runtime>(rt: &R, name: &str, outcome: io::Result<File>) -> Result<File, RunFault> {
     match outcome {
-        Ok(file) => Ok(file),
+        Ok(file) => {
+            let _ = eprintln!(rt; "recording: {name}");
+            Ok(file)
+        }
         Err(_) => Err(RunFault::Write),
     }
 }
@@ -162,6 +218,19 @@ fn new_file<R: Files<File = File>>(rt: &R, name: &str) -> io::Result<File> {
     let mut how = OpenOptions::new();
     how.write(true).create_new(true).mode(0o600);
     how.open(rt, name)
+}
+
+// Whether a file can have this name, by the folder that is named before its last `/`.
+fn has_folder<R: Files>(rt: &R, name: &str) -> bool {
+    let folder = match name.rsplit_once('/') {
+        Some(("", _)) => "/",
+        Some((folder, _)) => folder,
+        None => ".",
+    };
+    match fs::metadata(rt, folder) {
+        Ok(about) => about.is_dir() && !name.is_empty(),
+        Err(_) => false,
+    }
 }
 
 // Whether it is there, and neither a plain file nor a folder.

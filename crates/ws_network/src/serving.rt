@@ -9,35 +9,36 @@ ghost use Rattle.ws_network.specs.Sessions.{IsServed};
 ghost use Rattle.ws_text.specs.Printing.{Prints};
 ghost use Rattle.ws_live.specs.live.LiveText.{Account, account};
 ghost use Rattle.ws_printing.specs.Printouts.{printout};
-ghost use Rattle.ws_live.specs.asked.OpenStreams.{missing};
-ghost use Rattle.ws_live.specs.declared.asked.fault.RunFault.{RunFault as AFault};
-ghost use Rattle.ws_live.specs.declared.asked.session_asked.ServeAsked.{ServeAsked as AnAsked};
+ghost use Rattle.ws_script.specs.asked.OpenStreams.{missing};
+ghost use Rattle.ws_script.specs.declared.asked.fault.RunFault.{RunFault as AFault};
+ghost use Rattle.ws_script.specs.declared.lines.live_line.NumberedLine.{NumberedLine as ANumbered};
+ghost use Rattle.ws_live.specs.declared.session_asked.ServeAsked.{ServeAsked as AnAsked};
 
 use crate::any_input::carry_at_any_host;
-use crate::files::{lines_of, make_record, read_script_file};
+use crate::files::{lines_of, read_script_file};
 use crate::listening::{listen, take_next, take_station};
 use crate::live_input::carry_at_host;
-use crate::recording::{PieceSender, Recording};
+use crate::recording::{PieceSender, RecordFile, Recording};
 use crate::timed_sink::TimedSink;
 use crate::timed_source::{TimedSource, close};
 use crate::timer::{TimedWatch, Timer};
 use std::fs::File;
+use std::io::IsTerminal;
 use std::net::{Net, TcpListener, TcpStream};
 use std::rt::{Files, Runtime};
 use std::time::Duration;
 use ws_any_host::{AnyHost, AnyLine};
 use ws_code::{Sink, write_whole};
-use ws_live::{
-    BufferedSink, HostLine, LiveLine, OpenStreams, RunFault, ServeAsked, ToldFault, Vocabulary,
-    hand_on,
-};
+use ws_live::{LiveSession, ServeAsked, hand_on};
+use ws_printing::BufferedSink;
+use ws_script::{HostLine, LiveLine, NumberedLine, OpenStreams, RunFault, ToldFault, Vocabulary};
 use ws_session::{Attached, HostEnd};
 use ws_text::{Output, put_number, put_text};
 
 /// Lines that are carried out at a host, new for each station.
 pub(crate) trait ServedLine: LiveLine {
     // A host whose opening went out carried these lines out, and this is the account of it.
-    ghost served: { AnAsked → List Self → Account → Type 0 };
+    ghost served: { AnAsked → List (ANumbered Self) → Account → Type 0 };
 
     /// Carries the lines out at a connection, or without a script those of standard input, and what comes behind them.
     ///
@@ -49,16 +50,17 @@ pub(crate) trait ServedLine: LiveLine {
         rt: &R,
         asked: &ServeAsked<'_>,
         stream: &TcpStream,
-        file: Option<&File>,
-        script: Option<&[Self]>,
+        file: &RecordFile<'_>,
+        script: Option<&[NumberedLine<Self>]>,
         out: &mut BufferedSink<O>,
     ) -> Result<bool, ToldFault>
     where
-        R: Runtime + AllocGlobal,
+        R: Runtime + AllocGlobal + Files<File = File>,
+        R::Reader: IsTerminal,
         O: Sink,
         requires empty { out.old.held ≡ [] }
         ensures held { out.new.held ≡ [] }
-        ensures served { IfOk result (λ all_well. (lines : List Self) × (text : List ℕ)
+        ensures served { IfOk result (λ all_well. (lines : List (ANumbered Self)) × (text : List ℕ)
             × AreScripted script.entry lines
             × served asked.now lines (account all_well text)
             × WentOut O.writer out.old.sink out.new.sink text) };
@@ -68,7 +70,7 @@ pub(crate) trait ServedLine: LiveLine {
 ///
 /// # Errors
 ///
-/// In this order: as `read_script_file`; as `OpenStreams::suffice`; as `make_file`; as `listen`. Then for each station
+/// In this order: as `read_script_file`; as `OpenStreams::suffice`; as `RecordFile::new`; as `listen`. Then for each station
 /// `Write` where the line of its session can't be printed, as `take_next`, and as `ServedLine::serve`.
 pub(crate) fn serve_lines<R, L, O>(
     rt: &R,
@@ -79,6 +81,7 @@ pub(crate) fn serve_lines<R, L, O>(
 ) -> Result<bool, ToldFault>
 where
     R: Runtime + AllocGlobal + Files<File = File> + Net<Listener = TcpListener, Stream = TcpStream>,
+    R::Reader: IsTerminal,
     L: ServedLine,
     O: Sink,
     requires empty { out.old.held ≡ [] }
@@ -89,12 +92,12 @@ where
 {
     let script = read_script_file::<R, L>(rt, asked.script, vocabulary)?;
     streams.suffice(script.is_none())?;
-    let file = make_record(rt, asked.record)?;
+    let file = RecordFile::new(rt, asked.record)?;
     let lines = lines_of(&script);
     match (asked.sessions, lines) {
-        (None, _) | (_, None) => serve_one::<R, L, O>(rt, asked, file.as_ref(), lines, out),
+        (None, _) | (_, None) => serve_one::<R, L, O>(rt, asked, &file, lines, out),
         (Some(sessions), Some(lines)) => {
-            serve_many::<R, L, O>(rt, asked, sessions, file.as_ref(), lines, out)
+            serve_many::<R, L, O>(rt, asked, sessions, &file, lines, out)
         }
     }
 }
@@ -103,16 +106,17 @@ where
 fn serve_one<R, L, O>(
     rt: &R,
     asked: &ServeAsked<'_>,
-    file: Option<&File>,
-    script: Option<&[L]>,
+    file: &RecordFile<'_>,
+    script: Option<&[NumberedLine<L>]>,
     out: &mut BufferedSink<O>,
 ) -> Result<bool, ToldFault>
 where
-    R: Runtime + AllocGlobal + Net<Listener = TcpListener, Stream = TcpStream>,
+    R: Runtime + AllocGlobal + Files<File = File> + Net<Listener = TcpListener, Stream = TcpStream>,
+    R::Reader: IsTerminal,
     L: ServedLine,
     O: Sink,
     requires empty { out.old.held ≡ [] }
-    ensures { IfOk result (λ all_well. (lines : List L) × (first : List ℕ) × (text : List ℕ)
+    ensures { IfOk result (λ all_well. (lines : List (ANumbered L)) × (first : List ℕ) × (text : List ℕ)
         × AreScripted script.entry lines
         × L.served asked.now lines (account all_well text)
         × WentOut O.writer out.old.sink out.new.sink (first ++ text)) }
@@ -126,12 +130,13 @@ fn serve_many<R, L, O>(
     rt: &R,
     asked: &ServeAsked<'_>,
     sessions: u32,
-    file: Option<&File>,
-    script: &[L],
+    file: &RecordFile<'_>,
+    script: &[NumberedLine<L>],
     out: &mut BufferedSink<O>,
 ) -> Result<bool, ToldFault>
 where
-    R: Runtime + AllocGlobal + Net<Listener = TcpListener, Stream = TcpStream>,
+    R: Runtime + AllocGlobal + Files<File = File> + Net<Listener = TcpListener, Stream = TcpStream>,
+    R::Reader: IsTerminal,
     L: ServedLine,
     O: Sink,
     requires empty { out.old.held ≡ [] }
@@ -183,12 +188,13 @@ impl ServedLine for HostLine {
         rt: &R,
         asked: &ServeAsked<'_>,
         stream: &TcpStream,
-        file: Option<&File>,
-        script: Option<&[HostLine]>,
+        file: &RecordFile<'_>,
+        script: Option<&[NumberedLine<HostLine>]>,
         out: &mut BufferedSink<O>,
     ) -> Result<bool, ToldFault>
     where
-        R: Runtime + AllocGlobal,
+        R: Runtime + AllocGlobal + Files<File = File>,
+        R::Reader: IsTerminal,
         O: Sink,
     {
         let recording = Recording::new(rt, file);
@@ -197,17 +203,9 @@ impl ServedLine for HostLine {
         let mut sink = TimedSink::new(stream, &timer, &recording, PieceSender::Host);
         write_whole(&mut sink, host.open().as_slice())?;
         let source = TimedSource::new(stream, &timer, &recording, PieceSender::Station);
-        let mut attached = Attached::new(host, source, sink);
-        let mut ahead = 0u64;
-        let outcome = carry_at_host(
-            rt,
-            &mut attached,
-            &mut ahead,
-            &mut TimedWatch::new(&timer),
-            script,
-            asked.settings,
-            out,
-        );
+        let attached = Attached::new(host, source, sink);
+        let mut session = LiveSession::new(attached, TimedWatch::new(&timer));
+        let outcome = carry_at_host(rt, &mut session, script, asked.settings, out);
         close(rt, stream, &recording, PieceSender::Station);
         recording.judge(outcome)
     }
@@ -221,12 +219,13 @@ impl ServedLine for AnyLine {
         rt: &R,
         asked: &ServeAsked<'_>,
         stream: &TcpStream,
-        file: Option<&File>,
-        script: Option<&[AnyLine]>,
+        file: &RecordFile<'_>,
+        script: Option<&[NumberedLine<AnyLine>]>,
         out: &mut BufferedSink<O>,
     ) -> Result<bool, ToldFault>
     where
-        R: Runtime + AllocGlobal,
+        R: Runtime + AllocGlobal + Files<File = File>,
+        R::Reader: IsTerminal,
         O: Sink,
     {
         let recording = Recording::new(rt, file);
@@ -235,17 +234,9 @@ impl ServedLine for AnyLine {
         let mut sink = TimedSink::new(stream, &timer, &recording, PieceSender::Host);
         write_whole(&mut sink, host.open().as_slice())?;
         let source = TimedSource::new(stream, &timer, &recording, PieceSender::Station);
-        let mut attached = Attached::new(host, source, sink);
-        let mut ahead = 0u64;
-        let outcome = carry_at_any_host(
-            rt,
-            &mut attached,
-            &mut ahead,
-            &mut TimedWatch::new(&timer),
-            script,
-            asked.settings,
-            out,
-        );
+        let attached = Attached::new(host, source, sink);
+        let mut session = LiveSession::new(attached, TimedWatch::new(&timer));
+        let outcome = carry_at_any_host(rt, &mut session, script, asked.settings, out);
         close(rt, stream, &recording, PieceSender::Station);
         recording.judge(outcome)
     }

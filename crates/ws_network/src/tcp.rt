@@ -7,8 +7,8 @@ use std::io;
 use std::net::{Ipv4Addr, Net, SocketAddr, TcpListener, TcpStream};
 use thiserror::Error;
 use ws_code::{Fault, ReadSource, WriteSink};
-use ws_live::RunFault;
 use ws_nego::TerminalType;
+use ws_script::RunFault;
 use ws_session::{Line, Move, Report, World};
 
 /// Why no session is played over a connection. Each has one line.

@@ -5,11 +5,13 @@ ghost use Rattle.ws_network.specs.Times as Spec;
 
 use crate::recording::{PieceSender, Recording};
 use crate::timer::{Timer, no_time};
+use std::fs::File;
 use std::io;
 use std::io::{ErrorKind, Write};
 use std::marker::Model;
 use std::net::TcpStream;
-use std::time::{Clock, Instant};
+use std::rt::{Files, Runtime};
+use std::time::Instant;
 use ws_code::{DeviceFailed, Sink};
 
 /// Writes into a connection. The bytes of one text, in as many writes as it asks for, go out in the time of the wait in
@@ -34,7 +36,7 @@ impl<'a, C> Model for TimedSink<'a, C> {
     ghost view = { λ s. record { failures = s.failures } };
 }
 
-impl<'a, C: Clock> TimedSink<'a, C> {
+impl<'a, C: Runtime + AllocGlobal + Files<File = File>> TimedSink<'a, C> {
     /// No write has failed. What is written comes from this sender.
     pub(crate) fn new(
         stream: &'a TcpStream,
@@ -90,7 +92,7 @@ impl<'a, C: Clock> TimedSink<'a, C> {
     }
 }
 
-impl<'a, C: Clock> Sink for TimedSink<'a, C> {
+impl<'a, C: Runtime + AllocGlobal + Files<File = File>> Sink for TimedSink<'a, C> {
     ghost writer = { Spec.timed_writer };
 
     fn write(&mut self, bytes: &[u8]) -> Result<usize, DeviceFailed> {

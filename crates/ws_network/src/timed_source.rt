@@ -7,11 +7,13 @@ ghost use Rattle.ws_network.specs.Times as Spec;
 
 use crate::recording::{PieceSender, Recording};
 use crate::timer::{Timer, no_time};
+use std::fs::File;
 use std::io;
 use std::io::{ErrorKind, Read};
 use std::marker::Model;
 use std::net::{Shutdown, TcpStream};
-use std::time::{Clock, Duration};
+use std::rt::{Files, Runtime};
+use std::time::Duration;
 use ws_code::{DeviceFailed, Source};
 
 // How many seconds the end of a connection may take.
@@ -39,7 +41,7 @@ impl<'a, C> Model for TimedSource<'a, C> {
     ghost view = { λ s. record { failures = s.failures; failure = s.failure; rested = s.rested } };
 }
 
-impl<'a, C: Clock> TimedSource<'a, C> {
+impl<'a, C> TimedSource<'a, C> {
     /// No read has failed. What is read comes from this sender.
     pub(crate) fn new(
         stream: &'a TcpStream,
@@ -76,7 +78,9 @@ impl<'a, C: Clock> TimedSource<'a, C> {
     {
         self.rested
     }
+}
 
+impl<'a, C: Runtime + AllocGlobal + Files<File = File>> TimedSource<'a, C> {
     // Reads once.
     fn read_once(&self, into: &mut [u8]) -> io::Result<usize>
         ensures { ReadsAtMost result into.new }
@@ -145,7 +149,7 @@ impl<'a, C: Clock> TimedSource<'a, C> {
     }
 }
 
-impl<'a, C: Clock> Source for TimedSource<'a, C> {
+impl<'a, C: Runtime + AllocGlobal + Files<File = File>> Source for TimedSource<'a, C> {
     ghost reader = { Spec.timed_reader };
 
     fn read(&mut self, into: &mut [u8]) -> Result<usize, DeviceFailed> {
@@ -163,7 +167,7 @@ fn is_want_of_time(kind: ErrorKind) -> bool
 
 /// Ends a connection in order: nothing more is written, and what the other side still sends is taken for a moment, so
 /// that it isn't told of a fault.
-pub(crate) fn close<R: Clock>(
+pub(crate) fn close<R: Runtime + AllocGlobal + Files<File = File>>(
     rt: &R,
     stream: &TcpStream,
     recording: &Recording<'_, R>,

@@ -13,6 +13,9 @@ use ws_live::{WaitSpan, Watch};
 // How many milliseconds a write has at least, so that what can go at once does so also when a wait's time is over.
 const MOMENT: u64 = 10;
 
+// How many milliseconds a wait that takes what has come takes it, from a peer that never pauses.
+const LOOK: u64 = 200;
+
 /// The time of a wait, which all that is read and written in it shares, and of a write that stands in none.
 #[derive(Drop)]
 pub(crate) struct Timer<'a, C> {
@@ -25,7 +28,8 @@ pub(crate) struct Timer<'a, C> {
     is_waiting: Cell<bool>,
     /// How long that wait lasts.
     span: Cell<WaitSpan>,
-    /// When nothing has come for the time of a quiet wait. `None` where the clock can't tell.
+    /// When nothing has come for the time of a quiet wait, or when one ends that takes what has come. `None` where the
+    /// clock can't tell.
     rests_at: Cell<Option<Instant>>,
 }
 
@@ -47,13 +51,14 @@ impl<'a, C: Clock> Timer<'a, C> {
         self.left_until(self.until.get())
     }
 
-    /// What is left of it for a read; `None` where its time is over, or nothing has come for the time of a quiet one.
+    /// What is left of it for a read; `None` where its time is over, nothing has come for the time of a quiet one, or one
+    /// has looked long enough at what has come.
     pub(crate) fn left_to_read(&self) -> Option<Duration> {
         match self.span.get() {
-            WaitSpan::Quiet(_) => {
+            WaitSpan::Quiet(_) | WaitSpan::AtOnce => {
                 self.left_until(earlier(self.until.get(), self.rests_at.get()))
             }
-            WaitSpan::Whole | WaitSpan::AtOnce => self.left(),
+            WaitSpan::Whole => self.left(),
         }
     }
 
@@ -73,9 +78,13 @@ impl<'a, C: Clock> Timer<'a, C> {
     /// Bytes came. A quiet wait goes on for its time from now on.
     pub(crate) fn note_bytes(&self) {
         if let WaitSpan::Quiet(milliseconds) = self.span.get() {
-            let time = Duration::from_millis(u64::from(milliseconds));
-            self.rests_at.set(end_of_wait(self.clock, time));
+            self.rest_after(u64::from(milliseconds));
         }
+    }
+
+    fn rest_after(&self, milliseconds: u64) {
+        let time = Duration::from_millis(milliseconds);
+        self.rests_at.set(end_of_wait(self.clock, time));
     }
 
     /// When the time of a write is over that begins now: with the wait in which it stands, though it has a moment.
@@ -104,6 +113,9 @@ impl<'a, C: Clock> Timer<'a, C> {
         self.until.set(end_of_wait(self.clock, self.limit));
         self.is_waiting.set(true);
         self.span.set(span);
+        if self.is_at_once() {
+            self.rest_after(LOOK);
+        }
         self.note_bytes();
     }
 
@@ -111,13 +123,6 @@ impl<'a, C: Clock> Timer<'a, C> {
     fn rest(&self) {
         self.is_waiting.set(false);
     }
-}
-
-/// A watch that is told where the next line begins: what is written stands in no wait then, before one begins.
-pub(crate) trait LineWatch<S>: Watch<S> {
-    /// The waits before are over.
-    fn end_waits(&mut self)
-        ensures kept { self.new ≡ self.old };
 }
 
 /// A watch by a timer. It counts the waits of a session, up to the greatest value of 64 bits.
@@ -147,6 +152,10 @@ impl<'a, C: Clock> Watch<TimedSource<'a, C>> for TimedWatch<'a, C> {
 
     ghost tells = { Spec.timed_tells };
 
+    fn end_waits(&mut self) {
+        self.timer.rest();
+    }
+
     fn begin(&mut self, _source: &TimedSource<'a, C>, span: WaitSpan) {
         self.begun = self.begun.saturating_add(1);
         self.timer.restart(span);
@@ -165,12 +174,6 @@ impl<'a, C: Clock> Watch<TimedSource<'a, C>> for TimedWatch<'a, C> {
             self.timer.clock,
             Duration::from_millis(u64::from(milliseconds)),
         );
-    }
-}
-
-impl<'a, C: Clock> LineWatch<TimedSource<'a, C>> for TimedWatch<'a, C> {
-    fn end_waits(&mut self) {
-        self.timer.rest();
     }
 }
 

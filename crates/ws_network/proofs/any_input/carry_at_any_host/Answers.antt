@@ -15,8 +15,8 @@ returns-in-Err-clause-printed g c =
       e.1,
       session_fails (AnyRunsInTime (watched_devices (on_devices g.K.Sink.writer g.S.Source.reader) g.W.Watch.tells)
           g.W.Watch.times) Await c.args.settings g.O.Sink.writer
-          ((c.args.attached.now, c.args.ahead.now), c.args.watch.now) e.0 (is_some c.args.script)
-          ((c.carry_session.new.attached, c.carry_session.new.ahead), c.carry_session.new.watch)
+          c.args.session.now e.0 (is_some c.args.script)
+          c.carry_session.new.session
           c.args.out.now.sink c.carry_session.new.out.sink c.carry_session.result c.in-Err.fault c.in-Err.is e.2,
     )
 
@@ -27,8 +27,8 @@ returns-then-ran-clause-printed g c =
       e.1,
       session_stops (AnyRunsInTime (watched_devices (on_devices g.K.Sink.writer g.S.Source.reader) g.W.Watch.tells)
           g.W.Watch.times) Await c.args.settings g.O.Sink.writer
-          ((c.args.attached.now, c.args.ahead.now), c.args.watch.now) e.0 (is_some c.args.script)
-          ((c.carry_session.new.attached, c.carry_session.new.ahead), c.carry_session.new.watch)
+          c.args.session.now e.0 (is_some c.args.script)
+          c.carry_session.new.session
           c.args.out.now.sink c.carry_session.new.out.sink c.carry_session.result c.in-Ok.ran c.in-Ok.is e.2
           c.if-ran.true,
     )
@@ -45,10 +45,10 @@ returns-after-ran-2-clause-printed g c =
       e.1,
       goes_on_well (AnyRunsInTime (watched_devices (on_devices g.K.Sink.writer g.S.Source.reader) g.W.Watch.tells)
           g.W.Watch.times) Await c.args.settings g.O.Sink.writer
-          ((c.args.attached.now, c.args.ahead.now), c.args.watch.now) e.0 (is_some c.args.script)
-          ((c.carry_on.new.attached, c.carry_on.new.ahead), c.carry_on.new.watch) c.args.out.now.sink
+          c.args.session.now e.0 (is_some c.args.script)
+          c.carry_on.new.session c.args.out.now.sink
           c.carry_on.new.out.sink
-          ((c.carry_session.new.attached, c.carry_session.new.ahead), c.carry_session.new.watch)
+          c.carry_session.new.session
           c.carry_session.new.out.sink c.carry_session.result c.in-Ok.ran c.in-Ok.is e.2 c.if-ran.false
           c.carry_on.result well c.if-ran-2.result c.in-Ok-carry_on.is c.carry_on.ensures.printed same,
     )
@@ -60,10 +60,10 @@ returns-in-Err-carry_on-clause-printed g c =
       e.1,
       goes_on_badly (AnyRunsInTime (watched_devices (on_devices g.K.Sink.writer g.S.Source.reader) g.W.Watch.tells)
           g.W.Watch.times) Await c.args.settings g.O.Sink.writer
-          ((c.args.attached.now, c.args.ahead.now), c.args.watch.now) e.0 (is_some c.args.script)
-          ((c.carry_on.new.attached, c.carry_on.new.ahead), c.carry_on.new.watch) c.args.out.now.sink
+          c.args.session.now e.0 (is_some c.args.script)
+          c.carry_on.new.session c.args.out.now.sink
           c.carry_on.new.out.sink
-          ((c.carry_session.new.attached, c.carry_session.new.ahead), c.carry_session.new.watch)
+          c.carry_session.new.session
           c.carry_session.new.out.sink c.carry_session.result c.in-Ok.ran c.in-Ok.is e.2 c.if-ran.false
           c.carry_on.result c.in-Err-carry_on.fault c.from.result c.in-Err-carry_on.is
           c.carry_on.ensures.printed c.from.ensures,

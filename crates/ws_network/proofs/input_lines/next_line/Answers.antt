@@ -1,7 +1,7 @@
 use Rattle.std.specs.Str.Lines.{lines}
 use Rattle.std.proofs.Common.{◌∷◌, List, ℕ, inr, refl, sym, subst, ◌∙◌}
-use Rattle.ws_live.specs.cause.Causes.{IsCauseAt}
-use Rattle.ws_live.specs.live.LiveScript.{IsBlockFault}
+use Rattle.ws_script.specs.cause.Causes.{IsCauseAt}
+use Rattle.ws_script.specs.lines.LiveScript.{IsBlockFault}
 use Rattle.ws_network.proofs.input_lines.next_line.Goals as goal
 
 pub returns-then-ready-clause-line : goal.returns-then-ready-clause-line

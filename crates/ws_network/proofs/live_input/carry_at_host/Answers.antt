@@ -1,7 +1,7 @@
 use Rattle.std.specs.Option.{is_some}
 use Rattle.std.proofs.Common.{◌≡◌, ◌&&◌, Bool, sym, ap, ◌∙◌}
 use Rattle.ws_code.specs.Device.{on_devices}
-use Rattle.ws_live.specs.declared.live.serve_line.HostLine.TheVariants.{Await}
+use Rattle.ws_script.specs.declared.lines.serve_line.HostLine.TheVariants.{Await}
 use Rattle.ws_live.specs.live.ServeText.{HostRunsInTime}
 use Rattle.ws_live.specs.live.Watches.{watched_devices}
 use Rattle.ws_network.proofs.SessionPrinted.{goes_on_badly, goes_on_well, session_fails, session_stops}
@@ -15,8 +15,8 @@ returns-in-Err-clause-printed g c =
       e.1,
       session_fails (HostRunsInTime (watched_devices (on_devices g.K.Sink.writer g.S.Source.reader) g.W.Watch.tells)
           g.W.Watch.times) Await c.args.settings g.O.Sink.writer
-          ((c.args.attached.now, c.args.ahead.now), c.args.watch.now) e.0 (is_some c.args.script)
-          ((c.carry_session.new.attached, c.carry_session.new.ahead), c.carry_session.new.watch)
+          c.args.session.now e.0 (is_some c.args.script)
+          c.carry_session.new.session
           c.args.out.now.sink c.carry_session.new.out.sink c.carry_session.result c.in-Err.fault c.in-Err.is e.2,
     )
 
@@ -27,8 +27,8 @@ returns-then-ran-clause-printed g c =
       e.1,
       session_stops (HostRunsInTime (watched_devices (on_devices g.K.Sink.writer g.S.Source.reader) g.W.Watch.tells)
           g.W.Watch.times) Await c.args.settings g.O.Sink.writer
-          ((c.args.attached.now, c.args.ahead.now), c.args.watch.now) e.0 (is_some c.args.script)
-          ((c.carry_session.new.attached, c.carry_session.new.ahead), c.carry_session.new.watch)
+          c.args.session.now e.0 (is_some c.args.script)
+          c.carry_session.new.session
           c.args.out.now.sink c.carry_session.new.out.sink c.carry_session.result c.in-Ok.ran c.in-Ok.is e.2
           c.if-ran.true,
     )
@@ -45,10 +45,10 @@ returns-after-ran-2-clause-printed g c =
       e.1,
       goes_on_well (HostRunsInTime (watched_devices (on_devices g.K.Sink.writer g.S.Source.reader) g.W.Watch.tells)
           g.W.Watch.times) Await c.args.settings g.O.Sink.writer
-          ((c.args.attached.now, c.args.ahead.now), c.args.watch.now) e.0 (is_some c.args.script)
-          ((c.answer_on.new.attached, c.answer_on.new.ahead), c.answer_on.new.watch) c.args.out.now.sink
+          c.args.session.now e.0 (is_some c.args.script)
+          c.answer_on.new.session c.args.out.now.sink
           c.answer_on.new.out.sink
-          ((c.carry_session.new.attached, c.carry_session.new.ahead), c.carry_session.new.watch)
+          c.carry_session.new.session
           c.carry_session.new.out.sink c.carry_session.result c.in-Ok.ran c.in-Ok.is e.2 c.if-ran.false
           c.answer_on.result well c.if-ran-2.result c.in-Ok-answer_on.is c.answer_on.ensures.printed same,
     )
@@ -60,10 +60,10 @@ returns-in-Err-answer_on-clause-printed g c =
       e.1,
       goes_on_badly (HostRunsInTime (watched_devices (on_devices g.K.Sink.writer g.S.Source.reader) g.W.Watch.tells)
           g.W.Watch.times) Await c.args.settings g.O.Sink.writer
-          ((c.args.attached.now, c.args.ahead.now), c.args.watch.now) e.0 (is_some c.args.script)
-          ((c.answer_on.new.attached, c.answer_on.new.ahead), c.answer_on.new.watch) c.args.out.now.sink
+          c.args.session.now e.0 (is_some c.args.script)
+          c.answer_on.new.session c.args.out.now.sink
           c.answer_on.new.out.sink
-          ((c.carry_session.new.attached, c.carry_session.new.ahead), c.carry_session.new.watch)
+          c.carry_session.new.session
           c.carry_session.new.out.sink c.carry_session.result c.in-Ok.ran c.in-Ok.is e.2 c.if-ran.false
           c.answer_on.result c.in-Err-answer_on.fault c.from.result c.in-Err-answer_on.is
           c.answer_on.ensures.printed c.from.ensures,

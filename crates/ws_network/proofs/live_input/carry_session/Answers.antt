@@ -5,34 +5,34 @@ use Rattle.ws_network.specs.SessionPrinting.{session_lines}
 use Rattle.ws_network.proofs.SessionPrinted.{script_ends, script_fails}
 use Rattle.ws_network.proofs.live_input.carry_session.Goals as goal
 
-pub returns-in_err-carry_script-in-Some-clause-printed : goal.returns-in_err-carry_script-in-Some-clause-printed
-returns-in_err-carry_script-in-Some-clause-printed g c =
+pub returns-in_err-carry_lines-in-Some-clause-printed : goal.returns-in_err-carry_lines-in-Some-clause-printed
+returns-in_err-carry_lines-in-Some-clause-printed g c =
     let p = err_from_is_err_and c.from_residual.result c.from_residual.ensures.1 in
-    let e = c.in_err-carry_script-in-Some in
+    let e = c.in_err-carry_lines-in-Some in
     rw (p.1, p.2, c.in-Some.is) (
       c.in-Some.lines.now,
       refl,
-      script_fails (session_lines (InTime (g.L.LiveMove.runs g.W.Watch.tells c.args.settings.paint)
+      script_fails (session_lines (λ told. InTime (g.L.LiveMove.runs g.W.Watch.tells told)
           g.L.LiveMove.waits g.W.Watch.times) c.args.settings
-          ((c.args.attached.now, c.args.ahead.now), c.args.watch.now) c.in-Some.lines.now
-          ((c.carry_script.new.attached, c.carry_script.new.ahead), c.carry_script.new.watch)) g.O.Sink.writer true
-          c.args.out.now.sink c.carry_script.new.out.sink e.field-0.0 e.ensures.printed,
+          c.args.session.now c.in-Some.lines.now
+          c.carry_lines.new.session) g.O.Sink.writer true
+          c.args.out.now.sink c.carry_lines.new.out.sink e.field-0.0 e.ensures.printed,
     )
 
-pub returns-in_ok-carry_script-in-Some-clause-printed : goal.returns-in_ok-carry_script-in-Some-clause-printed
-returns-in_ok-carry_script-in-Some-clause-printed g c =
-    let e = c.in_ok-carry_script-in-Some in
+pub returns-in_ok-carry_lines-in-Some-clause-printed : goal.returns-in_ok-carry_lines-in-Some-clause-printed
+returns-in_ok-carry_lines-in-Some-clause-printed g c =
+    let e = c.in_ok-carry_lines-in-Some in
     rw (c.in-Some.is) (
       c.in-Some.lines.now,
       refl,
-      script_ends (session_lines (InTime (g.L.LiveMove.runs g.W.Watch.tells c.args.settings.paint)
+      script_ends (session_lines (λ told. InTime (g.L.LiveMove.runs g.W.Watch.tells told)
           g.L.LiveMove.waits g.W.Watch.times) c.args.settings
-          ((c.args.attached.now, c.args.ahead.now), c.args.watch.now) c.in-Some.lines.now
-          ((c.carry_script.new.attached, c.carry_script.new.ahead), c.carry_script.new.watch)) g.O.Sink.writer true
-          c.args.out.now.sink c.carry_script.new.out.sink e.field-0 e.ensures.printed,
+          c.args.session.now c.in-Some.lines.now
+          c.carry_lines.new.session) g.O.Sink.writer true
+          c.args.out.now.sink c.carry_lines.new.out.sink e.field-0 e.ensures.printed,
     )
 
 pub returns-in-None-clause-printed : goal.returns-in-None-clause-printed
 returns-in-None-clause-printed g c =
     let e = c.carry_input.ensures.printed in
-    rw (c.in-None.is) (e.0, tt, e.1)
+    rw (c.in-None.is) (e.0, e.1, e.2)

@@ -1,5 +1,6 @@
 use Rattle.std.proofs.Common.{List, ◌++◌, subst}
 use Rattle.ws_live.specs.live.LiveText.{account}
+use Rattle.ws_script.specs.declared.lines.live_line.NumberedLine.{NumberedLine}
 use Rattle.ws_network.specs.ManySessions.{session_line}
 use Rattle.ws_network.proofs.ServedLaws.{one_more}
 use Rattle.ws_network.proofs.serving.serve_many.Goals as goal
@@ -10,7 +11,7 @@ loop-number-preserved g c =
     let number = c.loop-number.number in
     let came = c.in_ok-is_well.ensures.served in
     let well = c.in_ok-is_well.is_well in
-    let served = subst (λ (lines : List g.row.L.Denot). g.L.ServedLine.served c.args.asked.now lines
+    let served = subst (λ (lines : List (NumberedLine g.row.L.Denot)). g.L.ServedLine.served c.args.asked.now lines
     (account well came.1))
     came.2 came.3 in
     let more = one_more g.O.Sink.writer (g.L.ServedLine.served c.args.asked.now c.args.script.now)

@@ -1,6 +1,6 @@
 use Rattle.std.specs.Prelude.{Result, Ok, Err, IfOk}
 use Rattle.std.proofs.Common.{◌≡◌, Bool, refl, inl}
-use Rattle.ws_live.specs.declared.asked.fault.ToldFault.{ToldFault}
+use Rattle.ws_script.specs.declared.asked.fault.ToldFault.{ToldFault}
 use Rattle.ws_network.proofs.recording.Recording.judge.Goals as goal
 
 -- an outcome that is handed on
