@@ -18,8 +18,9 @@ use std::io;
 use std::io::ErrorKind;
 use std::process::ExitCode;
 use ws_code::Sink;
-use ws_live::{BufferedSink, RunFault, ToldFault};
+use ws_printing::BufferedSink;
 use ws_program::{CommandFault, run, status};
+use ws_script::{RunFault, ToldFault};
 
 // Does what the command line asks for, with no standard stream's descriptor free as long as it runs: true where all was
 // accepted.

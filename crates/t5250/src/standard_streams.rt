@@ -3,7 +3,7 @@
 use std::fs::{File, OpenOptions};
 use std::io;
 use std::os::fd::AsFd;
-use ws_live::{OpenStreams, RunFault};
+use ws_script::{OpenStreams, RunFault};
 
 // What stands in place of a stream that was closed.
 const NULL_DEVICE: &str = "/dev/null";

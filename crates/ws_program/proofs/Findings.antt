@@ -3,15 +3,15 @@ use Rattle.std.proofs.Common.{◌≡◌, ℕ, List, [], ◌∷◌, ◌++◌, inl
 use Rattle.std.proofs.lemmas.List.{append-nil}
 use Rattle.ws_code.specs.Device.{Writer, WentOut, FailedWithin}
 use Rattle.ws_code.proofs.Parts.{fails_last}
-use Rattle.ws_live.specs.declared.asked.fault.RunFault.{RunFault}
-use Rattle.ws_live.specs.declared.asked.fault.RunFault.TheVariants.{Write}
-use Rattle.ws_live.specs.declared.asked.sender.Sender.{Sender}
+use Rattle.ws_script.specs.declared.asked.fault.RunFault.{RunFault}
+use Rattle.ws_script.specs.declared.asked.fault.RunFault.TheVariants.{Write}
+use Rattle.ws_script.specs.declared.asked.sender.Sender.{Sender}
 use Rattle.ws_program.specs.Answering.{sender_parts}
-use Rattle.ws_program.specs.CheckLine.{IsVerdict, is_accepted}
+use Rattle.ws_printing.specs.CheckLine.{IsVerdict, is_accepted}
 use Rattle.ws_program.specs.FileChecks.{Found, found_line, named_line, all_accepted, AreFound, IsUnfound, IsFoundIn}
 use Rattle.ws_program.specs.InputFaults.{IsInputUnread}
 use Rattle.ws_program.specs.StreamBytes.{AreBytesOf, IsFormFault}
-use Rattle.ws_program.specs.declared.verdict.Verdict.{Verdict}
+use Rattle.ws_printing.specs.declared.verdict.Verdict.{Verdict}
 use Rattle.ws_program.specs.declared.words.command_line.StreamForm.{StreamForm}
 use Rattle.ws_program.specs.declared.words.command_line.StreamForm.TheVariants.{Raw}
 

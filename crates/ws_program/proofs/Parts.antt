@@ -13,9 +13,9 @@ use Rattle.ws_record.specs.Refusal.Layer.{Tokens, Header, Body}
 use Rattle.ws_record.specs.declared.record.Item.{Item}
 use Rattle.ws_record.proofs.Fronts.{one_holding}
 use Rattle.ws_program.specs.StreamText.{showing, View, Placed, items_without_places, lines_of, lines_with, HoldsItems}
-use Rattle.ws_program.specs.CheckLine.{line_of}
+use Rattle.ws_printing.specs.CheckLine.{line_of}
 use Rattle.ws_program.specs.StreamText.{IsComplete, AreShown, IsShown, AreFirstLines, IsEnd}
-use Rattle.ws_program.specs.declared.verdict.Verdict.TheVariants.{Refused}
+use Rattle.ws_printing.specs.declared.verdict.Verdict.TheVariants.{Refused}
 use Rattle.ws_program.proofs.FrontItems.{front_items}
 
 -- A part of what is shown begins the whole.

@@ -9,12 +9,12 @@ use Rattle.ws_end.specs.station.StationEndState.{screen_at}
 use Rattle.ws_session.specs.declared.world.Report.{Report}
 use Rattle.ws_session.specs.world.Reports.{IsReport}
 use Rattle.ws_session.specs.world.Session.{Session, new_session, after_moves}
-use Rattle.ws_live.specs.asked.RunFaults.{script_run_fault}
+use Rattle.ws_script.specs.asked.RunFaults.{script_run_fault}
 use Rattle.ws_printing.specs.declared.paint.Paint.{Paint}
-use Rattle.ws_live.specs.declared.script.ScriptFault.{ScriptFault}
-use Rattle.ws_live.specs.declared.script.ScriptFault.TheVariants as scripts
+use Rattle.ws_printing.specs.declared.script.ScriptFault.{ScriptFault}
+use Rattle.ws_printing.specs.declared.script.ScriptFault.TheVariants as scripts
 use Rattle.ws_printing.specs.PlayLines.{IsPaintedPlayText, no_end_refuses}
-use Rattle.ws_live.specs.script.ScriptFaults.{IsScriptFault}
+use Rattle.ws_printing.specs.script.ScriptFaults.{IsScriptFault}
 use Rattle.ws_network.specs.TcpFaults.{tcp_run_fault}
 use Rattle.ws_network.specs.declared.tcp.TcpFault.{TcpFault}
 use Rattle.ws_network.specs.declared.tcp.TcpFault.TheVariants.{NoConnection, Write, Read, Memory}

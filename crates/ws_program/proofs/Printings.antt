@@ -1,11 +1,11 @@
-use Rattle.std.specs.Prelude.{Bool, true, false, Result, Ok, Err, IfOk, IfErr}
-use Rattle.std.proofs.Common.{◌≡◌, ℕ, List, None, length, refl, ap, subst, inl, inr}
+use Rattle.std.specs.Prelude.{Bool, true, false, Result, Ok, Err}
+use Rattle.std.proofs.Common.{◌≡◌, ℕ, List, None, refl, subst, inl, inr}
 use Rattle.ws_code.specs.Code.{Rules}
-use Rattle.ws_code.specs.Device.{Writer, WentOut, FailedWithin}
+use Rattle.ws_code.specs.Device.{Writer}
 use Rattle.ws_code.specs.declared.fault.Fault.{Fault}
 use Rattle.ws_code.specs.declared.fault.Fault.TheVariants as device
-use Rattle.ws_live.specs.declared.asked.fault.RunFault.{RunFault}
-use Rattle.ws_live.specs.declared.asked.fault.RunFault.TheVariants.{Write}
+use Rattle.ws_script.specs.declared.asked.fault.RunFault.{RunFault}
+use Rattle.ws_script.specs.declared.asked.fault.RunFault.TheVariants.{Write}
 use Rattle.ws_text.specs.Printed.{Printing, in_whole, IsPrinted}
 use Rattle.ws_text.specs.Printing.{Prints}
 use Rattle.ws_text.specs.declared.output.Output.{Output}
@@ -14,14 +14,12 @@ use Rattle.ws_text.proofs.Prints.{prints_same, whole_out}
 use Rattle.ws_program.specs.StreamText.{showing, View}
 use Rattle.ws_program.specs.Actions.{Action, IsCarriedOut, print_made}
 use Rattle.ws_program.specs.Answering.{answer_action, of_bytes, run_outcome, sender_parts}
-use Rattle.ws_program.specs.CheckLine.{IsVerdict, is_accepted, line_of}
-use Rattle.ws_program.specs.Checking.{check_printing}
+use Rattle.ws_printing.specs.Checking.{check_printing}
 use Rattle.ws_program.specs.StreamText.{show_printing}
 use Rattle.ws_program.specs.StreamBytes.{AreBytesOf}
 use Rattle.ws_program.specs.Streams.{closed_outcome, into_closed}
-use Rattle.ws_program.specs.declared.verdict.Verdict.{Verdict}
 use Rattle.ws_program.specs.declared.words.command_line.InputAsked.{InputAsked}
-use Rattle.ws_program.specs.declared.words.command_line.InputAsked.TheVariants.{Check, Show, Play, Make}
+use Rattle.ws_program.specs.declared.words.command_line.InputAsked.TheVariants.{Check, Show, Trace, Play, Make}
 use Rattle.ws_program.specs.declared.words.command_line.StreamForm.{StreamForm}
 use Rattle.ws_program.proofs.Buffers.{CanBeCut}
 
@@ -50,28 +48,15 @@ bytes_cut form printing input cut text outcome h =
 pub answer_cut : (asked : InputAsked) (input : List ℕ) → CanBeCut (answer_action asked input).prints Write
 answer_cut (Check file form cut sender) input = bytes_cut form
     (λ bytes. check_printing (sender_parts sender).rules bytes) input (check_cut (sender_parts sender).rules)
-answer_cut (Show file form sender paint) input = bytes_cut form
-    (show_printing (showing (sender_parts sender).rules ((sender_parts sender).view paint))) input
-    (show_cut (sender_parts sender).rules ((sender_parts sender).view paint))
+answer_cut (Show file form sender look) input = bytes_cut form
+    (show_printing (showing (sender_parts sender).rules ((sender_parts sender).view look))) input
+    (show_cut (sender_parts sender).rules ((sender_parts sender).view look))
+answer_cut (Trace file) input = λ text outcome h. (refl, (outcome, h))
 answer_cut (Play file screen false paint) input = λ text outcome h. (refl, (outcome, h))
 answer_cut (Play file screen true paint) input = λ text outcome h. (refl, (outcome, h))
 answer_cut (Make file sender raw) input = λ text outcome h. (refl, (outcome, h))
 
 module _ {S : Type 0} (writer : Writer S) (from to : S) where
-  -- the line of a verdict
-  pub line_printed : {Place U : Type 0} (rules : Rules Place U) (bytes : List ℕ) (verdict : Verdict)
-      → IsVerdict rules bytes verdict → (size : ℕ) → size ≡ length bytes → (result : Result Bool Fault)
-      → IfOk result (λ accepted. (accepted ≡ is_accepted verdict) × WentOut writer from to (line_of verdict size))
-      → IfErr result (λ fault. (fault ≡ device.Write) × FailedWithin writer from to (line_of verdict size))
-      → IsPrinted writer from to (check_printing rules bytes) result
-  line_printed rules bytes verdict is size sized (Ok accepted) done failed =
-      (line_of verdict size, (verdict, is, ap (line_of verdict) sized, rw done.0 refl), done.1)
-  line_printed rules bytes verdict is size sized (Err fault) done failed = inr (
-    line_of verdict size,
-    (failed.0, (Ok (is_accepted verdict), (verdict, is, ap (line_of verdict) sized, refl))),
-    failed.1,
-  )
-
   -- a text that was made
   pub made_open : (text made : List ℕ) (output : Output) → text ≡ made → Prints writer from to Open output text
       → output ≡ Open → IsCarriedOut writer from to (print_made made) (Ok tt)

@@ -2,12 +2,12 @@ use Rattle.std.specs.Prelude.{Bool, true, false, Option, None, Result, Ok, Err, 
 use Rattle.std.specs.declared.num.NonZeroU16.{NonZeroU16}
 use Rattle.std.proofs.Common.{◌≡◌, ℕ, List, inl, inr, refl, sym, ap, ◌∙◌, subst, Bor}
 use Rattle.ws_code.specs.Device.{Writer}
-use Rattle.ws_live.specs.declared.asked.fault.RunFault.{RunFault}
-use Rattle.ws_live.specs.declared.asked.fault.RunFault.TheVariants.{Read}
-use Rattle.ws_live.specs.declared.asked.fault.ToldFault.{ToldFault}
-use Rattle.ws_live.specs.declared.asked.fault.ToldFault.TheVariants as told
-use Rattle.ws_live.specs.declared.asked.open_streams.OpenStreams.{OpenStreams}
-use Rattle.ws_live.specs.declared.asked.sender.Sender.{Sender}
+use Rattle.ws_script.specs.declared.asked.fault.RunFault.{RunFault}
+use Rattle.ws_script.specs.declared.asked.fault.RunFault.TheVariants.{Read}
+use Rattle.ws_script.specs.declared.asked.fault.ToldFault.{ToldFault}
+use Rattle.ws_script.specs.declared.asked.fault.ToldFault.TheVariants as told
+use Rattle.ws_script.specs.declared.asked.open_streams.OpenStreams.{OpenStreams}
+use Rattle.ws_script.specs.declared.asked.sender.Sender.{Sender}
 use Rattle.ws_printing.specs.Printouts.{printout}
 use Rattle.ws_program.specs.Actions.{IsCarriedOut}
 use Rattle.ws_program.specs.InputFaults.{IsInputUnread}

@@ -20,9 +20,9 @@ use Rattle.ws_stream.specs.declared.element.Element.{Element}
 use Rattle.ws_text.specs.Items.{EndsHere}
 use Rattle.ws_text.specs.Shown.{ShowsElements}
 use Rattle.ws_text.proofs.ShownBytes.{literal, line_from, lines_back}
-use Rattle.ws_printing.specs.declared.paint.Paint.{Paint}
+use Rattle.ws_printing.specs.declared.look.Look.{Look}
 use Rattle.ws_printing.specs.declared.paint.Paint.TheVariants.{Plain}
-use Rattle.ws_printing.specs.ScreenLines.{rows_text, state_line}
+use Rattle.ws_printing.specs.ScreenLines.{on_037, rows_text, state_line}
 use Rattle.ws_program.specs.StreamText.{showing, View, Placed, items_without_places, AreShown, IsShown}
 use Rattle.ws_program.specs.Views.{host_view, IsScreenEnd}
 
@@ -93,10 +93,10 @@ module _ {Place U : Type 0} (rules : Rules Place U) where
       (omega (arith, within, fits), all_places view bytes (before ++ x.1 ∷ []) placed fits h.2)
 
 -- a screen's first line
-screen_ends : (paint : Paint) (items : List (Item Element)) (text : List ℕ) → IsScreenEnd paint items text
+screen_ends : (look : Look) (items : List (Item Element)) (text : List ℕ) → IsScreenEnd look items text
     → EndsHere (lines text)
-screen_ends paint items text h =
-    let rest = rows_text paint h.0.cells ROWS ++ state_line h.0 in
+screen_ends look items text h =
+    let rest = rows_text look h.0.cells ROWS ++ state_line h.0 in
     let first : lines text ≡ codes "screen" ∷ lines rest = ap lines h.2
     ∙ lines_back (codes "screen" ∷ []) rest (line_from (codes "screen") [] (literal (codes "screen") refl) tt, tt) in
     subst (λ (z : List (List ℕ)). EndsHere z) (sym first) refl
@@ -116,6 +116,6 @@ shows_items bytes text fits s =
         places = all_places element_rules host_view bytes [] s.placed fits s.shown;
         encoded = are_encoded element_rules (items_without_places s.placed) right;
         in_range = are_in_range element_rules (items_without_places s.placed) right;
-        ends = screen_ends Plain (items_without_places s.placed) s.end s.ends.1;
+        ends = screen_ends (on_037 Plain) (items_without_places s.placed) s.end s.ends.1;
       },
     )

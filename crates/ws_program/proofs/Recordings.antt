@@ -58,7 +58,7 @@ cut_time line time rest e h =
       ap (λ n. drop n line) at ∙ ap (drop (length time)) e ∙ drop-append_seam time (32 ∷ rest),
     )
 
-line_parts : (line : List ℕ) (sender : RecordedEnd) (bytes : List ℕ) (p : IsPieceLine line sender bytes)
+pub line_parts : (line : List ℕ) (sender : RecordedEnd) (bytes : List ℕ) (p : IsPieceLine line sender bytes)
     → (take (position_or_len is_other line) line ≡ p.milliseconds)
     × (drop (position_or_len is_other line) line ≡ end_word sender ++ p.hex)
 line_parts line sender bytes p =
@@ -113,7 +113,7 @@ pieced line rest hex sender e word =
 -- WHAT AN END SENT
 
 -- a line more
-are_sent_more : (end : RecordedEnd) (before : List (List ℕ)) (sent line : List ℕ) (sender : RecordedEnd)
+pub are_sent_more : (end : RecordedEnd) (before : List (List ℕ)) (sent line : List ℕ) (sender : RecordedEnd)
     (piece : List ℕ) → AreSent end before sent → IsPieceLine line sender piece
     → AreSent end (before ++ line ∷ []) (sent ++ piece_of end sender piece)
 are_sent_more end [] sent line sender piece e l = (

@@ -14,9 +14,9 @@ use Rattle.ws_text.specs.Printed.{IsPrinted}
 use Rattle.ws_printing.specs.Printouts.{printout}
 use Rattle.ws_program.specs.StreamText.{showing, View, Placed, items_without_places, IsComplete, IsShown, IsThrough}
 use Rattle.ws_program.specs.StreamText.{show_printing}
-use Rattle.ws_program.specs.CheckLine.{line_of, is_accepted}
-use Rattle.ws_program.specs.declared.verdict.Verdict.{Verdict}
-use Rattle.ws_program.specs.declared.verdict.Verdict.TheVariants.{Refused}
+use Rattle.ws_printing.specs.CheckLine.{line_of, is_accepted}
+use Rattle.ws_printing.specs.declared.verdict.Verdict.{Verdict}
+use Rattle.ws_printing.specs.declared.verdict.Verdict.TheVariants.{Refused}
 use Rattle.ws_program.proofs.Shows.{Shows, accepted_behind, unapplied, part, part_more}
 
 -- What stands behind items that were shown one after another.

@@ -19,12 +19,12 @@ use Rattle.ws_record.specs.declared.record.Item.{Item}
 use Rattle.ws_text.specs.Printed.{IsPrinted}
 use Rattle.ws_printing.specs.Printouts.{printout}
 use Rattle.ws_program.specs.StreamText.{showing}
-use Rattle.ws_program.specs.CheckLine.{line_of, verdict_by}
+use Rattle.ws_printing.specs.CheckLine.{line_of, verdict_by}
 use Rattle.ws_program.specs.StreamText.{IsStop, show_printing}
 use Rattle.ws_program.specs.StreamText.{View, Placed, items_without_places, lines_of, HoldsItems, IsComplete, AreShown}
 use Rattle.ws_program.specs.StreamText.{IsShown, AreFirstLines, HasTaken, HasBegunStream}
 use Rattle.ws_program.specs.StreamText.{IsNextItem, IsNext, IsNextFault}
-use Rattle.ws_program.specs.declared.verdict.Verdict.TheVariants.{Refused, Truncated}
+use Rattle.ws_printing.specs.declared.verdict.Verdict.TheVariants.{Refused, Truncated}
 
 -- Items that are shown one after another.
 

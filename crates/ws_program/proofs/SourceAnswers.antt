@@ -4,16 +4,15 @@ use Rattle.std.proofs.Common.{◌≡◌, ℕ, List, [], inl, inr, refl, ap, ◌�
 use Rattle.ws_code.specs.Device.{Writer, WentOut, FailedWithin}
 use Rattle.ws_code.specs.declared.fault.Fault.{Fault}
 use Rattle.ws_code.specs.declared.fault.Fault.TheVariants as device
-use Rattle.ws_live.specs.declared.asked.fault.RunFault.{RunFault}
-use Rattle.ws_live.specs.declared.asked.fault.RunFault.TheVariants.{Read, Write}
-use Rattle.ws_live.specs.declared.asked.sender.Sender.{Sender}
+use Rattle.ws_script.specs.declared.asked.fault.RunFault.{RunFault}
+use Rattle.ws_script.specs.declared.asked.fault.RunFault.TheVariants.{Read, Write}
+use Rattle.ws_script.specs.declared.asked.sender.Sender.{Sender}
 use Rattle.ws_printing.specs.Buffering.{Buffering, buffered_writer}
 use Rattle.ws_text.specs.Printed.{Printing, IsPrinted}
 use Rattle.ws_program.specs.Actions.{IsCarriedOut}
 use Rattle.ws_program.specs.Answering.{sender_parts, of_bytes, run_outcome}
-use Rattle.ws_program.specs.Checking.{check_printing}
-use Rattle.ws_program.specs.SourceChecks.{command_outcome}
-use Rattle.ws_program.specs.Streams.{openly}
+use Rattle.ws_printing.specs.Checking.{check_printing}
+use Rattle.ws_program.specs.Streams.{command_outcome, openly}
 use Rattle.ws_program.specs.declared.words.command_line.InputAsked.TheVariants.{Check}
 use Rattle.ws_program.specs.declared.words.command_line.StreamForm.TheVariants.{Raw}
 use Rattle.ws_program.proofs.Buffers.{unheld, unchanged, printed_flushed, printed_unflushed}

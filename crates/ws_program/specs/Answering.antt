@@ -22,29 +22,32 @@ use Rattle.ws_text.specs.ExtendedAnswerWords.{told_wording}
 use Rattle.ws_text.specs.ExtendedWords.{extended_wording}
 use Rattle.ws_text.specs.Printed.{Printing, in_whole}
 use Rattle.ws_text.specs.Wording.{Wording}
-use Rattle.ws_live.specs.asked.RunFaults.{run_fault}
+use Rattle.ws_script.specs.asked.RunFaults.{run_fault}
 use Rattle.ws_program.specs.StreamText.{show_printing, showing, View}
 use Rattle.ws_program.specs.Actions.{Action}
-use Rattle.ws_program.specs.Checking.{check_printing}
+use Rattle.ws_printing.specs.Checking.{check_printing}
+use Rattle.ws_printing.specs.SourceChecks.{HasRefusal}
 use Rattle.ws_program.specs.Making.{make_action}
 use Rattle.ws_program.specs.StreamBytes.{AreBytesOf, IsFormFault}
+use Rattle.ws_program.specs.Traced.{trace_action}
 use Rattle.ws_program.specs.ExtendedView.{extended_view}
 use Rattle.ws_program.specs.Views.{painted_host_view, answer_view, told_view}
+use Rattle.ws_printing.specs.declared.look.Look.{Look}
 use Rattle.ws_printing.specs.declared.paint.Paint.{Paint}
 use Rattle.ws_program.specs.declared.words.command_line.InputAsked.{InputAsked}
-use Rattle.ws_program.specs.declared.words.command_line.InputAsked.TheVariants.{Check, Show, Play, Make}
-use Rattle.ws_live.specs.declared.asked.sender.Sender.{Sender}
-use Rattle.ws_live.specs.declared.asked.sender.Sender.TheVariants.{Host, ExtendedHost, Station, ExtendedStation}
+use Rattle.ws_program.specs.declared.words.command_line.InputAsked.TheVariants.{Check, Show, Trace, Play, Make}
+use Rattle.ws_script.specs.declared.asked.sender.Sender.{Sender}
+use Rattle.ws_script.specs.declared.asked.sender.Sender.TheVariants.{Host, ExtendedHost, Station, ExtendedStation}
 use Rattle.ws_program.specs.declared.words.command_line.StreamForm.{StreamForm}
-use Rattle.ws_live.specs.declared.asked.fault.RunFault.{RunFault}
-use Rattle.ws_live.specs.declared.asked.fault.RunFault.TheVariants.{Read, Line, Memory, Write, NoConnection}
+use Rattle.ws_script.specs.declared.asked.fault.RunFault.{RunFault}
+use Rattle.ws_script.specs.declared.asked.fault.RunFault.TheVariants.{Read, Line, Memory, Write, NoConnection}
 use Rattle.ws_nego.specs.declared.terminal.TerminalType.TheVariants.{Ibm3179Model2}
 use Rattle.ws_session.specs.declared.world.Event.{Event}
 use Rattle.ws_session.specs.declared.world.Move.{Move}
 use Rattle.ws_session.specs.world.Session.{Session, new_session, after_moves}
 use Rattle.ws_end.specs.station.StationEndState.{screen_at}
-use Rattle.ws_live.specs.script.Script.{IsScript, IsFirstBad}
-use Rattle.ws_live.specs.script.ScriptFaults.{IsReadSoFar}
+use Rattle.ws_printing.specs.script.Script.{IsScript, IsFirstBad}
+use Rattle.ws_printing.specs.script.ScriptFaults.{IsReadSoFar}
 use Rattle.ws_printing.specs.PlayLines.{IsPaintedPlayText, no_end_refuses}
 
 -- what is told of a session, and its screen in a paint where it is asked for
@@ -92,12 +95,12 @@ play_tcp_action paint screen script = record {
       × IsPaintedPlayText paint events shown screen text × (outcome ≡ Ok (no_end_refuses events))));
 }
 
--- What is known of a sender: what it sends, how that is shown in a paint, and how it is written as text.
+-- What is known of a sender: what it sends, how that is shown in a paint and on a page, and how it is written as text.
 pub record SenderParts : Type 1 where
   pub Place : Type 0
   pub Sent : Type 0
   pub rules : Rules Place Sent
-  pub view : Paint → View Sent
+  pub view : Look → View Sent
   pub wording : Wording Sent
 
 -- A sender's parts: a host sends the commands of the profile alone, or also beside it; a station answers, alone or with
@@ -121,16 +124,20 @@ sender_parts Station = record {
   Place = AnswerPlace;
   Sent = AnswerPart;
   rules = answer_rules;
-  view = λ paint. answer_view;
+  view = λ look. answer_view;
   wording = answer_wording;
 }
 sender_parts ExtendedStation = record {
   Place = ExtendedAnswerPlace;
   Sent = ExtendedAnswerPart;
   rules = extended_answer_rules;
-  view = λ paint. told_view;
+  view = λ look. told_view;
   wording = told_wording;
 }
+
+-- a byte of a sender's stream is refused
+abbrev pub HasRefusalBy : Sender → List ℕ → Type 0
+HasRefusalBy sender = HasRefusal (sender_parts sender).rules
 
 -- the outcome of a command as the program's own
 abbrev pub run_outcome : Result Bool Fault → Result Bool RunFault
@@ -149,12 +156,13 @@ of_bytes form printing input = record {
   };
 }
 
--- what the program does with its input: with the bytes that it tells, with a script, or with items as text
+-- what the program does with its input: with the bytes that it tells, with a recording, a script, or items as text
 abbrev pub answer_action : InputAsked → List ℕ → Action Bool RunFault
 answer_action (Check file form cut sender) input =
     of_bytes form (λ bytes. check_printing (sender_parts sender).rules bytes) input
-answer_action (Show file form sender paint) input =
-    of_bytes form (show_printing (showing (sender_parts sender).rules ((sender_parts sender).view paint))) input
+answer_action (Show file form sender look) input =
+    of_bytes form (show_printing (showing (sender_parts sender).rules ((sender_parts sender).view look))) input
+answer_action (Trace file) input = trace_action input
 answer_action (Play file screen false paint) input = play_action paint screen input
 answer_action (Play file screen true paint) input = play_tcp_action paint screen input
 answer_action (Make file sender raw) input = make_action (sender_parts sender).rules (sender_parts sender).wording

@@ -4,18 +4,18 @@ use Rattle.std.specs.Prelude.{◌≡◌, ℕ, ◌<◌, List, [], ◌∷◌, ◌+
 use Rattle.std.specs.Borrow.{Bor}
 use Rattle.std.specs.List.{list_all}
 use Rattle.ws_code.specs.Device.{FailedWithin}
-use Rattle.ws_live.specs.declared.asked.fault.RunFault.{RunFault}
-use Rattle.ws_live.specs.declared.asked.fault.RunFault.TheVariants.{Write}
-use Rattle.ws_live.specs.declared.asked.sender.Sender.{Sender}
+use Rattle.ws_script.specs.declared.asked.fault.RunFault.{RunFault}
+use Rattle.ws_script.specs.declared.asked.fault.RunFault.TheVariants.{Write}
+use Rattle.ws_script.specs.declared.asked.sender.Sender.{Sender}
 use Rattle.ws_printing.specs.Printouts.{IsPrintedOut, Printout}
 use Rattle.ws_program.specs.Answering.{sender_parts}
-use Rattle.ws_program.specs.CheckLine.{IsVerdict, is_accepted, line_of}
+use Rattle.ws_printing.specs.CheckLine.{IsVerdict, is_accepted, line_of}
 use Rattle.ws_program.specs.FileFaults.{IsOfFile}
 use Rattle.ws_program.specs.InputFaults.{IsInputUnread}
 use Rattle.ws_program.specs.StreamBytes.{AreBytesOf, IsFormFault}
 use Rattle.ws_program.specs.declared.command_fault.CommandFault.{CommandFault}
 use Rattle.ws_program.specs.declared.file_checks.FileChecks.{FileChecks}
-use Rattle.ws_program.specs.declared.verdict.Verdict.{Verdict}
+use Rattle.ws_printing.specs.declared.verdict.Verdict.{Verdict}
 use Rattle.ws_program.specs.declared.words.command_line.StreamForm.{StreamForm}
 
 -- what a check found in a file of this name: the bytes of its stream, and what holds of them

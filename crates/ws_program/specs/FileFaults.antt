@@ -2,14 +2,14 @@
 
 use Rattle.std.specs.Prelude.{◌≡◌, ℕ, List, Option, Some, ◌⊎◌, string_bytes}
 use Rattle.std.specs.Option.{option_map}
-use Rattle.ws_live.specs.declared.asked.fault.RunFault.{RunFault}
-use Rattle.ws_live.specs.declared.asked.fault.RunFault.TheVariants as run
-use Rattle.ws_live.specs.declared.asked.fault.ToldFault.{ToldFault}
-use Rattle.ws_live.specs.declared.asked.fault.ToldFault.TheVariants.{Run}
+use Rattle.ws_script.specs.declared.asked.fault.RunFault.{RunFault}
+use Rattle.ws_script.specs.declared.asked.fault.RunFault.TheVariants as run
+use Rattle.ws_script.specs.declared.asked.fault.ToldFault.{ToldFault}
+use Rattle.ws_script.specs.declared.asked.fault.ToldFault.TheVariants.{Run}
 use Rattle.ws_program.specs.declared.command_fault.CommandFault.{CommandFault}
 use Rattle.ws_program.specs.declared.command_fault.CommandFault.TheVariants.{Told, OfFile, Unwritten}
 use Rattle.ws_program.specs.declared.words.command_line.InputAsked.{InputAsked}
-use Rattle.ws_program.specs.declared.words.command_line.InputAsked.TheVariants.{Make}
+use Rattle.ws_program.specs.declared.words.command_line.InputAsked.TheVariants.{Make, Trace}
 
 -- a fault that was met with a file is told with its name, or by itself; or memory was wanted for the name
 abbrev pub IsOfFile : List ℕ → RunFault → CommandFault → Type 0
@@ -27,7 +27,8 @@ IsToldOfFile file met (Told told) = (told ≡ met) ⊎ ((met ≡ Run run.Read) �
 IsToldOfFile file met Unwritten = met ≡ Run run.Write
 IsToldOfFile file met other = ⊥
 
--- a fault of a command of an input, as it is told: of `make` with its file
+-- a fault of a command of an input, as it is told: of `make` and `trace` with its file
 abbrev pub IsToldBy : InputAsked → ToldFault → CommandFault → Type 0
 IsToldBy (Make file sent raw) met fault = IsToldOfFile (option_map (λ name. name.now) file) met fault
+IsToldBy (Trace file) met fault = IsToldOfFile (option_map (λ name. name.now) file) met fault
 IsToldBy asked met fault = fault ≡ Told met

@@ -1,8 +1,8 @@
 -- The faults of an input as those of the program.
 
 use Rattle.std.specs.Prelude.{◌≡◌, ◌⊎◌}
-use Rattle.ws_live.specs.declared.asked.fault.RunFault.{RunFault}
-use Rattle.ws_live.specs.declared.asked.fault.RunFault.TheVariants.{NotHex, Memory, Read}
+use Rattle.ws_script.specs.declared.asked.fault.RunFault.{RunFault}
+use Rattle.ws_script.specs.declared.asked.fault.RunFault.TheVariants.{NotHex, Memory, Read}
 use Rattle.ws_program.specs.declared.hex_text.TextFault.{TextFault}
 use Rattle.ws_program.specs.declared.hex_text.TextFault.TheVariants as texts
 

@@ -1,7 +1,5 @@
 pub mod Actions
 pub mod Answering
-pub mod CheckLine
-pub mod Checking
 pub mod ExtendedView
 pub mod FileChecks
 pub mod FileFaults
@@ -9,11 +7,12 @@ pub mod HexText
 pub mod InputFaults
 pub mod Recorded
 pub mod Runs
-pub mod SourceChecks
 pub mod StreamBytes
 pub mod StreamText
+pub mod StreamTraces
 pub mod Streams
 pub mod Tables
+pub mod Traced
 pub mod Views
 pub mod Making
 pub mod ToldFaults

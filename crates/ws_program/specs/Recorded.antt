@@ -5,8 +5,8 @@ use Rattle.std.specs.Char.{is_ascii_digit}
 use Rattle.std.specs.List.{list_all}
 use Rattle.std.specs.Str.Lines.{lines}
 use Rattle.ws_program.specs.HexText.{IsHexOf}
-use Rattle.ws_live.specs.declared.script.ScriptFault.{ScriptFault}
-use Rattle.ws_live.specs.declared.script.ScriptFault.TheVariants.{Line, Memory}
+use Rattle.ws_printing.specs.declared.script.ScriptFault.{ScriptFault}
+use Rattle.ws_printing.specs.declared.script.ScriptFault.TheVariants.{Line, Memory}
 use Rattle.ws_program.specs.declared.words.command_line.RecordedEnd.{RecordedEnd}
 use Rattle.ws_program.specs.declared.words.command_line.RecordedEnd.TheVariants.{Host, Station}
 

@@ -3,26 +3,27 @@
 use Rattle.std.specs.Prelude.{◌≡◌, ℕ, List, Bool, Option, None, Some, Ok, Err, ◌⊎◌}
 use Rattle.std.specs.Option.{is_none, option_map}
 use Rattle.ws_printing.specs.Printouts.{Printout}
-use Rattle.ws_live.specs.declared.asked.fault.RunFault.{RunFault}
-use Rattle.ws_live.specs.declared.asked.fault.RunFault.TheVariants.{Read, Memory}
-use Rattle.ws_live.specs.declared.asked.fault.ToldFault.{ToldFault}
-use Rattle.ws_live.specs.declared.asked.fault.ToldFault.TheVariants as told
-use Rattle.ws_live.specs.declared.asked.session_asked.SessionAsked.{SessionAsked}
-use Rattle.ws_live.specs.declared.asked.open_streams.OpenStreams.{OpenStreams}
-use Rattle.ws_live.specs.asked.OpenStreams.{missing}
+use Rattle.ws_script.specs.declared.asked.fault.RunFault.{RunFault}
+use Rattle.ws_script.specs.declared.asked.fault.RunFault.TheVariants.{Read, Memory}
+use Rattle.ws_script.specs.declared.asked.fault.ToldFault.{ToldFault}
+use Rattle.ws_script.specs.declared.asked.fault.ToldFault.TheVariants as told
+use Rattle.ws_live.specs.declared.session_asked.SessionAsked.{SessionAsked}
+use Rattle.ws_script.specs.declared.asked.open_streams.OpenStreams.{OpenStreams}
+use Rattle.ws_script.specs.asked.OpenStreams.{missing}
 use Rattle.ws_network.specs.LiveSessions.{HasRunLive, script_of}
 use Rattle.ws_program.specs.Actions.{IsCarriedOut}
 use Rattle.ws_program.specs.Streams.{openly}
 use Rattle.ws_program.specs.FileChecks.{HasChecked, IsFaultOfChecks}
 use Rattle.ws_program.specs.FileFaults.{IsToldBy, IsToldOfFile}
 use Rattle.ws_program.specs.InputFaults.{IsInputUnread}
+use Rattle.ws_program.specs.StreamTraces.{HasTraced, IsFaultOfTrace}
 use Rattle.ws_program.specs.Tables.{HasPrinted, IsUnprinted}
 use Rattle.ws_program.specs.ToldFaults.{IsToldOf}
 use Rattle.ws_program.specs.declared.command_fault.CommandFault.{CommandFault}
 use Rattle.ws_program.specs.declared.command_fault.CommandFault.TheVariants.{Words, Run, Told, OfFile, Unwritten}
 use Rattle.ws_program.specs.declared.words.command_line.InputAsked.{InputAsked}
 use Rattle.ws_program.specs.declared.words.command_line.Task.{Task}
-use Rattle.ws_program.specs.declared.words.command_line.Task.TheVariants.{Input, Files, Print, Live}
+use Rattle.ws_program.specs.declared.words.command_line.Task.TheVariants.{Input, Files, Streams, Print, Live}
 
 -- the words ask for nothing that the program knows, or for help; or a growth was refused
 abbrev pub IsWordsFault : CommandFault → Type 0
@@ -50,10 +51,12 @@ module _ {S : Type 0} (out : Printout S) (streams : OpenStreams) where
       × IsCarriedOut out.writer out.from out.to (openly streams.output asked input) (Err why)
       × IsToldOf asked input fault why))
 
-  -- the task of a command line was done: something of an input, checks of files, a table, or a live session
+  -- the task of a command line was done: something of an input, checks of files, a dialogue of streams, a table, or a
+  -- live session
   abbrev pub HasRunTask : Task → Bool → Type 0
   HasRunTask (Input asked) accepted = HasRunInput asked accepted
   HasRunTask (Files checks) accepted = HasChecked out checks accepted
+  HasRunTask (Streams traced) accepted = HasTraced out streams.output traced accepted
   HasRunTask (Print shown) accepted = HasPrinted out streams.output shown accepted
   HasRunTask (Live asked) accepted = (missing_live streams asked ≡ None)
       × HasRunLive out asked accepted
@@ -63,6 +66,7 @@ module _ {S : Type 0} (out : Printout S) (streams : OpenStreams) where
   IsFaultOfTask (Input asked) fault = (met : ToldFault) × IsFaultOfInput asked met
       × IsToldBy asked met fault
   IsFaultOfTask (Files checks) fault = IsFaultOfChecks out checks fault
+  IsFaultOfTask (Streams traced) fault = IsFaultOfTrace out streams.output traced fault
   IsFaultOfTask (Print shown) fault = IsUnprinted out streams.output shown fault
   IsFaultOfTask (Live asked) fault = (met : ToldFault)
       × IsToldOfFile (option_map (λ name. name.now) (script_of asked)) met fault

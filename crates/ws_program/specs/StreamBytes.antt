@@ -4,8 +4,8 @@ use Rattle.std.specs.Prelude.{◌≡◌, ℕ, List, IsErr}
 use Rattle.hex.specs.Hex.{decode_of}
 use Rattle.ws_program.specs.HexText.{IsHexOf, without_blanks}
 use Rattle.ws_program.specs.Recorded.{IsSentIn, IsFirstOther}
-use Rattle.ws_live.specs.declared.asked.fault.RunFault.{RunFault}
-use Rattle.ws_live.specs.declared.asked.fault.RunFault.TheVariants.{NotHex, Line, Memory}
+use Rattle.ws_script.specs.declared.asked.fault.RunFault.{RunFault}
+use Rattle.ws_script.specs.declared.asked.fault.RunFault.TheVariants.{NotHex, Line, Memory}
 use Rattle.ws_program.specs.declared.stream_bytes.StreamBytes.{StreamBytes}
 use Rattle.ws_program.specs.declared.stream_bytes.StreamBytes.TheVariants.{Given, Read}
 use Rattle.ws_program.specs.declared.words.command_line.StreamForm.{StreamForm}

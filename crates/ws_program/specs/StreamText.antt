@@ -3,7 +3,7 @@
 use Rattle.std.specs.Prelude.{◌≡◌, ℕ, ◌+◌, ◌<◌, List, [], ◌∷◌, ◌++◌, ◌⊎◌, Bool, true, false, Option, None, Some, IfSome}
 use Rattle.std.specs.Prelude.{length, take, map, Result, Ok, Err}
 use Rattle.std.specs.List.{flat_map}
-use Rattle.ws_code.specs.Code.{Rules, IsChain}
+use Rattle.ws_code.specs.Code.{Rules}
 use Rattle.ws_code.specs.declared.fault.Fault.{Fault}
 use Rattle.ws_code.specs.declared.fault.Fault.TheVariants.{Memory}
 use Rattle.ws_code.specs.declared.fault.Fault.TheVariants as faults
@@ -12,13 +12,13 @@ use Rattle.ws_record.specs.Grammar.{IsInGrammar}
 use Rattle.ws_record.specs.Refusal.{Layer, IsOpen, IsRefused, IsTruncated}
 use Rattle.ws_record.specs.Receiver.{Receiving, HasReceived, HasUnit}
 use Rattle.ws_record.specs.declared.record.Item.{Item}
-use Rattle.ws_record.specs.declared.record.Item.TheVariants.{Record as RecordItem, Telnet as TelnetItem}
 pub use Rattle.ws_end.specs.Acts.{HoldsItems}
+pub use Rattle.ws_trace.specs.Ends.{IsWholeItem}
 use Rattle.ws_text.specs.Printed.{Printing, IsPrinted}
 use Rattle.ws_printing.specs.Printouts.{IsPrintedOut, Printout}
-use Rattle.ws_program.specs.CheckLine.{line_of, is_accepted}
-use Rattle.ws_program.specs.declared.verdict.Verdict.{Verdict}
-use Rattle.ws_program.specs.declared.verdict.Verdict.TheVariants.{Refused, Truncated}
+use Rattle.ws_printing.specs.CheckLine.{line_of, is_accepted}
+use Rattle.ws_printing.specs.declared.verdict.Verdict.{Verdict}
+use Rattle.ws_printing.specs.declared.verdict.Verdict.TheVariants.{Refused, Truncated}
 
 -- How items of some body are shown: an item's lines, why one isn't carried out after others, and what stands after
 -- all of them where the stream is accepted.
@@ -63,11 +63,6 @@ module _ {Place U : Type 0} where
     pub opened : (layer : Layer) → IsOpen rules layer (take (x.0 + 1) bytes)
     pub not_before : HoldsItems rules (take x.0 bytes) before
     pub with_it : HoldsItems rules (take (x.0 + 1) bytes) (before ++ x.1 ∷ [])
-
-  -- the units of a record's body may stand one after another
-  abbrev pub IsWholeItem : Rules Place U → Item U → Type 0
-  IsWholeItem rules (RecordItem r) = IsChain rules rules.first r.body
-  IsWholeItem rules (TelnetItem telnet) = Unit {0}
 
   -- the items are complete one after another, and each is carried out
   abbrev pub AreShown : Showing Place U → List ℕ → List (Item U) → List (Placed U) → Type 0

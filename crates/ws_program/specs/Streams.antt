@@ -1,17 +1,19 @@
 -- What a command does whose standard streams may have been closed when the program began.
 
 use Rattle.std.specs.Prelude.{◌≡◌, ℕ, List, Bool, true, false, Result, Ok, Err}
+use Rattle.ws_code.specs.declared.fault.Fault.{Fault}
 use Rattle.ws_program.specs.Actions.{Action}
-use Rattle.ws_program.specs.Answering.{answer_action}
+use Rattle.ws_program.specs.Answering.{answer_action, run_outcome}
 use Rattle.ws_program.specs.declared.words.command_line.InputAsked.{InputAsked}
-use Rattle.ws_program.specs.declared.words.command_line.InputAsked.TheVariants.{Check, Show, Play, Make}
-use Rattle.ws_live.specs.declared.asked.fault.RunFault.{RunFault}
-use Rattle.ws_live.specs.declared.asked.fault.RunFault.TheVariants.{Write}
+use Rattle.ws_program.specs.declared.words.command_line.InputAsked.TheVariants.{Check, Show, Trace, Play, Make}
+use Rattle.ws_script.specs.declared.asked.fault.RunFault.{RunFault}
+use Rattle.ws_script.specs.declared.asked.fault.RunFault.TheVariants.{Write}
 
 -- what is asked for, without a connection
 abbrev pub in_one_place : InputAsked → InputAsked
 in_one_place (Check file form cut sender) = Check file form cut sender
-in_one_place (Show file form sender paint) = Show file form sender paint
+in_one_place (Show file form sender look) = Show file form sender look
+in_one_place (Trace file) = Trace file
 in_one_place (Play file screen tcp paint) = Play file screen false paint
 in_one_place (Make file sender raw) = Make file sender raw
 
@@ -19,6 +21,11 @@ in_one_place (Make file sender raw) = Make file sender raw
 abbrev pub closed_outcome : Result Bool RunFault → Result Bool RunFault
 closed_outcome (Ok accepted) = Err Write
 closed_outcome (Err fault) = Err fault
+
+-- what a command comes to that came to this, with an output or without
+abbrev pub command_outcome : Bool → Result Bool Fault → Result Bool RunFault
+command_outcome true outcome = run_outcome outcome
+command_outcome false outcome = closed_outcome (run_outcome outcome)
 
 -- what is done where standard output is closed: the same, and nothing ends well
 abbrev pub into_closed : Action Bool RunFault → Action Bool RunFault

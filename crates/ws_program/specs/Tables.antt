@@ -8,7 +8,7 @@ use Rattle.hex.specs.Hex.{encode_upper}
 use Rattle.ws_code.specs.Device.{FailedWithin}
 use Rattle.ws_code.specs.Reason.{number_of, name_of, text_of}
 use Rattle.ws_code.specs.declared.reason.Reason.{Reason}
-use Rattle.ws_live.specs.script.KeyNames.{aid_named, answering_keys, function_keys, plain_keys}
+use Rattle.ws_printing.specs.script.KeyNames.{aid_named, answering_keys, function_keys, plain_keys}
 use Rattle.ws_printing.specs.Printouts.{IsPrintedOut, Printout}
 use Rattle.ws_program.specs.declared.command_fault.CommandFault.{CommandFault}
 use Rattle.ws_program.specs.declared.command_fault.CommandFault.TheVariants.{Unwritten}

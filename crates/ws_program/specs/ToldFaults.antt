@@ -2,12 +2,12 @@
 
 use Rattle.std.specs.Prelude.{◌≡◌, ℕ, List}
 use Rattle.std.specs.Str.Lines.{lines}
-use Rattle.ws_live.specs.cause.ToldCauses.{IsLineTold}
-use Rattle.ws_live.specs.declared.asked.fault.RunFault.{RunFault}
-use Rattle.ws_live.specs.declared.asked.fault.RunFault.TheVariants as run
-use Rattle.ws_live.specs.declared.asked.fault.ToldFault.{ToldFault}
-use Rattle.ws_live.specs.declared.asked.fault.ToldFault.TheVariants.{Run}
-use Rattle.ws_live.specs.declared.cause.vocabulary.Vocabulary.TheVariants.{Items}
+use Rattle.ws_script.specs.cause.ToldCauses.{IsLineTold}
+use Rattle.ws_script.specs.declared.asked.fault.RunFault.{RunFault}
+use Rattle.ws_script.specs.declared.asked.fault.RunFault.TheVariants as run
+use Rattle.ws_script.specs.declared.asked.fault.ToldFault.{ToldFault}
+use Rattle.ws_script.specs.declared.asked.fault.ToldFault.TheVariants.{Run}
+use Rattle.ws_script.specs.declared.cause.vocabulary.Vocabulary.TheVariants.{Items}
 use Rattle.ws_program.specs.declared.words.command_line.InputAsked.{InputAsked}
 use Rattle.ws_program.specs.declared.words.command_line.InputAsked.TheVariants.{Make}
 

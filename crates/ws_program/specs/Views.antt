@@ -15,8 +15,8 @@ use Rattle.ws_extended.specs.declared.extended_answer_part.ExtendedAnswerPart.{E
 use Rattle.ws_text.specs.AnswerLines.{answer_text}
 use Rattle.ws_text.specs.ExtendedAnswerLines.{told_item_text}
 use Rattle.ws_text.specs.ItemLines.{item_text}
-use Rattle.ws_printing.specs.ScreenLines.{IsScreenText}
-use Rattle.ws_printing.specs.declared.paint.Paint.{Paint}
+use Rattle.ws_printing.specs.ScreenLines.{IsScreenText, on_037}
+use Rattle.ws_printing.specs.declared.look.Look.{Look}
 use Rattle.ws_printing.specs.declared.paint.Paint.TheVariants.{Plain}
 use Rattle.ws_program.specs.StreamText.{View}
 
@@ -40,20 +40,20 @@ abbrev pub MakesScreen : List (Item Element) → ScreenParts → Type 0
 MakesScreen items screen = Gives (after_items [] items) screen × (screen.writing ≡ None)
 
 -- what stands after the items of a host: the screen that they give
-abbrev pub IsScreenEnd : Paint → List (Item Element) → List ℕ → Type 0
-IsScreenEnd paint items text = (s : ScreenParts) × Gives (after_items [] items) s × IsScreenText paint s text
+abbrev pub IsScreenEnd : Look → List (Item Element) → List ℕ → Type 0
+IsScreenEnd look items text = (s : ScreenParts) × Gives (after_items [] items) s × IsScreenText look s text
 
--- how a host's items are shown, and the screen after them in a paint
-abbrev pub painted_host_view : Paint → View Element
-painted_host_view paint = record {
+-- how a host's items are shown, and the screen after them in a paint and on a page
+abbrev pub painted_host_view : Look → View Element
+painted_host_view look = record {
   lines = item_text;
   fault = λ before item. item_fault (after_items [] before) item;
-  Ends = IsScreenEnd paint;
+  Ends = IsScreenEnd look;
 }
 
--- how a host's items are shown, and the screen after them in plain text
+-- how a host's items are shown, and the screen after them in plain text on page 037
 abbrev pub host_view : View Element
-host_view = painted_host_view Plain
+host_view = painted_host_view (on_037 Plain)
 
 -- nothing stands after a station's answers
 abbrev pub IsNoEnd : {U : Type 0} → List (Item U) → List ℕ → Type 0
@@ -67,6 +67,6 @@ answer_view = record { lines = answer_text; fault = λ _ _. None; Ends = IsNoEnd
 abbrev pub told_view : View ExtendedAnswerPart
 told_view = record { lines = told_item_text; fault = λ _ _. None; Ends = IsNoEnd }
 
--- a way to show items, with what stands after them in a paint
-abbrev pub in_paint : {U : Type 0} → View U → (Paint → List (Item U) → List ℕ → Type 0) → Paint → View U
-in_paint view Ends paint = record { lines = view.lines; fault = view.fault; Ends = Ends paint }
+-- a way to show items, with what stands after them in a paint and on a page
+abbrev pub in_look : {U : Type 0} → View U → (Look → List (Item U) → List ℕ → Type 0) → Look → View U
+in_look view Ends look = record { lines = view.lines; fault = view.fault; Ends = Ends look }

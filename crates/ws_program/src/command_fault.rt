@@ -1,9 +1,10 @@
+//! What ends the program, as it is told.
 ghost use Rattle.std.specs.Prelude.{◌≡◌};
 ghost use Rattle.ws_program.specs.Runs.{IsWordsFault};
 ghost use Rattle.ws_program.specs.declared.command_fault.CommandFault.TheVariants as command;
 
 use crate::file_fault::Unreadable;
-use ws_live::{RunFault, ToldFault};
+use ws_script::{RunFault, ToldFault};
 
 /// What ends the program before it runs, or in running.
 #[derive(Drop)]

@@ -1,21 +1,23 @@
+//! How a live host's items are shown, and the display that they make.
 ghost use Rattle.std.specs.Prelude.{◌≡◌, ◌++◌, ◌∷◌, [], List, ℕ, OnOk};
 ghost use Rattle.ws_extended_station.specs.ExtendedDisplays.{standing_row as a_standing_row};
 ghost use Rattle.ws_program.specs.ExtendedView.{extended_view, IsExtendedEnd, MakesDisplay};
+ghost use Rattle.ws_printing.specs.ScreenLines.{on_037};
 ghost use Rattle.ws_printing.specs.declared.paint.Paint.TheVariants.{Plain};
 
-use crate::extended_record::apply_extended_record;
 use crate::shown::Shown;
 use ws_code::{Reason, Sink};
 use ws_extended::{ExtendedCommands, ExtendedElement, ExtendedScreen};
-use ws_printing::{Paint, put_error_row, put_screen};
+use ws_printing::{Look, put_error_row, put_screen};
 use ws_record::Item;
 use ws_text::{Output, put_item};
+use ws_trace::apply_extended_record;
 
 // A live host's records make a display, which stands behind them.
 impl Shown for ExtendedCommands {
     type Made = ExtendedScreen;
 
-    ghost view = { extended_view Plain };
+    ghost view = { extended_view (on_037 Plain) };
 
     ghost Ends = { IsExtendedEnd };
 
@@ -44,10 +46,10 @@ impl Shown for ExtendedCommands {
     fn put_end<S: Sink>(
         sink: &mut S,
         output: Output,
-        paint: Paint,
+        look: Look,
         display: &ExtendedScreen,
     ) -> Output {
-        let output = put_screen(sink, output, paint, display.screen());
+        let output = put_screen(sink, output, look, display.screen());
         put_error_row(sink, output, standing_row(display))
     }
 }

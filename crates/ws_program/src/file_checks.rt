@@ -2,20 +2,18 @@
 ghost use Rattle.std.specs.Prelude.{◌≡◌, ◌⊎◌, [], List, ℕ, length, IfOk, IfErr};
 ghost use Rattle.ws_code.specs.Device.{WentOut, FailedWithin};
 ghost use Rattle.ws_printing.specs.Printouts.{printout};
-ghost use Rattle.ws_program.specs.Answering.{sender_parts};
-ghost use Rattle.ws_program.specs.CheckLine.{IsVerdict, is_accepted};
+ghost use Rattle.ws_program.specs.Answering.{HasRefusalBy, sender_parts};
+ghost use Rattle.ws_printing.specs.CheckLine.{IsVerdict, is_accepted};
 ghost use Rattle.ws_program.specs.FileChecks.{Found, found_line, named_line, HasChecked, IsFaultOfChecks, IsFoundIn};
 ghost use Rattle.ws_program.specs.FileChecks.{IsUnfound};
 ghost use Rattle.ws_program.specs.InputFaults.{IsInputUnread};
-ghost use Rattle.ws_program.specs.SourceChecks.{HasRefusalBy, GaveEnough, FailedBefore};
+ghost use Rattle.ws_printing.specs.SourceChecks.{GaveEnough, FailedBefore};
 ghost use Rattle.ws_program.specs.StreamBytes.{AreBytesOf, IsFormFault};
 
-use crate::check::{verdict_from, verdict_of};
 use crate::command_fault::CommandFault;
 use crate::file_fault::of_file;
 use crate::input::read_input;
 use crate::stream_bytes::bytes_of;
-use crate::verdict::{Verdict, VerdictLine};
 use crate::words::StreamForm;
 use std::alloc::Global;
 use std::fs::File;
@@ -23,7 +21,9 @@ use std::num::NonZeroU16;
 use std::rt::Files;
 use ws_code::{Fault, ReadSource, Sink, Source};
 use ws_extended::{ExtendedAnswers, ExtendedCommands};
-use ws_live::{BufferedSink, OpenStreams, RunFault, Sender, hand_on};
+use ws_live::hand_on;
+use ws_printing::{BufferedSink, Verdict, VerdictLine, verdict_from, verdict_of};
+use ws_script::{OpenStreams, RunFault, Sender};
 use ws_stream::{Answers, Commands};
 use ws_text::{Output, Text, texts};
 

@@ -10,7 +10,7 @@ use std::fs::File;
 use std::io::ErrorKind;
 use std::rt::Files;
 use thiserror::Error;
-use ws_live::{RunFault, ToldFault};
+use ws_script::{RunFault, ToldFault};
 
 /// Why a file can't be read.
 #[derive(Clone, Copy, Debug, PartialEq, Eq, Drop, Error)]
@@ -27,7 +27,7 @@ pub enum Unreadable {
 ///
 /// # Errors
 ///
-/// As `with_file` of `make`, and else `Told` with the fault that it came to.
+/// As `with_file` of `make` and `trace`, and else `Told` with the fault that it came to.
 pub(crate) fn told_of<R: AllocGlobal + Files<File = File>>(
     rt: &R,
     asked: InputAsked<'_>,
@@ -38,6 +38,9 @@ pub(crate) fn told_of<R: AllocGlobal + Files<File = File>>(
         (λ fault. IsErrAnd outcome (λ met. IsToldBy asked.entry met fault)) }
 {
     if let InputAsked::Make { file, .. } = asked {
+        return with_file(rt, file, outcome);
+    }
+    if let InputAsked::Trace { file } = asked {
         return with_file(rt, file, outcome);
     }
     match outcome {

@@ -1,3 +1,4 @@
+//! The bytes that a text spells in hex.
 ghost use Rattle.std.specs.Prelude.{◌≡◌, List, ℕ, true, false, IfOk, IfErr, IsErr};
 ghost use Rattle.hex.specs.Hex.{decode_of};
 ghost use Rattle.ws_program.specs.InputFaults.{text_run_fault};
@@ -5,7 +6,7 @@ ghost use Rattle.ws_program.specs.HexText.{is_blank_byte, without_blanks, IsHexO
 
 use std::alloc::{AllocError, Global};
 use thiserror::Error;
-use ws_live::RunFault;
+use ws_script::RunFault;
 
 /// Why a text gives no bytes.
 #[derive(Clone, Copy, Debug, PartialEq, Eq, Error)]

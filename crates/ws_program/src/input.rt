@@ -1,3 +1,4 @@
+//! The words of the command line, and the input of a command.
 ghost use Rattle.std.specs.Prelude.{◌≡◌, ◌⊎◌, [], List as Seq, ℕ, IfErr, IsErrAnd};
 ghost use Rattle.ws_program.specs.Actions.{IsCarriedOut};
 ghost use Rattle.ws_program.specs.InputFaults.{IsInputUnread};
@@ -13,7 +14,8 @@ use std::num::NonZeroU16;
 use std::rt::{Env, Files};
 use std::{env, fs, io};
 use ws_code::{ReadSource, Sink};
-use ws_live::{BufferedSink, OpenStreams, RunFault, Sender};
+use ws_printing::BufferedSink;
+use ws_script::{OpenStreams, RunFault, Sender};
 
 /// The words of the command line, the program's name first.
 ///

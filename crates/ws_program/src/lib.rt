@@ -3,9 +3,7 @@
 //! file is named only where one is opened.
 #![tactic(auto)]
 
-mod check;
 mod command_fault;
-mod extended_record;
 mod extended_shown;
 mod file_checks;
 mod file_fault;
@@ -19,12 +17,12 @@ mod show;
 mod shown;
 mod source_check;
 mod stream_bytes;
+mod stream_trace;
 mod tables;
 mod told;
-mod verdict;
+mod traced;
 mod words;
 
-pub use check::{check_from, check_to};
 pub use command_fault::CommandFault;
 pub use file_checks::FileChecks;
 pub use file_fault::Unreadable;
@@ -34,5 +32,7 @@ pub use recorded::recorded_bytes;
 pub use running::run;
 pub use show::show_to;
 pub use source_check::check_source_openly;
+pub use stream_trace::StreamTrace;
 pub use tables::{Table, reason_numbered};
 pub use words::{InputAsked, RecordedEnd, StreamForm};
+pub use ws_printing::{check_from, check_to};

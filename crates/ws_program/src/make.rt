@@ -1,3 +1,4 @@
+//! A stream made of the lines of a text.
 ghost use Rattle.std.specs.Prelude.{◌≡◌, IfOk, IfErr};
 ghost use Rattle.ws_record.specs.Encode.{CanAllBeEncoded, plain_spelling};
 ghost use Rattle.ws_program.specs.Making.{made_text, made_stream};

@@ -9,7 +9,7 @@ ghost use Rattle.ws_program.specs.declared.words.command_line.RecordedEnd.{Recor
 use crate::hex_text::{hex_bytes, is_hex};
 use crate::words::RecordedEnd;
 use std::alloc::Global;
-use ws_live::ScriptFault;
+use ws_script::ScriptFault;
 use ws_text::first_line;
 
 /// What an end sent by the lines of a recording, `MILLISECONDS host|station HEX` for each piece: its pieces, one behind
@@ -45,10 +45,10 @@ pub fn recorded_bytes(alloc: Global, text: &[u8], end: RecordedEnd) -> Result<Ve
 
 // A piece that crossed the connection.
 #[derive(Clone, Copy)]
-struct Piece<'a> {
-    sender: RecordedEnd,
+pub(crate) struct Piece<'a> {
+    pub(crate) sender: RecordedEnd,
     // Its bytes as hex text.
-    hex: &'a [u8],
+    pub(crate) hex: &'a [u8],
 }
 
 // Adds a piece to what an end sent, where that sent it: false where a growth was refused.
@@ -66,7 +66,7 @@ fn add_piece(alloc: Global, sent: &mut Vec<u8>, piece: Piece<'_>, end: RecordedE
 }
 
 // The piece that a line has; nothing where it is none of a recording.
-fn read_piece(line: &[u8]) -> Option<Piece<'_>>
+pub(crate) fn read_piece(line: &[u8]) -> Option<Piece<'_>>
     ensures { MatchOption result (IsOtherLine line.now) (λ piece. (milliseconds : List ℕ)
         × IsTime milliseconds
         × (line.now ≡ milliseconds ++ (end_word piece.sender ++ piece.hex.now))

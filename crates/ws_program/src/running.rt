@@ -10,15 +10,19 @@ use crate::file_checks::check_files;
 use crate::file_fault::{told_of, with_file};
 use crate::input::{check_file, given_words, read_input};
 use crate::program::answer_openly;
+use crate::stream_trace::trace_streams;
 use crate::tables::print_table;
 use crate::told::with_cause;
 use crate::words::{InputAsked, StreamForm, Task, read_words};
 use std::fs::File;
+use std::io::IsTerminal;
 use std::net::{Net, TcpListener, TcpStream};
 use std::rt::{Files, Runtime};
 use ws_code::Sink;
-use ws_live::{BufferedSink, OpenStreams, SessionAsked, ToldFault};
+use ws_live::SessionAsked;
 use ws_network::run_live;
+use ws_printing::BufferedSink;
+use ws_script::{OpenStreams, ToldFault};
 
 /// Does what the words of the command line ask for, and writes what is told of it: true where all was accepted, of
 /// which `status` makes the exit status.
@@ -34,6 +38,7 @@ pub fn run<R, S>(
 ) -> Result<bool, CommandFault>
 where
     R: Runtime + AllocGlobal + Files<File = File> + Net<Listener = TcpListener, Stream = TcpStream>,
+    R::Reader: IsTerminal,
     S: Sink,
     requires empty { sink.old.held ≡ [] }
     ensures done { IfOk result (λ accepted. (task : ATask) × HasRunTask
@@ -51,8 +56,8 @@ where
 /// # Errors
 ///
 /// Of an input, `Read` or `Memory` where it can't be read, and then nothing was written; else as `answer_openly` has it,
-/// with its cause, as `told_of` tells it. Of files as `check_files` has it, of a table as `print_table`, of a live session
-/// as `run_live`, and of its script as `with_file`.
+/// with its cause, as `told_of` tells it. Of files as `check_files` has it, of streams as `trace_streams`, of a table as
+/// `print_table`, of a live session as `run_live`, and of its script as `with_file`.
 pub(crate) fn run_task<R, S>(
     rt: &R,
     task: Task<'_>,
@@ -61,6 +66,7 @@ pub(crate) fn run_task<R, S>(
 ) -> Result<bool, CommandFault>
 where
     R: Runtime + AllocGlobal + Files<File = File> + Net<Listener = TcpListener, Stream = TcpStream>,
+    R::Reader: IsTerminal,
     S: Sink,
     requires empty { sink.old.held ≡ [] }
     ensures done { IfOk result (HasRunTask
@@ -74,17 +80,19 @@ where
             told_of(rt, asked, outcome)
         }
         Task::Files(checks) => check_files(rt, &checks, streams, sink),
+        Task::Streams(traced) => trace_streams(rt, traced, streams, sink),
         Task::Print(table) => print_table(table, streams.output, sink),
         Task::Live(asked) => {
+            let script = script_of(&asked);
             let outcome = run_live(rt, asked, streams, sink);
-            with_file(rt, script_of(asked), outcome)
+            with_file(rt, script, outcome)
         }
     }
 }
 
 // The script of a live session.
-fn script_of<'a>(asked: SessionAsked<'a>) -> Option<&'a str>
-    ensures { result ≡ the_script asked.entry }
+fn script_of<'a>(asked: &SessionAsked<'a>) -> Option<&'a str>
+    ensures { result ≡ the_script asked.now }
 {
     match asked {
         SessionAsked::Connect(asked) => asked.script,

@@ -1,3 +1,4 @@
+//! The items of a stream as lines, and what they make.
 ghost use Rattle.std.specs.Prelude.{◌≡◌, ◌++◌, [], Bool, List, ℕ, true, IfOk, IfErr, OnOk};
 ghost use Rattle.ws_code.specs.Device.{WentOut, FailedWithin};
 ghost use Rattle.ws_record.specs.Grammar.{IsInGrammar};
@@ -9,15 +10,14 @@ ghost use Rattle.ws_program.specs.StreamText.{showing, show_printing, IsShown, A
 ghost use Rattle.ws_program.specs.StreamText.{HasBegunStream, IsNext, IsNextFault};
 ghost use Rattle.ws_text.specs.Printed.{IsPrinted};
 ghost use Rattle.ws_text.specs.Shown.{ShowsElements};
-ghost use Rattle.ws_program.specs.CheckLine.{verdict_by};
-ghost use Rattle.ws_printing.specs.declared.paint.Paint.{Paint as APaint};
-ghost use Rattle.ws_program.specs.Views.{host_view, in_paint};
+ghost use Rattle.ws_printing.specs.CheckLine.{verdict_by};
+ghost use Rattle.ws_printing.specs.declared.look.Look.{Look as ALook};
+ghost use Rattle.ws_program.specs.Views.{host_view, in_look};
 
 use crate::shown::Shown;
-use crate::verdict::{Verdict, verdict_by_fault};
 use std::alloc::Global;
 use ws_code::{Body, Fault, Sink};
-use ws_live::Paint;
+use ws_printing::{Look, Paint, Verdict, verdict_by_fault};
 use ws_record::{Item, Receiver};
 use ws_stream::Commands;
 use ws_text::Output;
@@ -42,10 +42,11 @@ pub fn show_to<S: Sink>(alloc: Global, bytes: &[u8], sink: &mut S) -> Result<boo
         → (items : List (AnItem AnElement)) × IsInGrammar element_rules bytes.now items
         × ShowsElements text items }
 {
-    show_body_to::<Commands, S>(alloc, Paint::Plain, bytes, sink)
+    show_body_to::<Commands, S>(alloc, Look::on_037(Paint::Plain), bytes, sink)
 }
 
-/// Writes the items of a stream, and in a paint what stands behind them: true where the stream is accepted.
+/// Writes the items of a stream, and in a paint and on a page what stands behind them: true where the stream is
+/// accepted.
 ///
 /// Of a host's stream that is the screen that its records make; of a station's nothing. An item is written and then
 /// carried out. Where the stream is refused or ends too early, or an item can't be carried out, the line of a check is
@@ -58,27 +59,28 @@ pub fn show_to<S: Sink>(alloc: Global, bytes: &[u8], sink: &mut S) -> Result<boo
 /// out. The lines that went out begin all of them.
 pub(crate) fn show_body_to<B: Shown, S: Sink>(
     alloc: Global,
-    paint: Paint,
+    look: Look,
     bytes: &[u8],
     sink: &mut S,
 ) -> Result<bool, Fault>
     ensures printed { IsPrinted S.writer sink.old sink.new
-        (show_printing (showing B.rules (in_paint B.view B.Ends paint)) bytes.now) result }
+        (show_printing (showing B.rules (in_look B.view B.Ends look)) bytes.now) result }
     ensures parts_begin { (accepted : Bool) (whole part : List ℕ)
-        → IsShown (showing B.rules (in_paint B.view B.Ends paint)) bytes.now accepted whole
-        → AreFirstLines (showing B.rules (in_paint B.view B.Ends paint)) bytes.now part
+        → IsShown (showing B.rules (in_look B.view B.Ends look)) bytes.now accepted whole
+        → AreFirstLines (showing B.rules (in_look B.view B.Ends look)) bytes.now part
         → (rest : List ℕ) × (whole ≡ part ++ rest) }
 {
     let mut made = B::before_any();
     match show_items::<B, S>(alloc, bytes, &mut made, sink) {
-        Ok(None) => write_end::<B, S>(paint, &made, sink),
+        Ok(None) => write_end::<B, S>(look, &made, sink),
         Ok(Some(verdict)) => verdict.write_to(bytes.len(), sink),
         Err(fault) => verdict_by_fault(fault)?.write_to(bytes.len(), sink),
     }
 }
 
 // Writes the items, and carries them out: the verdict of one that can't be carried out, which is the last. `Refused`
-// and `Truncated` where the stream isn't accepted. In no paint does an item show otherwise.
+// and `Truncated` where the stream isn't accepted. In no paint and on no page does an item show
+// otherwise.
 fn show_items<B: Shown, S: Sink>(
     alloc: Global,
     bytes: &[u8],
@@ -86,14 +88,14 @@ fn show_items<B: Shown, S: Sink>(
     sink: &mut S,
 ) -> Result<Option<Verdict>, Fault>
     requires given { B.makes [] made.old }
-    ensures ok { IfOk result (λ unapplied. (paint : APaint)
+    ensures ok { IfOk result (λ unapplied. (look : ALook)
         → IsThrough (printout S.writer sink.old sink.new)
-        (showing B.rules (in_paint B.view B.Ends paint)) bytes.now (λ text.
-        (items : List (AnItem B.Unit)) → B.makes items made.new → B.Ends paint items text)
+        (showing B.rules (in_look B.view B.Ends look)) bytes.now (λ text.
+        (items : List (AnItem B.Unit)) → B.makes items made.new → B.Ends look items text)
         unapplied) }
-    ensures err { IfErr result (λ fault. (paint : APaint)
+    ensures err { IfErr result (λ fault. (look : ALook)
         → IsStop (printout S.writer sink.old sink.new)
-        (showing B.rules (in_paint B.view B.Ends paint)) bytes.now (verdict_by fault)) }
+        (showing B.rules (in_look B.view B.Ends look)) bytes.now (verdict_by fault)) }
 {
     let mut receiver = Receiver::<B>::new(alloc);
     while let Some((place, item)) = next_item::<B>(&mut receiver, bytes)? {
@@ -140,15 +142,15 @@ fn write_item<B: Shown, S: Sink>(
 }
 
 // Writes what stands behind all items.
-fn write_end<B: Shown, S: Sink>(paint: Paint, made: &B::Made, sink: &mut S) -> Result<bool, Fault>
+fn write_end<B: Shown, S: Sink>(look: Look, made: &B::Made, sink: &mut S) -> Result<bool, Fault>
     ensures ok { IfOk result (λ accepted. (accepted ≡ true) × ((text : List ℕ)
-        × ((items : List (AnItem B.Unit)) → B.makes items made.now → B.Ends paint items text)
+        × ((items : List (AnItem B.Unit)) → B.makes items made.now → B.Ends look items text)
         × WentOut S.writer sink.old sink.new text)) }
     ensures err { IfErr result (λ fault. (fault ≡ Fault.Write) × ((text : List ℕ)
-        × ((items : List (AnItem B.Unit)) → B.makes items made.now → B.Ends paint items text)
+        × ((items : List (AnItem B.Unit)) → B.makes items made.now → B.Ends look items text)
         × FailedWithin S.writer sink.old sink.new text)) }
 {
-    match B::put_end(sink, Output::Open, paint, made) {
+    match B::put_end(sink, Output::Open, look, made) {
         Output::Open => Ok(true),
         Output::Failed => Err(Fault::Write),
     }

@@ -1,14 +1,15 @@
+//! How the items of a body are shown and carried out.
 ghost use Rattle.std.specs.Prelude.{◌≡◌, ◌++◌, ◌∷◌, [], List, ℕ, OnOk};
 ghost use Rattle.ws_record.specs.declared.record.Item.{Item as AnItem};
 ghost use Rattle.ws_screen.specs.Faults.{refusal};
 ghost use Rattle.ws_text.specs.Printing.{Prints};
 ghost use Rattle.ws_program.specs.StreamText.{View, IsWholeItem};
 ghost use Rattle.ws_program.specs.Views.{host_view, answer_view, told_view, IsNoEnd, IsScreenEnd, MakesScreen};
-ghost use Rattle.ws_printing.specs.declared.paint.Paint.{Paint as APaint};
+ghost use Rattle.ws_printing.specs.declared.look.Look.{Look as ALook};
 
 use ws_code::{Body, Reason, Sink};
 use ws_extended::{ExtendedAnswerPart, ExtendedAnswers};
-use ws_printing::{Paint, put_screen};
+use ws_printing::{Look, put_screen};
 use ws_record::Item;
 use ws_screen::Screen;
 use ws_session::apply_record;
@@ -23,8 +24,8 @@ pub(crate) trait Shown: Body {
     // How they are shown.
     ghost view: { View Self.Unit };
 
-    // What stands behind them in a paint.
-    ghost Ends: { APaint → List (AnItem Self.Unit) → List ℕ → Type 0 };
+    // What stands behind them in a paint and on a page.
+    ghost Ends: { ALook → List (AnItem Self.Unit) → List ℕ → Type 0 };
 
     // The items make it.
     ghost makes: { List (AnItem Self.Unit) → Self.Made → Type 0 };
@@ -53,9 +54,9 @@ pub(crate) trait Shown: Body {
             (view.lines place item.now) };
 
     /// Writes what stands behind all items of a stream that is accepted.
-    fn put_end<S: Sink>(sink: &mut S, output: Output, paint: Paint, made: &Self::Made) -> Output
+    fn put_end<S: Sink>(sink: &mut S, output: Output, look: Look, made: &Self::Made) -> Output
         ensures { (text : List ℕ)
-            × ((items : List (AnItem Self.Unit)) → makes items made.now → Ends paint items text)
+            × ((items : List (AnItem Self.Unit)) → makes items made.now → Ends look items text)
             × Prints S.writer sink.old sink.new output result text };
 }
 
@@ -89,8 +90,8 @@ impl Shown for Commands {
         put_item::<S, Element>(sink, output, place, item)
     }
 
-    fn put_end<S: Sink>(sink: &mut S, output: Output, paint: Paint, screen: &Screen) -> Output {
-        put_screen(sink, output, paint, screen)
+    fn put_end<S: Sink>(sink: &mut S, output: Output, look: Look, screen: &Screen) -> Output {
+        put_screen(sink, output, look, screen)
     }
 }
 
@@ -119,7 +120,7 @@ impl Shown for Answers {
         put_item::<S, AnswerPart>(sink, output, place, item)
     }
 
-    fn put_end<S: Sink>(sink: &mut S, output: Output, _paint: Paint, _made: &()) -> Output {
+    fn put_end<S: Sink>(sink: &mut S, output: Output, _look: Look, _made: &()) -> Output {
         put_text(sink, output, "")
     }
 }
@@ -149,7 +150,7 @@ impl Shown for ExtendedAnswers {
         put_item::<S, ExtendedAnswerPart>(sink, output, place, item)
     }
 
-    fn put_end<S: Sink>(sink: &mut S, output: Output, _paint: Paint, _made: &()) -> Output {
+    fn put_end<S: Sink>(sink: &mut S, output: Output, _look: Look, _made: &()) -> Output {
         put_text(sink, output, "")
     }
 }

@@ -1,19 +1,19 @@
 //! Checks of what a source gives, through a buffer, where standard output may have been closed.
 ghost use Rattle.std.specs.Prelude.{◌≡◌, ◌≢◌, ◌⊎◌, [], List, ℕ, None};
 ghost use Rattle.ws_program.specs.Actions.{IsCarriedOut};
-ghost use Rattle.ws_program.specs.Answering.{sender_parts};
-ghost use Rattle.ws_program.specs.Checking.{check_printing};
-ghost use Rattle.ws_program.specs.SourceChecks.{HasRefusalBy, GaveEnough, FailedBefore, command_outcome};
-ghost use Rattle.ws_program.specs.Streams.{openly};
+ghost use Rattle.ws_program.specs.Answering.{HasRefusalBy, sender_parts};
+ghost use Rattle.ws_printing.specs.Checking.{check_printing};
+ghost use Rattle.ws_printing.specs.SourceChecks.{GaveEnough, FailedBefore};
+ghost use Rattle.ws_program.specs.Streams.{command_outcome, openly};
 ghost use Rattle.ws_program.specs.declared.words.command_line.InputAsked.TheVariants.{Check};
 ghost use Rattle.ws_program.specs.declared.words.command_line.StreamForm.TheVariants.{Raw};
 ghost use Rattle.ws_text.specs.Printed.{IsPrinted};
 
-use crate::check::check_from;
 use std::num::NonZeroU16;
 use ws_code::{Fault, Sink, Source};
 use ws_extended::{ExtendedAnswers, ExtendedCommands};
-use ws_live::{BufferedSink, OpenStreams, RunFault, Sender};
+use ws_printing::{BufferedSink, check_from};
+use ws_script::{OpenStreams, RunFault, Sender};
 use ws_stream::{Answers, Commands};
 
 /// Writes the line of a check of what the source gives, as those of a sender, and hands on what the buffer before the

@@ -6,7 +6,7 @@ use crate::hex_text::hex_bytes;
 use crate::recorded::recorded_bytes;
 use crate::words::StreamForm;
 use std::alloc::Global;
-use ws_live::RunFault;
+use ws_script::RunFault;
 
 /// The bytes of a stream: an input's own, which aren't copied, or read from its text.
 #[derive(Drop)]

@@ -10,7 +10,9 @@ ghost use Rattle.ws_program.specs.Tables.{key_line, reason_line, table_text};
 use crate::command_fault::CommandFault;
 use crate::recorded::digit_count;
 use ws_code::{Reason, Sink};
-use ws_live::{BufferedSink, aid_named, hand_on};
+use ws_live::hand_on;
+use ws_printing::BufferedSink;
+use ws_script::aid_named;
 use ws_text::{Bytes, EachAs, Hex, Number, Output, Text, TextAs, texts};
 
 /// A table, or a line of one.

@@ -4,7 +4,7 @@ ghost use Rattle.ws_program.specs.ToldFaults.{IsToldOf};
 
 use crate::words::InputAsked;
 use std::alloc::Global;
-use ws_live::{RunFault, ToldFault, Vocabulary, bad_line};
+use ws_script::{RunFault, ToldFault, Vocabulary, bad_line};
 
 /// What a command came to with this input, with its cause where items as text have a bad line.
 ///

@@ -2,9 +2,12 @@
 mod command_line;
 mod command_parts;
 mod host_words;
+mod identity_words;
 mod input_help;
 mod live_command;
+mod page_words;
 mod table_command;
+mod trace_words;
 
 pub use command_line::{InputAsked, RecordedEnd, StreamForm, Task};
 pub(crate) use command_line::{no_text, read_words};

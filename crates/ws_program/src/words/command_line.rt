@@ -1,4 +1,6 @@
+//! What a command line asks for.
 use crate::file_checks::FileChecks;
+use crate::stream_trace::StreamTrace;
 use crate::tables::Table;
 use crate::words::command_parts::{CommandParts, fault, flag, place};
 use crate::words::input_help::{
@@ -9,12 +11,16 @@ use crate::words::input_help::{
 use crate::words::live_command::{
     COLOR_HELP, connect_asked, connect_command, paint_asked, serve_asked, serve_command,
 };
+use crate::words::page_words::{code_page, page_asked};
 use crate::words::table_command::{keys_command, reasons_asked, reasons_command};
+use crate::words::trace_words::{trace_asked, trace_command};
 use clap::{Arg, ArgAction, ArgMatches, Command, value_parser};
 use std::alloc::{AllocError, Global};
 use std::convert::AsStr;
 use std::num::NonZeroU16;
-use ws_live::{Paint, Sender, SessionAsked};
+use ws_live::SessionAsked;
+use ws_printing::{Look, Paint};
+use ws_script::Sender;
 
 /// What a command line asks for.
 #[derive(Debug, Drop)]
@@ -23,6 +29,8 @@ pub enum Task<'a> {
     Input(InputAsked<'a>),
     /// Checks of several files.
     Files(FileChecks<'a>),
+    /// The dialogue of two streams.
+    Streams(StreamTrace<'a>),
     /// To print a table.
     Print(Table),
     /// A live session.
@@ -58,13 +66,17 @@ pub enum InputAsked<'a> {
         cut: NonZeroU16,
         from: Sender,
     },
-    /// To show the items of such bytes: as a host's commands, with the screen that they make in a paint, or as a
-    /// station's answers.
+    /// To show the items of such bytes: as a host's commands, with the screen that they make in a paint and on a page,
+    /// or as a station's answers.
     Show {
         file: Option<&'a str>,
         form: StreamForm,
         from: Sender,
-        paint: Paint,
+        look: Look,
+    },
+    /// To tell what both ends sent by a recording, in the order of time.
+    Trace {
+        file: Option<&'a str>,
     },
     /// To play a script with both ends, and to tell what happens; with `screen` also the station's screen at the end,
     /// in a paint. With `tcp` their bytes go over a connection.
@@ -89,6 +101,7 @@ impl<'a> InputAsked<'a> {
         match self {
             InputAsked::Check { file, .. }
             | InputAsked::Show { file, .. }
+            | InputAsked::Trace { file }
             | InputAsked::Play { file, .. }
             | InputAsked::Make { file, .. } => file,
         }
@@ -100,6 +113,7 @@ fn program<'a>(alloc: Global) -> Result<Command<'a>, AllocError> {
     CommandParts::of(bare_program(alloc))
         .below(check_command(alloc))
         .below(show_command(alloc))
+        .below(trace_command(alloc))
         .below(play_command(alloc))
         .below(make_command(alloc))
         .below(reasons_command(alloc))
@@ -142,6 +156,7 @@ fn show_command<'a>(alloc: Global) -> CommandParts<'a> {
     .word(flag(alloc, "answers", ANSWERS_HELP))
     .word(flag(alloc, "extended", EXTENDED_HELP))
     .word(flag(alloc, "color", COLOR_HELP))
+    .word(code_page(alloc))
     .word(of(alloc))
     .made_word(raw(alloc))
     .word(place(alloc, "FILE", STREAM_HELP, false))
@@ -236,7 +251,8 @@ pub(crate) fn read_words<'a, S: AsStr>(
     let (name, words) = matches.subcommand().unwrap_or(("", &matches));
     match name {
         "check" => check_asked(alloc, words),
-        "show" => Ok(Task::Input(show_asked(words))),
+        "show" => Ok(Task::Input(show_asked(alloc, words)?)),
+        "trace" => trace_asked(alloc, words),
         "play" => Ok(Task::Input(play_asked(words))),
         "make" => Ok(Task::Input(make_asked(words))),
         "reasons" => Ok(Task::Print(reasons_asked(alloc, words)?)),
@@ -295,13 +311,16 @@ fn sender_asked(words: &ArgMatches<'_>) -> Sender {
     }
 }
 
-fn show_asked<'a>(words: &ArgMatches<'a>) -> InputAsked<'a> {
-    InputAsked::Show {
+fn show_asked<'a>(alloc: Global, words: &ArgMatches<'a>) -> Result<InputAsked<'a>, clap::Error> {
+    Ok(InputAsked::Show {
         file: words.get_str("FILE"),
         form: form_asked(words),
         from: sender_asked(words),
-        paint: paint_asked(words),
-    }
+        look: Look {
+            paint: paint_asked(words),
+            page: page_asked(alloc, words, show_command(alloc), "t5250 show")?,
+        },
+    })
 }
 
 fn play_asked<'a>(words: &ArgMatches<'a>) -> InputAsked<'a> {

@@ -1,3 +1,4 @@
+//! A command to which parts are added one by one.
 use clap::error::ErrorKind;
 use clap::{Arg, ArgAction, Command};
 use std::alloc::{AllocError, Global};

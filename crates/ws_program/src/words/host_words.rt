@@ -1,6 +1,6 @@
 //! The words of `connect` and `serve` that name a host, a port and a script.
 use std::alloc::{AllocError, Global};
-use ws_live::{HostPort, host_and_port, listening_address};
+use ws_script::{HostPort, host_and_port, listening_address};
 
 /// A word that can't stand where it does.
 #[derive(Clone, Copy)]
@@ -92,6 +92,7 @@ fn no_port_in<'a>(word: &'a str, wrong: WrongWord<'a>) -> WrongWord<'a> {
     WrongWord::NoPort(port)
 }
 
-fn is_digits(word: &str) -> bool {
+/// Whether it is a number of digits alone.
+pub(crate) fn is_digits(word: &str) -> bool {
     !word.is_empty() && word.bytes().all(|byte| byte.is_ascii_digit())
 }

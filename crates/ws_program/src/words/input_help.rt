@@ -67,6 +67,32 @@ Examples:
   t5250 show --answers --extended examples/live-station.hex
   echo 000A12A0000004000001FFEF | t5250 show";
 
+pub(crate) const TRACE_EXAMPLES: &str = "\
+Each item of either end is printed as by `show --extended`, after the seconds
+since the first piece and the name of the end that sent it:
+  +0.023 host at 232 record flags 0000 opcode 3
+An item stands where its last byte came; its place is that byte's, from 0, in
+what its end sent. A refusal has a sentence, and eight bytes before the refused
+one and from it on:
+  +0.030 host refused at 277: reason 30 StructuredField
+    30: structured fields aren't part of the profile
+    bytes 0000000403040411 F30005D97000FFEF
+After it all up to the end of its record is passed over, but for Telnet
+commands, and the next record is read. The last lines are of this form:
+  host: 278 bytes, 3 records, 1 refused, truncated
+
+With --host FILE, --station FILE or both it reads what these ends sent: hex
+text, as examples/from_capture.sh makes it of a capture, or with --raw bytes. An
+end without a FILE sent nothing. The host's items are the first, without times:
+  host at 232 record flags 0000 opcode 3
+
+The status is 1 where anything is refused, or a stream ends too early.
+
+Examples:
+  t5250 trace examples/inquiry.recording
+  t5250 trace --host examples/inquiry.hex --station examples/inquiry-answers.hex
+  t5250 make --raw examples/inquiry.show | t5250 trace --raw --host /dev/stdin";
+
 pub(crate) const PLAY_EXAMPLES: &str = "\
 A script has a line for each move, and is read before anything is run:
   send K HEX   the host end sends a record of opcode K; HEX may be absent
@@ -130,6 +156,13 @@ pub(crate) const SCREEN_HELP: &str = "Prints the station's screen at the end";
 
 pub(crate) const TCP_HELP: &str =
     "Carries the bytes over a TCP connection on 127.0.0.1; what is printed stays the same";
+
+pub(crate) const RECORDING_HELP: &str =
+    "A recording; where no FILE is named, standard input is read";
+
+pub(crate) const HOST_STREAM_HELP: &str = "What the host sent, as hex text";
+
+pub(crate) const STATION_STREAM_HELP: &str = "What the station sent, as hex text";
 
 pub(crate) const SCRIPT_HELP: &str = "A script; without it, standard input is read";
 

@@ -1,110 +1,13 @@
+//! The words of `connect` and `serve`.
 use crate::words::command_parts::{CommandParts, fault, flag, place};
 use crate::words::host_words::{address_to_listen, host_and_script};
+use crate::words::identity_words::{code_page, device, identity_asked, keyboard};
 use clap::{Arg, ArgAction, ArgMatches, value_parser};
 use std::alloc::{AllocError, Global};
-use ws_live::{AfterUnwell, ConnectAsked, LineSettings, Paint, ServeAsked};
+use ws_live::{AfterUnwell, ConnectAsked, LineSettings, ServeAsked};
 use ws_nego::TerminalType;
-
-const CONNECT_EXAMPLES: &str = "\
-A script has a line for each step, and is read before anything is sent. Without
-one a line of standard input is carried out before the next is read:
-  type TEXT    keys for the characters; insert TEXT inserts them
-  key NAME     a key, such as Enter, F3, FieldExit or Tab
-  cursor R C   the cursor goes to that cell; newline goes to a row below
-  field N TEXT the cursor goes to field N, as fields counts, and fills it
-  erase        empties the field from the cursor on
-  await        goes on until the keyboard is unlocked
-  await record, await text TEXT, await at R C TEXT
-               until one more record was applied, a row shows TEXT, or it begins
-               at that cell
-  await quiet MS
-               until nothing has come for MS milliseconds, at most 3600000
-  show         prints the screen; show R C LENGTH the text of so many cells
-  fields       prints each field: field ROW COLUMN LENGTH FORMAT TEXT
-  cells R      prints a row's bytes and attributes
-  status       prints `status unlocked ready 6 53 field 1 records 3 bytes 128`
-  note TEXT    prints TEXT
-Those that show something first take what has come.
-
-A bad line is `bad line: CAUSE` with --ready; else it ends the session, as a
-script with one does, by `script line N: CAUSE`.
-
-A refused key is told as `key refused REASON`, after it a character that it
-enters. A wait that runs out prints `late`; one whose host has closed prints
-`ended`. The first such line ends the session of a SCRIPT, with status 1; on
-standard input the session goes on. --stop and --go-on change that.
-`station refused at P: reason K NAME` is the last line.
-
-With --record, FILE has a line `MILLISECONDS host|station HEX` for each piece
-that crossed the connection. It holds what was typed into hidden fields,
-passwords too, so none but its owner can read it.
-
-It takes what live hosts send in addition to the profile, such as Query:
-`key Reset` takes an error away that a host shows, and until then `await` goes
-on too, and `show` ends with `error row R`. With --strict it refuses all that,
-and there is no `key Reset`.
-
-Exit status:
-  0  every line was carried out, none was late or ended, nothing was refused
-  1  one was, or bad, or the station refused a byte
-  2  a fault, told in one line on standard error
-
-Examples:
-  t5250 connect --strict 127.0.0.1:5250 examples/inquiry.connect
-  t5250 connect --color --wait 5 '[::1]:5250' < examples/inquiry.connect
-  t5250 connect 127.0.0.1:5250 examples/live-host.connect
-  t5250 connect --ready --terminal IBM-5251-11 127.0.0.1:5250";
-
-const SERVE_EXAMPLES: &str = "\
-It prints `listening ADDRESS`, and takes one connection. Port 0 takes a free
-port. A script has a line for each step, and is read before anything is sent.
-Without one a line of standard input is carried out before the next is read:
-  send K HEX   sends a record of opcode K, with the body HEX
-  send K       sends one without a body, or with the elements of the lines
-               after it, as `show` prints them and `make` reads them:
-    WRITE 00 08
-    TEXT Sign On
-  cancel       cancels the read that is asked
-  await        goes on until the station has told something, and prints it
-               as `play` does
-  await answer, await KEY
-               until it has answered, or answered by that key, such as F3
-  show         prints the screen that the host keeps
-  raw HEX      writes these bytes as they are
-  telnet WORDS writes a Telnet command, as `make` reads it: telnet DO 39
-  pause MS     lets MS milliseconds go by, at most 3600000
-  close        closes the connection; no line is carried out after it
-  end          ends the lines of a `send K`
-
-On standard input `send K` is carried out when the next line comes that doesn't
-begin with two blanks; `end` or an empty one belongs to it, and has no `ok` of
-its own. Bad lines are told as connect tells them.
-
-A refused send is told as `send refused REASON`. A wait that runs out prints
-`late`; one whose station has closed prints `ended`. The first such line ends
-the session of a SCRIPT, with status 1; on standard input the session goes on.
---stop and --go-on change that. `host refused at P: reason K NAME` is the last
-line. After the last line of a script, unless a line ended the session, it
-answers on until the station closes, or the wait is over.
-
-With --record, FILE has a line `MILLISECONDS host|station HEX` for each piece
-that crossed the connection. It holds what was typed into hidden fields,
-passwords too, so none but its owner can read it.
-
-With --sessions it serves so many stations one after another, each by the script
-from its first line on, with a line `session N` between them.
-
-With --any, for tests of emulators, it judges no terminal name and no record. It
-prints `terminal NAME` and `record flags FFFF opcode K HEX`; `send K` takes any
-bytes, and the elements of live hosts; `await KEY` goes on until a record by
-that key; there is no `cancel`, `await answer` or `show`.
-
-Exit status: as of connect.
-
-Examples:
-  t5250 serve 127.0.0.1:5250 examples/inquiry.serve
-  t5250 serve --ready --wait 5 '[::1]:0'
-  t5250 serve --any 127.0.0.1:5250 examples/live-host.serve";
+use ws_network::{CONNECT_HELP, SERVE_HELP};
+use ws_printing::Paint;
 
 // What help says of the words of a command.
 /// Of the flag for screens in colour.
@@ -143,12 +46,15 @@ pub(crate) fn connect_command<'a>(alloc: Global) -> CommandParts<'a> {
         alloc,
         "connect",
         "Is a station at a host, by a script or line by line",
-        CONNECT_EXAMPLES,
+        CONNECT_HELP,
     )
     .word(flag(alloc, "color", COLOR_HELP))
     .word(flag(alloc, "strict", STRICT_HELP))
     .word(flag(alloc, "extended", EXTENDED_HELP))
     .word(terminal(alloc))
+    .made_word(device(alloc))
+    .made_word(keyboard(alloc))
+    .made_word(code_page(alloc))
     .word(place(alloc, "HOST[:PORT]", HOST_HELP, true))
     .word(place(alloc, "PORT", PORT_HELP, false));
     with_script(alloc, connect)
@@ -159,7 +65,7 @@ pub(crate) fn serve_command<'a>(alloc: Global) -> CommandParts<'a> {
         alloc,
         "serve",
         "Is a host for one station, by a script or line by line",
-        SERVE_EXAMPLES,
+        SERVE_HELP,
     );
     with_script(
         alloc,
@@ -234,8 +140,8 @@ fn wait<'a>(alloc: Global) -> Arg<'a> {
 ///
 /// # Errors
 ///
-/// Of the kind `InvalidValue` where no host is named so, or no terminal has the name; `OutOfMemory` where a growth for
-/// it was refused.
+/// Of the kind `InvalidValue` where no host is named so, or no device, keyboard, code page or terminal; `OutOfMemory`
+/// where a growth for it was refused.
 pub(crate) fn connect_asked<'a>(
     alloc: Global,
     words: &ArgMatches<'a>,
@@ -246,12 +152,17 @@ pub(crate) fn connect_asked<'a>(
         Ok(named) => named,
         Err(wrong) => return Err(connect_fault(alloc, wrong.told(alloc))),
     };
+    let identity = match identity_asked(words) {
+        Ok(identity) => identity,
+        Err(wrong) => return Err(connect_fault(alloc, wrong.told(alloc))),
+    };
     Ok(ConnectAsked {
         host,
         terminal: terminal_asked(alloc, words)?,
         wait: seconds(words),
         settings: settings_asked(words, paint_asked(words), script),
         extended: !words.get_flag("strict"),
+        identity,
         record: words.get_str("record"),
         script,
     })

@@ -3,6 +3,9 @@ use Rattle.ws_program.proofs.program.answer.Goals as goal
 pub returns-in-Show : goal.returns-in-Show
 returns-in-Show g c = rw c.in-Show.is c.show_input.ensures
 
+pub returns-in-Trace : goal.returns-in-Trace
+returns-in-Trace g c = rw c.in-Trace.is c.trace_recording.ensures
+
 pub returns-then-tcp : goal.returns-then-tcp
 returns-then-tcp g c = rw (c.in-Play.is, c.if-tcp.true) c.play_script_by_tcp.ensures
 

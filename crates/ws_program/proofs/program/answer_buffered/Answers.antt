@@ -1,6 +1,6 @@
 use Rattle.std.proofs.Common.{ap}
 use Rattle.ws_printing.specs.Buffering.{Buffering}
-use Rattle.ws_live.specs.declared.asked.fault.RunFault.TheVariants.{Write}
+use Rattle.ws_script.specs.declared.asked.fault.RunFault.TheVariants.{Write}
 use Rattle.ws_program.specs.Answering.{answer_action}
 use Rattle.ws_program.proofs.Buffers.{carried_flushed, carried_unflushed}
 use Rattle.ws_program.proofs.Printings.{answer_cut}

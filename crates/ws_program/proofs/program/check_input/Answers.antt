@@ -1,7 +1,7 @@
 use Rattle.std.specs.Prelude.{Ok, Err}
 use Rattle.std.proofs.lemmas.Result.{err_from_is_err_and}
 use Rattle.ws_program.specs.Answering.{sender_parts}
-use Rattle.ws_program.specs.Checking.{check_printing}
+use Rattle.ws_printing.specs.Checking.{check_printing}
 use Rattle.ws_program.specs.StreamBytes.{held_bytes}
 use Rattle.ws_program.proofs.Printings.{bytes_printed}
 use Rattle.ws_program.proofs.program.check_input.Goals as goal

@@ -1,7 +1,7 @@
 use Rattle.std.proofs.Common.{inl, inr, refl, ap, ◌∙◌}
 use Rattle.std.proofs.lemmas.Result.{err_from_is_err_and}
-use Rattle.ws_live.specs.asked.RunFaults.{run_fault}
-use Rattle.ws_live.specs.declared.asked.fault.RunFault.TheVariants.{Memory, Write}
+use Rattle.ws_script.specs.asked.RunFaults.{run_fault}
+use Rattle.ws_script.specs.declared.asked.fault.RunFault.TheVariants.{Memory, Write}
 use Rattle.ws_program.specs.Answering.{play_action}
 use Rattle.ws_program.proofs.Plays.{carried_err, session_text, session_well, unread_script}
 use Rattle.ws_program.proofs.program.play_script.Goals as goal

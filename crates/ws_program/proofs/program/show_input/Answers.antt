@@ -11,13 +11,13 @@ returns-in_err-show_sent g c =
     let p = err_from_is_err_and c.from_residual-in_err-show_sent.result c.from_residual-in_err-show_sent.ensures.1 in
     rw (p.1, p.2) (bytes_printed g.S.Sink.writer c.args.sink.now c.show_sent.new.sink c.args.form
     (show_printing (showing (sender_parts c.args.from).rules
-    ((sender_parts c.args.from).view c.args.paint))) c.args.input.now
+    ((sender_parts c.args.from).view c.args.look))) c.args.input.now
     (held_bytes c.in_ok-bytes.bytes) c.as_slice.result.now c.in_ok-bytes.ensures.ok c.as_slice.ensures
     (Err c.in_err-show_sent.field-0.0) c.in_err-show_sent.ensures)
 
 pub returns : goal.returns
 returns g c = bytes_printed g.S.Sink.writer c.args.sink.now c.show_sent.new.sink c.args.form
     (show_printing (showing (sender_parts c.args.from).rules
-    ((sender_parts c.args.from).view c.args.paint))) c.args.input.now
+    ((sender_parts c.args.from).view c.args.look))) c.args.input.now
     (held_bytes c.in_ok-bytes.bytes) c.as_slice.result.now c.in_ok-bytes.ensures.ok c.as_slice.ensures
     (Ok c.in_ok-show_sent.field-0) c.in_ok-show_sent.ensures

@@ -1,7 +1,7 @@
 use Rattle.std.specs.Prelude.{Bool, Result, Ok, Err, IfOk, IfErr}
 use Rattle.std.proofs.Common.{refl, inl, inr}
 use Rattle.std.proofs.lemmas.Result.{err_from_is_err_and}
-use Rattle.ws_live.specs.declared.asked.open_streams.OpenStreams.{OpenStreams}
+use Rattle.ws_script.specs.declared.asked.open_streams.OpenStreams.{OpenStreams}
 use Rattle.ws_printing.specs.Printouts.{Printout, printout}
 use Rattle.ws_program.specs.Runs.{HasRunTask, IsFaultOfRun, IsFaultOfTask}
 use Rattle.ws_program.specs.declared.command_fault.CommandFault.{CommandFault}

@@ -39,4 +39,4 @@ pub returns-in-Live-clause-fault : goal.returns-in-Live-clause-fault
 returns-in-Live-clause-fault g c = rw c.in-Live.is (fault_with
     (IsToldOfFile (option_map (λ name. name.now) (script_of c.in-Live.asked))) _
     (λ why lack. (c.run_live-outcome.ensures.closed why lack).1) c.run_live-outcome.result c.with_file.result
-    (rw c.script_of.ensures at c.with_file.ensures.fault))
+    (rw c.script_of-script.ensures at c.with_file.ensures.fault))

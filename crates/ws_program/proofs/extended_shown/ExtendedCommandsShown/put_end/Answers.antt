@@ -16,8 +16,8 @@ returns g c =
       (λ items makes. (
         display,
         makes.0,
-        display_text c.args.paint display.screen behind e.0
-            (subst (λ (s : ScreenParts). IsScreenText c.args.paint s e.0) c.screen.ensures e.1),
+        display_text c.args.look display.screen behind e.0
+            (subst (λ (s : ScreenParts). IsScreenText c.args.look s e.0) c.screen.ensures e.1),
       )),
       prints_both e.2 (prints_same (ap error_line c.standing_row.ensures) c.put_error_row.ensures),
     )
