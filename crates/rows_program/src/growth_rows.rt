@@ -7,9 +7,9 @@ use std::process::Abort;
 use ws_any_host::{AnyEvent, AnyHost};
 use ws_code::{List, Reason, VecSink};
 use ws_keys::{HostFault, split_answer};
-use ws_live::{RunFault, Sender};
 use ws_program::{InputAsked, answer};
 use ws_record::{Opcode, Record};
+use ws_script::{RunFault, Sender};
 use ws_session::{Refusal, SendFault};
 
 // Splits `bob`'s answer, at the second time where memory was wanted. Want of memory hides no answer that doesn't fit.

@@ -8,13 +8,13 @@ use std::alloc::Global;
 use std::process::Abort;
 use ws_code::{Address, Aid, DataByte, Fault, Ffw, List, SliceSource, VecSink, WriteSink};
 use ws_keys::{HostAnswer, HostFault, Key};
-use ws_live::{ScriptFault, read_script};
 use ws_nego::TerminalType;
 use ws_program::{TextFault, check_to, hex_bytes, show_to};
 use ws_record::{
     EncodeFault, Item, Live, Opcode, Receiver, Record, Step, decode_all, decode_from, encode,
     encode_to,
 };
+use ws_script::{ScriptFault, read_script};
 use ws_session::{
     Event, HostEnd, HostEvent, Move, Refusal, SendFault, Station, World, run_station, write_answer,
 };

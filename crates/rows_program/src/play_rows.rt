@@ -5,8 +5,8 @@ use std::alloc::Global;
 use std::process::Abort;
 use ws_code::{FailingSink, Fault, List, Reason, VecSink};
 use ws_keys::KeyRefusal;
-use ws_live::{Paint, play_to};
 use ws_nego::TerminalType;
+use ws_printing::{Paint, play_to};
 use ws_program::{InputAsked, answer, status};
 use ws_session::{Event, HostEnd, KeyFault, Report, SendFault, Station};
 

@@ -1,9 +1,9 @@
 //! What a check prints of a stream, whole and in pieces, also of a source that fails; and the texts of faults.
 use crate::{same, same_at, same_bytes, says};
 use ws_code::{FailingSink, FailingSource, Fault, Reason, SliceSource, VecSink};
-use ws_live::RunFault;
 use ws_program::{check_from, check_to};
 use ws_record::RawBody;
+use ws_script::RunFault;
 use ws_stream::{Answers, Commands};
 
 const FAULTS: [(Fault, &str); 6] = [

@@ -5,11 +5,11 @@ use std::alloc::Global;
 use std::net::{Net, TcpListener, TcpStream};
 use std::process::Abort;
 use ws_code::VecSink;
-use ws_live::read_script;
 use ws_nego::TerminalType;
 use ws_network::play_tcp;
 use ws_program::{TextFault, check_to, hex_bytes, show_to};
 use ws_record::{Opcode, write_record};
+use ws_script::read_script;
 use ws_stream::Commands;
 
 // Where there is memory enough, no call answers want of it: at each size up to 300, and about those at which

@@ -7,9 +7,10 @@ use std::io;
 use std::net::{Net, Shutdown, SocketAddr, TcpListener, TcpStream};
 use std::process::Abort;
 use ws_code::{Fault, VecSink};
-use ws_live::{RunFault, play_to, read_script};
 use ws_nego::TerminalType;
 use ws_network::{TcpFault, play_tcp};
+use ws_printing::play_to;
+use ws_script::{RunFault, read_script};
 use ws_session::{Move, Report, World};
 
 const TERMINAL: TerminalType = TerminalType::Ibm3179Model2;

@@ -5,9 +5,9 @@ use std::alloc::Global;
 use std::process::Abort;
 use ws_code::{Aid, VecSink};
 use ws_keys::{HostAnswer, Key};
-use ws_live::read_script;
 use ws_nego::TerminalType;
 use ws_record::{Opcode, read_body, write_record};
+use ws_script::read_script;
 use ws_session::{HostEnd, HostEvent, Move, Refusal, Station};
 use ws_stream::Commands;
 

@@ -1,5 +1,5 @@
-//! Rows of live sessions at a station, over devices in memory: what `carry_lines` prints of their lines, whether all went
-//! well, and how many waits have begun. The program carries lines out one by one.
+//! Rows of live sessions at a station, over devices in memory: what `carry_lines` prints of their lines, whether all
+//! went well, and how many waits have begun.
 ghost use Rattle.std.specs.Prelude.{◌≡◌, false};
 ghost use Rattle.ws_live.specs.live.Watches.{watch_tells, watch_times};
 
@@ -9,10 +9,9 @@ use std::alloc::Global;
 use std::process::Abort;
 use ws_code::{FailingSource, VecSink};
 use ws_keys::Key;
-use ws_live::{
-    AfterUnwell, BufferedSink, LineSettings, LiveMove, Paint, StationLine, WaitSpan, Watch,
-    carry_lines, read_lines,
-};
+use ws_live::{AfterUnwell, LineSettings, LiveMove, LiveSession, WaitSpan, Watch, carry_lines};
+use ws_printing::{BufferedSink, Paint};
+use ws_script::{StationLine, read_lines};
 use ws_session::{Attached, Station};
 
 // A watch that counts, and says of each failed read whether it was late, and whether nothing had come.
@@ -24,9 +23,12 @@ struct Counter {
 }
 
 impl<S> Watch<S> for Counter {
-    ghost times = { watch_times (λ from source span to. Unit {0}) (λ counter. counter.begun) };
+    ghost times = { watch_times (λ from to. Unit {0}) (λ from source span to. Unit {0})
+        (λ counter. counter.begun) };
 
     ghost tells = { watch_tells (λ source late. Unit {0}) (λ source quiet. Unit {0}) };
+
+    fn end_waits(&mut self) {}
 
     fn begin(&mut self, _source: &S, _span: WaitSpan) {
         self.begun = self.begun.saturating_add(1);
@@ -55,25 +57,17 @@ struct Came {
 // came of them.
 fn carried<R: Abort + AllocGlobal, E, S, K, L: LiveMove<E, S, K>>(
     rt: &R,
-    attached: &mut Attached<E, S, K>,
+    session: &mut LiveSession<E, S, K, Counter>,
     after: AfterUnwell,
     script: &str,
     printed: &str,
 ) -> Came
-    requires works { attached.old.broken ≡ false }
+    requires works { session.old.attached.broken ≡ false }
 {
     let lines = read_lines::<L>(rt.alloc(), script.as_bytes()).expect(rt, "a script");
-    let mut watch = Counter {
-        begun: 0,
-        late: true,
-        quiet: false,
-    };
-    let mut ahead = 0;
     let mut out = BufferedSink::new(VecSink::new(rt.alloc()));
     let ran = carry_lines(
-        attached,
-        &mut ahead,
-        &mut watch,
+        session,
         lines.as_slice(),
         LineSettings {
             ready: true,
@@ -87,7 +81,7 @@ fn carried<R: Abort + AllocGlobal, E, S, K, L: LiveMove<E, S, K>>(
         Ok(ran) => Came {
             all_well: ran.all_well,
             is_over: ran.is_over,
-            waits: watch.begun,
+            waits: session.watch.begun,
         },
         Err(fault) => panic!(rt; "{fault:?}"),
     }
@@ -130,7 +124,7 @@ const STATIONS: [(AfterUnwell, &str, &str, Came); 6] = [
     (
         AfterUnwell::GoOn,
         "fields\nnote A\nawait record\nawait record\n",
-        "field 6 53 10 4000\nok\nA\nok\nok\nlate\nok\n",
+        "field 6 53 10 4000\nok\nA\nok\nok\nlate (line 4)\nok\n",
         Came {
             all_well: false,
             is_over: false,
@@ -140,7 +134,7 @@ const STATIONS: [(AfterUnwell, &str, &str, Came); 6] = [
     (
         AfterUnwell::GoOn,
         "await\ntype A\nawait text A\nkey Dup\n",
-        "ok\nok\nok\nkey refused DupNotAllowed\nok\n",
+        "ok\nok\nok\nkey refused DupNotAllowed (line 4)\nok\n",
         Came {
             all_well: false,
             is_over: false,
@@ -150,7 +144,7 @@ const STATIONS: [(AfterUnwell, &str, &str, Came); 6] = [
     (
         AfterUnwell::Stop,
         "await record\nawait record\nnote A\n",
-        "ok\nlate\nok\n",
+        "ok\nlate (line 2)\nok\n",
         Came {
             all_well: false,
             is_over: true,
@@ -160,7 +154,7 @@ const STATIONS: [(AfterUnwell, &str, &str, Came); 6] = [
     (
         AfterUnwell::Stop,
         "await\nkey Dup\nkey Enter\n",
-        "ok\nkey refused DupNotAllowed\nok\n",
+        "ok\nkey refused DupNotAllowed (line 2)\nok\n",
         Came {
             all_well: false,
             is_over: true,
@@ -172,10 +166,15 @@ const STATIONS: [(AfterUnwell, &str, &str, Came); 6] = [
 #[test]
 fn lines_at_a_station(rt: HostRuntime) {
     for (after, script, printed, wanted) in &STATIONS {
-        let mut attached = station_given(rt.alloc(), OPENING_AND_BOB);
+        let watch = Counter {
+            begun: 0,
+            late: true,
+            quiet: false,
+        };
+        let attached = station_given(rt.alloc(), OPENING_AND_BOB);
         let came = carried::<HostRuntime, _, _, _, StationLine<Key>>(
             &rt,
-            &mut attached,
+            &mut LiveSession::new(attached, watch),
             *after,
             script,
             printed,

@@ -5,7 +5,7 @@ use std::alloc::Global;
 use std::process::Abort;
 use ws_code::Aid;
 use ws_keys::Key;
-use ws_live::{ScriptFault, read_script};
+use ws_script::{ScriptFault, read_script};
 use ws_session::Move;
 
 // Scripts, and their first bad line.

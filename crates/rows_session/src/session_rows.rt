@@ -6,8 +6,8 @@ use crate::same;
 use std::alloc::Global;
 use std::process::Abort;
 use ws_code::Address;
-use ws_live::read_script;
 use ws_nego::TerminalType;
+use ws_script::read_script;
 use ws_session::{Event, HostEvent, Move, Report, World};
 
 // `play-bob`: a form with a field of ten cells at 6, 53 and a read. B, O, B and Enter answer it.

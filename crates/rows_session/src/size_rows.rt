@@ -6,9 +6,9 @@ use std::alloc::Global;
 use std::process::Abort;
 use ws_code::{Address, List, Reason};
 use ws_keys::HostFault;
-use ws_live::read_script;
 use ws_nego::TerminalType;
 use ws_record::{Item, Opcode, decode_all, read_body};
+use ws_script::read_script;
 use ws_session::{Event, HostEnd, HostEvent, Move, Refusal, Report, World};
 use ws_stream::{Answers, Commands};
 
