@@ -43,8 +43,13 @@ class Session:
         return self.packet("station", PUSH, data, captured)
 
 
+def time_of(number: int) -> int:
+    """When a capture's packet was taken, in microseconds since 1970."""
+    return 1_700_000_000_000_000 + number * 334_500
+
+
 def write_capture(path: str, packets: list[bytes]) -> None:
     with open(path, "wb") as file:
         file.write(struct.pack("<IHHiIII", 0xA1B2C3D4, 2, 4, 0, 0, 65535, RAW_IP))
-        for second, packet in enumerate(packets):
-            file.write(struct.pack("<IIII", second, 0, len(packet), len(packet)) + packet)
+        for number, packet in enumerate(packets):
+            file.write(struct.pack("<IIII", *divmod(time_of(number), 1_000_000), len(packet), len(packet)) + packet)

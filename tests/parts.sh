@@ -4,7 +4,7 @@
 # A part ends with a line `N passed, N failed`; one without counts as one, by its status. What a part leaves out for
 # want of a tool or of time, it tells on a line that begins with `left out: `.
 folder=$(mktemp -d) || exit 2
-trap 'rm -rf "$folder"' EXIT
+trap 'kill ${beside_process:-} 2>/dev/null; rm -rf "$folder"' EXIT
 passed=0
 failed=0
 
@@ -28,8 +28,41 @@ part() {
     echo "== $name"
     timeout "${minutes}m" "$@" </dev/null 2>&1 | tee "$folder/text"
     status=$?
-    grep '^left out: ' "$folder/text" >>"$folder/left_out"
-    if [[ $(tail -n 1 "$folder/text") =~ ^([0-9]+)\ passed,\ ([0-9]+)\ failed$ ]]; then
+    count "$name" $status "$folder/text"
+    echo "== $name took $((SECONDS - begun)) seconds"
+    processor_seconds
+    [ -z "${kind:-}" ] || took "$kind" $((used - spent)) $((SECONDS - begun))
+}
+
+# begin_beside NAME MINUTES COMMAND..: a part that runs beside those that come, one at a time. Its processor seconds are
+# those of no other part, since they count once it has ended.
+begin_beside() {
+    beside=$1
+    local minutes=$2
+    shift 2
+    echo "== $beside begins, beside what comes"
+    timeout "${minutes}m" "$@" </dev/null >"$folder/beside" 2>&1 &
+    beside_process=$!
+    beside_begun=$SECONDS
+}
+
+# Waits for it, and tells what it printed.
+end_beside() {
+    local status
+    wait "$beside_process"
+    status=$?
+    beside_process=
+    echo "== $beside"
+    cat "$folder/beside"
+    count "$beside" $status "$folder/beside"
+    echo "== $beside ended after $((SECONDS - beside_begun)) seconds"
+}
+
+# count NAME STATUS TEXT: adds up what a part's text says at its end.
+count() {
+    local name=$1 status=$2 text=$3
+    grep '^left out: ' "$text" >>"$folder/left_out"
+    if [[ $(tail -n 1 "$text") =~ ^([0-9]+)\ passed,\ ([0-9]+)\ failed$ ]]; then
         passed=$((passed + BASH_REMATCH[1]))
         failed=$((failed + BASH_REMATCH[2]))
         if [ $status -ne 0 ] && [ "${BASH_REMATCH[2]}" -eq 0 ]; then
@@ -42,9 +75,6 @@ part() {
         echo "$name ended with status $status"
         failed=$((failed + 1))
     fi
-    echo "== $name took $((SECONDS - begun)) seconds"
-    processor_seconds
-    [ -z "${kind:-}" ] || took "$kind" $((used - spent)) $((SECONDS - begun))
 }
 
 # left_out TEXT: what the script itself leaves out.

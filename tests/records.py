@@ -20,6 +20,9 @@ def negotiation(name: bytes = b"IBM-3179-2") -> list[tuple[bytes, bytes]]:
     return [(OPENING, bytes([IAC, WILL, TERMINAL])), (SEND_NAME, is_name(name)), *OPTIONS]
 
 
+# What a station answers to a record that it refuses for a command, and for another reason (SC30-3533, negative responses).
+OF_COMMAND, OF_OTHER = (bytes.fromhex("000E12A0000004800000" + sense + "FFEF") for sense in ("10030101", "10050121"))
+
 ASKED, ANSWERED = (b"".join(tokens) for tokens in zip(*negotiation()))
 
 

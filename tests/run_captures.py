@@ -1,8 +1,8 @@
 #!/usr/bin/env python3
-"""Runs examples/from_capture.sh on packet captures that it makes, and looks at the two sides that it writes.
+"""Runs examples/from_capture.sh on packet captures that it makes, and looks at the two sides and the recording of both.
 
-Call it from anywhere: `python3 tests/run_captures.py [NAME..]`. It needs tshark, and says so where there is none. Its last
-line counts the captures, and its own status is 1 where one went otherwise.
+Call it from anywhere: `python3 tests/run_captures.py [PROGRAM] [NAME..]`. It needs tshark, and says so where there is none.
+Its last line counts the captures, and its own status is 1 where one went otherwise.
 """
 import os
 import re
@@ -10,13 +10,14 @@ import shutil
 import subprocess
 import unittest
 
-from counted import TOP, Test, main
-from packets import ACK, SYN, Session, write_capture
+from counted import PROGRAM, TOP, Test, main
+from packets import ACK, SYN, Session, time_of, write_capture
 from records import negotiation, record
 
 SCRIPT = str(TOP / "examples/from_capture.sh")
 (DO, WILL), (SEND, _), *_ = negotiation()
 INVITE, ANSWER = record(opcode=1), record("110531")
+ALL_BYTES = bytes(range(256))
 
 
 def out_of_order():
@@ -73,13 +74,39 @@ CAPTURES = {
     "by its records": (two_sessions(web(), sign_on(Session().open())), [], DO + SEND + INVITE, WILL + ANSWER, 0),
     "at a port of another protocol": (at_a_web_port(), [], DO + SEND + INVITE, WILL + ANSWER, 0),
     "without records": (Session().open().host(DO).station(WILL), ["0"], DO, WILL, 0),
+    "without bytes": (Session().open(), ["0"], b"", b"", 0),
+    "with long packets": (
+        Session().open().host(ALL_BYTES).station(200 * ALL_BYTES), ["0"], ALL_BYTES, 200 * ALL_BYTES, 0
+    ),
 }
+
+# What the recording of a capture holds, each piece with the number of the packet whose time it has.
+RECORDED = {
+    "whole": [(3, "host", DO), (4, "station", WILL), (5, "host", SEND + INVITE), (6, "station", ANSWER)],
+    # INVITE came before SEND, and can't be read before it.
+    "out of order": [(3, "host", DO), (4, "station", WILL), (6, "host", SEND), (6, "host", INVITE)],
+    "lacks some of the host's": [(3, "host", DO), (4, "station", WILL), (6, "station", ANSWER)],
+    "lacks some of the station's": [(3, "host", DO), (4, "host", SEND), (6, "host", INVITE)],
+}
+
+# What `t5250 trace` tells of the whole one's recording.
+TOLD = """\
++0.000 host at 2 telnet DO 24
++0.334 station at 2 telnet WILL 24
++0.669 host at 8 telnet SB 24 01
++0.669 host at 20 record flags 0000 opcode 1
++1.003 station at 17 record flags 0000 opcode 3
+  HEAD 17 5 31
+host: 21 bytes, 1 records, 0 refused
+station: 18 bytes, 1 records, 0 refused
+"""
 
 
 @unittest.skipUnless(shutil.which("tshark"), "tshark isn't there")
 class TestCaptures(Test):
-    def run_script(self, *words):
-        done = subprocess.run(["bash", SCRIPT, *words], cwd=self.folder, capture_output=True, text=True, timeout=300)
+    def run_script(self, *words, path=os.environ["PATH"]):
+        done = subprocess.run(["bash", SCRIPT, *words], cwd=self.folder, capture_output=True, text=True, timeout=300,
+                              env={**os.environ, "PATH": path})
         return done.returncode, done.stdout, done.stderr
 
     def capture(self, packets):
@@ -91,11 +118,53 @@ class TestCaptures(Test):
         with open(os.path.join(self.folder, name)) as file:
             return bytes.fromhex(file.read())
 
+    def recording(self):
+        with open(os.path.join(self.folder, "session.recording")) as file:
+            pieces = [re.fullmatch(r"(\d+) (host|station) ((?:[0-9A-F]{2})+)\n", line).groups() for line in file]
+        return [(int(time), sender, bytes.fromhex(data)) for time, sender, data in pieces]
+
     def test_captures(self):
         for name, (session, words, *wanted) in CAPTURES.items():
             status, said, fault = self.run_script(self.capture(session.packets), *words)
             found = [self.side("host.hex"), self.side("station.hex"), status]
             self.count(f"{name}: {said}, {fault}, {found}", found == wanted and fault == "")
+            pieces = self.recording()
+            recorded = [b"".join(data for _, sender, data in pieces if sender == side) for side in ("host", "station")]
+            times = [time for time, _, _ in pieces]
+            self.count(f"{name}: {pieces}", recorded == found[:2] and times == sorted(times) and times[:1] in ([], [0]))
+
+    def test_times(self):
+        """In milliseconds since the first packet with data."""
+        for name, pieces in RECORDED.items():
+            session, words, *_ = CAPTURES[name]
+            self.run_script(self.capture(session.packets), *words)
+            found, begun = self.recording(), time_of(pieces[0][0])
+            wanted = [((time_of(number) - begun) // 1000, sender, data) for number, sender, data in pieces]
+            self.count(f"{name}: {found}, not {wanted}", found == wanted)
+
+    @unittest.skipUnless(os.path.exists(PROGRAM), "there is no program")
+    def test_trace(self):
+        """The program tells the recording as one dialogue."""
+        self.run_script(self.capture(CAPTURES["whole"][0].packets))
+        done = subprocess.run([PROGRAM, "trace", "session.recording"], cwd=self.folder, capture_output=True, text=True)
+        self.count(f"{done}", (done.returncode, done.stdout, done.stderr) == (0, TOLD, ""))
+
+    def test_modes(self):
+        """Only their owner can read the files."""
+        self.run_script(self.capture(CAPTURES["whole"][0].packets))
+        for name in "host.hex", "station.hex", "session.recording":
+            mode = os.stat(os.path.join(self.folder, name)).st_mode
+            self.count(f"{name}: {mode:o}", mode & 0o777 == 0o600)
+
+    def test_older_tshark(self):
+        """One that can't follow a connection so is told, and no file is written."""
+        with open(os.path.join(self.folder, "tshark"), "w") as file:
+            file.write(f'#!/bin/sh\ncase "$*" in *follow*) exit 1 ;; esac\nexec {shutil.which("tshark")} "$@"\n')
+            os.chmod(file.fileno(), 0o755)
+        done = self.run_script(self.capture(CAPTURES["whole"][0].packets), path=f"{self.folder}:{os.environ['PATH']}")
+        found = (done[0], done[2].count("tshark 4"), os.path.exists(os.path.join(self.folder, "host.hex")))
+        self.count(f"{done}, {found}", found == (2, 1, False))
+
 
     def test_wrong_uses(self):
         good, nothing = self.capture(Session().open().packets), self.capture([])

@@ -51,7 +51,7 @@ key F3
 ROW_6 = " 6 " + " " * 52 + "BO\n"
 PRINTED = (
     "screen\n 1 Item\n" + ROW_6 + "24  ERR\ncursor 6 53, locked, message off, blink off, fields 1\nerror row 24\n"
-    "key refused Locked\n"
+    "key refused Locked (line 12)\n"
     "screen\n 1 Item\n" + ROW_6 + "cursor 6 53, unlocked, message off, blink off, fields 1\n"
 )
 

@@ -206,15 +206,15 @@ class TestRecordings(Test):
             while side.read():
                 pass
         words = ["--wait", "60", "--record", self.name]
-        at_host(play, words, "await\nfield 2 SECRET\nkey Enter\n", 0, "", keep_open=True)
+        at_host(play, words, "await\nfield 2 SECRET\nkey Enter\n", 0, "", f"recording: {self.name}\n", keep_open=True)
         by_host, by_station, times = self.read_recording(self.name)
         expect((by_host, by_station), (sides[0].sent, sides[0].heard), "what each sent")
         # Its name in code page 037.
         self.assertIn("SECRET".encode("cp037"), by_station)
         self.assertTrue(times[0] < 2000 <= times[-1] < 60000, times)
         # A file that is there stays as it is.
-        at_host(Side.take_end, words, "", 0, "")
-        expect(self.read_recording(self.name + "-1")[:2], (b"", b""), "a second recording")
+        at_host(negotiate_as_host, words, "await\n", 1, "ended\n", f"recording: {self.name}-1\n")
+        self.assertTrue(self.read_recording(self.name + "-1")[0], "a second recording")
         expect(self.read_recording(self.name), (by_host, by_station, times), "the first recording")
 
     def test_a_recording_of_serve(self):
@@ -223,22 +223,31 @@ class TestRecordings(Test):
             serve, side = served("await\nsend 2 0440\n", "--record", name, *words, wait=60)
             side.take(record("0440", 2))
             side.stream.shutdown(socket.SHUT_WR)
-            serve.end(0, told)
+            serve.end(0, told, f"recording: {name}\n")
             expect(self.read_recording(name)[:2], (side.heard, side.sent), "what each sent")
             side.close()
 
+    def test_a_recording_of_nothing(self):
+        # No file is made where no byte came: the connection failed, or the host closed at once.
+        with socket.create_server(("127.0.0.1", 0)) as taken:
+            port = taken.getsockname()[1]
+        Run(["connect", "--record", self.name, f"127.0.0.1:{port}"]).end(2, "", None)
+        at_host(Side.take_end, ["--record", self.name], "", 0, "")
+        self.assertFalse(os.path.exists(self.name))
+
     def test_recordings_that_can_not_be_written(self):
-        # It is told before anything is connected or listened at.
+        # That the folder isn't there is told before anything is connected or listened at.
         Run(["connect", "--record", "/nowhere/at/all", "127.0.0.1:1"]).end(2, "", "cannot write\n")
         Run(["serve", "--record", "/nowhere/at/all", "127.0.0.1:0"]).end(2, "", "cannot write\n")
         Run(["connect", "--record", "", "127.0.0.1:1"]).end(2, "", "cannot write\n")
         if not os.path.exists("/dev/full"):
             self.skipTest("/dev/full isn't there")
         words = ["--wait", "60", "--record", "/dev/full"]
-        at_host(negotiate_as_host, words, "await\n", 2, "", "cannot write\n", keep_open=True, host_ends=False)
+        told = "recording: /dev/full\ncannot write\n"
+        at_host(negotiate_as_host, words, "await\n", 2, "", told, keep_open=True, host_ends=False)
         serve = Run(["serve", *words, "127.0.0.1:0"])
         side = station_at(serve)
-        serve.end(2, "", "cannot write\n")
+        serve.end(2, "", told)
         side.close()
 
     def test_help_tells_what_a_recording_holds(self):

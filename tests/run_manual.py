@@ -17,7 +17,7 @@ import sys
 
 from counted import PROGRAM, TOP, Test, main
 
-COMMANDS = ["check", "show", "play", "make", "reasons", "keys", "connect", "serve"]
+COMMANDS = ["check", "show", "trace", "play", "make", "reasons", "keys", "connect", "serve"]
 
 OFFER = """
 source "$1"
@@ -185,6 +185,8 @@ class TestManual(Test):
         script = f"{self.folder}/a"
         for command in "connect", "serve":
             offers(f"a file to record {command}", {f"{script} script"}, command, "--record", script)
+        for end in "--host", "--station":
+            offers(f"a file for {end}", {f"{script} script"}, "trace", end, script)
         places = "connect h", "connect h : 23", "connect h 23", "serve --wait = 5 h"
         for said in "play", "check --cut 2", "check one two", *places:
             offers(f"a file behind {said}", {f"{script} script"}, *said.split(), script)

@@ -85,7 +85,7 @@ class Session:
             if lines[0] in ("", "end") or lines[0].startswith("#"):
                 continue
             told = self.answer_of(run)
-            if told == "late\nok\n":
+            if lines[0].startswith("await") and told.endswith("late\nok\n"):
                 self.peer.late()
 
     def answer_of(self, run):

@@ -55,9 +55,9 @@ class TestTries(Test):
             stem, _, kind = name.rpartition("_")
             (self.crate / "wrong-bodies" / f"{stem}.{kind}").write_text(text)
 
-    def tried(self) -> tuple[int, str]:
+    def tried(self, *words: str) -> tuple[int, str]:
         with contextlib.redirect_stdout(io.StringIO()) as out:
-            status = wrong_bodies.main(["--root", str(self.root), "--show", "small"])
+            status = wrong_bodies.main(["--root", str(self.root), "--show", *words, "small"])
         return status, out.getvalue()
 
     def read(self, name: str):
@@ -98,6 +98,12 @@ class TestTries(Test):
         status, out = self.tried()
         self.assertEqual(status, 1)
         self.assertIn("FAILED branch.twin isn't proved: twice_more", out)
+
+    def test_what_there_is_no_time_for_is_told(self) -> None:
+        self.put(wrong_edit=WRONG, harmless_edit=HARMLESS, harmless_twin=HARMLESS)
+        status, out = self.tried("--minutes", "0")
+        self.assertEqual((status, out.splitlines()[-1]), (0, "0 passed, 0 failed"))
+        self.assertIn("\nleft out: 3 wrong bodies and twins of small, for want of time\n", out)
 
     def test_a_text_that_cannot_be_read_refuses_nothing(self) -> None:
         self.put(unread_edit=WRONG.replace("new:     count", "new:     counted"))

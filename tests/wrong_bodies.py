@@ -1,5 +1,5 @@
 #!/usr/bin/env python3
-"""Tries the wrong bodies in crates/NAME/wrong-bodies, many in one check: wrong_bodies.py [--named] [--only EDIT] [--jobs N] [CRATE ..]
+"""Tries the wrong bodies in crates/NAME/wrong-bodies, many in one check: wrong_bodies.py [WORDS] [CRATE ..]
 
 A wrong body is an edit that makes a function wrong. It counts as refused where its own function then has an open goal
 that a contract states: a clause, what a call requires, an invariant. So it does not where the function only calls
@@ -10,11 +10,16 @@ An edit that adds a function, a field or a branch has a twin beside it, NAME.twi
 All twins of a crate are applied together, and must be proved.
 
 The libraries below a crate have to be built, as `rt ci` and `rt lib` leave them. With --named the wrong bodies of
-must-fail/ are tried too, which `rt ci` tries one by one. The last line is `N passed, N failed`.
+must-fail/ are tried too, which `rt ci` tries one by one. With --minutes N no check begins after N minutes: what was not
+tried by then is told, and counts neither as passed nor as failed. The last line is `N passed, N failed`.
 """
 
 import argparse
+import contextlib
+import heapq
 import sys
+import time
+from collections.abc import Iterator
 from concurrent.futures import ThreadPoolExecutor
 from dataclasses import dataclass
 from pathlib import Path
@@ -27,6 +32,15 @@ from wrong.source import module_of
 SLOW = 20
 
 
+def tell(line: str) -> None:
+    """Prints a line in one piece, since several threads print."""
+    print(f"{line}\n", end="", flush=True)
+
+
+class NoTime(Exception):
+    """There is no time left for another check."""
+
+
 @dataclass
 class Report:
     """What became of a crate's edits: it is printed as it comes, and counted."""
@@ -34,9 +48,11 @@ class Report:
     crate: str
     passed: int = 0
     failed: int = 0
+    # How many of its edits and twins were told of.
+    told: int = 0
 
     def say(self, line: str) -> None:
-        print(f"{self.crate}: {line}", flush=True)
+        tell(f"{self.crate}: {line}")
 
     def fail(self, line: str) -> None:
         self.failed += 1
@@ -93,10 +109,11 @@ class Trial:
         for name in sorted(twins - {it.name for it in edits}):
             self.report.fail(f"{name}.twin is of no edit")
 
-    def check(self, edits: list[Edit], whole: bool = False) -> Check:
-        """A check of the functions that these edits change, or of the crate."""
+    def check(self, edits: list[Edit], only: set[str]) -> Check:
+        """A check of these functions and modules with the edits, or of the crate. NoTime where it may not begin."""
+        if time.monotonic() > self.given.until:
+            raise NoTime
         after = apply([pair for edit in edits for pair in edit.pairs], self.texts)
-        only = set() if whole else set().union(*map(reach, edits))
         found = self.crate.check(self.texts, after, set() if "" in only else only)
         for seconds, path in found.slow:
             names = [it.name for it in edits if path in it.changed]
@@ -105,6 +122,7 @@ class Trial:
         return found
 
     def settle(self, edit: Edit, means: str, why: str) -> None:
+        self.report.told += 1
         if means == "refused":
             self.report.passed += 1
             if self.given.show:
@@ -114,49 +132,80 @@ class Trial:
 
     def alone(self, edit: Edit) -> None:
         """Tries one edit alone, and over the whole crate where its functions don't tell."""
-        means, why = verdict(edit, self.check([edit]))
+        means, why = verdict(edit, self.check([edit], reach(edit)))
         if "can't be read" not in why and (means == "open" or edit.beside and means != "refused"):
-            means, why = verdict(edit, self.check([edit], whole=True))
+            means, why = verdict(edit, self.check([edit], set()))
         self.settle(edit, means, why)
 
-    def try_edits(self) -> None:
+    def steps(self) -> Iterator[None]:
+        """Tries the edits and then the twins, a check or some at a time."""
         laid = rounds(self.edits, self.texts)
-        self.report.say(f"{len(self.edits)} wrong bodies in rounds of {', '.join(str(len(it)) for it in laid)}")
+        if laid:
+            self.report.say(f"{len(self.edits)} wrong bodies in rounds of {', '.join(str(len(it)) for it in laid)}")
         for members in laid:
-            found = self.check(members)
-            self.report.say(f"round of {len(members)}: {found.seconds:.0f} s of processor time")
-            for edit in members:
-                means, why = verdict(edit, found)
-                if means == "open" or edit.beside and means != "refused":
-                    self.alone(edit)
-                else:
-                    self.settle(edit, means, why)
-
-    def try_twins(self) -> None:
-        """All twins together, as far as their texts can be applied together."""
+            self.try_round(members)
+            yield
+        # All twins together, as far as their texts can be applied together.
         for members in rounds(self.twins, self.texts, clashing=lambda one, other: False):
-            found = self.check(members, whole=any(it.beside for it in members))
-            self.report.say(f"{len(members)} twins: {found.seconds:.0f} s of processor time")
-            if found.proved:
-                self.report.passed += len(members)
+            self.try_twins(members)
+            yield
+
+    def try_round(self, members: list[Edit]) -> None:
+        found = self.check(members, set().union(*map(reach, members)))
+        self.report.say(f"round of {len(members)}: {found.seconds:.0f} s of processor time")
+        for edit in members:
+            means, why = verdict(edit, found)
+            if means == "open" or edit.beside and means != "refused":
+                self.alone(edit)
+            else:
+                self.settle(edit, means, why)
+
+    def try_twins(self, members: list[Edit]) -> None:
+        touched = [it.changed | it.added | {module_of(path) for path in it.beside} for it in members]
+        found = self.check(members, set().union(*touched) if all(touched) else set())
+        self.report.say(f"{len(members)} twins: {found.seconds:.0f} s of processor time")
+        self.report.told += len(members)
+        if found.proved:
+            self.report.passed += len(members)
+            return
+        unproved = [path for path, it in found.told.items() if not it.proved]
+        for twin in members:
+            own = [it for it in unproved if it in twin.changed | twin.added]
+            if own or len(members) == 1:
+                self.report.fail(f"{twin.name}.twin isn't proved: {', '.join(own or unproved or found.unread)[:200]}")
+        if not any(set(unproved) & (it.changed | it.added) for it in members):
+            self.report.fail(f"the twins aren't proved together: {', '.join(unproved or found.unread or found.text.splitlines()[-3:])[:300]}")
+
+
+def try_crates(trials: list[Trial], jobs: int) -> None:
+    """Tries the edits of all crates: the first round of each, in this order, then the second of each, and so on. A first
+    round judges the most, so that what there is no time for in the end is little."""
+    waiting = [(0, place, trial, trial.steps()) for place, trial in enumerate(trials)]
+
+    def work() -> None:
+        while waiting:
+            try:
+                done, place, trial, steps = heapq.heappop(waiting)
+            except IndexError:
+                return
+            try:
+                next(steps)
+                heapq.heappush(waiting, (done + 1, place, trial, steps))
+            except StopIteration:
                 continue
-            unproved = [path for path, it in found.told.items() if not it.proved]
-            for twin in members:
-                own = [it for it in unproved if it in twin.changed | twin.added]
-                if own or len(members) == 1:
-                    self.report.fail(f"{twin.name}.twin isn't proved: {', '.join(own or unproved or found.unread)[:200]}")
-            if not any(set(unproved) & (it.changed | it.added) for it in members):
-                self.report.fail(f"the twins aren't proved together: {', '.join(unproved or found.unread or found.text.splitlines()[-3:])[:300]}")
+            except NoTime:
+                left = len(trial.edits) + len(trial.twins) - trial.report.told
+                tell(f"left out: {left} wrong bodies and twins of {trial.crate.name}, for want of time")
+
+    with ThreadPoolExecutor(jobs) as pool:
+        for ended in [pool.submit(work) for _ in range(jobs)]:
+            ended.result()
 
 
-def try_crate(given: argparse.Namespace, name: str) -> Report:
-    trial = Trial(given, name)
-    with trial.crate.kept:
-        if trial.edits:
-            trial.try_edits()
-        if trial.twins:
-            trial.try_twins()
-    return trial.report
+def amount(folder: Path) -> int:
+    """About how long a crate's edits take: by their number and the texts that a check reads."""
+    edits = sum(1 for it in (folder / "wrong-bodies").glob("*.edit"))
+    return edits * sum(it.stat().st_size for part in ("src", "specs", "proofs") for it in (folder / part).rglob("*.*"))
 
 
 def main(words: list[str]) -> int:
@@ -166,13 +215,19 @@ def main(words: list[str]) -> int:
     parser.add_argument("--show", action="store_true", help="tell the goal that refuses each")
     parser.add_argument("--only", action="append", metavar="EDIT", help="try this edit and its twin alone (may be given again)")
     parser.add_argument("--jobs", type=int, default=1, help="how many crates at a time (default 1)")
+    parser.add_argument("--minutes", type=float, default=float("inf"), help="begin no check later than that (default: no end)")
     parser.add_argument("crates", nargs="*", metavar="CRATE", help="crates (default: all that have wrong bodies)")
     given = parser.parse_args(words)
+    given.until = time.monotonic() + 60 * given.minutes
     names = given.crates or sorted({it.parent.parent.name for it in given.root.glob("crates/*/wrong-bodies/*") if it.suffix in (".edit", ".twin")})
-    passed = failed = 0
-    with ThreadPoolExecutor(given.jobs) as pool:
-        for report in pool.map(lambda it: try_crate(given, it), names):
-            passed, failed = passed + report.passed, failed + report.failed
+    # The longest first, so that none is left alone at the end.
+    names.sort(key=lambda it: -amount(given.root / "crates" / it))
+    with contextlib.ExitStack() as kept:
+        trials = [Trial(given, name) for name in names]
+        for trial in trials:
+            kept.enter_context(trial.crate.kept)
+        try_crates(trials, given.jobs)
+    passed, failed = (sum(getattr(it.report, part) for it in trials) for part in ("passed", "failed"))
     print(f"{passed} passed, {failed} failed")
     return 1 if failed else 0
 

@@ -7,9 +7,10 @@ from live.program import Run, as_bytes
 from peers import Side, expect, negotiate_as_host
 from records import record
 
-NO_LINE = "it isn't a line of this script"
-APART = "two blanks in front, but it belongs to no line"
-EARLY = "too early, before what it belongs to, `%s`"
+APART = "two blanks in front"
+MISPLACED = "it can't stand there, `%s`"
+ORDER = "an order's code `%s`"
+NO_BODY = "no body, refused at %d, %s"
 
 # What is bad in the lines of both ends.
 EITHER = [
@@ -24,10 +25,10 @@ EITHER = [
     ("x" * 100, "unknown word `%s`" % ("x" * 60)),
     ("\u00fc" * 70, "unknown word `%s`" % ("\u00fc" * 60)),
     ("a\x1bb\\", "unknown word `a\\1Bb\\5C`"),
-    ("  WRITE 00 08", APART),
 ]
 
 STATION = [
+    ("  WRITE 00 08", APART),
     ("await records", "unexpected word `records`"),
     ("await text", "a word is missing behind `text`"),
     ("await text ", "a blank at the end"),
@@ -83,13 +84,15 @@ BOTH_HOSTS = [
     ("telnet DO 256", "not from 0 to 255 `256`"),
     ("pause 0", "not from 1 to 3600000 `0`"),
     ("close now", "one word too many `now`"),
-    ("send 3 0440\n  CLEAR-UNIT", APART),
+    ("send 3 0440\n  CLEAR-UNIT", MISPLACED % "CLEAR-UNIT"),
+    ("  WRITE 00 08", MISPLACED % "WRITE"),
+    ("  foo", "unknown word `foo`"),
 ]
 
 # Lines behind a `send 3`, of which the last is bad.
 BLOCKS = [
-    ("  TEXT A", EARLY % "TEXT"),
-    ("  SBA 1 1", EARLY % "SBA"),
+    ("  TEXT A", MISPLACED % "TEXT"),
+    ("  SBA 1 1", MISPLACED % "SBA"),
     ("  WRITE", "a word is missing behind `WRITE`"),
     ("  WRITE 00", "a word is missing behind `00`"),
     ("  WRITE 0 08", "not 2 hex digits `0`"),
@@ -100,6 +103,13 @@ BLOCKS = [
     ("  WRITE 00 08\n  SF 20", "a word is missing behind `20`"),
     ("  WRITE 00 08\n  SF 4000 20 x", "no number `x`"),
     ("  WRITE 00 08\n  SF 400 20 6", "not 4 hex digits `400`"),
+    ("  WRITE 00 08\n  SF 4000 FF 3", "no attribute, 20 to 3F, `FF`"),
+    ("  WRITE 00 08\n  SF 1F 3", "no attribute, 20 to 3F, `1F`"),
+    ("  WRITE 00 08\n  RA 1 1 04", ORDER % "04"),
+    ("  WRITE 00 08\n  PUT 04", ORDER % "04"),
+    ("  WRITE 00 08\n  PUT C11dC2", ORDER % "1d"),
+    ("  WRITE 00 08\n  PUT C1C", "no hex `C1C`"),
+    ("  READ-INPUT 00 08\n  SBA 1 1", MISPLACED % "SBA"),
     ("  WRITE 00 08\n  PUT", "a word is missing behind `PUT`"),
     ("  WRITE 00 08\n   PUT C1", "a blank in front"),
     (b"  WRITE 00 08\n  TEXT \xff", "not UTF-8"),
@@ -107,7 +117,9 @@ BLOCKS = [
 
 HOST = [
     ("send 10", "unexpected word `10`"),
-    ("send 3 0440F3", NO_LINE),
+    ("send 3 0440F3", NO_BODY % (2, "20: a command must begin here, but the byte isn't its escape (04)")),
+    ("send 3 0400", NO_BODY % (1, "21: the command after the escape (04) isn't known")),
+    ("send 3 0411", NO_BODY % (2, "44: a record ends in the middle of a command or an order")),
     ("cancel ", "a blank at the end"),
     ("show 1 1 1", "one word too many `1`"),
 ]
@@ -154,16 +166,19 @@ ITEMS = [
     ("record flags 0000 code 1", "unexpected word `code`"),
     ("record opcodes 1", "unexpected word `opcodes`"),
     ("telnet MAY 1", "unexpected word `MAY`"),
-    ("  WRITE 00 08", EARLY % "WRITE"),
-    ("record opcode 1\n  TEXT A", EARLY % "TEXT"),
+    ("  WRITE 00 08", MISPLACED % "WRITE"),
+    ("record opcode 1\n  TEXT A", MISPLACED % "TEXT"),
     ("record opcode 1\n\n# none\n  WRITE 00 08\n  SBA 0 1", "not from 1 to 24 `0`"),
+    ("record opcode 1\n# none\n  READ-MDT-ALTERNATE 00 00\n  SBA 1 81", "not from 1 to 80 `81`"),
+    ("record opcode 1\n  WRITE 00 08\n# none\n  SBA 1 81", "not from 1 to 80 `81`"),
     ("record opcode 1\n  QUERY", "unknown word `QUERY`"),
-    ("record opcode 1\ntelnet NOP\n  CLEAR-UNIT", EARLY % "CLEAR-UNIT"),
+    ("record opcode 1\ntelnet NOP\n  CLEAR-UNIT", MISPLACED % "CLEAR-UNIT"),
 ]
 
 ANSWERS = [
-    ("record opcode 0\n  AT 1 1", EARLY % "AT"),
+    ("record opcode 0\n  AT 1 1", MISPLACED % "AT"),
     ("record opcode 0\n  HEAD 1 1", "a word is missing behind `1`"),
+    ("record opcode 0\n  HEAD 1 1 00", "no key `00`"),
     ("record opcode 0\n  SBA 1 1", "unknown word `SBA`"),
 ]
 

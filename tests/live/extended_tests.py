@@ -3,7 +3,7 @@ import unittest
 
 from live.lines import at_host
 from peers import negotiate_as_host
-from records import ASKED, record
+from records import ASKED, OF_COMMAND, OF_OTHER, record
 
 WORDS = ["--wait", "60"]
 FORM = "044004110008110634" "1D400020000A" "04520000"
@@ -48,9 +48,9 @@ TOLD = [
     ("", "044004110008110634" "1D4F00200004F1F2F360" "0483", "063500110635F1F2D3"),
 ]
 
-# The bodies of records that are refused at their end, and why.
-REFUSED = [("04020462", "35 ReadScreen"), ("0411000011" "1850C1C2" "04020472", "36 ReadImmediate"),
-           ("0421" + "C1" * 81, "51 PastEnd")]
+# The bodies of records that are refused at their end, and why, and the answers.
+REFUSED = [("04020462", "35 ReadScreen", OF_COMMAND), ("0411000011" "1850C1C2" "04020472", "36 ReadImmediate", OF_COMMAND),
+           ("0421" + "C1" * 81, "51 PastEnd", OF_OTHER)]
 
 
 def answered(steps, name=b"IBM-3179-2"):
@@ -90,10 +90,10 @@ class TestExtended(unittest.TestCase):
         at_host(answered([(record(QUERY), [record(IBM_3179, 0)])]), WORDS + ["--extended"], "await record\n", 0, "")
 
     def test_records_that_are_refused(self):
-        for body, reason in REFUSED:
+        for body, reason, answer in REFUSED:
             place = len(ASKED + record(body)) - 1
-            at_host(answered([(record(body), [])]), WORDS, "await record\nawait\n", 1,
-                    "station refused at %d: reason %s\n" % (place, reason))
+            at_host(answered([(record(body) + record(FORM), [answer])]), WORDS, "await\nnote A\n", 1,
+                    "record refused at %d: reason %s\nA\n" % (place, reason))
 
     def test_screens_that_are_saved(self):
         """A new screen, and a form that comes back over another with its fields, switches, text and cursor."""

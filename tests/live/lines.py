@@ -13,11 +13,12 @@ READY, NAMED = "host ready IBM-3179-2\n", "terminal IBM-3179-2\n"
 KINDS = ([], READY), (["--any"], NAMED)
 
 
-def sending(*bodies, opcode=3, answer=b"", closes=False):
-    """What a host does that sends records, takes what answers them, and then closes, or waits for the station's end."""
+def sending(*bodies, opcode=3, then=b"", answer=b"", closes=False):
+    """What a host does that sends records, and other bytes, takes what answers them, and then closes, or waits for the
+    station's end."""
     def play(side):
         negotiate_as_host(side)
-        side.send(b"".join(record(body, opcode) for body in bodies))
+        side.send(b"".join(record(body, opcode) for body in bodies) + then)
         side.take(answer)
         if not closes:
             side.take_end()

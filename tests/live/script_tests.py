@@ -17,10 +17,10 @@ class TestScript(Test):
         serve, side = served(None, "--ready", wait=60, script="await\n# no line\nsend 1\n\nawait\n")
         side.take(record(opcode=1))
         side.close()
-        serve.end(1, READY + "ok\nok\nended\nok\n")
+        serve.end(1, READY + "ok\nok\nended (line 5)\nok\n")
 
     def test_script_files_that_go_otherwise(self):
-        # Each of these ends a script with the status 1: refused, late, ended, or a refused byte.
+        # Each of these ends a script with the status 1: refused, late, ended, by a line that is told; or a refused byte.
         def station(side):
             negotiate_as_station(side)
             side.take_end()
@@ -29,9 +29,9 @@ class TestScript(Test):
             side.take(OPENING)
             side.send(b"\x00\x00\x00")
             side.take_end()
-        rows = [(station, "await\ncancel\n", READY + "send refused NoReadToCancel\n"),
-                (station, "await\nawait\n", READY + "late\n"),
-                (negotiate_as_station, "await\nawait\n", READY + "ended\n"),
+        rows = [(station, "await\ncancel\n", READY + "send refused NoReadToCancel (line 2)\n"),
+                (station, "await\nawait\n", READY + "late (line 2)\n"),
+                (negotiate_as_station, "await\nawait\n", READY + "ended (line 2)\n"),
                 (bad_station, "await\nawait\n", "host refused at 1: reason 10 LengthBelowHeader\n")]
         for play, text, printed in rows:
             serve = Run(["serve", "--wait", "3", "127.0.0.1:0"], script=text)
@@ -44,8 +44,9 @@ class TestScript(Test):
         def bad_host(side):
             side.send(b"\x00\x00\x00")
             side.read()
-        rows = [(sending(SIGN_ON), "await\nkey Dup\n", "key refused DupNotAllowed\n"),
-                (sending(SIGN_ON), "await\nawait record\n", "late\n"), (negotiate_as_host, "await\n", "ended\n"),
+        rows = [(sending(SIGN_ON), "await\nkey Dup\n", "key refused DupNotAllowed (line 2)\n"),
+                (sending(SIGN_ON), "await\nawait record\n", "late (line 2)\n"),
+                (negotiate_as_host, "await\n", "ended (line 1)\n"),
                 (bad_host, "await\n", "station refused at 1: reason 10 LengthBelowHeader\n")]
         for play, text, printed in rows:
             at_host(play, ["--wait", "3"], None, 1, printed, script=text)

@@ -63,7 +63,7 @@ class TestSend(unittest.TestCase):
         serve.tell("  CLEAR-UNIT")
         expect(serve.asked("# none"), "", "send")
         side.take(record("0440"))
-        told = "bad line: two blanks in front, but it belongs to no line\n"
+        told = "bad line: it can't stand there, `CLEAR-UNIT`\n"
         expect(serve.asked("  CLEAR-UNIT"), told, "a line that belongs to nothing")
         side.close()
         serve.end(1, "")
@@ -89,7 +89,7 @@ class TestSend(unittest.TestCase):
             serve, side = served(None, *kind, "--go-on", script="await\nsend 2 %s40\nsend 2\n" % LARGEST.hex())
             side.take(record(opcode=2))
             side.close()
-            serve.end(1, ready + "send refused TooBig\n")
+            serve.end(1, ready + "send refused TooBig (line 2)\n")
 
     def test_bad_lines_of_sends_in_words(self):
         rows = [("  CLEAR-UNIT", 1), ("send 3\n  WRITE", 2), ("send 3\n  CLEAR-UNIT\n  WRITE 00 08\n  SBA 25 1", 4),

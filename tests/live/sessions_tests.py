@@ -52,7 +52,7 @@ class TestSessions(Test):
         second.close()
         whole(station())
         printed = serve.end(1)
-        self.assertTrue(printed.startswith(READY + "session 2\nended\n"), printed)
+        self.assertTrue(printed.startswith(READY + "session 2\nended (line 1)\n"), printed)
         self.assertTrue(printed.endswith("session 3\n" + READY), printed)
 
     def test_the_last_of_two_is_well(self):
@@ -77,7 +77,7 @@ class TestSessions(Test):
         serve, station = begun(2, "--record", name)
         for _ in range(2):
             whole(station())
-        serve.end(0)
+        serve.end(0, error=f"recording: {name}\n")
         with open(name) as file:
             lines = [line.split() for line in file]
         openings = [int(line[0]) for line in lines if line[1:] == ["host", "FFFD18"]]

@@ -44,11 +44,13 @@ key F3
 """
 
 INQUIRY_PRINTED = SIGN_ON_FIELDS + PRICE_SCREEN + "key refused Locked 5\n"
+# The same from a file, of which it is line 16.
+INQUIRY_NUMBERED = SIGN_ON_FIELDS + PRICE_SCREEN + "key refused Locked 5 (line 16)\n"
 
 
 class TestStation(unittest.TestCase):
     def test_a_script_at_a_host(self):
-        at_host(inquiry_as_host, ["--wait", "60", "--go-on"], None, 1, INQUIRY_PRINTED, script=INQUIRY_SCRIPT)
+        at_host(inquiry_as_host, ["--wait", "60", "--go-on"], None, 1, INQUIRY_NUMBERED, script=INQUIRY_SCRIPT)
 
     def test_lines_at_a_host(self):
         at_host(inquiry_as_host, ["--wait", "60"], INQUIRY_SCRIPT, 1, INQUIRY_PRINTED)
@@ -95,8 +97,9 @@ class TestStation(unittest.TestCase):
         at_host(sending(SIGN_ON), ["--ready", "--wait", "60"], text, 0, "ok\nok\n")
 
     def test_a_refused_record(self):
+        """It ends the session of a station of the profile."""
         place = len(ASKED + record(SIGN_ON) + record(PAST_END)) - 1
-        at_host(sending(SIGN_ON, PAST_END), ["--ready", "--wait", "60"], "await\nawait record\nshow\n", 1,
+        at_host(sending(SIGN_ON, PAST_END), ["--strict", "--ready", "--wait", "60"], "await\nawait record\nshow\n", 1,
                 "ok\nstation refused at %d: reason 53 FieldPastEnd\n" % place)
 
     def test_garbage_from_a_host(self):

@@ -1,4 +1,5 @@
 """What follows a line that is late, ended or refused: a session that stops, or goes on."""
+import re
 import time
 import unittest
 
@@ -15,22 +16,28 @@ STATIONS = [(sending(SIGN_ON), "await record", "late\n"), (sending(SIGN_ON, clos
             (sending(SIGN_ON), "await text No such text", "late\n")]
 
 
+def by_line(number, told):
+    """What a line of this number in a file tells."""
+    return told.replace("\n", " (line %d)\n" % number)
+
+
 class TestStop(unittest.TestCase):
     def test_a_script_stops(self):
         """No key is pressed after such a line, and its status is 1."""
         for play, line, printed in STATIONS:
             for words in [], ["--stop"]:
                 text = "await\n%s\nfields\ntype SECRET\nkey Enter\n" % line
-                at_host(play, ["--wait", "3", *words], None, 1, printed, script=text)
-        at_host(sending(SIGN_ON), ["--ready", "--wait", "3"], None, 1, "ok\nlate\nok\n",
+                at_host(play, ["--wait", "3", *words], None, 1, by_line(2, printed), script=text)
+        at_host(sending(SIGN_ON), ["--ready", "--wait", "3"], None, 1, "ok\nlate (line 2)\nok\n",
                 script="await\nawait record\nnote A\n")
 
     def test_a_script_goes_on(self):
         for play, line, printed in STATIONS:
             text = "await\n%s\nfields\nnote A\n" % line
             # What shows something tells that the host has closed.
-            told = "ended\n" if printed == "ended\n" else ""
-            at_host(play, ["--wait", "3", "--go-on"], None, 1, printed + SIGN_ON_FIELDS + told + "A\n", script=text)
+            told = "ended (line 3)\n" if printed == "ended\n" else ""
+            at_host(play, ["--wait", "3", "--go-on"], None, 1, by_line(2, printed) + SIGN_ON_FIELDS + told + "A\n",
+                    script=text)
 
     def test_a_good_script_stops_nowhere(self):
         play = sending(SIGN_ON, answer=record("0636F1" "110635C1"))
@@ -58,11 +65,11 @@ class TestStop(unittest.TestCase):
                 serve, side = served(None, *kind, wait=3, script=text)
                 side.take_end()
                 side.close()
-                serve.end(1, ready + printed)
+                serve.end(1, ready + by_line(2, printed))
                 serve, side = served(None, *kind, "--go-on", wait=3, script=text)
                 side.take(record(opcode=1))
                 side.close()
-                serve.end(1, ready + printed)
+                serve.end(1, ready + by_line(2, printed))
                 serve, side = served(text, *kind, wait=3)
                 side.take(record(opcode=1))
                 side.close()
@@ -76,8 +83,27 @@ class TestStop(unittest.TestCase):
         began = time.monotonic()
         side.take_end()
         side.close()
-        serve.end(1, READY + "send refused NoReadToCancel\n")
+        serve.end(1, READY + "send refused NoReadToCancel (line 2)\n")
         timed(0, 40, began, "it")
+
+    def test_the_numbers_of_lines(self):
+        """Empty lines, comments and those that belong to others count; each is told by the first of its own."""
+        text = "# one\n\nawait\nawait record\n# five\nawait text No such text\n\nawait record"
+        at_host(sending(SIGN_ON), ["--go-on", "--wait", "1"], None, 1, "late (line 4)\nlate (line 6)\nlate (line 8)\n",
+                script=text)
+        at_host(sending(SIGN_ON), ["--wait", "1"], text, 1, "late\nlate\nlate\n")
+        for kind, ready in KINDS:
+            # Refused before records may be sent, once with lines that belong to it.
+            sends = "send 3\n  CLEAR-UNIT\n  WRITE 00 08\nsend 3\n\nawait\nsend 3 0440\nawait\n"
+            told = "send refused NotAllowed (line 1)\nsend refused NotAllowed (line 4)\n" + ready + "ended (line 8)\n"
+            serve, side = served(None, *kind, "--go-on", script=sends)
+            side.take(record("0440"))
+            side.close()
+            serve.end(1, told)
+            serve, side = served(sends, *kind)
+            side.take(record("0440"))
+            side.close()
+            serve.end(1, re.sub(r" \(line \d\)", "", told))
 
     def test_the_next_station_is_served(self):
         serve, station = begun(2, script="await\nsend 3 0440\ncancel\ncancel\n")
@@ -85,7 +111,7 @@ class TestStop(unittest.TestCase):
             side = station()
             whole(side)
         # Each session is over at its first refused line.
-        refused = READY + "send refused NoReadToCancel\n"
+        refused = READY + "send refused NoReadToCancel (line 3)\n"
         serve.end(1, refused + "session 2\n" + refused)
 
     def test_both_at_once(self):

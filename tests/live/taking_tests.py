@@ -5,7 +5,7 @@ import unittest
 
 from live.lines import at_host, sending, settled_connect, trickling
 from live.program import Run, timed
-from live.screens import PAST_END, PRICE, SIGN_ON, SIGN_ON_FIELDS, SIGN_ON_SCREEN
+from live.screens import PRICE, SIGN_ON, SIGN_ON_FIELDS, SIGN_ON_SCREEN
 from peers import Host, Side, expect
 from records import ASKED, record
 
@@ -22,8 +22,8 @@ SHOWING = [
 ]
 
 
-def told_connect(wait, sent, closes=False):
-    """A `connect` at a host that has sent something behind the sign-on, and then maybe closed."""
+def told_connect(wait, sent, answer=b"", closes=False):
+    """A `connect` at a host that has sent something behind the sign-on, which is answered so, and then maybe closed."""
     go, done = threading.Event(), threading.Event()
 
     def play(side):
@@ -32,6 +32,7 @@ def told_connect(wait, sent, closes=False):
         if closes:
             side.close()
         done.set()
+        side.take(answer)
         if not closes:
             side.take_end()
     connect, host = settled_connect(play, wait)
@@ -103,6 +104,23 @@ class TestTaking(unittest.TestCase):
         connect.end(0, "")
         host.end()
 
+    def test_a_host_that_never_pauses(self):
+        """A line that shows something takes what has come when it begins, and not all that a host goes on to send."""
+        over = threading.Event()
+
+        def play(side):
+            while not over.is_set():
+                side.send(DOT * 100)
+            side.take_end()
+        connect, host = settled_connect(play, 600)
+        for line in "status", "show 6 2 4", "fields", "cells 5":
+            began = time.monotonic()
+            connect.asked(line)
+            timed(0, 60, began, line)
+        over.set()
+        connect.end(0, "")
+        host.end()
+
     def test_a_host_that_has_closed(self):
         """The text first, and behind it that the host has closed, of each such line."""
         for line, printed in SHOWING:
@@ -114,11 +132,11 @@ class TestTaking(unittest.TestCase):
             host.end()
 
     def test_a_refused_byte_behind_what_is_shown(self):
-        place = len(ASKED + record(SIGN_ON) + record(PRICE) + record(PAST_END)) - 1
+        place = len(ASKED + record(SIGN_ON) + record(PRICE)) + 1
         for line, printed in SHOWING:
-            connect, host = told_connect(60, record(PRICE) + record(PAST_END))
+            connect, host = told_connect(60, record(PRICE) + bytes.fromhex("FFF0"))
             connect.tell(line + "\nshow")  # At once: the first may end it.
-            connect.end(1, printed + "station refused at %d: reason 53 FieldPastEnd\n" % place)
+            connect.end(1, printed + "station refused at %d: reason 2 StraySe\n" % place)
             host.end()
 
     def test_a_wait_for_quiet(self):
@@ -164,6 +182,5 @@ class TestTaking(unittest.TestCase):
     def test_a_wait_for_quiet_ends_otherwise(self):
         text = "await quiet 20000\nnote A\n"
         at_host(sending(SIGN_ON, closes=True), ["--wait", "60"], text, 1, "ended\nA\n")
-        place = len(ASKED + record(SIGN_ON) + record(PAST_END)) - 1
-        printed = "station refused at %d: reason 53 FieldPastEnd\n" % place
-        at_host(sending(SIGN_ON, PAST_END), ["--wait", "60"], text, 1, printed)
+        printed = "station refused at %d: reason 2 StraySe\n" % (len(ASKED + record(SIGN_ON)) + 1)
+        at_host(sending(SIGN_ON, then=bytes.fromhex("FFF0")), ["--wait", "60"], text, 1, printed)

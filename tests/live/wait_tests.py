@@ -39,7 +39,7 @@ class TestWait(unittest.TestCase):
             side.send(whole[40:])
             side.take_end()
         host = Host(play)
-        connect = Run(["connect", "--ready", "--wait", "2", "127.0.0.1:%d" % host.port], "", keep_open=True)
+        connect = Run(["connect", "--ready", "--wait", "5", "127.0.0.1:%d" % host.port], "", keep_open=True)
         expect(connect.asked("await"), "late\n", "await")
         go.set()
         expect(connect.asked("await"), "", "await")
@@ -68,12 +68,12 @@ class TestWait(unittest.TestCase):
         side.close()
 
     def test_a_wait_of_serve_begins_with_its_line(self):
-        serve, side = settled_serve(2)
-        time.sleep(2.2)
+        serve, side = settled_serve(5)
+        time.sleep(5.2)
         # A write has its own time too.
         expect(serve.asked("send 3 " + SIGN_ON), "", "send")
         side.take(record(SIGN_ON))
-        time.sleep(2.2)
+        time.sleep(5.2)
         serve.tell("await")
         time.sleep(0.4)
         side.send(record("0635F1"))
@@ -90,10 +90,10 @@ class TestWait(unittest.TestCase):
             time.sleep(0.4)
             side.send(record(PRICE))
             side.take_end()
-        connect, host = settled_connect(play, 2)
-        time.sleep(2.2)
+        connect, host = settled_connect(play, 5)
+        time.sleep(5.2)
         expect(connect.asked("key Enter"), "", "key")
-        time.sleep(2.2)
+        time.sleep(5.2)
         connect.tell("await record")
         go.set()
         expect(connect.line(), "ok\n", "await record")
@@ -105,11 +105,11 @@ class TestWait(unittest.TestCase):
         def play(side):
             negotiate_as_host(side)
             for _ in range(5):
-                time.sleep(0.7)
+                time.sleep(2)
                 side.send(DOT)
             side.send(record(SIGN_ON))
             side.take_end()
-        at_host(play, ["--wait", "2"], "await record\n" * 5 + "await\nshow\n", 0, SIGN_ON_SCREEN)
+        at_host(play, ["--wait", "8"], "await record\n" * 5 + "await\nshow\n", 0, SIGN_ON_SCREEN)
 
         # A wait for what no record brings isn't begun anew by each.
         over = threading.Event()
@@ -126,10 +126,10 @@ class TestWait(unittest.TestCase):
             host.end()
 
     def test_answers_that_trickle(self):
-        serve, side = settled_serve(2)
+        serve, side = settled_serve(7)
         for _ in range(4):
             serve.tell("await")
-            time.sleep(0.7)
+            time.sleep(2)
             side.send(record(opcode=0, flags=0x4000))
             expect(serve.answered(), "attention\n", "await")
         side.close()
@@ -138,24 +138,24 @@ class TestWait(unittest.TestCase):
     def test_one_byte_late_in_a_wait(self):
         def play(side):
             negotiate_as_host(side)
-            time.sleep(2)
+            time.sleep(4)
             side.send(record(SIGN_ON)[:1])
             side.take_end()
         for line in "await", "await record":
             host = Host(play)
-            connect = Run(["connect", "--wait", "3", "127.0.0.1:%d" % host.port], "", keep_open=True)
+            connect = Run(["connect", "--wait", "6", "127.0.0.1:%d" % host.port], "", keep_open=True)
             began = time.monotonic()
             connect.tell(line)
             expect(connect.line(), "late\n", line)
-            timed(2.9, 4.8, began, line)
+            timed(5.9, 9.8, began, line)
             connect.end(1, "")
             host.end()
-        serve, side = settled_serve(3)
+        serve, side = settled_serve(6)
         began = time.monotonic()
         serve.tell("await")
-        time.sleep(2)
+        time.sleep(4)
         side.send(record(opcode=0, flags=0x4000)[:1])
         expect(serve.line(), "late\n", "await")
-        timed(2.9, 4.8, began, "await")
+        timed(5.9, 9.8, began, "await")
         side.close()
         serve.end(1, None)

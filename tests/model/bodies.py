@@ -44,7 +44,7 @@ class Chance:
     def format_word(self):
         shift = self.random.choice([0, 0, 0, 1, 2, 3, 5, 7, 7]) << 8
         word = 0x4000 | shift | self.random.choice([0, 0, 0, 5, 6, 7])
-        for bit, count in (0x2000, 8), (0x1000, 3), (0x0800, 4), (0x0020, 4), (0x0008, 12):
+        for bit, count in (0x2000, 8), (0x1000, 3), (0x0800, 4), (0x0040, 8), (0x0080, 10), (0x0020, 4), (0x0008, 12):
             word |= bit * self.one_in(count)
         return word.to_bytes(2, "big")
 

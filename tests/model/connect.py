@@ -1,11 +1,14 @@
 """What `t5250 connect` does: what it prints, what it sends, its status, by docs/MANUAL.md, "Live sessions"."""
+import copy
+
 from model import told_at_once
+from model.entry import EntryKeys
 from model.keys import AIDS, Keys
 from model.keys import Refused as KeyRefused
 from model.options import Station
 from records import record
 from model.screen import COLUMNS, Faulty, Screen
-from model.wire import Record, Refused, Stream, elements, extended_elements
+from model.wire import NAMES, Record, Refused, Spoilt, Stream, elements, extended_elements
 
 SIGNALS = {"Attention": 0x4000, "SystemRequest": 0x0400}
 
@@ -23,11 +26,16 @@ class Connect:
     def __init__(self, terminal, is_extended=False, is_ready=False, is_colored=False):
         self.terminal, self.is_ready, self.is_colored = terminal, is_ready, is_colored
         self.options, self.screen = Station(terminal), Screen()
-        self.keys = Keys(self.screen)
-        self.stream = Stream(extended_elements if is_extended else elements)
+        self.keys = EntryKeys(self.screen, lambda: self.follow()) if is_extended else Keys(self.screen)
+        # A live station goes on after a record that it refuses while records are allowed.
+        self.is_lasting = is_extended
+        may_pass = lambda: is_extended and self.options.allows_records
+        self.stream = Stream(extended_elements if is_extended else elements, may_pass)
         self.came, self.is_closed, self.taken, self.applied = b"", False, 0, 0
         self.printed, self.sent, self.status = "", b"", 0
         self.has_ended = False
+        # What stands after what a line tells, how many lines there were, and how many records were refused.
+        self.behind, self.lines, self.refused_records = "", 0, 0
 
     def is_settled(self):
         """All that came is taken, and that the host has closed is known, if it has."""
@@ -44,14 +52,14 @@ class Connect:
              "key": self.key, "cursor": self.cursor, "newline": self.newline, "erase": self.erase, "field": self.field,
              }[word](rest)
         except KeyRefused as refused:
-            self.print(f"key refused {refused.args[0]}\n")
+            self.print(f"key refused {refused.args[0]}{self.behind}\n")
         except Refused as refused:
             self.print(refused.line("station"))
             raise Over from None
         told = self.printed[before:]
         if self.is_ready:
             self.printed += "ok\n"
-        return told == "late\n"
+        return word == "await" and told.endswith(f"late{self.behind}\n")
 
     def print(self, text):
         self.printed += text
@@ -76,14 +84,14 @@ class Connect:
         while not is_met():
             if not self.take_item():
                 if not self.end():
-                    self.print("late\n")
+                    self.print(f"late{self.behind}\n")
                 return
 
     def end(self):
         """Tells that the host has closed, if it has."""
         if self.is_closed:
             self.has_ended = True
-            self.print("ended\n")
+            self.print(f"ended{self.behind}\n")
         return self.is_closed
 
     def take_item(self):
@@ -96,6 +104,8 @@ class Connect:
                 continue
             if isinstance(item, Record):
                 self.apply(item)
+            elif isinstance(item, Spoilt):
+                self.refuse(item.place, item.reason)
             else:
                 self.sent += self.options.answer(item)
             return True
@@ -105,9 +115,29 @@ class Connect:
         while self.take_item():
             pass
 
+    def refuse(self, place, reason):
+        """A record is refused at its EOR, and answered by a negative response."""
+        if not self.options.allows_records:
+            raise Refused(self.taken - 1, 60)
+        self.refused_records += 1
+        is_command = reason in (20, 21, *range(30, 37))
+        self.sent += record(bytes.fromhex("10030101" if is_command else "10050121"), 0, flags=0x8000)
+        self.print(f"record refused at {place}: reason {reason} {NAMES[reason]}\n")
+
     def apply(self, item):
+        """Carries a record out; one that a live station refuses changes nothing."""
         if not self.options.allows_records:
             raise Refused(item.place, 60)
+        kept = copy.deepcopy((self.screen, self.keys)) if self.is_lasting else None
+        try:
+            self.carry_out(item)
+        except Refused as refused:
+            if not self.is_lasting:
+                raise
+            self.screen, self.keys = kept
+            self.refuse(refused.place, refused.reason)
+
+    def carry_out(self, item):
         asked = [one for one in item.items if one[0] in told_at_once.ASKED]
         if len(asked) > 1:
             raise Refused(item.place, asked[1][1])
@@ -116,6 +146,8 @@ class Connect:
         except Faulty as fault:
             raise Refused(item.place, fault.args[0]) from None
         self.applied += 1
+        if self.is_lasting:
+            self.keys.is_full = False
         if asked:
             self.sent += told_at_once.record_of(asked[0][0], self.screen, self.terminal)
         if item.opcode == 10:
@@ -139,7 +171,7 @@ class Connect:
             try:
                 press(character)
             except KeyRefused as refused:
-                self.print(f"key refused {refused.args[0]} {character}\n")
+                self.print(f"key refused {refused.args[0]} {character}{self.behind}\n")
 
     def type(self, text):
         self.each(self.keys.type, text)
@@ -161,6 +193,13 @@ class Connect:
             if body is not None:
                 self.sent += record(body)
 
+    def follow(self):
+        """Enter, where it follows a key."""
+        try:
+            self.key("Enter")
+        except KeyRefused:
+            pass
+
     def cursor(self, place):
         row, column = map(int, place.split(" "))
         self.keys.go_to((row - 1) * COLUMNS + column - 1)
@@ -174,6 +213,6 @@ class Connect:
     def field(self, rest):
         number, _, text = rest.partition(" ")
         if int(number) > len(self.screen.fields):
-            self.print("field refused NoSuchField\n")
+            self.print(f"field refused NoSuchField{self.behind}\n")
             return
         self.keys.fill(self.screen.fields[int(number) - 1], text)

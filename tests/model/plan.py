@@ -54,8 +54,14 @@ class Plan:
         elif kind == "closes":
             model.is_closed = True
         else:
+            self.number(model, what)
             return model.line(what)
         return False
+
+    def number(self, model, what):
+        """Has a model tell the number of a line that comes next, where the script is a file."""
+        model.behind = f" (line {model.lines + 1})" if self.form == "file" else ""
+        model.lines += len(self.text_of(what))
 
     def replayed(self):
         model = self.new_model()
@@ -86,11 +92,12 @@ class Plan:
             return True
         model = self.replayed()
         model.came += data
+        refused = model.refused_records
         try:
             model.take_all()
         except model.refused:
             return False
-        return True
+        return model.refused_records == refused
 
     def likely(self, make):
         """Mostly a record that is taken, and seldom one that was changed."""

@@ -22,6 +22,8 @@ class Serve:
         self.stream = Stream(None if takes_any else answers)
         self.came, self.is_closed, self.taken = b"", False, 0
         self.printed, self.sent, self.status = "", self.options.opening, 0
+        # What stands after what a line tells, how many lines there were, and how many records were refused: none here.
+        self.behind, self.lines, self.refused_records = "", 0, 0
 
     def line(self, line):
         """Carries out a line. True where it has waited in vain, and the station hasn't closed."""
@@ -36,14 +38,14 @@ class Serve:
             elif line in ("telnet NOP", "raw FFF1"):
                 self.sent += b"\xff\xf1"
         except SendRefused as refused:
-            self.fail(f"send refused {refused.args[0]}\n")
+            self.fail(f"send refused {refused.args[0]}{self.behind}\n")
         except Refused as refused:
             self.fail(refused.line("host"))
             raise Over from None
         told = self.printed[before:]
         if self.is_ready:
             self.printed += "ok\n"
-        return told == "late\n"
+        return told == f"late{self.behind}\n"
 
     def fail(self, text):
         self.printed += text
@@ -55,7 +57,7 @@ class Serve:
         while self.taken < len(self.came):
             if self.take_byte():
                 return
-        self.fail("ended\n" if self.is_closed else "late\n")
+        self.fail(f"{'ended' if self.is_closed else 'late'}{self.behind}\n")
 
     def take_all(self):
         while self.taken < len(self.came):
@@ -172,7 +174,7 @@ class Serve:
                     raise SendRefused(f"Screen {fault.args[0]}") from None
             self.sent += record(body, opcode)
         except SendRefused as refused:
-            self.fail(f"send refused {refused.args[0]}\n")
+            self.fail(f"send refused {refused.args[0]}{self.behind}\n")
         if self.is_ready:
             self.printed += "ok\n"
 

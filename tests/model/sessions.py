@@ -103,6 +103,7 @@ class ServePlan(Plan):
 
     def do(self, model, step):
         if isinstance(step[1], Send):
+            self.number(model, step[1])
             model.send(step[1].opcode, step[1].body)
             return False
         return super().do(model, step)

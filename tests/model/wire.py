@@ -41,11 +41,19 @@ class Record:
         self.flags, self.opcode, self.items, self.body, self.place = flags, opcode, items, body, place
 
 
-class Stream:
-    """Reads a stream byte by byte. A body has the grammar of `grammar`, which puts what it reads into a list."""
+class Spoilt:
+    """A record that is refused by its bytes, at its EOR: the place of the byte, and the reason."""
 
-    def __init__(self, grammar):
-        self.grammar, self.place = grammar, 0
+    def __init__(self, place, reason):
+        self.place, self.reason = place, reason
+
+
+class Stream:
+    """Reads a stream byte by byte. A body has the grammar of `grammar`, which puts what it reads into a list. Where
+    `may_pass` says so at a record's byte that is refused, the record is passed over."""
+
+    def __init__(self, grammar, may_pass=lambda: False):
+        self.grammar, self.place, self.may_pass, self.spoilt = grammar, 0, may_pass, None
         self.tokens = self.read_tokens()
         next(self.tokens)
         self.values = None
@@ -96,17 +104,32 @@ class Stream:
 
     def value(self, byte):
         """A data byte of a record."""
+        if self.spoilt is not None:
+            return
         if self.values is None:
             self.values = self.read_record()
             next(self.values)
-        self.values.send(byte)
+        try:
+            self.values.send(byte)
+        except Wrong as wrong:
+            if not self.may_pass():
+                raise
+            self.spoilt = Spoilt(self.place, wrong.args[0])
 
     def end_record(self):
-        if self.values is None or not self.may_end:
-            raise Wrong(16)
-        if self.inner is not None and not self.inner_may_end:
-            raise Wrong(44)
+        spoilt, self.spoilt = self.spoilt, None
+        wrong = None
+        if self.values is None or spoilt is None and not self.may_end:
+            wrong = 16
+        elif spoilt is None and self.inner is not None and not self.inner_may_end:
+            wrong = 44
+        if wrong and not self.may_pass():
+            raise Wrong(wrong)
         self.values = None
+        if wrong:
+            spoilt = Spoilt(self.place, wrong)
+        if spoilt is not None:
+            return spoilt
         return Record(self.flags, self.opcode, self.items, bytes(self.body), self.place)
 
     def read_record(self):

@@ -66,7 +66,7 @@ class TestStream(Runs):
     def test_unread_output(self):
         """The other side of the pipe at standard output is closed: three commands tell it, the others end without a
         word."""
-        rows = [(["check"], INVITE), (["show"], INVITE), (["play"], BOB), (["make"], HELLO_TEXT)]
+        rows = [(["check"], INVITE), (["show"], INVITE), (["play"], BOB), (["make"], HELLO_TEXT), (["trace"], "")]
         for words, text in [*rows, (["reasons"], ""), (["keys"], ""), (["--help"], ""), (["--version"], "")]:
             ends = os.pipe()
             os.close(ends[0])
@@ -77,7 +77,7 @@ class TestStream(Runs):
 
     def test_folder_as_input(self):
         """Standard input can't be read: it is a folder."""
-        for words in ["check"], ["show"], ["make"], ["play"]:
+        for words in ["check"], ["show"], ["make"], ["play"], ["trace"]:
             descriptor = os.open(self.folder, os.O_RDONLY)
             done = run(words, stdin=descriptor)
             os.close(descriptor)
