@@ -97,15 +97,15 @@
  *    a forked child of a process with threads.
  *
  * Memory. Each `new` asks for what its kind takes, in two blocks: a decoder for at most 200 bytes, a host for 3,800, a
- * station of the profile for 72,792, one of the extended kind for 81,552 and a live one for 81,928. A station and a
+ * station of the profile for 72,792, one of the extended kind for 81,552 and a live one for 81,952. A station and a
  * decoder ask for no more. A host does in ribbon_host_push for what an answer holds, and in ribbon_host_send for the
  * elements that it reads and the record that it keeps.
  *
  * Stack, in bytes, as measured on x86-64 (`make bench`): with a station of the profile, one of
  * ribbon_station_new_extended and one of ribbon_station_new_live. All other calls take less than 1,500.
  *
- *     ribbon_station_new          27,400  42,900  234,900
- *     ribbon_station_push          4,100  36,400   37,100
+ *     ribbon_station_new          27,400  42,900  235,000
+ *     ribbon_station_push          4,100  36,500   37,200
  *     ribbon_station_key          33,700  33,700   72,100
  *     ribbon_station_move_cursor  12,900  12,900   45,900
  *     ribbon_station_new_line     12,900  12,900   45,900

@@ -121,7 +121,7 @@ static void check_each_new(void)
     ribbon_identity identity = {.device = "ANNA1"};
     ribbon_told told;
     uint8_t reply[RIBBON_REPLY_ROOM];
-    static const size_t most[] = {72792, 81552, 3800, 200, 200, 81928};
+    static const size_t most[] = {72792, 81552, 3800, 200, 200, 81952};
     const ribbon_handle *const handles[] = {&station.handle, &extended.handle,     &host.handle,
                                             &decoder.handle, &live_decoder.handle, &live.handle};
     for (unsigned kind = 0; kind < 6; kind++)
