@@ -1,14 +1,18 @@
 #!/usr/bin/env bash
 # Takes both sides of a 5250 session out of a packet capture, as hex text: what the host sent goes to host.hex, what the
-# station sent to station.hex, in the current folder. It needs tshark.
+# station sent to station.hex, and both with their times to session.recording, for `t5250 trace`, in the current folder.
+# Times count from the first byte of data. It needs tshark 4.
 #
 #     from_capture.sh CAPTURE [STREAM]
 #
 # STREAM is tshark's number of a TCP connection. Without it the one with 5250 records is taken, on whatever port; where
 # there is none, or several, none is taken, and all are listed. The host is the end that was connected to; where the
 # capture begins later, it is the end with the lower port number. Where the capture lacks bytes of a side, that side's
-# text ends before them. The status is 0, or 1 where bytes are lacking, or 2 where nothing is taken.
+# text ends before them, and the recording has no more of it. The status is 0, or 1 where bytes are lacking, or 2 where
+# nothing is taken.
 set -uo pipefail
+# Streams hold passwords: only the files' owner can read them.
+umask 077
 
 stop() {
     printf '%s\n' "$@" >&2
@@ -55,7 +59,7 @@ connections=$(packets | awk -F '\t' '
 [ -n "$connections" ] || stop "$capture has no TCP connection"
 
 listed() {
-    awk '{ printf "stream %d: %s host, %s station%s\n", $1, $3, $4, $2 == "yes" ? ", with records" : "" }' <<<"$connections"
+    awk '{ printf "stream %d: %s host, %s station%s\n", $1, $3, $4, ($2 == "yes" ? ", with records" : "") }' <<<"$connections"
 }
 
 if [ $# -eq 2 ]; then
@@ -70,12 +74,25 @@ fi
 read -r stream _ host station <<<"$found"
 echo "stream $stream: $host host, $station station"
 
-# tshark names the two ends first; the second one's bytes stand behind tabs. In place of bytes that the capture lacks it
-# writes a text, as hex too: `[N bytes missing in capture file]` and a byte 00.
-tshark -r "$capture" -q -z "follow,tcp,raw,$stream" 2>/dev/null | awk -v host="$host" '
-    function number(hex,    at, digits) {
-        for (at = 4; substr(hex, at - 1, 1) == "3"; at += 2)
-            digits = digits substr(hex, at, 1)
+# tshark names the two ends first. Then it tells of each packet, in the order of TCP, its end, its time, which is off by a
+# part of a microsecond, and its data in base64. In place of bytes that the capture lacks the data is a text, `[N bytes
+# missing in capture file]`, and a byte 00. A packet that came too early has the time of the one that it had to wait for.
+tshark -r "$capture" -q -z "follow,tcp,yaml,$stream" 2>/dev/null | awk -v RS='  - packet: ' -v host="$host" \
+    -v letters="$(printf %s {A..Z} {a..z} {0..9} + /)" '
+    function hex(base64,    at, bits, digits, unused) {
+        unused = gsub(/=/, "A", base64)
+        for (at = 1; at <= length(base64); at++) {
+            bits = bits * 64 + index(letters, substr(base64, at, 1)) - 1
+            if (at % 4 == 0) {
+                digits = digits sprintf("%06X", bits)
+                bits = 0
+            }
+        }
+        return substr(digits, 1, length(digits) - 2 * unused)
+    }
+    function number(data,    at, digits) {
+        for (at = 4; substr(data, at - 1, 1) == "3"; at += 2)
+            digits = digits substr(data, at, 1)
         return digits
     }
     function tell(side) {
@@ -85,25 +102,41 @@ tshark -r "$capture" -q -z "follow,tcp,raw,$stream" 2>/dev/null | awk -v host="$
         print ""
         return side in lacking
     }
-    BEGIN {
+    {
+        for (at = 1; at < NF && $at != "|"; at++)
+            value[$at] = $(at + 1)
+        data = ""
+        while (++at <= NF)
+            data = data hex($at)
+    }
+    NR == 1 && "peer:" in value {
         gsub(/[][]/, "", host)
+        hosts_peer = (value["host:"] ":" value["port:"] == host)
         printf "" > "host.hex"
         printf "" > "station.hex"
+        printf "" > "session.recording"
     }
-    /^Node 1: / {
-        gsub(/[][]/, "")
-        host_has_tabs = $3 == host
-    }
-    /^\t?[0-9a-f]+$/ {
-        side = (/^\t/ == host_has_tabs) ? "host" : "station"
-        sub(/^\t/, "")
-        if (/^5b(3[0-9])+206279746573206d697373696e6720696e20636170747572652066696c655d00$/ && !(side in lacking))
-            lacking[side] = number($0)
+    NR > 1 {
+        side = value["peer:"] == hosts_peer ? "host" : "station"
+        if (data ~ /^5B(3[0-9])+206279746573206D697373696E6720696E20636170747572652066696C655D00$/ && !(side in lacking))
+            lacking[side] = number(data)
         if (side in lacking)
             next
-        print > (side ".hex")
-        bytes[side] += length($0) / 2
+        microseconds = int(value["timestamp:"] * 1000000 + 0.5)
+        if (begun == "")
+            begun = microseconds
+        if (microseconds - begun > passed)
+            passed = microseconds - begun
+        print data > (side ".hex")
+        print int(passed / 1000), side, data > "session.recording"
+        bytes[side] += length(data) / 2
     }
-    END { exit tell("host") + tell("station") > 0 }'
+    END {
+        if (hosts_peer == "") {
+            print "this tshark tells no times of what it follows: tshark 4 is needed" > "/dev/stderr"
+            exit 2
+        }
+        exit tell("host") + tell("station") > 0
+    }'
 # tshark's own status is bad where the capture is cut off.
 exit "${PIPESTATUS[1]}"

@@ -86,5 +86,14 @@ compare_raw live-station --answers --extended
 # A recording of the session of inquiry.connect and inquiry.serve.
 compare_end host
 compare_end station --answers
+
+# What both ends sent, in the order of time; in the second one record is refused.
+compare inquiry.trace trace inquiry.recording
+compare_refused() {
+    "$program" trace "$1.recording" | cmp -s - "$1.trace"
+    [ "${PIPESTATUS[*]}" = "1 0" ]
+    count $? "differs: trace $1.recording"
+}
+compare_refused refused
 echo "$passed passed, $failed failed"
 [ $failed -eq 0 ]
