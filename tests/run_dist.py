@@ -149,10 +149,14 @@ class TestDist(Test):
                 self.count(name, (other / "build/dist" / name).read_bytes() == (self.dist / name).read_bytes())
 
     def test_programs(self):
-        """What was unpacked runs where it stands, and serves a C program by pkg-config."""
+        """What was unpacked runs where it stands, tells its commit, and serves a C program by pkg-config."""
         top = self.unpacked()
-        self.assertEqual((top / "bin/t5250").read_bytes(), BUILT[0].read_bytes())
-        self.assertIn(VERSION, done(top / "bin/t5250", "--version", cwd=self.folder))
+        commit = done("git", "rev-parse", "HEAD", cwd=self.top).strip()
+        unrecorded = b"commit not recorded, as it was built in a clone"
+        built = BUILT[0].read_bytes().replace(unrecorded, f"commit {commit}".encode())
+        self.assertEqual((top / "bin/t5250").read_bytes(), built)
+        told = done(top / "bin/t5250", "--version", cwd=self.folder)
+        self.assertEqual(told, f"t5250 {VERSION}\ncommit {commit}\n")
         self.assertIn("accepted: ", done(top / "bin/t5250", "check", TOP / "examples/inquiry.hex", cwd=self.folder))
         self.assertIn(VERSION, done(top / "bin/term5250", "--version", cwd=self.folder))
         self.assertIn("--ca", done(top / "bin/term5250", "--help", cwd=self.folder))

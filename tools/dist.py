@@ -20,6 +20,7 @@ import tarfile
 import tempfile
 
 from build_unproved import TOP, Crates, Fault, kit_folder
+from stamp import stamped
 
 DIST = TOP / "build/dist"
 VERSION = (TOP / "VERSION").read_text().strip()
@@ -90,8 +91,8 @@ def commit(packed):
     return told, int(run("git", "log", "-1", "--format=%ct"))
 
 
-def staged(packed, stage):
-    """Installs all but the package into a folder, as `make install` does."""
+def staged(packed, stage, told):
+    """Installs all but the package into a folder, as `make install` does, and tells the program its commit, if any."""
     made = DIST / "made"
     shutil.rmtree(made, ignore_errors=True)
     places = {"BUILD": made, "LIB": packed.library, "T5250": packed.program}
@@ -102,6 +103,9 @@ def staged(packed, stage):
         done = subprocess.run(["make", "-C", "c", target, *words], cwd=TOP, capture_output=True, text=True)
         if done.returncode:
             raise Fault(f"make {target} fails:\n{done.stdout}{done.stderr}")
+    if re.fullmatch("[0-9a-f]{40}", told):
+        program = stage / "bin/t5250"
+        program.write_bytes(stamped(program.read_bytes(), told))
     described = (TOP / "c/ribbonscarp.pc.in").read_text().replace("@VERSION@", VERSION)
     # As seen from the file itself, wherever it is unpacked.
     (stage / "lib/pkgconfig/ribbonscarp.pc").write_text(described.replace("@PREFIX@", "${pcfiledir}/../.."))
@@ -125,6 +129,7 @@ def about(packed, told, stage):
         lines.append(f"{file} needs {needs(stage / file)}")
     for file in (packed.program, packed.library):
         lines.append(f"sha256 of {file.name} as it was built: {hashlib.sha256(file.read_bytes()).hexdigest()}")
+    lines.append("bin/t5250 differs from that in the commit that --version tells, where the tree was one.")
     return "\n".join([*lines, ""])
 
 
@@ -170,7 +175,7 @@ def main():
     DIST.mkdir(parents=True, exist_ok=True)
     with tempfile.TemporaryDirectory() as folder:
         stage = pathlib.Path(folder) / "stage"
-        staged(packed, stage)
+        staged(packed, stage, told)
         said = about(packed, told, stage)
         (stage / DOCUMENTS / "BUILD").write_text(said)
         base = "-".join(filter(None, ["ribbonscarp", VERSION, packed.label, platform.machine(), "linux"]))

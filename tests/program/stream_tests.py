@@ -96,7 +96,8 @@ class TestStream(Runs):
                 name = f"{[word[:20] for word in words]} without {closed}"
                 self.expect(name, done, status, "" if 1 in closed else out, "" if 2 in closed else err)
             # No input is asked for, or nothing at all.
-            others = (["--help"], 0, None, ""), (["--version"], 0, "t5250 4.0.0\n", ""), (["other"], 2, "", None)
+            version = "t5250 4.0.0\ncommit not recorded, as it was built in a clone\n"
+            others = (["--help"], 0, None, ""), (["--version"], 0, version, ""), (["other"], 2, "", None)
             for words, status, out, err in others:
                 if 1 in closed and status == 0:
                     status, out, err = 2, "", "cannot write\n"

@@ -101,7 +101,7 @@ RUNS = [
     (["make", "--help"], "", 0, None, ""),
     (["play", "--help"], "", 0, None, ""),
     (["help"], "", 0, None, ""),
-    (["--version"], "", 0, "t5250 4.0.0\n", ""),
+    (["--version"], "", 0, "t5250 4.0.0\ncommit not recorded, as it was built in a clone\n", ""),
     # wrong command lines
     ([], INVITE, 2, "", None),
     (["other"], INVITE, 2, "", None),

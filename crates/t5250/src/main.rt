@@ -14,6 +14,7 @@ mod standard_streams;
 
 use crate::standard_output::StandardOutput;
 use crate::standard_streams::StandardStreams;
+use clap::error::ErrorKind as WordsKind;
 use std::io;
 use std::io::ErrorKind;
 use std::process::ExitCode;
@@ -21,6 +22,10 @@ use ws_code::Sink;
 use ws_printing::BufferedSink;
 use ws_program::{CommandFault, run, status};
 use ws_script::{RunFault, ToldFault};
+
+// What stands after the version. Packing writes the commit over what follows the first word (tools/stamp.py), so it is
+// of one length with or without it.
+const COMMIT: &str = "commit not recorded, as it was built in a clone";
 
 // Does what the command line asks for, with no standard stream's descriptor free as long as it runs: true where all was
 // accepted.
@@ -36,7 +41,7 @@ fn run_filled<S: Sink>(rt: &HostRuntime, sink: &mut BufferedSink<S>) -> Result<b
 // said of that, but by the commands whose every fault has its line.
 fn tell(rt: &HostRuntime, fault: CommandFault, is_unread: bool) -> Result<bool, CommandFault> {
     match fault {
-        CommandFault::Words(words) => match words.print(rt) {
+        CommandFault::Words(words) => match print_words(rt, &words) {
             Ok(()) if !words.use_stderr() => Ok(true),
             Err(error) if !words.use_stderr() => {
                 unwritten(rt, error.kind() == ErrorKind::BrokenPipe)
@@ -53,6 +58,15 @@ fn tell(rt: &HostRuntime, fault: CommandFault, is_unread: bool) -> Result<bool, 
             Err(CommandFault::OfFile { fault, file, why })
         }
         CommandFault::Unwritten => unwritten(rt, is_unread),
+    }
+}
+
+// Prints what `clap` tells, and after a version of which commit it is.
+fn print_words(rt: &HostRuntime, words: &clap::Error) -> io::Result<()> {
+    words.print(rt)?;
+    match words.kind() {
+        WordsKind::DisplayVersion => println!(rt; "{COMMIT}"),
+        _ => Ok(()),
     }
 }
 
