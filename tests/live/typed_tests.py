@@ -7,6 +7,7 @@ import socket
 import subprocess
 import tempfile
 import termios
+import threading
 import time
 import unittest
 
@@ -14,7 +15,7 @@ from live.lines import at_host, sending
 from live.program import Run
 from live.screens import SIGN_ON
 from peers import Host, Side, expect, negotiate_as_host, negotiate_as_station, refusing
-from records import record
+from records import ASKED, OF_COMMAND, record
 
 PROMPT = "t5250> "
 END_OF_INPUT = "\x04"
@@ -133,11 +134,35 @@ class TestTyped(unittest.TestCase):
         typist.end(0, "\n")
         host.end()
 
+    def test_what_comes_meanwhile(self):
+        """What the host sends is answered while no line is typed, a refused record is told, and what came is ahead."""
+        came = threading.Event()
+
+        def asking(side):
+            negotiate_as_host(side)
+            side.send(record(SIGN_ON) + record("04AA"))
+            side.take(OF_COMMAND, "a negative response")
+            came.set()
+            side.take_end()
+
+        host = Host(asking)
+        typist = connected(host)
+        expect(came.wait(60), True, "the answers")
+        place = len(ASKED + record(SIGN_ON)) + 11
+        told = "record refused at %d: reason 21 UnknownCommand\n" % place
+        expect(typist.until(PROMPT), told + PROMPT, "what is told meanwhile")
+        expect(typist.told("show 1 37 7"), "Sign On\n", "show")
+        expect(typist.told("await record"), "", "a record that came before")
+        typist.type("quit\n")
+        typist.end(1)
+        host.end()
+
     def test_host_that_closes(self):
         host = Host(closing)
         typist = connected(host)
         expect(typist.told("await"), "", "await")
         host.end()
+        expect(typist.until(PROMPT), "ended\n" + PROMPT, "what is told where the host closes")
         expect(typist.told("await record"), "ended\n", "a wait for a host that has closed")
         expect(typist.told("shwo"), "bad line: unknown word `shwo`\n", "a bad line after that")
         typist.type("quit\n")

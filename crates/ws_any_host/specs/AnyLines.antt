@@ -1,6 +1,6 @@
 -- The lines of a script for a host that takes any record.
 
-use Rattle.std.specs.Prelude.{◌≡◌, ◌≢◌, ◌⊎◌, ℕ, ◌+◌, ◌-◌, ◌^◌, List, [], ◌++◌, codes, min, Some}
+use Rattle.std.specs.Prelude.{◌≡◌, ◌≢◌, ◌⊎◌, ℕ, ◌+◌, ◌-◌, ◌^◌, List, [], ◌++◌, codes, min, None, Some}
 use Rattle.std.specs.Str.{IsUtf8}
 use Rattle.ws_code.specs.Code.{spelling_of}
 use Rattle.ws_record.specs.Grammar.{opcode_byte}
@@ -112,4 +112,5 @@ any_language = record {
   opener = OpensAnyBlock;
   bad_at = IsBadAnyLineAt;
   bad_line = λ cause. Bad cause;
+  meanwhile = None;
 }

@@ -59,6 +59,10 @@ impl LiveLine for AnyLine {
     fn bad(cause: String) -> Self {
         AnyLine::Bad(cause)
     }
+
+    fn meanwhile() -> Option<Self> {
+        None
+    }
 }
 
 // A record with its flags off.

@@ -11,6 +11,8 @@ ghost use Rattle.ws_network.specs.SessionPrinting.{AreScripted, IsPrintedBehind,
 
 use crate::live_input::carry_session;
 use std::io::IsTerminal;
+use std::net::Net;
+use std::os::fd::AsRawFd;
 use std::rt::Runtime;
 use ws_any_host::{AnyHost, AnyLine, carry_on};
 use ws_code::{Sink, Source};
@@ -32,9 +34,9 @@ pub(crate) fn carry_at_any_host<R, S, K, W, O>(
     out: &mut BufferedSink<O>,
 ) -> Result<bool, ToldFault>
 where
-    R: Runtime + AllocGlobal,
+    R: Runtime + AllocGlobal + Net,
     R::Reader: IsTerminal,
-    S: Source,
+    S: Source + AsRawFd,
     K: Sink,
     W: Watch<S>,
     O: Sink,

@@ -126,6 +126,8 @@ pub(crate) struct InputLines<B> {
     ahead: Option<Vec<u8>>,
     // How many were taken.
     number: u64,
+    // The next was asked for.
+    is_asked: bool,
     // There are no more.
     is_over: bool,
 }
@@ -147,6 +149,7 @@ impl<B: BufRead + Drop> InputLines<B> {
             is_typed,
             ahead: None,
             number: 0,
+            is_asked: false,
             is_over: false,
         }
     }
@@ -154,6 +157,22 @@ impl<B: BufRead + Drop> InputLines<B> {
     /// Whether the next line is asked of who types it, and hasn't been read already.
     pub(crate) fn is_asking(&self) -> bool {
         self.is_typed && self.ahead.is_none() && !self.is_over
+    }
+
+    /// Whether it wasn't asked for since a line was taken, or something told meanwhile. It is asked for then.
+    pub(crate) fn asks_anew(&mut self) -> bool
+        ensures { self.new ≡ self.old }
+    {
+        let is_first = !self.is_asked;
+        self.is_asked = true;
+        is_first
+    }
+
+    /// Something was told, after which it is asked for once more.
+    pub(crate) fn ask_again(&mut self)
+        ensures { self.new ≡ self.old }
+    {
+        self.is_asked = false;
     }
 
     /// Whether the end of what is typed has come.
@@ -171,6 +190,7 @@ impl<B: BufRead + Drop> InputLines<B> {
             None => self.read()?,
         };
         self.number = self.number.saturating_add(1);
+        self.is_asked = false;
         Ok(line)
     }
 

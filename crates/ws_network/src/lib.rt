@@ -10,6 +10,7 @@ mod line_help;
 mod listening;
 mod live_input;
 mod live_session;
+mod lookout;
 mod recording;
 mod serving;
 mod tcp;

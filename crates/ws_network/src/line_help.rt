@@ -26,7 +26,8 @@ Those that show something first take what has come.
 
 A bad line is `bad line: CAUSE` with --ready; else it ends the session, as a
 script with one does, by `script line N: CAUSE`. At a terminal there are a
-prompt, `help` and `quit`, and a bad line is told and ends nothing.
+prompt, `help` and `quit`, a bad line is told and ends nothing, and what the
+host sends is taken while no line is typed.
 
 A refused key is told as `key refused REASON`, after it a character that it
 enters. A wait that runs out prints `late`; one whose host has closed prints

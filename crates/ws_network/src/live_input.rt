@@ -1,5 +1,5 @@
 //! The lines of a live session: those of a script, or of standard input one by one.
-ghost use Rattle.std.specs.Prelude.{◌≡◌, [], List, false, IfOk, IfErr, IfSome};
+ghost use Rattle.std.specs.Prelude.{◌≡◌, ◌⊎◌, [], List, Some, false, IfOk, IfErr, IfSome};
 ghost use Rattle.std.specs.Option.{is_some};
 ghost use Rattle.ws_code.specs.Device.{on_devices};
 ghost use Rattle.ws_live.specs.live.ConnectText.{StationRunsInTime};
@@ -17,19 +17,22 @@ ghost use Rattle.ws_text.specs.Printed.{IsPrinted};
 
 use crate::input_lines::{InputLines, Next, TypedWord, next_line};
 use crate::line_help::put_line_help;
+use crate::lookout::comes_before_line;
 use std::io::{BufRead, BufReader, IsTerminal};
+use std::net::Net;
+use std::os::fd::{AsRawFd, RawFd};
 use std::rt::Runtime;
 use ws_code::{Sink, Source};
 use ws_live::{
-    AfterUnwell, ConnectAsked, LineSettings, LiveMove, LiveSession, LiveStation, Ran, Watch,
-    answer_on, carry_line, carry_lines,
+    AfterUnwell, Closing, ConnectAsked, LineSettings, LiveMove, LiveSession, LiveStation, Ran,
+    Watch, answer_on, carry_line, carry_lines,
 };
 use ws_printing::BufferedSink;
 use ws_script::{
     HostLine, HostPort, LiveLine, NamedKey, NumberedLine, RunFault, StationLine, ToldFault,
     Vocabulary,
 };
-use ws_session::HostEnd;
+use ws_session::{End, HostEnd};
 
 /// Carries out the lines of a script at a station, or without one those of standard input: true where all went well.
 ///
@@ -48,9 +51,9 @@ pub(crate) fn carry_at_station<E, R, S, K, W, O>(
 where
     E: LiveStation,
     E::Named: NamedKey,
-    R: Runtime + AllocGlobal,
+    R: Runtime + AllocGlobal + Net,
     R::Reader: IsTerminal,
-    S: Source,
+    S: Source + AsRawFd,
     K: Sink,
     W: Watch<S>,
     O: Sink,
@@ -87,9 +90,9 @@ pub(crate) fn carry_at_host<R, S, K, W, O>(
     out: &mut BufferedSink<O>,
 ) -> Result<bool, ToldFault>
 where
-    R: Runtime + AllocGlobal,
+    R: Runtime + AllocGlobal + Net,
     R::Reader: IsTerminal,
-    S: Source,
+    S: Source + AsRawFd,
     K: Sink,
     W: Watch<S>,
     O: Sink,
@@ -132,8 +135,11 @@ pub(crate) fn carry_session<R, E, S, K, L, W, O>(
     out: &mut BufferedSink<O>,
 ) -> Result<Ran, ToldFault>
 where
-    R: Runtime + AllocGlobal,
+    R: Runtime + AllocGlobal + Net,
     R::Reader: IsTerminal,
+    E: End,
+    S: Source + AsRawFd,
+    K: Sink,
     L: LiveMove<E, S, K>,
     W: Watch<S>,
     O: Sink,
@@ -168,8 +174,11 @@ fn carry_input<R, E, S, K, L, W, O>(
     out: &mut BufferedSink<O>,
 ) -> Result<Ran, ToldFault>
 where
-    R: Runtime + AllocGlobal,
+    R: Runtime + AllocGlobal + Net,
     R::Reader: IsTerminal,
+    E: End,
+    S: Source + AsRawFd,
+    K: Sink,
     L: LiveMove<E, S, K>,
     W: Watch<S>,
     O: Sink,
@@ -193,9 +202,10 @@ where
         return Err(ToldFault::Run(RunFault::Memory));
     };
     let mut input = InputLines::new(rt.alloc(), reader, is_typed(rt, settings));
+    let mut connection = Some(session.attached.source().as_raw_fd());
     for _ in 0..u64::MAX {
         let next = match line_to_do::<R, BufReader<R::Reader>, L>(
-            rt, &mut input, vocabulary, settings,
+            rt, &mut input, connection, vocabulary, settings,
         ) {
             Ok(next) => next,
             Err(fault) => return Err(fault),
@@ -208,12 +218,24 @@ where
             Ok(closing) => closing,
             Err(fault) => return Err(ToldFault::from(fault)),
         };
+        connection = still_open(connection, closing);
+        if !matches!(closing, Closing::Done) {
+            input.ask_again();
+        }
         ran = ran.and(closing.ran(settings.after));
         if ran.is_over {
             return Ok(ran);
         }
     }
     Ok(ran)
+}
+
+// The connection, as long as the other side hasn't closed it.
+fn still_open(connection: Option<RawFd>, closing: Closing) -> Option<RawFd> {
+    match closing {
+        Closing::Ended => None,
+        _ => connection,
+    }
 }
 
 /// Whether the lines are typed by someone who reads what each tells: standard input is a terminal, no program drives the
@@ -243,20 +265,28 @@ where
 }
 
 // The next line of standard input that is to be carried out; `None` where there is none more. Lines that are typed are
-// asked for, and of a bad one the cause is told, both on standard error; then the next is read.
-fn line_to_do<R: Runtime, B: BufRead + Drop, L: LiveLine>(
+// asked for, and of a bad one the cause is told, both on standard error; then the next is read. Where something comes
+// over the connection before one is typed, the line that takes it comes first.
+fn line_to_do<R: Runtime + AllocGlobal + Net, B: BufRead + Drop, L: LiveLine>(
     rt: &R,
     input: &mut InputLines<B>,
+    connection: Option<RawFd>,
     vocabulary: Vocabulary,
     settings: LineSettings,
 ) -> Result<Option<L>, ToldFault>
-    ensures line { IfOk result (λ next. IfSome next
-        (IsNextLine L.language vocabulary settings.ready)) }
+    ensures line { IfOk result (λ next. IfSome next (λ line.
+        IsNextLine L.language vocabulary settings.ready line
+        ⊎ (L.language.meanwhile ≡ Some line))) }
     ensures fault { IfErr result (IsInputFault settings.ready) }
 {
     for _ in 0..u64::MAX {
         if input.is_asking() {
-            let _ = eprint!(rt; "t5250> ");
+            if input.asks_anew() {
+                let _ = eprint!(rt; "t5250> ");
+            }
+            if let Some(line) = come_before_line::<R, L>(rt, connection) {
+                return Ok(Some(line));
+            }
         }
         let next = match next_line::<B, L>(input, vocabulary, settings.ready) {
             Ok(next) => next,
@@ -276,6 +306,21 @@ fn line_to_do<R: Runtime, B: BufRead + Drop, L: LiveLine>(
         }
     }
     Ok(None)
+}
+
+// The line that takes what has come over the connection before one was typed, where there is one and something has.
+fn come_before_line<R: Net + AllocGlobal, L: LiveLine>(
+    rt: &R,
+    connection: Option<RawFd>,
+) -> Option<L>
+    ensures { IfSome result (λ line. L.language.meanwhile ≡ Some line) }
+{
+    let line = L::meanwhile()?;
+    if comes_before_line(rt, connection?) {
+        Some(line)
+    } else {
+        None
+    }
 }
 
 // Ends the row on which the end of what is typed came.

@@ -55,7 +55,7 @@ pub(crate) trait ServedLine: LiveLine {
         out: &mut BufferedSink<O>,
     ) -> Result<bool, ToldFault>
     where
-        R: Runtime + AllocGlobal + Files<File = File>,
+        R: Runtime + AllocGlobal + Files<File = File> + Net,
         R::Reader: IsTerminal,
         O: Sink,
         requires empty { out.old.held ≡ [] }
@@ -193,7 +193,7 @@ impl ServedLine for HostLine {
         out: &mut BufferedSink<O>,
     ) -> Result<bool, ToldFault>
     where
-        R: Runtime + AllocGlobal + Files<File = File>,
+        R: Runtime + AllocGlobal + Files<File = File> + Net,
         R::Reader: IsTerminal,
         O: Sink,
     {
@@ -224,7 +224,7 @@ impl ServedLine for AnyLine {
         out: &mut BufferedSink<O>,
     ) -> Result<bool, ToldFault>
     where
-        R: Runtime + AllocGlobal + Files<File = File>,
+        R: Runtime + AllocGlobal + Files<File = File> + Net,
         R::Reader: IsTerminal,
         O: Sink,
     {

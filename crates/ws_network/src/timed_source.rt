@@ -12,6 +12,7 @@ use std::io;
 use std::io::{ErrorKind, Read};
 use std::marker::Model;
 use std::net::{Shutdown, TcpStream};
+use std::os::fd::{AsRawFd, RawFd};
 use std::rt::{Files, Runtime};
 use std::time::Duration;
 use ws_code::{DeviceFailed, Source};
@@ -155,6 +156,12 @@ impl<'a, C: Runtime + AllocGlobal + Files<File = File>> Source for TimedSource<'
     fn read(&mut self, into: &mut [u8]) -> Result<usize, DeviceFailed> {
         let outcome = self.read_piece(into);
         self.note(outcome)
+    }
+}
+
+impl<C> AsRawFd for TimedSource<'_, C> {
+    fn as_raw_fd(&self) -> RawFd {
+        self.stream.as_raw_fd()
     }
 }
 

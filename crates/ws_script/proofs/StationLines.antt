@@ -9,6 +9,7 @@ use Rattle.std.proofs.lemmas.Str.{scalars-chars, encodes-chars}
 use Rattle.ws_script.specs.declared.lines.connect_line.Awaited.{Awaited}
 use Rattle.ws_script.specs.declared.lines.connect_line.StationLine.{StationLine}
 use Rattle.ws_script.specs.declared.lines.connect_line.StationLine.TheVariants.{Nothing, Press, Await, Fields, Show, Bad}
+use Rattle.ws_script.specs.declared.lines.connect_line.StationLine.TheVariants.{Meanwhile}
 use Rattle.ws_script.specs.declared.lines.connect_line.StationLine.TheVariants.{Stroke as StrokeLine, Report as ReportLine}
 use Rattle.ws_printing.specs.declared.station_report.StationReport.{StationReport}
 use Rattle.ws_printing.specs.declared.station_report.StationReport.TheVariants.{Status, Cells, Text as ShownText, Note}
@@ -72,6 +73,7 @@ module _ {Q : Type 0} (w : KeyWords Q) where
   no_station_word word some free plain na ne nn nf ns nt Fields m = nf m
   no_station_word word some free plain na ne nn nf ns nt Show m = ns m
   no_station_word word some free plain na ne nn nf ns nt (Bad cause) m = m
+  no_station_word word some free plain na ne nn nf ns nt Meanwhile m = m
   no_station_word word some free plain na ne nn nf ns nt (ReportLine report) m = no_report word report free nt m
 
   -- what a command and its words say
@@ -142,6 +144,7 @@ module _ {Q : Type 0} (w : KeyWords Q) where
   says command words free plain Fields m = blank_inside command words (ap has_no_blank m)
   says command words free plain Show m = blank_inside command words (ap has_no_blank m)
   says command words free plain (Bad cause) m = m
+  says command words free plain Meanwhile m = m
   says command words free plain (ReportLine report) m = report_says command words report free m
 
   -- THE COMMANDS OF A LINE
@@ -181,6 +184,7 @@ module _ {Q : Type 0} (w : KeyWords Q) where
   by_command command words Fields h = absurd h
   by_command command words Show h = absurd h
   by_command command words (Bad cause) h = absurd h
+  by_command command words Meanwhile h = absurd h
   by_command command words (ReportLine Status) h = absurd h
   by_command command words (ReportLine (Cells cell)) h =
       by_word (ReportLine (Cells cell)) command (codes "cells") h.0 refl
@@ -208,6 +212,7 @@ module _ {Q : Type 0} (w : KeyWords Q) where
   other_says command words other Fields h = h
   other_says command words other Show h = h
   other_says command words other (Bad cause) h = h
+  other_says command words other Meanwhile h = h
   other_says command words other (ReportLine Status) h = h
   other_says command words other (ReportLine (Cells cell)) h = other.6 h.0
   other_says command words other (ReportLine (ShownText span)) h = other.7 h.0

@@ -26,7 +26,7 @@ use Rattle.ws_printing.specs.declared.station_report.StationReport.{StationRepor
 use Rattle.ws_printing.specs.declared.station_report.StationReport.TheVariants.{Note}
 use Rattle.ws_script.specs.declared.lines.connect_line.StationLine.{StationLine}
 use Rattle.ws_script.specs.declared.lines.connect_line.StationLine.TheVariants.{Nothing as NoLine, Press, Stroke, Await}
-use Rattle.ws_script.specs.declared.lines.connect_line.StationLine.TheVariants.{Fields, Show, Report, Bad}
+use Rattle.ws_script.specs.declared.lines.connect_line.StationLine.TheVariants.{Fields, Show, Report, Meanwhile, Bad}
 use Rattle.ws_script.specs.declared.lines.connect_line.Awaited.{Awaited}
 use Rattle.ws_script.specs.declared.lines.connect_line.Awaited.TheVariants.{Turn, Record, Text, At, Quiet}
 use Rattle.ws_script.specs.lines.Stroking.{stroke_keys}
@@ -59,6 +59,7 @@ station_waits (Await awaited) = Some (span_of awaited)
 station_waits Fields = Some AtOnce
 station_waits Show = Some AtOnce
 station_waits (Report report) = report_waits report
+station_waits Meanwhile = Some AtOnce
 station_waits line = None
 
 -- how a line closes that was carried out: nothing of it was refused, or something was
@@ -322,6 +323,7 @@ module _ {S K : Type 0} (at : LiveStation) (on : WatchedDevices S K) where
       ShowsStation (λ station. IsDisplayText (look telling.paint (station_page at station)) (station_screen at station)
       (at.operated.behind (at.seen.display station))) from came to
   StationRuns telling (Report report) from came to = Reports report from came to
+  StationRuns telling Meanwhile from came to = ShowsStation (λ station text. text ≡ []) from came to
   StationRuns telling (Bad cause) from came to = (to ≡ from) × (came.outcome ≡ bad_outcome)
       × (came.text ≡ bad_text (string_bytes cause))
 

@@ -77,6 +77,10 @@ where
                 put_waited(out, Wait { output, ..wait })
             }
             StationLine::Report(report) => put_what(attached, ahead, watch, report, out, output),
+            StationLine::Meanwhile => {
+                let wait = take_what_came(attached, ahead, watch, out, output);
+                put_waited(out, wait)
+            }
             StationLine::Bad(cause) => put_bad(out, output, cause.as_str()),
         }
     }

@@ -1,6 +1,7 @@
 -- The lines of a script for a station at a host, whose display has keys by these words.
 
 use Rattle.std.specs.Prelude.{◌≡◌, ◌≢◌, ℕ, ◌≤◌, ◌⊎◌, List, [], ◌++◌, true, false, codes, string_bytes}
+use Rattle.std.specs.Prelude.{Some}
 use Rattle.std.specs.Str.{IsUtf8}
 use Rattle.ws_code.specs.Address.{IsRowAndColumn, place_of}
 use Rattle.ws_code.specs.declared.address.TheConstants.{CELLS}
@@ -10,6 +11,7 @@ use Rattle.ws_script.specs.lines.LiveScript.{LineLanguage}
 use Rattle.ws_printing.specs.script.KeyWords.{AreKeysOf, AreNamed, KeyWords}
 use Rattle.ws_script.specs.declared.lines.connect_line.StationLine.{StationLine}
 use Rattle.ws_script.specs.declared.lines.connect_line.StationLine.TheVariants.{Nothing, Press, Await, Fields, Show, Bad}
+use Rattle.ws_script.specs.declared.lines.connect_line.StationLine.TheVariants.{Meanwhile}
 use Rattle.ws_script.specs.declared.lines.connect_line.StationLine.TheVariants.{Stroke as StrokeLine}
 use Rattle.ws_script.specs.declared.lines.connect_line.StationLine.TheVariants.{Report as ReportLine}
 use Rattle.ws_printing.specs.declared.station_report.StationReport.{StationReport}
@@ -156,6 +158,7 @@ module _ {Q : Type 0} (w : KeyWords Q) where
   MeansStationLine line Show = line ≡ codes "show"
   MeansStationLine line (ReportLine report) = MeansReport line report
   MeansStationLine line (Bad cause) = ⊥
+  MeansStationLine line Meanwhile = ⊥
 
   -- a line of such a script, which is UTF-8
   abbrev pub IsStationLine : List ℕ → StationLine Q → Type 0
@@ -177,4 +180,5 @@ module _ {Q : Type 0} (w : KeyWords Q) where
     opener = λ line. ⊥;
     bad_at = λ line inside at. at ≡ 1;
     bad_line = λ cause. Bad cause;
+    meanwhile = Some Meanwhile;
   }

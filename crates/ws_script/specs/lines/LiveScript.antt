@@ -2,7 +2,7 @@
 -- for.
 
 use Rattle.std.specs.Prelude.{◌≡◌, ℕ, ◌+◌, ◌-◌, ◌^◌, ◌≤◌, List, [], ◌∷◌, ◌++◌, ◌⊎◌, length, min, Bool, true, false}
-use Rattle.std.specs.Prelude.{◌==◌, ◌&&◌, String, Some}
+use Rattle.std.specs.Prelude.{◌==◌, ◌&&◌, String, Option, Some}
 use Rattle.std.specs.Global.{Global}
 use Rattle.std.specs.Str.Lines.{lines}
 use Rattle.ws_script.specs.declared.lines.live_line.NumberedLine.{NumberedLine}
@@ -57,6 +57,8 @@ pub record LineLanguage (L : Type 0) : Type 1 where
   pub bad_at : List ℕ → List (List ℕ) → ℕ → Type 0
   -- what stands for a line that is bad for this cause
   pub bad_line : String Global → L
+  -- what is carried out while a line is waited for, where something has come
+  pub meanwhile : Option L
 
 module _ {L : Type 0} (language : LineLanguage L) where
   -- a line, those that belong to it, which stand after one that lines may belong to, and those after them

@@ -1,6 +1,6 @@
 -- The lines of a script for a host of one station.
 
-use Rattle.std.specs.Prelude.{◌≡◌, ◌≢◌, ◌⊎◌, ℕ, ◌+◌, ◌-◌, ◌^◌, List, [], ◌++◌, codes, min, Some}
+use Rattle.std.specs.Prelude.{◌≡◌, ◌≢◌, ◌⊎◌, ℕ, ◌+◌, ◌-◌, ◌^◌, List, [], ◌++◌, codes, min, None, Some}
 use Rattle.std.specs.Str.{IsUtf8}
 use Rattle.ws_record.specs.declared.opcode.Opcode.{Opcode}
 use Rattle.ws_record.specs.declared.record.Record.{Record}
@@ -98,4 +98,5 @@ host_language = record {
   opener = OpensHostBlock;
   bad_at = IsBadHostLineAt;
   bad_line = λ cause. Bad cause;
+  meanwhile = None;
 }

@@ -32,6 +32,9 @@ pub enum StationLine<Q> {
     Show,
     /// What this asks for is printed.
     Report(StationReport),
+    /// What has come is taken, and nothing is printed. No line of a script means it: it is carried out while a line is
+    /// waited for.
+    Meanwhile,
     /// A line that is bad for this cause, which is told.
     Bad(String),
 }
@@ -67,6 +70,10 @@ impl<Q: NamedKey> LiveLine for StationLine<Q> {
 
     fn bad(cause: String) -> Self {
         StationLine::Bad(cause)
+    }
+
+    fn meanwhile() -> Option<Self> {
+        Some(StationLine::Meanwhile)
     }
 }
 

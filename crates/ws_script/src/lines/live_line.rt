@@ -36,6 +36,10 @@ pub trait LiveLine: Drop {
     /// What stands for a line that is bad for this cause. No line means it. It is carried out by telling the cause.
     fn bad(cause: String) -> Self
         ensures { result ≡ language.bad_line cause };
+
+    /// The line that takes what has come while one is waited for. None where nothing is taken then.
+    fn meanwhile() -> Option<Self>
+        ensures { result ≡ language.meanwhile };
 }
 
 /// A line of a live session.

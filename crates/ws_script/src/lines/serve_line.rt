@@ -71,6 +71,10 @@ impl LiveLine for HostLine {
     fn bad(cause: String) -> Self {
         HostLine::Bad(cause)
     }
+
+    fn meanwhile() -> Option<Self> {
+        None
+    }
 }
 
 // A line that no other belongs to.
