@@ -1,6 +1,6 @@
 use Rattle.std.specs.List.{flat_map}
 use Rattle.std.specs.Prelude.{Ok}
-use Rattle.std.proofs.Common.{◌++◌, [], ℕ, List, true, refl, sym, ap, ◌∙◌, subst}
+use Rattle.std.proofs.Common.{◌≡◌, ◌++◌, [], ℕ, List, true, refl, sym, ap, ◌∙◌, subst}
 use Rattle.ws_code.specs.Device.{on_devices}
 use Rattle.ws_text.proofs.Prints.{prints_both, prints_none}
 use Rattle.ws_script.specs.declared.lines.connect_line.StationLine.{StationLine}
@@ -138,4 +138,32 @@ returns-in-Show-clause-runs g c =
           (c.take_what_came-wait-in-Show.new.attached, c.take_what_came-wait-in-Show.new.ahead))
           (sym c.in-Show.is) shows,
       wait_prints t.3 t.5 p.2 c.put_waited-in-Show.ensures.text,
+    )
+
+pub returns-in-Meanwhile-clause-runs : goal.returns-in-Meanwhile-clause-runs
+returns-in-Meanwhile-clause-runs g c =
+    let at = live_station g.E.End.behaviour g.E.Keyed.keyed g.E.LiveStation.typing g.E.LiveStation.seen
+    g.E.Display.StationDisplay.does.shown g.E.Display.OperatedDisplay.operated g.E.Named.NamedKey.words in
+    let on = watched_devices (on_devices g.K.Sink.writer g.S.Source.reader) g.W.Watch.tells in
+    let wait = c.take_what_came-wait-in-Meanwhile in
+    let t = wait.ensures.taken in
+    let none : List ℕ = [] in
+    let text : List ℕ = flat_map record_text t.0 ++ none ++ waited_text (rested true t.1) in
+    let shows : ShowsStation at on (λ station text. text ≡ []) (c.args.session.now.attached, c.args.session.now.ahead)
+    (line_result c.put_waited-in-Meanwhile.result.outcome text) (wait.new.attached, wait.new.ahead) = record {
+      records = t.0;
+      ended = t.1;
+      taken = t.2;
+      shown = none;
+      is = refl;
+      closes = wait_closes c.put_waited-in-Meanwhile.ensures.outcome t.4 t.3;
+      all = refl;
+    } in (
+      text,
+      subst (λ (line : StationLine g.row.E-Named.Denot). StationRuns at on c.args.telling line
+          (c.args.session.now.attached, c.args.session.now.ahead)
+          (line_result c.put_waited-in-Meanwhile.result.outcome text) (wait.new.attached, wait.new.ahead))
+          (sym c.in-Meanwhile.is) shows,
+      wait_prints t.3 t.5 (prints_none g.O.Sink.writer wait.new.out wait.result.output)
+          c.put_waited-in-Meanwhile.ensures.text,
     )
