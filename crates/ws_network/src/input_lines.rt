@@ -10,6 +10,7 @@ ghost use Rattle.ws_text.specs.Names.{look_up};
 use std::alloc::Global;
 use std::io::{BufRead, ErrorKind};
 use std::marker::Model;
+use ws_live::Closing;
 use ws_script::{
     LiveLine, RunFault, ScriptFault, ToldFault, Vocabulary, cause_in_block, cause_text, is_indented,
 };
@@ -168,11 +169,11 @@ impl<B: BufRead + Drop> InputLines<B> {
         is_first
     }
 
-    /// Something was told, after which it is asked for once more.
-    pub(crate) fn ask_again(&mut self)
+    /// After a line that told something it is asked for once more.
+    pub(crate) fn ask_again_after(&mut self, closing: Closing)
         ensures { self.new ≡ self.old }
     {
-        self.is_asked = false;
+        self.is_asked = self.is_asked && matches!(closing, Closing::Done);
     }
 
     /// Whether the end of what is typed has come.

@@ -219,9 +219,7 @@ where
             Err(fault) => return Err(ToldFault::from(fault)),
         };
         connection = still_open(connection, closing);
-        if !matches!(closing, Closing::Done) {
-            input.ask_again();
-        }
+        input.ask_again_after(closing);
         ran = ran.and(closing.ran(settings.after));
         if ran.is_over {
             return Ok(ran);
