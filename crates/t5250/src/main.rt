@@ -9,9 +9,11 @@
 
 ghost use Rattle.std.specs.Prelude.{◌≡◌, []};
 
+mod progress;
 mod standard_output;
 mod standard_streams;
 
+use crate::progress::Progress;
 use crate::standard_output::StandardOutput;
 use crate::standard_streams::StandardStreams;
 use clap::error::ErrorKind as WordsKind;
@@ -83,10 +85,12 @@ fn tell_told(rt: &HostRuntime, fault: ToldFault) -> Result<bool, CommandFault> {
 }
 
 fn main(rt: HostRuntime) -> ExitCode {
-    let mut sink = BufferedSink::new(StandardOutput::new(io::writer(&rt)));
-    let outcome = match run_filled(&rt, &mut sink) {
+    let mut sink = BufferedSink::new(StandardOutput::new(io::writer(&rt), Progress::new(&rt)));
+    let outcome = run_filled(&rt, &mut sink);
+    let is_unread = sink.into_inner().end();
+    let outcome = match outcome {
         Ok(accepted) => Ok(accepted),
-        Err(fault) => tell(&rt, fault, sink.into_inner().is_unread()),
+        Err(fault) => tell(&rt, fault, is_unread),
     };
     ExitCode::from(status(&outcome))
 }

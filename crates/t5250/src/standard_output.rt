@@ -2,20 +2,22 @@
 ghost use Rattle.std.specs.Prelude.{◌≡◌};
 ghost use Rattle.ws_code.specs.Device.{Counted, device_writer};
 
+use crate::progress::Progress;
 use std::io::{ErrorKind, Write};
 use std::marker::Model;
 use ws_code::{DeviceFailed, Sink};
 
-/// Hands bytes to a writer of the standard library, and counts its failures. It keeps whether one came because nobody
-/// reads what is written, as of a pipe whose other side was closed.
+/// Hands bytes to a writer of the standard library, counts its failures, and has told how much was written. It keeps
+/// whether a failure came because nobody reads what is written, as of a pipe whose other side was closed.
 #[derive(Drop)]
-pub(crate) struct StandardOutput<W> {
+pub(crate) struct StandardOutput<'a, W> {
     writer: W,
     failures: u64,
     is_unread: bool,
+    progress: Progress<'a>,
 }
 
-impl<W> Model for StandardOutput<W> {
+impl<'a, W> Model for StandardOutput<'a, W> {
     ghost use Rattle.ws_code.specs.Device.{Counted};
 
     ghost Value = { Counted W };
@@ -23,9 +25,9 @@ impl<W> Model for StandardOutput<W> {
     ghost view = { λ s. record { device = s.writer; failures = s.failures } };
 }
 
-impl<W> StandardOutput<W> {
+impl<'a, W> StandardOutput<'a, W> {
     /// One that has not failed.
-    pub(crate) fn new(writer: W) -> Self
+    pub(crate) fn new(writer: W, progress: Progress<'a>) -> Self
         ensures device { result.device ≡ writer }
         ensures failures { result.failures ≡ 0 }
     {
@@ -33,21 +35,26 @@ impl<W> StandardOutput<W> {
             writer,
             failures: 0,
             is_unread: false,
+            progress,
         }
     }
 
-    /// Whether nobody reads what is written any more.
-    pub(crate) fn is_unread(&self) -> bool {
+    /// No more is written. Whether nobody reads what is written any more.
+    pub(crate) fn end(&self) -> bool {
+        self.progress.end();
         self.is_unread
     }
 }
 
-impl<W: Write> Sink for StandardOutput<W> {
+impl<W: Write> Sink for StandardOutput<'_, W> {
     ghost writer = { device_writer W.contents };
 
     fn write(&mut self, bytes: &[u8]) -> Result<usize, DeviceFailed> {
         match self.writer.write(bytes) {
-            Ok(taken) => Ok(taken),
+            Ok(taken) => {
+                self.progress.add(taken);
+                Ok(taken)
+            }
             Err(error) => {
                 self.failures = self.failures.saturating_add(1);
                 self.is_unread = error.kind() == ErrorKind::BrokenPipe;
