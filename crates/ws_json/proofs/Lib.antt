@@ -1,0 +1,2 @@
+pub mod PassedLines
+pub mod PassedWrites

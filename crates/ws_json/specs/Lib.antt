@@ -1,0 +1,3 @@
+pub mod JsonStrings
+pub mod JsonTexts
+pub mod LineStrings
