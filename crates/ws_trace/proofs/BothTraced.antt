@@ -10,8 +10,9 @@ use Rattle.ws_extended.specs.declared.extended_element.ExtendedElement.{Extended
 use Rattle.ws_extended.specs.declared.extended_place.ExtendedPlace.{ExtendedPlace}
 use Rattle.ws_trace.specs.BothEnds.{IsMadeDisplay, IsMadeNothing, host_end, station_end}
 use Rattle.ws_trace.specs.Dialogues.{AreAllHeard, BothAt, IsHeardOf, both_begin}
-use Rattle.ws_trace.specs.Ends.{EndAt}
+use Rattle.ws_trace.specs.Ends.{EndAt, entry_at}
 use Rattle.ws_trace.specs.Tracers.{IsAdded, Tracks, TracerParts}
+use Rattle.ws_trace.specs.declared.entry.EndTold.TheVariants as told_of
 use Rattle.ws_trace.specs.declared.entry.Entry.{Entry}
 use Rattle.ws_trace.specs.declared.piece.Piece.{Piece}
 use Rattle.ws_trace.specs.declared.piece.TracedEnd.{TracedEnd}
@@ -64,7 +65,7 @@ all_heard_more at mid next (first ∷ pieces) piece entries now h one = (
 pub host_more : {pieces : List Piece} {before after : List Entry} {host new : HostTracer} {station : StationTracer}
     (piece : Piece) → piece.sender ≡ Host → AreTraced pieces before host station
     → ((at : EndAt ExtendedElement ExtendedState) → HostIsAt host at → IsAdded extended_rules host_end
-    piece.milliseconds at piece.bytes.items before after (HostIsAt new))
+    (entry_at told_of.Host piece.milliseconds) at piece.bytes.items before after (HostIsAt new))
     → AreTraced (pieces ++ piece ∷ []) after new station
 host_more {pieces} {before} {after} {host} {new} {station} piece is t adds =
     let a = adds t.at.host t.host_is in
@@ -81,7 +82,7 @@ host_more {pieces} {before} {after} {host} {new} {station} piece is t adds =
 pub station_more : {pieces : List Piece} {before after : List Entry} {host : HostTracer} {station new : StationTracer}
     (piece : Piece) → piece.sender ≡ Station → AreTraced pieces before host station
     → ((at : EndAt ExtendedAnswerPart (Unit {0})) → StationIsAt station at → IsAdded extended_answer_rules station_end
-    piece.milliseconds at piece.bytes.items before after (StationIsAt new))
+    (entry_at told_of.Station piece.milliseconds) at piece.bytes.items before after (StationIsAt new))
     → AreTraced (pieces ++ piece ∷ []) after host new
 station_more {pieces} {before} {after} {host} {station} {new} piece is t adds =
     let a = adds t.at.station t.station_is in

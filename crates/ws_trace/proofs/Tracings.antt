@@ -14,12 +14,11 @@ use Rattle.ws_record.specs.Grammar.{Holds, IsStretch, commands}
 use Rattle.ws_record.specs.declared.record.Item.{Item}
 use Rattle.ws_record.specs.declared.record.Item.TheVariants.{Record as RecordItem, Telnet as TelnetItem}
 use Rattle.ws_record.specs.declared.record.Record.{Record}
-use Rattle.ws_trace.specs.Ends.{Tracing, EndAt, AreHeard, IsHeardByte, IsWholeItem, entries_at, carry_fault, made_of, told_with}
+use Rattle.ws_trace.specs.Ends.{Tracing, EndAt, AreHeard, IsHeardByte, IsWholeItem, carry_fault, made_of, told_with}
 use Rattle.ws_trace.specs.Reading.{StreamStanding, IsNextByte, told_of_passed}
 use Rattle.ws_trace.specs.Reading.StreamStanding.{Reads, Passes}
 use Rattle.ws_trace.specs.Readers.{ReaderParts, IsNextOf}
 use Rattle.ws_trace.specs.Tracers.{TracerParts, IsAdded, IsWholeCame, Tracks}
-use Rattle.ws_trace.specs.declared.entry.Entry.{Entry}
 use Rattle.ws_trace.specs.declared.told.Told.{Told}
 use Rattle.ws_trace.specs.declared.told.Told.TheVariants.{Whole, Refused}
 
@@ -69,15 +68,15 @@ on_ok (Err e) p f = tt
 
 -- What bytes add.
 
-module _ {Place U State : Type 0} (rules : Rules Place U) (end : Tracing U State) (time : ℕ) where
-  -- the entries of a byte
-  abbrev pub EntriesOf : EndAt U State → Option (Told U) → List Entry
-  EntriesOf at came = entries_at end.as_told time at.taken (told_with came (carry_fault end at.state came))
+module _ {Place U State T : Type 0} (rules : Rules Place U) (end : Tracing U State) (put : ℕ → Told U → T) where
+  -- what is told of a byte
+  abbrev pub EntriesOf : EndAt U State → Option (Told U) → List T
+  EntriesOf at came = map (put at.taken) (told_with came (carry_fault end at.state came))
 
   -- a byte more
-  heard_more : (at mid next : EndAt U State) (bytes : List ℕ) (entries : List Entry) (byte : ℕ)
-      (came : Option (Told U)) → AreHeard rules end time at bytes entries mid → IsHeardByte rules end mid byte came next
-      → AreHeard rules end time at (bytes ++ byte ∷ []) (entries ++ EntriesOf mid came) next
+  heard_more : (at mid next : EndAt U State) (bytes : List ℕ) (entries : List T) (byte : ℕ)
+      (came : Option (Told U)) → AreHeard rules end put at bytes entries mid → IsHeardByte rules end mid byte came next
+      → AreHeard rules end put at (bytes ++ byte ∷ []) (entries ++ EntriesOf mid came) next
   heard_more at mid next [] entries byte came h one = (
     came,
     next,
@@ -97,10 +96,10 @@ module _ {Place U State : Type 0} (rules : Rules Place U) (end : Tracing U State
   )
 
   -- what a byte adds after others
-  pub added_more : {at : EndAt U State} {bytes : List ℕ} {before mid after : List Entry} {byte : ℕ}
-      {IsThere IsNext : EndAt U State → Type 0} → (a : IsAdded rules end time at bytes before mid IsThere)
-      → IsAdded rules end time a.next (byte ∷ []) mid after IsNext
-      → IsAdded rules end time at (bytes ++ byte ∷ []) before after IsNext
+  pub added_more : {at : EndAt U State} {bytes : List ℕ} {before mid after : List T} {byte : ℕ}
+      {IsThere IsNext : EndAt U State → Type 0} → (a : IsAdded rules end put at bytes before mid IsThere)
+      → IsAdded rules end put a.next (byte ∷ []) mid after IsNext
+      → IsAdded rules end put at (bytes ++ byte ∷ []) before after IsNext
   added_more {at} {bytes} {before} {mid} {after} {byte} {IsThere} {IsNext} a b = record {
     next = b.next;
     added = a.added ++ EntriesOf a.next b.heard.0;
@@ -113,8 +112,8 @@ module _ {Place U State : Type 0} (rules : Rules Place U) (end : Tracing U State
   }
 
   -- none adds nothing
-  pub added_none : (at : EndAt U State) (entries : List Entry) (IsThere : EndAt U State → Type 0) → IsThere at
-      → IsAdded rules end time at [] entries entries IsThere
+  pub added_none : (at : EndAt U State) (entries : List T) (IsThere : EndAt U State → Type 0) → IsThere at
+      → IsAdded rules end put at [] entries entries IsThere
   added_none at entries IsThere there = record {
     next = at;
     added = [];
@@ -123,17 +122,24 @@ module _ {Place U State : Type 0} (rules : Rules Place U) (end : Tracing U State
     entries = sym (append-nil entries);
   }
 
+  -- what is told of a byte that a tracer takes there
+  pub entries_there : (old : ℕ) (at : EndAt U State) (came : Option (Told U)) (refused : Option Reason)
+      (before : List T) → old ≡ at.taken → refused ≡ carry_fault end at.state came
+      → before ++ map (put old) (told_with came refused) ≡ before ++ EntriesOf at came
+  entries_there old at came refused before counted why =
+      ap (λ n. before ++ map (put n) (told_with came refused)) counted
+      ∙ ap (λ (o : Option Reason). before ++ map (put at.taken) (told_with came o)) why
+
   -- one that a reader has taken
   module _ {Made : Type 0} (is_made : State → Made → Type 0) where
     pub added_one : (old : TracerParts Place U Made) (reader : ReaderParts Place U) (made : Made) (at : EndAt U State)
-        (byte : ℕ) (came : Option (Told U)) (refused : Option Reason) (before after : List Entry)
+        (byte : ℕ) (came : Option (Told U)) (before after : List T)
         → Tracks rules is_made old at → IsNextOf rules old.reader reader byte came
-        → ((state : State) → is_made state old.made → refused ≡ carry_fault end state came)
         → ((state : State) → is_made state old.made → is_made (made_of end state came) made)
-        → after ≡ before ++ entries_at end.as_told time old.taken (told_with came refused) → (taken : ℕ)
-        → taken ≡ old.taken + 1 → IsAdded rules end time at (byte ∷ []) before after
+        → after ≡ before ++ EntriesOf at came → (taken : ℕ)
+        → taken ≡ old.taken + 1 → IsAdded rules end put at (byte ∷ []) before after
         (Tracks rules is_made (record { reader = reader; made = made; taken = taken }))
-    added_one old reader made at byte came refused before after t on why makes is taken one =
+    added_one old reader made at byte came before after t on makes is taken one =
         let stood = on at.standing t.stands in
         let next : EndAt U State = record {
           standing = stood.0;
@@ -151,7 +157,5 @@ module _ {Place U State : Type 0} (rules : Rules Place U) (end : Tracing U State
             sym (append-nil (EntriesOf at came)),
           );
           there = record { stands = stood.2; made = makes at.state t.made; counted = one ∙ ap (λ n. n + 1) t.counted };
-          entries = is ∙ ap (λ n. before ++ entries_at end.as_told time n (told_with came refused)) t.counted
-              ∙ ap (λ (o : Option Reason). before ++ entries_at end.as_told time at.taken (told_with came o))
-              (why at.state t.made);
+          entries = is;
         }

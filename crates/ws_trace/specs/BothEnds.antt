@@ -10,7 +10,6 @@ use Rattle.ws_extended.specs.declared.extended_answer_part.ExtendedAnswerPart.{E
 use Rattle.ws_extended.specs.declared.extended_element.ExtendedElement.{ExtendedElement}
 use Rattle.ws_extended_station.specs.ExtendedRecords.{record_fault, state_after_record}
 use Rattle.ws_trace.specs.Ends.{Tracing}
-use Rattle.ws_trace.specs.declared.entry.EndTold.TheVariants.{Host, Station}
 
 -- a display to which nothing has happened
 abbrev pub new_state : ExtendedState
@@ -40,7 +39,6 @@ host_end = record {
   first = new_state;
   fault = extended_item_fault;
   after = state_after_item;
-  as_told = Host;
 }
 
 -- a station: what it tells makes nothing
@@ -49,5 +47,4 @@ station_end = record {
   first = tt;
   fault = λ _ _. None;
   after = λ _ _. tt;
-  as_told = Station;
 }

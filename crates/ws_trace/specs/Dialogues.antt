@@ -8,7 +8,8 @@ use Rattle.ws_extended.specs.declared.extended_answer_part.ExtendedAnswerPart.{E
 use Rattle.ws_extended.specs.declared.extended_element.ExtendedElement.{ExtendedElement}
 use Rattle.ws_trace.specs.BothEnds.{host_end, station_end}
 use Rattle.ws_trace.specs.Counts.{IsEndCount}
-use Rattle.ws_trace.specs.Ends.{EndAt, AreHeard, end_begins}
+use Rattle.ws_trace.specs.Ends.{EndAt, AreHeard, end_begins, entry_at}
+use Rattle.ws_trace.specs.declared.entry.EndTold.TheVariants as told_of
 use Rattle.ws_trace.specs.declared.dialogue.Dialogue.{Dialogue}
 use Rattle.ws_trace.specs.declared.entry.Entry.{Entry}
 use Rattle.ws_trace.specs.declared.piece.Piece.{Piece}
@@ -26,10 +27,10 @@ both_begin = record { host = end_begins host_end; station = end_begins station_e
 
 -- bytes of an end came at a time: the entries of these, and where both streams are then
 abbrev pub IsHeardOf : TracedEnd → ℕ → List ℕ → BothAt → List Entry → BothAt → Type 0
-IsHeardOf Host time bytes at entries next = AreHeard extended_rules host_end time at.host bytes entries next.host
-    × (next.station ≡ at.station)
-IsHeardOf Station time bytes at entries next =
-    AreHeard extended_answer_rules station_end time at.station bytes entries next.station × (next.host ≡ at.host)
+IsHeardOf Host time bytes at entries next = AreHeard extended_rules host_end (entry_at told_of.Host time) at.host bytes
+    entries next.host × (next.station ≡ at.station)
+IsHeardOf Station time bytes at entries next = AreHeard extended_answer_rules station_end
+    (entry_at told_of.Station time) at.station bytes entries next.station × (next.host ≡ at.host)
 
 -- pieces came one after another: the entries of all, and where both streams are then
 abbrev pub AreAllHeard : BothAt → List Piece → List Entry → BothAt → Type 0

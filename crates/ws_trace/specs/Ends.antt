@@ -19,7 +19,6 @@ pub record Tracing (U State : Type 0) : Type 0 where
   pub first : State
   pub fault : State → Item U → Option Reason
   pub after : State → Item U → State
-  pub as_told : Told U → EndTold
 
 -- Where an end's stream is: where it stands, what the items before made, and the place of its next byte.
 pub record EndAt (U State : Type 0) : Type 0 where
@@ -43,10 +42,9 @@ abbrev pub made_unless : {State : Type 0} → State → State → Option Reason 
 made_unless before after None = after
 made_unless before after (Some reason) = before
 
--- the entries of one byte
-abbrev pub entries_at : {U : Type 0} → (Told U → EndTold) → ℕ → ℕ → List (Told U) → List Entry
-entries_at as_told time place told =
-    map (λ t. record { milliseconds = time; place = place; told = as_told t }) told
+-- the entry of what is told of a byte at a time and a place
+abbrev pub entry_at : {U : Type 0} → (Told U → EndTold) → ℕ → ℕ → Told U → Entry
+entry_at as_told time place told = record { milliseconds = time; place = place; told = as_told told }
 
 module _ {U State : Type 0} (end : Tracing U State) where
   -- before the first byte
@@ -69,9 +67,10 @@ module _ {Place U State : Type 0} (rules : Rules Place U) (end : Tracing U State
     pub made : next.state ≡ made_of end at.state came
     pub counted : next.taken ≡ at.taken + 1
 
-  -- bytes that came at a time, one after another: the entries of each, and where the stream is after them
-  abbrev pub AreHeard : ℕ → EndAt U State → List ℕ → List Entry → EndAt U State → Type 0
-  AreHeard time at [] entries next = (entries ≡ []) × (next ≡ at)
-  AreHeard time at (byte ∷ bytes) entries next = (came : Option (Told U)) × (mid : EndAt U State) × (rest : List Entry)
-      × IsHeardByte at byte came mid × AreHeard time mid bytes rest next
-      × (entries ≡ entries_at end.as_told time at.taken (told_with came (carry_fault end at.state came)) ++ rest)
+  -- bytes that came one after another: what is told of each, put as this says by its place, and where the stream is
+  -- after them
+  abbrev pub AreHeard : {T : Type 0} → (ℕ → Told U → T) → EndAt U State → List ℕ → List T → EndAt U State → Type 0
+  AreHeard put at [] entries next = (entries ≡ []) × (next ≡ at)
+  AreHeard {T} put at (byte ∷ bytes) entries next = (came : Option (Told U)) × (mid : EndAt U State) × (rest : List T)
+      × IsHeardByte at byte came mid × AreHeard put mid bytes rest next
+      × (entries ≡ map (put at.taken) (told_with came (carry_fault end at.state came)) ++ rest)

@@ -1,9 +1,11 @@
-pub mod Reading
-pub mod Readers
-pub mod Ends
 pub mod BothEnds
 pub mod Counts
-pub mod Tracers
+pub mod DialogueText
 pub mod Dialogues
-pub mod TraceText
+pub mod Ends
+pub mod Readers
+pub mod Reading
 pub mod StreamsSent
+pub mod TraceObjects
+pub mod TraceText
+pub mod Tracers

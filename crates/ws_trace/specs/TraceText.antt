@@ -1,5 +1,4 @@
--- A dialogue as text: each entry's lines after its time and its sender, or after its sender alone, and at the end a
--- line for each end.
+-- Entries of a dialogue as lines, after the time and the sender, or after the sender alone; and a line for each end.
 
 use Rattle.std.specs.Prelude.{ℕ, ◌-◌, ◌/◌, ◌%◌, ◌==◌, ◌&&◌, List, [], ◌∷◌, ◌++◌, Bool, true, false, codes}
 use Rattle.std.specs.Prelude.{length, take, drop, filter, flat_map, if◌then◌else◌}
@@ -53,10 +52,14 @@ abbrev pub first_time : List Piece → ℕ
 first_time [] = 0
 first_time (piece ∷ pieces) = piece.milliseconds
 
--- milliseconds as seconds with three digits after the point, and the end that sends then
+-- milliseconds as seconds with three digits after the point
+abbrev pub seconds_text : ℕ → List ℕ
+seconds_text time = decimal (time / 1000) ++ codes "." ++ decimal (time / 100 % 10) ++ decimal (time / 10 % 10)
+    ++ decimal (time % 10)
+
+-- so many seconds, and the end that sends then
 abbrev pub moment_text : ℕ → TracedEnd → List ℕ
-moment_text time end = codes "+" ++ decimal (time / 1000) ++ codes "." ++ decimal (time / 100 % 10)
-    ++ decimal (time / 10 % 10) ++ decimal (time % 10) ++ codes " " ++ end_name end ++ codes " "
+moment_text time end = codes "+" ++ seconds_text time ++ codes " " ++ end_name end ++ codes " "
 
 -- what stands before an item: its time and its sender, or its sender alone
 abbrev pub entry_head : Heads → ℕ → TracedEnd → List ℕ
@@ -138,16 +141,6 @@ abbrev pub end_line : TracedEnd → EndCount → List Entry → List ℕ
 end_line end count entries = end_name end ++ codes ": " ++ decimal count.bytes ++ codes " bytes, "
     ++ decimal (end_records end entries) ++ codes " records, " ++ decimal (end_refusals end entries)
     ++ codes " refused" ++ (if count.is_whole then codes "\n" else codes ", truncated\n")
-
--- the text of a dialogue of these streams
-abbrev pub dialogue_lines : Heads → BothSent → Dialogue → List ℕ
-dialogue_lines heads sent dialogue = flat_map (entry_text heads sent) dialogue.entries.items
-    ++ end_line Host dialogue.host dialogue.entries.items
-    ++ end_line Station dialogue.station dialogue.entries.items
-
--- the text of a dialogue of these pieces
-abbrev pub dialogue_text : Heads → List Piece → Dialogue → List ℕ
-dialogue_text heads pieces dialogue = dialogue_lines heads (both_sent pieces) dialogue
 
 -- nothing is refused, and no stream ends too early
 abbrev pub is_unrefused : Dialogue → Bool

@@ -4,7 +4,6 @@ use Rattle.std.specs.Prelude.{◌≡◌, ℕ, List, ◌++◌, Option, Some}
 use Rattle.ws_code.specs.Code.{Rules}
 use Rattle.ws_trace.specs.Ends.{EndAt, Tracing, AreHeard, IsWholeItem}
 use Rattle.ws_trace.specs.Readers.{ReaderParts, StandsThere}
-use Rattle.ws_trace.specs.declared.entry.Entry.{Entry}
 use Rattle.ws_trace.specs.declared.told.Told.{Told}
 use Rattle.ws_trace.specs.declared.told.Told.TheVariants.{Whole}
 
@@ -27,11 +26,11 @@ module _ {Place U Made State : Type 0} (rules : Rules Place U) where
     pub made : is_made at.state tracer.made
     pub counted : tracer.taken ≡ at.taken
 
--- what bytes add to the entries before them, and where the stream is after them
-pub record IsAdded {Place U State : Type 0} (rules : Rules Place U) (end : Tracing U State) (time : ℕ) (at : EndAt U State)
-    (bytes : List ℕ) (before after : List Entry) (IsThere : EndAt U State → Type 0) : Type 0 where
+-- what bytes add to what was told before them, put as this says, and where the stream is after them
+pub record IsAdded {Place U State T : Type 0} (rules : Rules Place U) (end : Tracing U State) (put : ℕ → Told U → T)
+    (at : EndAt U State) (bytes : List ℕ) (before after : List T) (IsThere : EndAt U State → Type 0) : Type 0 where
   pub next : EndAt U State
-  pub added : List Entry
-  pub heard : AreHeard rules end time at bytes added next
+  pub added : List T
+  pub heard : AreHeard rules end put at bytes added next
   pub there : IsThere next
   pub entries : after ≡ before ++ added

@@ -14,7 +14,7 @@ use ws_telnet::{Token, Tokens};
 
 /// Reads an end's stream, and goes on after a refused record with the next.
 #[derive(Drop)]
-pub(crate) struct Reader<B: Body> {
+pub struct Reader<B: Body> {
     alloc: Global,
     receiver: Receiver<B>,
     tokens: Tokens,
@@ -40,7 +40,7 @@ impl<B: Body> Model for Reader<B> {
 
 impl<B: Body> Reader<B> {
     /// One that has taken no byte.
-    pub(crate) fn new(alloc: Global) -> Self
+    pub fn new(alloc: Global) -> Self
         ensures { StandsThere B.rules result (Reads [] []) }
     {
         Reader {
@@ -56,7 +56,7 @@ impl<B: Body> Reader<B> {
     /// # Errors
     ///
     /// `Memory` where a growth was refused, `Failed` where no more bytes can be counted.
-    pub(crate) fn take(&mut self, byte: u8) -> Result<Option<Told<B::Unit>>, Fault>
+    pub fn take(&mut self, byte: u8) -> Result<Option<Told<B::Unit>>, Fault>
         ensures next { IfOk result (IsNextOf B.rules self.old self.new byte) }
         ensures fault { IfErr result (λ fault. (fault ≡ Fault.Memory) ⊎ (fault ≡ Fault.Failed)) }
     {
@@ -110,7 +110,7 @@ impl<B: Body> Reader<B> {
     }
 
     /// Whether the stream may end here.
-    pub(crate) fn may_end(&mut self) -> bool
+    pub fn may_end(&mut self) -> bool
         ensures { (at : StreamStanding B.Unit) → StandsThere B.rules self.old at
             → IsTrue result ↔ MayEndAt B.rules at }
     {

@@ -2,13 +2,14 @@
 ghost use Rattle.std.specs.Prelude.{◌≡◌, ◌⊎◌, IfOk, IfErr};
 ghost use Rattle.ws_code.specs.Device.{FailedWithin, WentOut};
 ghost use Rattle.ws_trace.specs.Dialogues.{IsDialogue};
+ghost use Rattle.ws_trace.specs.DialogueText.{dialogue_text};
 ghost use Rattle.ws_trace.specs.TraceText as Spec;
 ghost use Rattle.ws_trace.specs.declared.dialogue.Dialogue.{Dialogue as ADialogue};
 
 use crate::piece::{first_time, stream_of};
 use crate::trace_text::{Streams, put_dialogue};
 use crate::tracer::Tracer;
-use crate::{Dialogue, Heads, Piece, TracedEnd};
+use crate::{Dialogue, Piece, TraceForm, TracedEnd};
 use std::alloc::Global;
 use ws_code::{Fault, Sink};
 use ws_extended::{ExtendedAnswers, ExtendedCommands};
@@ -42,8 +43,8 @@ pub fn dialogue_of(alloc: Global, pieces: &[Piece]) -> Result<Dialogue, Fault>
     })
 }
 
-/// Writes the dialogue of pieces that crossed a connection, each item after its head, and a line for each end: true
-/// where nothing is refused, and no end's stream ends too early.
+/// Writes the dialogue of pieces that crossed a connection in a form, and what there was of each end: true where nothing
+/// is refused, and no end's stream ends too early.
 ///
 /// # Errors
 ///
@@ -51,22 +52,22 @@ pub fn dialogue_of(alloc: Global, pieces: &[Piece]) -> Result<Dialogue, Fault>
 pub fn trace_to<S: Sink>(
     alloc: Global,
     pieces: &[Piece],
-    heads: Heads,
+    form: TraceForm,
     sink: &mut S,
 ) -> Result<bool, Fault>
     ensures traced { IfOk result (λ accepted. (dialogue : ADialogue)
         × IsDialogue pieces.now dialogue × (accepted ≡ Spec.is_unrefused dialogue)
-        × WentOut S.writer sink.old sink.new (Spec.dialogue_text heads pieces.now dialogue)) }
+        × WentOut S.writer sink.old sink.new (dialogue_text form pieces.now dialogue)) }
     ensures fault { IfErr result (λ fault. ((fault ≡ Fault.Write) × ((dialogue : ADialogue)
         × IsDialogue pieces.now dialogue
-        × FailedWithin S.writer sink.old sink.new (Spec.dialogue_text heads pieces.now dialogue)))
+        × FailedWithin S.writer sink.old sink.new (dialogue_text form pieces.now dialogue)))
         ⊎ (((fault ≡ Fault.Memory) ⊎ (fault ≡ Fault.Failed)) × (sink.new ≡ sink.old))) }
 {
     let dialogue = dialogue_of(alloc, pieces)?;
     let host = stream_of(alloc, pieces, TracedEnd::Host)?;
     let station = stream_of(alloc, pieces, TracedEnd::Station)?;
     let streams = Streams {
-        heads,
+        form,
         begun: first_time(pieces),
         host: host.as_slice(),
         station: station.as_slice(),

@@ -1,12 +1,14 @@
-//! A dialogue as text: each item and each refusal with its sender, and with its time or without it, and at the end a
-//! line for each end.
+//! A dialogue as text: each item and each refusal with its sender, and with its time or without it, and at the end
+//! what there was of each end.
 ghost use Rattle.std.specs.Prelude.{◌≡◌, ◌++◌};
 ghost use Rattle.ws_text.specs.ItemLines.{item_lines};
 ghost use Rattle.ws_text.specs.Printing.{Prints};
+ghost use Rattle.ws_trace.specs.DialogueText as Forms;
 ghost use Rattle.ws_trace.specs.StreamsSent.{sent_in};
 ghost use Rattle.ws_trace.specs.TraceText as Spec;
 
 use crate::dialogue::tally_of;
+use crate::trace_objects::{put_end_object, put_object};
 use crate::{Dialogue, EndCount, EndTold, Entry, Told, TracedEnd};
 use ws_code::{Reason, Sink};
 use ws_printing::PlaceAndReason;
@@ -19,10 +21,17 @@ pub enum Heads {
     Untimed,
 }
 
-/// The streams of both ends, the time of the first piece, and what stands before each item.
+/// The form of a dialogue's text: lines, or objects of JSON (RFC 8259), an object a line.
+#[derive(Clone, Copy, Debug, PartialEq, Eq)]
+pub enum TraceForm {
+    Lines(Heads),
+    Objects(Heads),
+}
+
+/// The streams of both ends, the time of the first piece, and the form of the text.
 #[derive(Clone, Copy)]
 pub(crate) struct Streams<'a> {
-    pub(crate) heads: Heads,
+    pub(crate) form: TraceForm,
     pub(crate) begun: u64,
     pub(crate) host: &'a [u8],
     pub(crate) station: &'a [u8],
@@ -36,16 +45,42 @@ pub(crate) fn put_dialogue<S: Sink>(
     streams: Streams<'_>,
 ) -> Output
     ensures { Prints S.writer sink.old sink.new output result
-        (Spec.dialogue_lines streams.entry.heads (sent_in streams.entry) dialogue.now) }
+        (Forms.dialogue_of_streams streams.entry.form (sent_in streams.entry) dialogue.now) }
 {
     let entries = dialogue.entries.as_slice();
     let output = EachAs(entries, streams).put_to(sink, output);
-    let output = put_end(sink, output, TracedEnd::Host, dialogue.host, entries);
-    put_end(sink, output, TracedEnd::Station, dialogue.station, entries)
+    let form = streams.form;
+    let output = put_end(sink, output, form, TracedEnd::Host, dialogue.host, entries);
+    put_end(
+        sink,
+        output,
+        form,
+        TracedEnd::Station,
+        dialogue.station,
+        entries,
+    )
+}
+
+// Writes what there was of an end.
+fn put_end<S: Sink>(
+    sink: &mut S,
+    output: Output,
+    form: TraceForm,
+    end: TracedEnd,
+    count: EndCount,
+    entries: &[Entry],
+) -> Output
+    ensures { Prints S.writer sink.old sink.new output result
+        (Forms.end_in form end count entries.now) }
+{
+    match form {
+        TraceForm::Lines(_) => put_end_line(sink, output, end, count, entries),
+        TraceForm::Objects(_) => put_end_object(sink, output, end, count, entries),
+    }
 }
 
 // Writes the line of an end.
-fn put_end<S: Sink>(
+fn put_end_line<S: Sink>(
     sink: &mut S,
     output: Output,
     end: TracedEnd,
@@ -75,19 +110,36 @@ fn put_end<S: Sink>(
 }
 
 impl TextAs<Streams<'_>> for Entry {
-    ghost text_as = { λ streams entry. Spec.entry_text streams.heads (sent_in streams) entry };
+    ghost text_as = { λ streams entry. Forms.entry_in streams.form (sent_in streams) entry };
 
     fn put_as<S: Sink>(&self, streams: &Streams<'_>, sink: &mut S, output: Output) -> Output {
-        let time = self.milliseconds.saturating_sub(streams.begun);
-        match &self.told {
-            EndTold::Host(told) => {
-                let head = Head(streams.heads, time, TracedEnd::Host);
-                put_entry(sink, output, head, self.place, told, streams.host)
-            }
-            EndTold::Station(told) => {
-                let head = Head(streams.heads, time, TracedEnd::Station);
-                put_entry(sink, output, head, self.place, told, streams.station)
-            }
+        match streams.form {
+            TraceForm::Lines(heads) => put_lines(sink, output, heads, self, streams),
+            TraceForm::Objects(heads) => put_object(sink, output, heads, self, streams),
+        }
+    }
+}
+
+// Writes the lines of an entry.
+fn put_lines<S: Sink>(
+    sink: &mut S,
+    output: Output,
+    heads: Heads,
+    entry: &Entry,
+    streams: &Streams<'_>,
+) -> Output
+    ensures { Prints S.writer sink.old sink.new output result
+        (Spec.entry_text heads (sent_in streams.now) entry.now) }
+{
+    let time = entry.milliseconds.saturating_sub(streams.begun);
+    match &entry.told {
+        EndTold::Host(told) => {
+            let head = Head(heads, time, TracedEnd::Host);
+            put_entry(sink, output, head, entry.place, told, streams.host)
+        }
+        EndTold::Station(told) => {
+            let head = Head(heads, time, TracedEnd::Station);
+            put_entry(sink, output, head, entry.place, told, streams.station)
         }
     }
 }
@@ -115,16 +167,24 @@ impl Text for Moment {
     ghost text = { λ m. Spec.moment_text m.0 m.1 };
 
     fn put_to<S: Sink>(&self, sink: &mut S, output: Output) -> Output {
+        texts!("+", Seconds(self.0), " ", self.1.name(), " ").put_to(sink, output)
+    }
+}
+
+/// So many milliseconds as seconds, with three digits after the point.
+#[derive(Clone, Copy)]
+pub(crate) struct Seconds(pub(crate) u64);
+
+impl Text for Seconds {
+    ghost text = { λ s. Spec.seconds_text s.0 };
+
+    fn put_to<S: Sink>(&self, sink: &mut S, output: Output) -> Output {
         texts!(
-            "+",
             Number(self.0 / 1000),
             ".",
             Number(self.0 / 100 % 10),
             Number(self.0 / 10 % 10),
-            Number(self.0 % 10),
-            " ",
-            self.1.name(),
-            " "
+            Number(self.0 % 10)
         )
         .put_to(sink, output)
     }
@@ -188,16 +248,16 @@ fn put_refusal<S: Sink>(
     .put_to(sink, output)
 }
 
-// The eight bytes before a place of a stream, or as many as there are.
-fn eight_before(place: u64, stream: &[u8]) -> &[u8]
+/// The eight bytes before a place of a stream, or as many as there are.
+pub(crate) fn eight_before(place: u64, stream: &[u8]) -> &[u8]
     ensures { result.now ≡ Spec.eight_before place stream.now }
 {
     let front = stream.split_at(stream.len().min(place as usize)).0;
     front.split_at(front.len().saturating_sub(8)).1
 }
 
-// The eight bytes from a place of a stream on, or as many as there are.
-fn eight_from(place: u64, stream: &[u8]) -> &[u8]
+/// The eight bytes from a place of a stream on, or as many as there are.
+pub(crate) fn eight_from(place: u64, stream: &[u8]) -> &[u8]
     ensures { result.now ≡ Spec.eight_from place stream.now }
 {
     let rest = stream.split_at(stream.len().min(place as usize)).1;

@@ -7,6 +7,9 @@ ghost use Rattle.ws_extended.specs.ExtendedStates.{ExtendedState};
 ghost use Rattle.ws_extended.specs.ExtendedViews.{Shows};
 ghost use Rattle.ws_trace.specs.BothEnds.{IsMadeDisplay, IsMadeNothing, host_end, station_end};
 ghost use Rattle.ws_trace.specs.Ends.{IsWholeItem, Tracing, made_unless};
+ghost use Rattle.ws_trace.specs.declared.entry.EndTold.{EndTold as AnEndTold};
+ghost use Rattle.ws_trace.specs.declared.entry.EndTold.TheVariants as told_of;
+ghost use Rattle.ws_trace.specs.declared.told.Told.{Told as ATold};
 
 use crate::{EndTold, Told, apply_extended_record};
 use ws_code::{Body, Reason};
@@ -25,6 +28,9 @@ pub(crate) trait Traced: Body {
 
     // What is known of the end that sends such bodies.
     ghost tracing: { Tracing Self.Unit State };
+
+    // An end's, as it is told.
+    ghost told_as: { ATold Self.Unit → AnEndTold };
 
     // The value is this.
     ghost is_made: { State → Self.Made → Type 0 };
@@ -49,7 +55,7 @@ pub(crate) trait Traced: Body {
 
     /// The same as an end's.
     fn as_told(told: Told<Self::Unit>) -> EndTold
-        ensures { result ≡ tracing.as_told told };
+        ensures { result ≡ told_as told };
 }
 
 // A host's records are carried out on a display.
@@ -59,6 +65,8 @@ impl Traced for ExtendedCommands {
     ghost State = { ExtendedState };
 
     ghost tracing = { host_end };
+
+    ghost told_as = { told_of.Host };
 
     ghost is_made = { IsMadeDisplay };
 
@@ -74,7 +82,7 @@ impl Traced for ExtendedCommands {
     }
 
     fn as_told(told: Told<ExtendedElement>) -> EndTold
-        ensures { result ≡ host_end.as_told told }
+        ensures { result ≡ told_of.Host told }
     {
         EndTold::Host(told)
     }
@@ -88,6 +96,8 @@ impl Traced for ExtendedAnswers {
 
     ghost tracing = { station_end };
 
+    ghost told_as = { told_of.Station };
+
     ghost is_made = { IsMadeNothing };
 
     fn before_any() {}
@@ -97,7 +107,7 @@ impl Traced for ExtendedAnswers {
     }
 
     fn as_told(told: Told<ExtendedAnswerPart>) -> EndTold
-        ensures { result ≡ station_end.as_told told }
+        ensures { result ≡ told_of.Station told }
     {
         EndTold::Station(told)
     }

@@ -1,7 +1,7 @@
 //! An end's stream as it is traced: its items are read and carried out, and entries made of them.
-ghost use Rattle.std.specs.Prelude.{◌≡◌, ◌++◌, ◌∷◌, ◌⊎◌, [], IfErr, OnOk};
+ghost use Rattle.std.specs.Prelude.{◌≡◌, ◌++◌, ◌∷◌, ◌⊎◌, [], IfErr, OnOk, map};
 ghost use Rattle.ws_trace.specs.Counts.{IsEndCount};
-ghost use Rattle.ws_trace.specs.Ends.{EndAt, end_begins, entries_at, carry_fault, made_of, told_with};
+ghost use Rattle.ws_trace.specs.Ends.{EndAt, end_begins, entry_at, carry_fault, made_of, told_with};
 ghost use Rattle.ws_trace.specs.Tracers.{IsAdded, IsWholeCame, Tracks};
 
 use crate::reader::Reader;
@@ -53,8 +53,8 @@ impl<B: Traced> Tracer<B> {
         requires { (at : EndAt B.Unit B.State) × Tracks B.rules B.is_made self.old at }
         ensures heard { OnOk result ((at : EndAt B.Unit B.State)
             → Tracks B.rules B.is_made self.old at
-            → IsAdded B.rules B.tracing milliseconds at bytes.now entries.old.items
-            entries.new.items (Tracks B.rules B.is_made self.new)) }
+            → IsAdded B.rules B.tracing (entry_at B.told_as milliseconds) at bytes.now
+            entries.old.items entries.new.items (Tracks B.rules B.is_made self.new)) }
         ensures fault { IfErr result (λ fault. (fault ≡ Fault.Memory) ⊎ (fault ≡ Fault.Failed)) }
     {
         for byte in bytes {
@@ -68,8 +68,8 @@ impl<B: Traced> Tracer<B> {
         requires { (at : EndAt B.Unit B.State) × Tracks B.rules B.is_made self.old at }
         ensures heard { OnOk result ((at : EndAt B.Unit B.State)
             → Tracks B.rules B.is_made self.old at
-            → IsAdded B.rules B.tracing milliseconds at (byte ∷ []) entries.old.items
-            entries.new.items (Tracks B.rules B.is_made self.new)) }
+            → IsAdded B.rules B.tracing (entry_at B.told_as milliseconds) at (byte ∷ [])
+            entries.old.items entries.new.items (Tracks B.rules B.is_made self.new)) }
         ensures fault { IfErr result (λ fault. (fault ≡ Fault.Memory) ⊎ (fault ≡ Fault.Failed)) }
     {
         let place = self.taken;
@@ -118,7 +118,7 @@ fn add_all<B: Traced>(
     entries: &mut Vec<Entry>,
 ) -> Result<(), Fault>
     ensures added { OnOk result (entries.new.items ≡ entries.old.items
-        ++ entries_at B.tracing.as_told milliseconds place (told_with came refused)) }
+        ++ map (entry_at B.told_as milliseconds place) (told_with came refused)) }
     ensures fault { IfErr result (λ fault. (fault ≡ Fault.Memory) ⊎ (fault ≡ Fault.Failed)) }
 {
     let Some(told) = came else {
@@ -139,7 +139,7 @@ fn add<B: Traced>(
     entries: &mut Vec<Entry>,
 ) -> Result<(), Fault>
     ensures added { OnOk result (entries.new.items ≡ entries.old.items
-        ++ entries_at B.tracing.as_told milliseconds place (told ∷ [])) }
+        ++ entry_at B.told_as milliseconds place told ∷ []) }
     ensures fault { IfErr result (λ fault. (fault ≡ Fault.Memory) ⊎ (fault ≡ Fault.Failed)) }
 {
     let entry = Entry {

@@ -2,18 +2,19 @@ use Rattle.std.proofs.Common.{◌++◌, ap}
 use Rattle.std.specs.List.{flat_map}
 use Rattle.ws_text.proofs.Prints.{prints_both, prints_same}
 use Rattle.ws_trace.specs.StreamsSent.{sent_in}
-use Rattle.ws_trace.specs.TraceText.{end_line, entry_text}
+use Rattle.ws_trace.specs.DialogueText.{end_in, entry_in}
 use Rattle.ws_trace.specs.declared.piece.TracedEnd.TheVariants.{Host, Station}
 use Rattle.ws_trace.proofs.trace_text.put_dialogue.Goals as goal
 
 pub returns : goal.returns
 returns g c =
     let d = c.args.dialogue.now in
+    let form = c.args.streams.form in
     let same = c.as_slice-entries.ensures.value in
-    let lines = flat_map (entry_text c.args.streams.heads (sent_in c.args.streams)) in
-    prints_both {xs = lines d.entries.items ++ end_line Host d.host d.entries.items}
-    {ys = end_line Station d.station d.entries.items}
-    (prints_both {xs = lines d.entries.items} {ys = end_line Host d.host d.entries.items}
+    let lines = flat_map (entry_in form (sent_in c.args.streams)) in
+    prints_both {xs = lines d.entries.items ++ end_in form Host d.host d.entries.items}
+    {ys = end_in form Station d.station d.entries.items}
+    (prints_both {xs = lines d.entries.items} {ys = end_in form Host d.host d.entries.items}
     (prints_same (ap lines same) c.put_to-output.ensures)
-    (prints_same (ap (end_line Host d.host) same) c.put_end-output.ensures))
-    (prints_same (ap (end_line Station d.station) same) c.put_end.ensures)
+    (prints_same (ap (end_in form Host d.host) same) c.put_end-output.ensures))
+    (prints_same (ap (end_in form Station d.station) same) c.put_end.ensures)
