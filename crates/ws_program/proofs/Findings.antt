@@ -26,11 +26,11 @@ module _ (form : StreamForm) (sender : Sender) (file : Bor (List ℕ)) (last : F
   are_more (x ∷ files) [] are = absurd are
   are_more (x ∷ files) (f ∷ found) are = (are.0, are.1, are_more files found are.2)
 
-and_true : (b : Bool) → (b && true) ≡ b
+pub and_true : (b : Bool) → (b && true) ≡ b
 and_true true = refl
 and_true false = refl
 
-and_assoc : (a b c : Bool) → (a && (b && c)) ≡ ((a && b) && c)
+pub and_assoc : (a b c : Bool) → (a && (b && c)) ≡ ((a && b) && c)
 and_assoc true b c = refl
 and_assoc false b c = refl
 

@@ -1,3 +1,5 @@
+pub mod AllFiles
+pub mod AllLines
 pub mod Buffers
 pub mod Findings
 pub mod FrontItems

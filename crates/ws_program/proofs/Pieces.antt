@@ -9,11 +9,11 @@ use Rattle.ws_code.specs.declared.fault.Fault.TheVariants as device
 use Rattle.ws_script.specs.asked.RunFaults.{run_fault}
 use Rattle.ws_script.specs.declared.asked.fault.RunFault.{RunFault}
 use Rattle.ws_trace.specs.Dialogues.{IsDialogue}
-use Rattle.ws_trace.specs.TraceText.{dialogue_text, is_unrefused}
+use Rattle.ws_trace.specs.DialogueText.{dialogue_text}
+use Rattle.ws_trace.specs.TraceText.{is_unrefused}
 use Rattle.ws_trace.specs.declared.dialogue.Dialogue.{Dialogue}
 use Rattle.ws_trace.specs.declared.piece.Piece.{Piece}
-use Rattle.ws_trace.specs.declared.trace_text.Heads.{Heads}
-use Rattle.ws_trace.specs.declared.trace_text.Heads.TheVariants.{Timed}
+use Rattle.ws_trace.specs.declared.trace_text.TraceForm.{TraceForm}
 use Rattle.ws_program.specs.Actions.{IsCarriedOut}
 use Rattle.ws_program.specs.Recorded.{AreSent, IsFirstOther, IsOtherLine, IsPieceLine, piece_of}
 use Rattle.ws_program.specs.Traced.{AreRecorded, IsPieceOf, IsUntraced, dialogue_action, trace_action}
@@ -89,35 +89,35 @@ all_pieces text rest number pieces s e =
 -- What is printed of pieces.
 
 module _ {S : Type 0} (writer : Writer S) (from to : S) where
-  pub dialogue_put : (heads : Heads) (pieces : List Piece) (accepted : Bool) → (d : Dialogue) × IsDialogue pieces d
-      × (accepted ≡ is_unrefused d) × WentOut writer from to (dialogue_text heads pieces d)
-      → IsCarriedOut writer from to (dialogue_action heads pieces) (Ok accepted)
-  dialogue_put heads pieces accepted h =
-      inr (dialogue_text heads pieces h.0, (h.0, h.1, refl, ap Ok h.2), h.3)
+  pub dialogue_put : (form : TraceForm) (pieces : List Piece) (accepted : Bool) → (d : Dialogue) × IsDialogue pieces d
+      × (accepted ≡ is_unrefused d) × WentOut writer from to (dialogue_text form pieces d)
+      → IsCarriedOut writer from to (dialogue_action form pieces) (Ok accepted)
+  dialogue_put form pieces accepted h =
+      inr (dialogue_text form pieces h.0, (h.0, h.1, refl, ap Ok h.2), h.3)
 
-  pub dialogue_unput : (heads : Heads) (pieces : List Piece) (fault : Fault)
+  pub dialogue_unput : (form : TraceForm) (pieces : List Piece) (fault : Fault)
       → ((fault ≡ device.Write) × ((d : Dialogue) × IsDialogue pieces d
-      × FailedWithin writer from to (dialogue_text heads pieces d)))
+      × FailedWithin writer from to (dialogue_text form pieces d)))
       ⊎ (((fault ≡ device.Memory) ⊎ (fault ≡ device.Failed)) × (to ≡ from))
-      → IsCarriedOut writer from to (dialogue_action heads pieces) (Err (run_fault fault))
-  dialogue_unput heads pieces fault (inl h) = inr (inr (
-    dialogue_text heads pieces h.1.0,
+      → IsCarriedOut writer from to (dialogue_action form pieces) (Err (run_fault fault))
+  dialogue_unput form pieces fault (inl h) = inr (inr (
+    dialogue_text form pieces h.1.0,
     (ap run_fault h.0, (Ok (is_unrefused h.1.0), (h.1.0, h.1.1, refl, refl))),
     h.1.2,
   ))
-  dialogue_unput heads pieces fault (inr (inl memory, kept)) = inl (kept, inl (ap run_fault memory))
-  dialogue_unput heads pieces fault (inr (inr failed, kept)) = inl (kept, inr (ap run_fault failed))
+  dialogue_unput form pieces fault (inr (inl memory, kept)) = inl (kept, inl (ap run_fault memory))
+  dialogue_unput form pieces fault (inr (inr failed, kept)) = inl (kept, inr (ap run_fault failed))
 
   -- those of a recording
-  pub recording_put : (input : List ℕ) (pieces given : List Piece) → AreRecorded (lines input) pieces
+  pub recording_put : (form : TraceForm) (input : List ℕ) (pieces given : List Piece) → AreRecorded (lines input) pieces
       → given ≡ pieces → (result : Result Bool RunFault)
-      → IsCarriedOut writer from to (dialogue_action Timed given) result
-      → IsCarriedOut writer from to (trace_action input) result
-  recording_put input pieces given are same result h =
-      on result (subst (λ (z : List Piece). IsCarriedOut writer from to (dialogue_action Timed z) result) same h)
+      → IsCarriedOut writer from to (dialogue_action form given) result
+      → IsCarriedOut writer from to (trace_action form input) result
+  recording_put form input pieces given are same result h =
+      on result (subst (λ (z : List Piece). IsCarriedOut writer from to (dialogue_action form z) result) same h)
     where
-      on : (result : Result Bool RunFault) → IsCarriedOut writer from to (dialogue_action Timed pieces) result
-          → IsCarriedOut writer from to (trace_action input) result
+      on : (result : Result Bool RunFault) → IsCarriedOut writer from to (dialogue_action form pieces) result
+          → IsCarriedOut writer from to (trace_action form input) result
       on (Ok accepted) (inl h) = absurd h
       on (Ok accepted) (inr h) = inr (h.0, (pieces, are, h.1), h.2)
       on (Err fault) (inl (kept, inl e)) = inl (kept, subst (IsUntraced input) (sym e) (inl refl))

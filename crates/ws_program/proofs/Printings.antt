@@ -1,17 +1,19 @@
-use Rattle.std.specs.Prelude.{Bool, true, false, Result, Ok, Err}
-use Rattle.std.proofs.Common.{◌≡◌, ℕ, List, None, refl, subst, inl, inr}
+use Rattle.std.specs.Prelude.{Bool, true, false, Result, Ok, Err, if◌then◌else◌}
+use Rattle.std.proofs.Common.{◌≡◌, ℕ, List, [], None, refl, subst, inl, inr}
 use Rattle.ws_code.specs.Code.{Rules}
 use Rattle.ws_code.specs.Device.{Writer}
 use Rattle.ws_code.specs.declared.fault.Fault.{Fault}
 use Rattle.ws_code.specs.declared.fault.Fault.TheVariants as device
 use Rattle.ws_script.specs.declared.asked.fault.RunFault.{RunFault}
 use Rattle.ws_script.specs.declared.asked.fault.RunFault.TheVariants.{Write}
-use Rattle.ws_text.specs.Printed.{Printing, in_whole, IsPrinted}
+use Rattle.ws_text.specs.Printed.{Printing, IsPrinted}
 use Rattle.ws_text.specs.Printing.{Prints}
 use Rattle.ws_text.specs.declared.output.Output.{Output}
 use Rattle.ws_text.specs.declared.output.Output.TheVariants.{Open, Failed}
 use Rattle.ws_text.proofs.Prints.{prints_same, whole_out}
-use Rattle.ws_program.specs.StreamText.{showing, View}
+use Rattle.ws_program.specs.StreamText.{Showing, showing, View}
+use Rattle.ws_program.specs.AllTold.{AllEnding, IsCheckedEnd, IsShownEnd, all_printing, check_all_printing, file_head}
+use Rattle.ws_program.specs.AllTold.{show_all_printing, unseen_view}
 use Rattle.ws_program.specs.Actions.{Action, IsCarriedOut, print_made}
 use Rattle.ws_program.specs.Answering.{answer_action, of_bytes, run_outcome, sender_parts}
 use Rattle.ws_printing.specs.Checking.{check_printing}
@@ -19,7 +21,8 @@ use Rattle.ws_program.specs.StreamText.{show_printing}
 use Rattle.ws_program.specs.StreamBytes.{AreBytesOf}
 use Rattle.ws_program.specs.Streams.{closed_outcome, into_closed}
 use Rattle.ws_program.specs.declared.words.command_line.InputAsked.{InputAsked}
-use Rattle.ws_program.specs.declared.words.command_line.InputAsked.TheVariants.{Check, Show, Trace, Play, Make}
+use Rattle.ws_program.specs.declared.words.command_line.InputAsked.TheVariants.{Check, CheckAll, Show, ShowAll}
+use Rattle.ws_program.specs.declared.words.command_line.InputAsked.TheVariants.{Trace, Play, Make}
 use Rattle.ws_program.specs.declared.words.command_line.StreamForm.{StreamForm}
 use Rattle.ws_program.proofs.Buffers.{CanBeCut}
 
@@ -40,6 +43,11 @@ show_cut rules view bytes text (Err device.Read) h = absurd h
 show_cut rules view bytes text (Err device.Write) h = absurd h
 show_cut rules view bytes text (Err device.Failed) h = absurd h
 
+all_cut : {Place U : Type 0} (way : Showing Place U) (head : List ℕ) (Ends : AllEnding U) (bytes : List ℕ)
+    → CanBeCut (all_printing way head Ends bytes) device.Write
+all_cut way head Ends bytes text (Ok accepted) h = (refl, inr (accepted, h))
+all_cut way head Ends bytes text (Err fault) h = (refl, inl h.1)
+
 bytes_cut : (form : StreamForm) (printing : List ℕ → Printing Bool Fault) (input : List ℕ)
     → ((bytes : List ℕ) → CanBeCut (printing bytes) device.Write) → CanBeCut (of_bytes form printing input).prints Write
 bytes_cut form printing input cut text outcome h =
@@ -48,10 +56,18 @@ bytes_cut form printing input cut text outcome h =
 pub answer_cut : (asked : InputAsked) (input : List ℕ) → CanBeCut (answer_action asked input).prints Write
 answer_cut (Check file form cut sender) input = bytes_cut form
     (λ bytes. check_printing (sender_parts sender).rules bytes) input (check_cut (sender_parts sender).rules)
+answer_cut (CheckAll file form sender named) input = bytes_cut form
+    (check_all_printing (sender_parts sender).rules (file_head (if named then file else None))) input
+    (all_cut (showing (sender_parts sender).rules unseen_view) (file_head (if named then file else None))
+    (IsCheckedEnd (file_head (if named then file else None))))
 answer_cut (Show file form sender look) input = bytes_cut form
     (show_printing (showing (sender_parts sender).rules ((sender_parts sender).view look))) input
     (show_cut (sender_parts sender).rules ((sender_parts sender).view look))
-answer_cut (Trace file) input = λ text outcome h. (refl, (outcome, h))
+answer_cut (ShowAll file form sender look) input = bytes_cut form
+    (show_all_printing (showing (sender_parts sender).rules ((sender_parts sender).view look))) input
+    (all_cut (showing (sender_parts sender).rules ((sender_parts sender).view look)) []
+    (IsShownEnd ((sender_parts sender).view look).Ends))
+answer_cut (Trace file form) input = λ text outcome h. (refl, (outcome, h))
 answer_cut (Play file screen false paint) input = λ text outcome h. (refl, (outcome, h))
 answer_cut (Play file screen true paint) input = λ text outcome h. (refl, (outcome, h))
 answer_cut (Make file sender raw) input = λ text outcome h. (refl, (outcome, h))

@@ -1,5 +1,5 @@
-use Rattle.std.specs.Prelude.{Bool, true, false, cond, Option, Some, find, unwrap_or, ◌↔◌, ◌==◌}
-use Rattle.std.proofs.Common.{◌≡◌, ℕ, List, [], ◌∷◌, refl, sym, ap, subst}
+use Rattle.std.specs.Prelude.{Bool, true, false, cond, Some, find, unwrap_or, ◌↔◌, ◌==◌}
+use Rattle.std.proofs.Common.{◌≡◌, ℕ, List, [], ◌∷◌, refl, ap, subst}
 use Rattle.std.proofs.lemmas.Bool.{eqb-true}
 use Rattle.ws_code.specs.Reason.{number_of}
 use Rattle.ws_code.specs.declared.reason.Reason.{Reason}

@@ -11,7 +11,7 @@ use Rattle.std.proofs.lemmas.List.{append-nil, append_cancel_left}
 use Rattle.hex.specs.Hex.{decode_of}
 use Rattle.hex.specs.declared.error.FromHexError.{FromHexError}
 use Rattle.ws_program.specs.HexText.{without_blanks}
-use Rattle.ws_program.specs.Recorded.{IsPieceLine, IsOtherLine, AreSent, IsSentIn, IsFirstOther, end_word, piece_of}
+use Rattle.ws_program.specs.Recorded.{IsPieceLine, IsOtherLine, AreSent, IsSentIn, end_word, piece_of}
 use Rattle.ws_program.specs.declared.words.command_line.RecordedEnd.{RecordedEnd}
 use Rattle.ws_program.specs.declared.words.command_line.RecordedEnd.TheVariants.{Host, Station}
 

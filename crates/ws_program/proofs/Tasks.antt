@@ -1,9 +1,7 @@
 use Rattle.std.specs.Prelude.{Bool, Option, None, Some, Result, Ok, Err, IfOk, IfErr, IsErr, IsErrAnd}
 use Rattle.std.proofs.Common.{◌≡◌, ℕ, List, inl, inr, refl, sym, ap, subst}
 use mathlib.Core.Bool.{true≢false}
-use Rattle.ws_script.specs.declared.asked.fault.RunFault.{RunFault}
 use Rattle.ws_script.specs.declared.asked.fault.RunFault.TheVariants as run
-use Rattle.ws_script.specs.declared.asked.fault.ToldFault.{ToldFault}
 use Rattle.ws_script.specs.declared.asked.fault.ToldFault.TheVariants as told
 use Rattle.ws_program.specs.FileFaults.{IsOfFile, IsToldOfFile}
 use Rattle.ws_program.specs.declared.command_fault.CommandFault.{CommandFault}

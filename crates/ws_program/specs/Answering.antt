@@ -1,6 +1,6 @@
 -- What the program makes of an input: what it prints of it, and what it answers.
 
-use Rattle.std.specs.Prelude.{◌≡◌, ℕ, List, Bool, true, false, Result, Ok, Err, ◌⊎◌}
+use Rattle.std.specs.Prelude.{◌≡◌, ℕ, List, Bool, true, false, None, Result, Ok, Err, ◌⊎◌, if◌then◌else◌}
 use Rattle.ws_code.specs.Code.{Rules}
 use Rattle.ws_code.specs.declared.fault.Fault.{Fault}
 use Rattle.ws_extended.specs.ExtendedAnswers.{extended_answer_rules}
@@ -25,6 +25,7 @@ use Rattle.ws_text.specs.Wording.{Wording}
 use Rattle.ws_script.specs.asked.RunFaults.{run_fault}
 use Rattle.ws_program.specs.StreamText.{show_printing, showing, View}
 use Rattle.ws_program.specs.Actions.{Action}
+use Rattle.ws_program.specs.AllTold.{check_all_printing, file_head, show_all_printing}
 use Rattle.ws_printing.specs.Checking.{check_printing}
 use Rattle.ws_printing.specs.SourceChecks.{HasRefusal}
 use Rattle.ws_program.specs.Making.{make_action}
@@ -35,7 +36,8 @@ use Rattle.ws_program.specs.Views.{painted_host_view, answer_view, told_view}
 use Rattle.ws_printing.specs.declared.look.Look.{Look}
 use Rattle.ws_printing.specs.declared.paint.Paint.{Paint}
 use Rattle.ws_program.specs.declared.words.command_line.InputAsked.{InputAsked}
-use Rattle.ws_program.specs.declared.words.command_line.InputAsked.TheVariants.{Check, Show, Trace, Play, Make}
+use Rattle.ws_program.specs.declared.words.command_line.InputAsked.TheVariants.{Check, CheckAll, Show, ShowAll}
+use Rattle.ws_program.specs.declared.words.command_line.InputAsked.TheVariants.{Trace, Play, Make}
 use Rattle.ws_script.specs.declared.asked.sender.Sender.{Sender}
 use Rattle.ws_script.specs.declared.asked.sender.Sender.TheVariants.{Host, ExtendedHost, Station, ExtendedStation}
 use Rattle.ws_program.specs.declared.words.command_line.StreamForm.{StreamForm}
@@ -160,9 +162,13 @@ of_bytes form printing input = record {
 abbrev pub answer_action : InputAsked → List ℕ → Action Bool RunFault
 answer_action (Check file form cut sender) input =
     of_bytes form (λ bytes. check_printing (sender_parts sender).rules bytes) input
+answer_action (CheckAll file form sender named) input =
+    of_bytes form (check_all_printing (sender_parts sender).rules (file_head (if named then file else None))) input
 answer_action (Show file form sender look) input =
     of_bytes form (show_printing (showing (sender_parts sender).rules ((sender_parts sender).view look))) input
-answer_action (Trace file) input = trace_action input
+answer_action (ShowAll file form sender look) input =
+    of_bytes form (show_all_printing (showing (sender_parts sender).rules ((sender_parts sender).view look))) input
+answer_action (Trace file form) input = trace_action form input
 answer_action (Play file screen false paint) input = play_action paint screen input
 answer_action (Play file screen true paint) input = play_tcp_action paint screen input
 answer_action (Make file sender raw) input = make_action (sender_parts sender).rules (sender_parts sender).wording

@@ -30,5 +30,5 @@ IsToldOfFile file met other = ⊥
 -- a fault of a command of an input, as it is told: of `make` and `trace` with its file
 abbrev pub IsToldBy : InputAsked → ToldFault → CommandFault → Type 0
 IsToldBy (Make file sent raw) met fault = IsToldOfFile (option_map (λ name. name.now) file) met fault
-IsToldBy (Trace file) met fault = IsToldOfFile (option_map (λ name. name.now) file) met fault
+IsToldBy (Trace file form) met fault = IsToldOfFile (option_map (λ name. name.now) file) met fault
 IsToldBy asked met fault = fault ≡ Told met

@@ -1,7 +1,9 @@
 pub mod Actions
+pub mod AllTold
 pub mod Answering
 pub mod ExtendedView
 pub mod FileChecks
+pub mod FileChecksOfAll
 pub mod FileFaults
 pub mod HexText
 pub mod InputFaults

@@ -4,7 +4,7 @@ use Rattle.std.specs.Prelude.{◌≡◌, ℕ, List, Bool, Option, None, Some, Ok
 use Rattle.std.specs.Option.{is_none, option_map}
 use Rattle.ws_printing.specs.Printouts.{Printout}
 use Rattle.ws_script.specs.declared.asked.fault.RunFault.{RunFault}
-use Rattle.ws_script.specs.declared.asked.fault.RunFault.TheVariants.{Read, Memory}
+use Rattle.ws_script.specs.declared.asked.fault.RunFault.TheVariants.{Memory}
 use Rattle.ws_script.specs.declared.asked.fault.ToldFault.{ToldFault}
 use Rattle.ws_script.specs.declared.asked.fault.ToldFault.TheVariants as told
 use Rattle.ws_live.specs.declared.session_asked.SessionAsked.{SessionAsked}
@@ -14,6 +14,7 @@ use Rattle.ws_network.specs.LiveSessions.{HasRunLive, script_of}
 use Rattle.ws_program.specs.Actions.{IsCarriedOut}
 use Rattle.ws_program.specs.Streams.{openly}
 use Rattle.ws_program.specs.FileChecks.{HasChecked, IsFaultOfChecks}
+use Rattle.ws_program.specs.FileChecksOfAll.{HaveAllChecked, IsFaultOfAllChecks}
 use Rattle.ws_program.specs.FileFaults.{IsToldBy, IsToldOfFile}
 use Rattle.ws_program.specs.InputFaults.{IsInputUnread}
 use Rattle.ws_program.specs.StreamTraces.{HasTraced, IsFaultOfTrace}
@@ -23,7 +24,7 @@ use Rattle.ws_program.specs.declared.command_fault.CommandFault.{CommandFault}
 use Rattle.ws_program.specs.declared.command_fault.CommandFault.TheVariants.{Words, Run, Told, OfFile, Unwritten}
 use Rattle.ws_program.specs.declared.words.command_line.InputAsked.{InputAsked}
 use Rattle.ws_program.specs.declared.words.command_line.Task.{Task}
-use Rattle.ws_program.specs.declared.words.command_line.Task.TheVariants.{Input, Files, Streams, Print, Live}
+use Rattle.ws_program.specs.declared.words.command_line.Task.TheVariants.{Input, Files, AllFiles, Streams, Print, Live}
 
 -- the words ask for nothing that the program knows, or for help; or a growth was refused
 abbrev pub IsWordsFault : CommandFault → Type 0
@@ -56,6 +57,8 @@ module _ {S : Type 0} (out : Printout S) (streams : OpenStreams) where
   abbrev pub HasRunTask : Task → Bool → Type 0
   HasRunTask (Input asked) accepted = HasRunInput asked accepted
   HasRunTask (Files checks) accepted = HasChecked out checks accepted
+  HasRunTask (AllFiles checks) accepted = HaveAllChecked out.writer streams.output checks checks.files.items out.from
+      out.to accepted
   HasRunTask (Streams traced) accepted = HasTraced out streams.output traced accepted
   HasRunTask (Print shown) accepted = HasPrinted out streams.output shown accepted
   HasRunTask (Live asked) accepted = (missing_live streams asked ≡ None)
@@ -66,6 +69,7 @@ module _ {S : Type 0} (out : Printout S) (streams : OpenStreams) where
   IsFaultOfTask (Input asked) fault = (met : ToldFault) × IsFaultOfInput asked met
       × IsToldBy asked met fault
   IsFaultOfTask (Files checks) fault = IsFaultOfChecks out checks fault
+  IsFaultOfTask (AllFiles checks) fault = IsFaultOfAllChecks out.writer streams.output checks out.from out.to fault
   IsFaultOfTask (Streams traced) fault = IsFaultOfTrace out streams.output traced fault
   IsFaultOfTask (Print shown) fault = IsUnprinted out streams.output shown fault
   IsFaultOfTask (Live asked) fault = (met : ToldFault)

@@ -1,4 +1,4 @@
--- Two streams without times, a file for each: their pieces, the dialogue that is printed of these, and the faults.
+-- Two streams, a file for each: their pieces, the dialogue that is printed of these in a form, and the faults.
 
 use Rattle.std.specs.Prelude.{◌≡◌, ℕ, List, [], ◌∷◌, ◌++◌, Bool, true, false, Option, None, Some, Ok, Err, ◌⊎◌}
 use Rattle.std.specs.Borrow.{Bor}
@@ -9,7 +9,7 @@ use Rattle.ws_script.specs.declared.asked.fault.ToldFault.TheVariants.{Run}
 use Rattle.ws_trace.specs.declared.piece.Piece.{Piece}
 use Rattle.ws_trace.specs.declared.piece.TracedEnd.{TracedEnd}
 use Rattle.ws_trace.specs.declared.piece.TracedEnd.TheVariants.{Host, Station}
-use Rattle.ws_trace.specs.declared.trace_text.Heads.TheVariants.{Untimed}
+use Rattle.ws_trace.specs.declared.trace_text.TraceForm.{TraceForm}
 use Rattle.ws_program.specs.Actions.{Action, IsCarriedOut}
 use Rattle.ws_program.specs.FileChecks.{IsUnfound}
 use Rattle.ws_program.specs.FileFaults.{IsOfFile}
@@ -55,10 +55,10 @@ abbrev pub IsFaultOfBoth : StreamTrace → CommandFault → Type 0
 IsFaultOfBoth asked fault = IsFaultOfEnd asked.raw asked.host fault ⊎ ((host : List Piece)
     × ArePiecesOfEnd asked.raw Host asked.host host × IsFaultOfEnd asked.raw asked.station fault)
 
--- the dialogue of pieces is printed without times, at an output or without one
-abbrev pub untimed_action : Bool → List Piece → Action Bool RunFault
-untimed_action true pieces = dialogue_action Untimed pieces
-untimed_action false pieces = into_closed (dialogue_action Untimed pieces)
+-- the dialogue of pieces is printed in a form, at an output or without one
+abbrev pub pieces_action : Bool → TraceForm → List Piece → Action Bool RunFault
+pieces_action true form pieces = dialogue_action form pieces
+pieces_action false form pieces = into_closed (dialogue_action form pieces)
 
 -- a fault of printing, as it is told
 abbrev pub told_untimed : RunFault → CommandFault
@@ -69,10 +69,10 @@ module _ {S : Type 0} (out : Printout S) (has_output : Bool) (asked : StreamTrac
   -- the dialogue of the files' pieces was printed
   abbrev pub HasTraced : Bool → Type 0
   HasTraced accepted = (pieces : List Piece) × ArePiecesOfBoth asked pieces
-      × IsCarriedOut out.writer out.from out.to (untimed_action has_output pieces) (Ok accepted)
+      × IsCarriedOut out.writer out.from out.to (pieces_action has_output asked.form pieces) (Ok accepted)
 
   -- it wasn't: a file is at fault, and nothing was written; or this was met in printing it
   abbrev pub IsFaultOfTrace : CommandFault → Type 0
   IsFaultOfTrace fault = (IsFaultOfBoth asked fault × (out.to ≡ out.from)) ⊎ ((pieces : List Piece) × (why : RunFault)
       × ArePiecesOfBoth asked pieces × (fault ≡ told_untimed why)
-      × IsCarriedOut out.writer out.from out.to (untimed_action has_output pieces) (Err why))
+      × IsCarriedOut out.writer out.from out.to (pieces_action has_output asked.form pieces) (Err why))

@@ -5,15 +5,18 @@ use Rattle.ws_code.specs.declared.fault.Fault.{Fault}
 use Rattle.ws_program.specs.Actions.{Action}
 use Rattle.ws_program.specs.Answering.{answer_action, run_outcome}
 use Rattle.ws_program.specs.declared.words.command_line.InputAsked.{InputAsked}
-use Rattle.ws_program.specs.declared.words.command_line.InputAsked.TheVariants.{Check, Show, Trace, Play, Make}
+use Rattle.ws_program.specs.declared.words.command_line.InputAsked.TheVariants.{Check, CheckAll, Show, ShowAll}
+use Rattle.ws_program.specs.declared.words.command_line.InputAsked.TheVariants.{Trace, Play, Make}
 use Rattle.ws_script.specs.declared.asked.fault.RunFault.{RunFault}
 use Rattle.ws_script.specs.declared.asked.fault.RunFault.TheVariants.{Write}
 
 -- what is asked for, without a connection
 abbrev pub in_one_place : InputAsked → InputAsked
 in_one_place (Check file form cut sender) = Check file form cut sender
+in_one_place (CheckAll file form sender named) = CheckAll file form sender named
 in_one_place (Show file form sender look) = Show file form sender look
-in_one_place (Trace file) = Trace file
+in_one_place (ShowAll file form sender look) = ShowAll file form sender look
+in_one_place (Trace file form) = Trace file form
 in_one_place (Play file screen tcp paint) = Play file screen false paint
 in_one_place (Make file sender raw) = Make file sender raw
 

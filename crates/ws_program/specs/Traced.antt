@@ -8,13 +8,13 @@ use Rattle.ws_printing.specs.declared.script.ScriptFault.{ScriptFault}
 use Rattle.ws_printing.specs.declared.script.ScriptFault.TheVariants.{Line, Memory}
 use Rattle.ws_text.specs.Printed.{in_whole}
 use Rattle.ws_trace.specs.Dialogues.{IsDialogue}
-use Rattle.ws_trace.specs.TraceText.{dialogue_text, is_unrefused}
+use Rattle.ws_trace.specs.DialogueText.{dialogue_text}
+use Rattle.ws_trace.specs.TraceText.{is_unrefused}
 use Rattle.ws_trace.specs.declared.dialogue.Dialogue.{Dialogue}
 use Rattle.ws_trace.specs.declared.piece.Piece.{Piece}
 use Rattle.ws_trace.specs.declared.piece.TracedEnd.{TracedEnd}
 use Rattle.ws_trace.specs.declared.piece.TracedEnd.TheVariants as traced
-use Rattle.ws_trace.specs.declared.trace_text.Heads.{Heads}
-use Rattle.ws_trace.specs.declared.trace_text.Heads.TheVariants.{Timed}
+use Rattle.ws_trace.specs.declared.trace_text.TraceForm.{TraceForm}
 use Rattle.ws_program.specs.Actions.{Action}
 use Rattle.ws_program.specs.HexText.{IsHexOf}
 use Rattle.ws_program.specs.Recorded.{IsTime, IsFirstOther, end_word}
@@ -58,22 +58,22 @@ abbrev pub IsUntraced : List ℕ → RunFault → Type 0
 IsUntraced input (run.Line number) = IsFirstOther input number
 IsUntraced input fault = (fault ≡ run.Memory) ⊎ (fault ≡ run.Failed)
 
--- the text of the dialogue of pieces, and whether nothing of it is refused
-abbrev pub IsDialogueText : Heads → List Piece → List ℕ → Result Bool RunFault → Type 0
-IsDialogueText heads pieces text outcome = (dialogue : Dialogue) × IsDialogue pieces dialogue
-    × (text ≡ dialogue_text heads pieces dialogue) × (outcome ≡ Ok (is_unrefused dialogue))
+-- the text of the dialogue of pieces in a form, and whether nothing of it is refused
+abbrev pub IsDialogueText : TraceForm → List Piece → List ℕ → Result Bool RunFault → Type 0
+IsDialogueText form pieces text outcome = (dialogue : Dialogue) × IsDialogue pieces dialogue
+    × (text ≡ dialogue_text form pieces dialogue) × (outcome ≡ Ok (is_unrefused dialogue))
 
--- the dialogue of pieces is printed
-abbrev pub dialogue_action : Heads → List Piece → Action Bool RunFault
-dialogue_action heads pieces = record {
+-- the dialogue of pieces is printed in a form
+abbrev pub dialogue_action : TraceForm → List Piece → Action Bool RunFault
+dialogue_action form pieces = record {
   Refuses = λ fault. (fault ≡ run.Memory) ⊎ (fault ≡ run.Failed);
-  prints = in_whole run.Write (IsDialogueText heads pieces);
+  prints = in_whole run.Write (IsDialogueText form pieces);
 }
 
--- the dialogue of a recording's pieces is printed, with their times
-abbrev pub trace_action : List ℕ → Action Bool RunFault
-trace_action input = record {
+-- the dialogue of a recording's pieces is printed in a form
+abbrev pub trace_action : TraceForm → List ℕ → Action Bool RunFault
+trace_action form input = record {
   Refuses = IsUntraced input;
   prints = in_whole run.Write (λ text outcome. (pieces : List Piece) × AreRecorded (lines input) pieces
-      × IsDialogueText Timed pieces text outcome);
+      × IsDialogueText form pieces text outcome);
 }

@@ -40,7 +40,7 @@ pub(crate) fn told_of<R: AllocGlobal + Files<File = File>>(
     if let InputAsked::Make { file, .. } = asked {
         return with_file(rt, file, outcome);
     }
-    if let InputAsked::Trace { file } = asked {
+    if let InputAsked::Trace { file, .. } = asked {
         return with_file(rt, file, outcome);
     }
     match outcome {

@@ -3,8 +3,11 @@
 //! file is named only where one is opened.
 #![tactic(auto)]
 
+mod all_told;
+mod check_all;
 mod command_fault;
 mod extended_shown;
+mod file_check_all;
 mod file_checks;
 mod file_fault;
 mod hex_text;
@@ -14,6 +17,7 @@ mod program;
 mod recorded;
 mod running;
 mod show;
+mod show_all;
 mod shown;
 mod source_check;
 mod stream_bytes;

@@ -6,6 +6,7 @@ ghost use Rattle.ws_program.specs.Runs.{HasRunInput, HasRunTask, IsFaultOfInput,
 ghost use Rattle.ws_program.specs.declared.words.command_line.Task.{Task as ATask};
 
 use crate::command_fault::CommandFault;
+use crate::file_check_all::check_all_files;
 use crate::file_checks::check_files;
 use crate::file_fault::{told_of, with_file};
 use crate::input::{check_file, given_words, read_input};
@@ -80,6 +81,7 @@ where
             told_of(rt, asked, outcome)
         }
         Task::Files(checks) => check_files(rt, &checks, streams, sink),
+        Task::AllFiles(checks) => check_all_files(rt, &checks, streams, sink),
         Task::Streams(traced) => trace_streams(rt, traced, streams, sink),
         Task::Print(table) => print_table(table, streams.output, sink),
         Task::Live(asked) => {

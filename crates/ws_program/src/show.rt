@@ -124,8 +124,12 @@ fn next_item<B: Body>(
     Ok(Some((receiver.taken() - 1, item)))
 }
 
-// Writes an item's lines.
-fn write_item<B: Shown, S: Sink>(
+/// Writes an item's lines.
+///
+/// # Errors
+///
+/// `Write` where the sink failed within them.
+pub(crate) fn write_item<B: Shown, S: Sink>(
     place: u64,
     item: &Item<B::Unit>,
     sink: &mut S,

@@ -1,5 +1,5 @@
 //! How the items of a body are shown and carried out.
-ghost use Rattle.std.specs.Prelude.{◌≡◌, ◌++◌, ◌∷◌, [], List, ℕ, OnOk};
+ghost use Rattle.std.specs.Prelude.{◌≡◌, ◌++◌, ◌∷◌, [], List, ℕ, OnErr, OnOk};
 ghost use Rattle.ws_record.specs.declared.record.Item.{Item as AnItem};
 ghost use Rattle.ws_screen.specs.Faults.{refusal};
 ghost use Rattle.ws_text.specs.Printing.{Prints};
@@ -34,14 +34,15 @@ pub(crate) trait Shown: Body {
     fn before_any() -> Self::Made
         ensures { makes [] result };
 
-    /// Carries out an item, or tells why it can't be.
+    /// Carries out an item, or tells why it can't be, and then nothing comes of it.
     fn carry_out(made: &mut Self::Made, item: &Item<Self::Unit>) -> Result<(), Reason>
         requires whole { IsWholeItem Self.rules item.now }
         requires known { (items : List (AnItem Self.Unit)) × makes items made.old }
         ensures fault { (items : List (AnItem Self.Unit)) → makes items made.old
             → refusal result ≡ view.fault items item.now }
         ensures after { OnOk result ((items : List (AnItem Self.Unit)) → makes items made.old
-            → makes (items ++ item.now ∷ []) made.new) };
+            → makes (items ++ item.now ∷ []) made.new) }
+        ensures same { OnErr result (made.new ≡ made.old) };
 
     /// Writes an item's lines.
     fn put_lines<S: Sink>(

@@ -2,7 +2,6 @@
 ghost use Rattle.std.specs.Prelude.{◌≡◌, ◌++◌, ◌∷◌, [], List as Seq, IfOk, IfErr, OnOk};
 ghost use Rattle.ws_printing.specs.Printouts.{printout};
 ghost use Rattle.ws_trace.specs.declared.piece.Piece.{Piece as APiece};
-ghost use Rattle.ws_trace.specs.declared.trace_text.Heads.TheVariants.{Untimed};
 ghost use Rattle.ws_program.specs.Actions.{IsCarriedOut};
 ghost use Rattle.ws_program.specs.FileChecks.{IsUnfound};
 ghost use Rattle.ws_program.specs.StreamBytes.{AreBytesOf, IsFormFault};
@@ -20,15 +19,16 @@ use std::rt::Files;
 use ws_code::Sink;
 use ws_printing::BufferedSink;
 use ws_script::{OpenStreams, RunFault, ToldFault};
-use ws_trace::{Heads, Piece, TracedEnd};
+use ws_trace::{Piece, TraceForm, TracedEnd};
 
 /// To tell what both ends sent by a file for each, without times: hex text, or with `raw` the bytes. An end without a
-/// file sent nothing.
+/// file sent nothing. The form has no times.
 #[derive(Clone, Copy, Debug, PartialEq, Eq)]
 pub struct StreamTrace<'a> {
     pub host: Option<&'a str>,
     pub station: Option<&'a str>,
     pub raw: bool,
+    pub form: TraceForm,
 }
 
 /// Writes the dialogue of these files' streams: true where nothing in it is refused, and no end's stream ends too
@@ -60,7 +60,13 @@ pub(crate) fn trace_streams<R: AllocGlobal + Files<File = File> + Input, S: Sink
         asked.raw,
         &mut pieces,
     )?;
-    match put_openly(rt.alloc(), pieces.as_slice(), streams.output, sink) {
+    match put_openly(
+        rt.alloc(),
+        pieces.as_slice(),
+        asked.form,
+        streams.output,
+        sink,
+    ) {
         Ok(accepted) => Ok(accepted),
         Err(fault) => Err(told(fault)),
     }
@@ -124,17 +130,18 @@ fn bytes_in(alloc: Global, input: Vec<u8>, raw: bool) -> Result<Vec<u8>, RunFaul
 fn put_openly<S: Sink>(
     alloc: Global,
     pieces: &[Piece],
+    form: TraceForm,
     has_output: bool,
     sink: &mut BufferedSink<S>,
 ) -> Result<bool, RunFault>
     requires empty { sink.old.held ≡ [] }
     ensures { IsCarriedOut S.writer sink.old.sink sink.new.sink
-        (Spec.untimed_action has_output pieces.now) result }
+        (Spec.pieces_action has_output form pieces.now) result }
 {
     if has_output {
-        return put_buffered(alloc, pieces, sink);
+        return put_buffered(alloc, pieces, form, sink);
     }
-    match put_buffered(alloc, pieces, sink) {
+    match put_buffered(alloc, pieces, form, sink) {
         Ok(_) => Err(RunFault::Write),
         Err(fault) => Err(fault),
     }
@@ -144,13 +151,14 @@ fn put_openly<S: Sink>(
 fn put_buffered<S: Sink>(
     alloc: Global,
     pieces: &[Piece],
+    form: TraceForm,
     sink: &mut BufferedSink<S>,
 ) -> Result<bool, RunFault>
     requires empty { sink.old.held ≡ [] }
     ensures { IsCarriedOut S.writer sink.old.sink sink.new.sink
-        (dialogue_action Untimed pieces.now) result }
+        (dialogue_action form pieces.now) result }
 {
-    let outcome = put_pieces(alloc, pieces, Heads::Untimed, sink);
+    let outcome = put_pieces(alloc, pieces, form, sink);
     match sink.flush() {
         Ok(()) => outcome,
         Err(_) => Err(RunFault::Write),

@@ -13,9 +13,9 @@ use std::alloc::Global;
 use ws_code::Sink;
 use ws_script::{RunFault, ScriptFault};
 use ws_text::first_line;
-use ws_trace::{Heads, Piece, TracedEnd, trace_to};
+use ws_trace::{Piece, TraceForm, TracedEnd, trace_to};
 
-/// Writes the dialogue that a recording has: true where nothing in it is refused, and no end's stream ends too early.
+/// Writes the dialogue that a recording has in a form: true where nothing in it is refused, and no end's stream ends too early.
 ///
 /// # Errors
 ///
@@ -24,15 +24,16 @@ use ws_trace::{Heads, Piece, TracedEnd, trace_to};
 pub(crate) fn trace_recording<S: Sink>(
     alloc: Global,
     text: &[u8],
+    form: TraceForm,
     sink: &mut S,
 ) -> Result<bool, RunFault>
-    ensures { IsCarriedOut S.writer sink.old sink.new (trace_action text.now) result }
+    ensures { IsCarriedOut S.writer sink.old sink.new (trace_action form text.now) result }
 {
     let pieces = recorded_pieces(alloc, text)?;
-    put_pieces(alloc, pieces.as_slice(), Heads::Timed, sink)
+    put_pieces(alloc, pieces.as_slice(), form, sink)
 }
 
-/// Writes the dialogue of pieces, each item after its head.
+/// Writes the dialogue of pieces in a form.
 ///
 /// # Errors
 ///
@@ -40,12 +41,12 @@ pub(crate) fn trace_recording<S: Sink>(
 pub(crate) fn put_pieces<S: Sink>(
     alloc: Global,
     pieces: &[Piece],
-    heads: Heads,
+    form: TraceForm,
     sink: &mut S,
 ) -> Result<bool, RunFault>
-    ensures { IsCarriedOut S.writer sink.old sink.new (dialogue_action heads pieces.now) result }
+    ensures { IsCarriedOut S.writer sink.old sink.new (dialogue_action form pieces.now) result }
 {
-    Ok(trace_to(alloc, pieces, heads, sink)?)
+    Ok(trace_to(alloc, pieces, form, sink)?)
 }
 
 // The pieces that the lines of a recording have.

@@ -4,7 +4,7 @@ use crate::stream_trace::StreamTrace;
 use crate::tables::Table;
 use crate::words::command_parts::{CommandParts, fault, flag, place};
 use crate::words::input_help::{
-    ANSWERS_HELP, CHECK_EXAMPLES, EXTENDED_HELP, FILES_HELP, HEX_AND_STATUS, ITEMS_HELP,
+    ALL_HELP, ANSWERS_HELP, CHECK_EXAMPLES, EXTENDED_HELP, FILES_HELP, HEX_AND_STATUS, ITEMS_HELP,
     MAKE_EXAMPLES, OF_HELP, PLAY_EXAMPLES, RAW_HELP, RAW_OUT_HELP, SCREEN_HELP, SCRIPT_HELP,
     SHOW_EXAMPLES, STREAM_HELP, TCP_HELP,
 };
@@ -21,6 +21,7 @@ use std::num::NonZeroU16;
 use ws_live::SessionAsked;
 use ws_printing::{Look, Paint};
 use ws_script::Sender;
+use ws_trace::TraceForm;
 
 /// What a command line asks for.
 #[derive(Debug, Drop)]
@@ -29,6 +30,8 @@ pub enum Task<'a> {
     Input(InputAsked<'a>),
     /// Checks of several files.
     Files(FileChecks<'a>),
+    /// The same, which go on after refusals.
+    AllFiles(FileChecks<'a>),
     /// The dialogue of two streams.
     Streams(StreamTrace<'a>),
     /// To print a table.
@@ -66,6 +69,14 @@ pub enum InputAsked<'a> {
         cut: NonZeroU16,
         from: Sender,
     },
+    /// The same of bytes of which records may be refused, after which the next is read; with `named` each line stands
+    /// after the file's name.
+    CheckAll {
+        file: Option<&'a str>,
+        form: StreamForm,
+        from: Sender,
+        named: bool,
+    },
     /// To show the items of such bytes: as a host's commands, with the screen that they make in a paint and on a page,
     /// or as a station's answers.
     Show {
@@ -74,9 +85,17 @@ pub enum InputAsked<'a> {
         from: Sender,
         look: Look,
     },
+    /// The same of bytes of which records may be refused, after which the next is read.
+    ShowAll {
+        file: Option<&'a str>,
+        form: StreamForm,
+        from: Sender,
+        look: Look,
+    },
     /// To tell what both ends sent by a recording, in the order of time.
     Trace {
         file: Option<&'a str>,
+        form: TraceForm,
     },
     /// To play a script with both ends, and to tell what happens; with `screen` also the station's screen at the end,
     /// in a paint. With `tcp` their bytes go over a connection.
@@ -100,8 +119,10 @@ impl<'a> InputAsked<'a> {
     pub fn file(self) -> Option<&'a str> {
         match self {
             InputAsked::Check { file, .. }
+            | InputAsked::CheckAll { file, .. }
             | InputAsked::Show { file, .. }
-            | InputAsked::Trace { file }
+            | InputAsked::ShowAll { file, .. }
+            | InputAsked::Trace { file, .. }
             | InputAsked::Play { file, .. }
             | InputAsked::Make { file, .. } => file,
         }
@@ -140,6 +161,7 @@ fn check_command<'a>(alloc: Global) -> CommandParts<'a> {
     )
     .word(flag(alloc, "answers", ANSWERS_HELP))
     .word(flag(alloc, "extended", EXTENDED_HELP))
+    .word(flag(alloc, "all", ALL_HELP))
     .word(cut(alloc))
     .word(of(alloc))
     .made_word(raw(alloc))
@@ -155,6 +177,7 @@ fn show_command<'a>(alloc: Global) -> CommandParts<'a> {
     )
     .word(flag(alloc, "answers", ANSWERS_HELP))
     .word(flag(alloc, "extended", EXTENDED_HELP))
+    .word(flag(alloc, "all", ALL_HELP))
     .word(flag(alloc, "color", COLOR_HELP))
     .word(code_page(alloc))
     .word(of(alloc))
@@ -270,23 +293,46 @@ fn check_asked<'a>(alloc: Global, words: &ArgMatches<'a>) -> Result<Task<'a>, cl
     let cut = NonZeroU16::new(cut).unwrap_or(NonZeroU16::MAX);
     let (form, from) = (form_asked(words), sender_asked(words));
     let named = words.get_strs("FILE").unwrap_or(&[]);
+    let all = words.get_flag("all");
     if named.len() < 2 {
-        let file = named.first().copied();
-        return Ok(Task::Input(InputAsked::Check {
-            file,
-            form,
-            cut,
-            from,
-        }));
+        return Ok(Task::Input(one_check(named.first().copied(), form, cut, from, all)));
     }
     let mut files = Vec::new(alloc);
     files.extend_from_slice(named)?;
-    Ok(Task::Files(FileChecks {
+    let checks = FileChecks {
         files,
         form,
         cut,
         from,
-    }))
+    };
+    if all {
+        return Ok(Task::AllFiles(checks));
+    }
+    Ok(Task::Files(checks))
+}
+
+// A check of one input, which with `all` goes on after refusals; then the size of the pieces says nothing.
+fn one_check<'a>(
+    file: Option<&'a str>,
+    form: StreamForm,
+    cut: NonZeroU16,
+    from: Sender,
+    all: bool,
+) -> InputAsked<'a> {
+    if all {
+        return InputAsked::CheckAll {
+            file,
+            form,
+            from,
+            named: false,
+        };
+    }
+    InputAsked::Check {
+        file,
+        form,
+        cut,
+        from,
+    }
 }
 
 // How the input tells the bytes. The parser of `--of` lets no other name through, and none beside `--raw`.
@@ -312,14 +358,28 @@ fn sender_asked(words: &ArgMatches<'_>) -> Sender {
 }
 
 fn show_asked<'a>(alloc: Global, words: &ArgMatches<'a>) -> Result<InputAsked<'a>, clap::Error> {
+    let look = Look {
+        paint: paint_asked(words),
+        page: page_asked(alloc, words, show_command(alloc), "t5250 show")?,
+    };
+    let (file, form, from) = (
+        words.get_str("FILE"),
+        form_asked(words),
+        sender_asked(words),
+    );
+    if words.get_flag("all") {
+        return Ok(InputAsked::ShowAll {
+            file,
+            form,
+            from,
+            look,
+        });
+    }
     Ok(InputAsked::Show {
-        file: words.get_str("FILE"),
-        form: form_asked(words),
-        from: sender_asked(words),
-        look: Look {
-            paint: paint_asked(words),
-            page: page_asked(alloc, words, show_command(alloc), "t5250 show")?,
-        },
+        file,
+        form,
+        from,
+        look,
     })
 }
 

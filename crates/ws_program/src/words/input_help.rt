@@ -33,10 +33,18 @@ after another; a line of another form is told as `script line N`.
 With --raw, FILE has the bytes. They are read in pieces, none of which is kept,
 and no further than to the one with a byte that is refused.
 
+With --all it prints a line for each refusal. After it all up to the end of its
+record is passed over, but for Telnet commands, and the next record is read. Of
+a stream that may end the last line is then:
+  2 records, 2 commands, 49 bytes, 1 refused
+Where nothing is refused, it is `accepted: ..`; of several files each line stands
+after the file's name. All of an input is then read first.
+
 Examples:
   t5250 check examples/inquiry.hex
   t5250 check examples/inquiry.hex examples/sign-on.hex
   t5250 check --of host examples/inquiry.recording
+  t5250 check --all --of host examples/refused.recording
   t5250 check --answers --of station examples/inquiry.recording
   t5250 make --raw examples/inquiry.show | t5250 check --raw
   t5250 check --extended examples/live-host.hex
@@ -46,6 +54,10 @@ Examples:
 pub(crate) const SHOW_EXAMPLES: &str = "\
 Each item is printed with the place of its last byte, counted from 0.
 Where the stream isn't accepted, the line of `check` is the last.
+
+With --all it goes on after a refusal, as `check --all` does, and a record that
+the screen refuses leaves nothing. The screen has what the other records made.
+After it stands `truncated at N` where the stream ends too early.
 
 A station's answers (--answers) have no screen. With --extended they have lines
 more for what a live host's station tells at once:
@@ -60,6 +72,7 @@ With --of, FILE is a recording, as of check; with --raw it has the bytes.
 Examples:
   t5250 show examples/inquiry.hex
   t5250 show --of host examples/inquiry.recording
+  t5250 show --all --of host examples/refused.recording
   t5250 show --answers --of station examples/inquiry.recording
   t5250 show --color examples/inquiry.hex
   t5250 show --extended examples/live-host.hex
@@ -86,10 +99,14 @@ text, as examples/from_capture.sh makes it of a capture, or with --raw bytes. An
 end without a FILE sent nothing. The host's items are the first, without times:
   host at 232 record flags 0000 opcode 3
 
+With --json each item, each refusal and each end is an object of JSON on a line:
+  {\"time\":0.023,\"end\":\"host\",\"at\":232,\"flags\":\"0000\",\"opcode\":3,\"body\":[..]}
+
 The status is 1 where anything is refused, or a stream ends too early.
 
 Examples:
   t5250 trace examples/inquiry.recording
+  t5250 trace --json examples/inquiry.recording
   t5250 trace --host examples/inquiry.hex --station examples/inquiry-answers.hex
   t5250 make --raw examples/inquiry.show | t5250 trace --raw --host /dev/stdin";
 
@@ -140,6 +157,8 @@ pub(crate) const ANSWERS_HELP: &str = "Reads what a station sends, and not what 
 pub(crate) const EXTENDED_HELP: &str =
     "Takes what live hosts send in addition to the profile, or with --answers what their stations tell";
 
+pub(crate) const ALL_HELP: &str = "Goes on after a refusal with the next record";
+
 pub(crate) const STREAM_HELP: &str =
     "A hex text, or what --of or --raw says; without it, standard input is read";
 
@@ -149,6 +168,8 @@ pub(crate) const FILES_HELP: &str =
 pub(crate) const OF_HELP: &str = "Reads a recording, and of that what this end has sent";
 
 pub(crate) const RAW_HELP: &str = "Reads the bytes themselves, and no hex text";
+
+pub(crate) const JSON_HELP: &str = "Prints objects of JSON, one on a line";
 
 pub(crate) const RAW_OUT_HELP: &str = "Prints the bytes themselves, and no hex text";
 

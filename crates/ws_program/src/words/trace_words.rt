@@ -3,10 +3,11 @@ use crate::stream_trace::StreamTrace;
 use crate::words::command_line::{InputAsked, Task};
 use crate::words::command_parts::{CommandParts, fault, flag, place};
 use crate::words::input_help::{
-    HOST_STREAM_HELP, RAW_HELP, RECORDING_HELP, STATION_STREAM_HELP, TRACE_EXAMPLES,
+    HOST_STREAM_HELP, JSON_HELP, RAW_HELP, RECORDING_HELP, STATION_STREAM_HELP, TRACE_EXAMPLES,
 };
 use clap::{Arg, ArgAction, ArgMatches};
 use std::alloc::{AllocError, Global};
+use ws_trace::{Heads, TraceForm};
 
 /// The command that prints what both ends sent.
 pub(crate) fn trace_command<'a>(alloc: Global) -> CommandParts<'a> {
@@ -19,6 +20,7 @@ pub(crate) fn trace_command<'a>(alloc: Global) -> CommandParts<'a> {
     .made_word(stream(alloc, "host", HOST_STREAM_HELP))
     .made_word(stream(alloc, "station", STATION_STREAM_HELP))
     .word(flag(alloc, "raw", RAW_HELP))
+    .word(flag(alloc, "json", JSON_HELP))
     .word(place(alloc, "FILE", RECORDING_HELP, false))
 }
 
@@ -44,7 +46,13 @@ pub(crate) fn trace_asked<'a>(
     let (host, station) = (words.get_str("host"), words.get_str("station"));
     let raw = words.get_flag("raw");
     if host.is_some() || station.is_some() {
-        return Ok(Task::Streams(StreamTrace { host, station, raw }));
+        let form = form_asked(words, Heads::Untimed);
+        return Ok(Task::Streams(StreamTrace {
+            host,
+            station,
+            raw,
+            form,
+        }));
     }
     if raw {
         let why = String::from_str(
@@ -54,5 +62,15 @@ pub(crate) fn trace_asked<'a>(
         return Err(fault(trace_command(alloc), "t5250 trace", why));
     }
     let file = words.get_str("FILE");
-    Ok(Task::Input(InputAsked::Trace { file }))
+    let form = form_asked(words, Heads::Timed);
+    Ok(Task::Input(InputAsked::Trace { file, form }))
+}
+
+// The form of a dialogue's text that the words ask for, with or without times.
+fn form_asked(words: &ArgMatches<'_>, heads: Heads) -> TraceForm {
+    if words.get_flag("json") {
+        TraceForm::Objects(heads)
+    } else {
+        TraceForm::Lines(heads)
+    }
 }

@@ -1,7 +1,6 @@
 use Rattle.std.specs.Prelude.{flat_map}
-use Rattle.std.proofs.Common.{◌≡◌, [], ◌∷◌, ◌++◌, ◌<◌, length, refl, sym, ap, subst, take, take_all, get_or}
+use Rattle.std.proofs.Common.{[], ◌∷◌, ◌++◌, ◌<◌, length, refl, subst, take, take_all, get_or}
 use Rattle.std.proofs.lemmas.List.{take_more, get_or_default}
-use Rattle.ws_code.specs.Device.{WentOut}
 use Rattle.ws_code.proofs.DeviceLaws.{went_out_none, went_out_both}
 use Rattle.ws_program.specs.FileChecks.{AreFound, found_line}
 use Rattle.ws_program.specs.FileFaults.{IsOfFile}

@@ -1,4 +1,3 @@
-use Rattle.std.proofs.Common.{inl}
 use Rattle.ws_program.proofs.Findings.{line_done, line_failed}
 use Rattle.ws_program.proofs.file_checks.check_named.Goals as goal
 

@@ -1,7 +1,13 @@
 use Rattle.ws_program.proofs.program.answer.Goals as goal
 
+pub returns-in-CheckAll : goal.returns-in-CheckAll
+returns-in-CheckAll g c = rw c.in-CheckAll.is (rw c.name_told.ensures at c.check_all_input.ensures)
+
 pub returns-in-Show : goal.returns-in-Show
 returns-in-Show g c = rw c.in-Show.is c.show_input.ensures
+
+pub returns-in-ShowAll : goal.returns-in-ShowAll
+returns-in-ShowAll g c = rw c.in-ShowAll.is c.show_all_input.ensures
 
 pub returns-in-Trace : goal.returns-in-Trace
 returns-in-Trace g c = rw c.in-Trace.is c.trace_recording.ensures

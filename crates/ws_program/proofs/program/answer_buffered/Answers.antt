@@ -6,13 +6,13 @@ use Rattle.ws_program.proofs.Buffers.{carried_flushed, carried_unflushed}
 use Rattle.ws_program.proofs.Printings.{answer_cut}
 use Rattle.ws_program.proofs.program.answer_buffered.Goals as goal
 
-pub returns-in-Ok : goal.returns-in-Ok
-returns-in-Ok g c = carried_flushed g.S.Sink.writer c.args.sink.now c.answer-outcome.new.sink c.requires.empty
+pub returns-in-Ok-clause-done : goal.returns-in-Ok-clause-done
+returns-in-Ok-clause-done g c = carried_flushed g.S.Sink.writer c.args.sink.now c.answer-outcome.new.sink c.requires.empty
     c.flush.new.self.sink c.in-Ok.ensures.ok.0
     (λ none. ap (λ (b : Buffering g.row.S.Denot). b.sink) (c.flush.ensures.none none))
     (answer_action c.args.asked c.args.text.now) c.answer-outcome.result c.answer-outcome.ensures
 
-pub returns-in-Err : goal.returns-in-Err
-returns-in-Err g c = carried_unflushed g.S.Sink.writer c.args.sink.now c.answer-outcome.new.sink c.requires.empty
+pub returns-in-Err-clause-done : goal.returns-in-Err-clause-done
+returns-in-Err-clause-done g c = carried_unflushed g.S.Sink.writer c.args.sink.now c.answer-outcome.new.sink c.requires.empty
     c.flush.new.self.sink c.in-Err.ensures.err.0 Write (answer_action c.args.asked c.args.text.now)
     (answer_cut c.args.asked c.args.text.now) c.answer-outcome.result c.answer-outcome.ensures

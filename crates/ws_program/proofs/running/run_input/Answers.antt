@@ -19,10 +19,10 @@ pub returns-clause-done : goal.returns-clause-done
 returns-clause-done g c =
     read_done g.S.Sink.writer c.args.sink.now.sink c.answer_openly-outcome.new.sink.sink
     c.args.streams c.args.asked c.as_slice-text.result.now c.answer_openly-outcome.result c.with_cause.result
-    c.answer_openly-outcome.ensures c.with_cause.ensures.done
+    c.answer_openly-outcome.ensures.done c.with_cause.ensures.done
 
 pub returns-clause-fault : goal.returns-clause-fault
 returns-clause-fault g c =
     read_told g.S.Sink.writer c.args.sink.now.sink c.answer_openly-outcome.new.sink.sink
     c.args.streams c.args.asked c.as_slice-text.result.now c.answer_openly-outcome.result c.with_cause.result
-    c.answer_openly-outcome.ensures c.with_cause.ensures.fault
+    c.answer_openly-outcome.ensures.done c.with_cause.ensures.fault

@@ -23,6 +23,12 @@ returns-in-Files-clause-done g c = rw c.in-Files.is c.check_files.ensures.done
 pub returns-in-Files-clause-fault : goal.returns-in-Files-clause-fault
 returns-in-Files-clause-fault g c = rw c.in-Files.is c.check_files.ensures.fault
 
+pub returns-in-AllFiles-clause-done : goal.returns-in-AllFiles-clause-done
+returns-in-AllFiles-clause-done g c = rw c.in-AllFiles.is c.check_all_files.ensures.done
+
+pub returns-in-AllFiles-clause-fault : goal.returns-in-AllFiles-clause-fault
+returns-in-AllFiles-clause-fault g c = rw c.in-AllFiles.is c.check_all_files.ensures.fault
+
 pub returns-in-Print-clause-done : goal.returns-in-Print-clause-done
 returns-in-Print-clause-done g c = rw c.in-Print.is c.print_table.ensures.done
 
