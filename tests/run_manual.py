@@ -135,7 +135,9 @@ class TestManual(Test):
                     print(f"left out: {line}, since there is no IPv6 here")
                     continue
                 ends = shell.carry_out(line)
-                self.count(f"{line} gives {ends}", all(end == (0, "") for end in ends))
+                # A stream of which a record is refused has status 1.
+                status = 1 if "refused" in line else 0
+                self.count(f"{line} gives {ends}", all(end == (status, "") for end in ends))
 
     def test_page(self):
         page = made("page", PROGRAM, "1.2.3")

@@ -1,5 +1,7 @@
 """Both ends' streams as one dialogue: of a recording in the order of time, of two streams without times."""
+import json
 import os
+import re
 
 from program.form_tests import NO_RECORDINGS
 from program.runs import Runs, run, spelled
@@ -87,7 +89,58 @@ STREAMS = [
 ]
 
 
+def members(head):
+    """The members that the first words of a line stand for: the time and the sender, and what comes after them."""
+    time, end, rest = re.fullmatch(r"(?:\+(\S+) )?(host|station) (.*)", head).groups()
+    return ({"time": float(time)} if time else {}) | {"end": end}, rest
+
+
+def objects(text):
+    """The objects of JSON that say what the lines of a trace say."""
+    found = []
+    for lines in re.findall(r"^\S.*\n(?:  .*\n)*", text, re.M):
+        head, *more = (line.strip() for line in lines.splitlines())
+        if ended := re.fullmatch(r"(\w+): (\d+) bytes, (\d+) records, (\d+) refused(, truncated)?", head):
+            end, *counts, truncated = ended.groups()
+            found.append({"end": end, **dict(zip(("bytes", "records", "refused"), map(int, counts))), "whole": not truncated})
+            continue
+        first, rest = members(head)
+        if refused := re.fullmatch(r"refused at (\d+): reason (\d+) (\w+)", rest):
+            place, number, name = refused.groups()
+            # Before the refused byte there may be none.
+            bytes_ = more[1].split(" ")[1:]
+            before, after = bytes_ if len(bytes_) == 2 else ("", *bytes_)
+            found.append({**first, "before": before, "from": after, "at": int(place), "refused": int(number),
+                          "name": name, "sentence": more[0]})
+        elif telnet := re.fullmatch(r"at (\d+) telnet (.*)", rest):
+            found.append({**first, "at": int(telnet[1]), "telnet": telnet[2]})
+        else:
+            place, flags, opcode = re.fullmatch(r"at (\d+) record flags (\w+) opcode (\d+)", rest).groups()
+            found.append({**first, "at": int(place), "flags": flags, "opcode": int(opcode), "body": more})
+    return found
+
+
 class TestTrace(Runs):
+    def test_objects(self):
+        """With --json the same is told as objects, one on a line, without blanks between their parts."""
+        rows = [(["trace", "--json"], text, status, written) for text, status, written in TRACED]
+        for host, station, status, written in STREAMS:
+            words = ["trace", "--json"]
+            for end, data in ("host", host), ("station", station):
+                if data is not None:
+                    path = os.path.join(self.folder, f"{end}{len(rows)}")
+                    with open(path, "w") as file:
+                        file.write(data)
+                    words += [f"--{end}", path]
+            rows.append((words, "", status, written))
+        for words, text, status, written in rows:
+            done = run(words, text)
+            found = [json.loads(line) for line in done.stdout.splitlines()]
+            self.count(f"{words} of {text} told {done.stdout}", (done.returncode, found) == (status, objects(written)))
+        first = '{"time":0.002,"end":"station","at":1,"telnet":"NOP"}\n{"time":0.004,"end":"host","at":1,"telnet":"NOP"}\n'
+        ends = "".join(f'{{"end":"{end}","bytes":2,"records":0,"refused":0,"whole":true}}\n' for end in ("host", "station"))
+        self.expect("objects as they are", run(["trace", "--json"], TRACED[1][0]), 0, first + ends, "")
+
     def test_traced(self):
         for text, status, written in TRACED:
             self.expect(f"trace of {text}", run(["trace"], text), status, written, "")
