@@ -61,16 +61,14 @@ pub enum StreamForm {
 /// What is asked for of an input.
 #[derive(Clone, Copy, Debug, PartialEq, Eq)]
 pub enum InputAsked<'a> {
-    /// To check the bytes that an input tells in a form, in pieces of `cut` bytes: as a host's commands, or as a
-    /// station's answers.
+    /// To check the bytes that an input tells, in pieces of `cut`: as a host's commands, or as a station's answers.
     Check {
         file: Option<&'a str>,
         form: StreamForm,
         cut: NonZeroU16,
         from: Sender,
     },
-    /// The same of bytes of which records may be refused, after which the next is read; with `named` each line stands
-    /// after the file's name.
+    /// The same, and the next record is read after a refused one; with `named` each line stands after the file's name.
     CheckAll {
         file: Option<&'a str>,
         form: StreamForm,
