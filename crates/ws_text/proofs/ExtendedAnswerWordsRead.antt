@@ -1,5 +1,4 @@
-use Rattle.ws_text.proofs.Common.{◌≡◌, List, ℕ, codes, Some, inl, inr, Option, None, MatchOption, ◌⊎◌, AnswerPart}
-use Rattle.ws_text.proofs.Common.{ArePlace}
+use Rattle.ws_text.proofs.Common.{◌≡◌, List, ℕ, codes, Some, Option, None, MatchOption, AnswerPart, ArePlace}
 use Rattle.ws_extended.specs.declared.extended_answer_part.ExtendedAnswerPart.{ExtendedAnswerPart}
 use Rattle.ws_extended.specs.declared.extended_answer_part.ExtendedAnswerPart.TheVariants as parts
 use Rattle.ws_extended.specs.declared.extended_element.ExtendedElement.{ExtendedElement}
@@ -15,11 +14,10 @@ module _ (name : List ℕ) (words : List (List ℕ)) where
   pub no_at_once : NamesAtOnce name → ((cursor : ℕ) → ArePlace words cursor → ⊥) → (part : ExtendedAnswerPart)
       → IsOneTold name words part → ⊥
   no_at_once is bad (parts.Profile p) h = part_not_at_once name words p h is
-  no_at_once is bad parts.QueryReply h = h
-  no_at_once is bad (parts.Reply left byte) h = h
   no_at_once is bad parts.Saved h = at_once_not_saved name is h.0
   no_at_once is bad (parts.Of e) h = element_not_at_once name words e h is
   no_at_once is bad (parts.AtOnce cursor) h = bad cursor h.1
+  no_at_once is bad p h = h
 
   -- a name of neither
   pub told_either : (name ≡ codes "SAVED" → ⊥) → (NamesAtOnce name → ⊥) → (r : Option ExtendedAnswerPart)
@@ -31,8 +29,7 @@ module _ (name : List ℕ) (words : List (List ℕ)) where
     where
       none : (part : ExtendedAnswerPart) → IsOneTold name words part → ⊥
       none (parts.Profile p) is = h.0 p is
-      none parts.QueryReply is = is
-      none (parts.Reply left byte) is = is
       none parts.Saved is = saved is.0
       none (parts.Of e) is = h.1 e is
       none (parts.AtOnce cursor) is = at_once is.0
+      none p is = is

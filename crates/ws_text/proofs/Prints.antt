@@ -13,57 +13,44 @@ use Rattle.ws_code.proofs.Parts.{fails_last}
 use Rattle.ws_text.specs.Printing.{IsOut}
 use Rattle.ws_text.proofs.LineEnds.{filled}
 
--- A text that goes out in parts.
-
 fails_on : {S : Type 0} (writer : Writer S) (from to : S) (text more : List ℕ)
     → FailedWithin writer from to text → FailedWithin writer from to (text ++ more)
 fails_on writer from to text more f =
-    let n : ℕ = f.count in
-    let inside : n ≤ length text = omega (arith, f.within) in
-    let same : take n (text ++ more) ≡ take n text = take-append-le n text more inside in
     record {
-      count = n;
+      count = f.count;
       within = omega (arith, f.within, length-append text more);
-      failed = subst (FailedAfter writer from to) (sym same) f.failed;
+      failed = subst (FailedAfter writer from to)
+          (sym (take-append-le f.count text more (omega (arith, f.within)))) f.failed;
     }
 
 pub put_out : {S : Type 0} (writer : Writer S) (old new : S) (bytes : List ℕ)
     → WentOut writer old new bytes → Prints writer old new Open Open bytes
-put_out writer old new bytes w =
-    record { on = λ from text h. went_out_both writer from old new text bytes h w }
+put_out writer old new bytes w = record { on = λ from text h. went_out_both writer from old new text bytes h w }
 
 pub put_fails : {S : Type 0} (writer : Writer S) (old new : S) (bytes : List ℕ)
     → FailedWithin writer old new bytes → Prints writer old new Open Failed bytes
-put_fails writer old new bytes f =
-    record { on = λ from text h. fails_last writer from old new text bytes h f }
+put_fails writer old new bytes f = record { on = λ from text h. fails_last writer from old new text bytes h f }
 
-pub put_failed : {S : Type 0} (writer : Writer S) (s : S) (bytes : List ℕ)
-    → Prints writer s s Failed Failed bytes
+pub put_failed : {S : Type 0} (writer : Writer S) (s : S) (bytes : List ℕ) → Prints writer s s Failed Failed bytes
 put_failed writer s bytes = record { on = λ from text h. fails_on writer from s text bytes h }
 
-pub prints_none : {S : Type 0} (writer : Writer S) (s : S) (o : Output)
-    → Prints writer s s o o []
-prints_none writer s o = record {
-  on = λ from text h. subst (IsOut writer from s o)
-      (sym (append-nil text)) h;
-}
+pub prints_none : {S : Type 0} (writer : Writer S) (s : S) (o : Output) → Prints writer s s o o []
+prints_none writer s o = record { on = λ from text h. subst (IsOut writer from s o) (sym (append-nil text)) h }
 
 -- two parts
 pub prints_both : {S : Type 0} {writer : Writer S} {old mid new : S} {before between after : Output}
     {xs ys : List ℕ} → Prints writer old mid before between xs → Prints writer mid new between after ys
     → Prints writer old new before after (xs ++ ys)
-prints_both {S} {writer} {old} {mid} {new} {before} {between} {after} {xs} {ys} p q =
-    record {
-      on = λ from text h. subst (IsOut writer from new after) (append_assoc text xs ys)
-          (q.on from (text ++ xs) (p.on from text h));
-    }
+prints_both {S} {writer} {old} {mid} {new} {before} {between} {after} {xs} {ys} p q = record {
+  on = λ from text h. subst (IsOut writer from new after) (append_assoc text xs ys)
+      (q.on from (text ++ xs) (p.on from text h));
+}
 
 -- the same text by another name
 pub prints_same : {S : Type 0} {writer : Writer S} {old new : S} {before after : Output}
     {xs ys : List ℕ} → xs ≡ ys → Prints writer old new before after xs
     → Prints writer old new before after ys
-prints_same {S} {writer} {old} {new} {before} {after} {xs} {ys} e p =
-    subst (Prints writer old new before after) e p
+prints_same {S} {writer} {old} {new} {before} {after} {xs} {ys} e p = subst (Prints writer old new before after) e p
 
 -- a text from its start
 pub whole_out : {S : Type 0} {writer : Writer S} {old new : S} {after : Output} {xs : List ℕ}

@@ -1,16 +1,11 @@
 -- Texts in parts.
 
-use Rattle.ws_text.proofs.Common.{◌∙◌, ap, ◌≡◌, arith, refl, sym, [], length, ◌∷◌, List, ℕ, ◌++◌, take, ◌+◌, ◌<◌, codes}
-use Rattle.ws_text.proofs.Common.{false, true, get_or, append_assoc, Bool, append-nil, flat_map, ◌^◌, ◌/◌, ◌%◌}
-use Rattle.ws_text.proofs.Common.{flat_map-append, take_more, encode_upper, upper_digits, Element, element_line, is_put}
-use Rattle.ws_text.proofs.Common.{element_lines, UnitRun, Bytes, Other}
+use Rattle.ws_text.proofs.Common.{◌∙◌, ap, ◌≡◌, arith, refl, sym, [], length, ◌∷◌, List, ℕ, ◌++◌, take, ◌+◌, ◌<◌}
+use Rattle.ws_text.proofs.Common.{get_or, append_assoc, append-nil, flat_map, ◌^◌, ◌/◌, ◌%◌}
+use Rattle.ws_text.proofs.Common.{flat_map-append, take_more, encode_upper, upper_digits}
 use Rattle.ws_record.specs.Grammar.{two_bytes}
-use Rattle.ws_stream.specs.declared.element.Element.TheVariants.{Put}
 pub use Rattle.ws_text.specs.Lined.{lines_behind}
-use Rattle.ws_text.specs.ItemLines.{runs_with, runs_of, run_line}
 use Rattle.ws_text.proofs.Prints.{encode_append}
-
--- Texts in parts.
 
 pub flat_map_more : {X : Type 0} (f : X → List ℕ) (xs : List X) (i : ℕ) (d : X) → i < length xs
     → flat_map f (take (i + 1) xs) ≡ flat_map f (take i xs) ++ f (get_or xs i d)
@@ -38,36 +33,8 @@ module _ {S U : Type 0} (is_byte : U → S) (line : S → U → List ℕ) where
   is_byte_last_more before [] u = refl
   is_byte_last_more before (x ∷ us) u = is_byte_last_more (is_byte x) us u
 
--- what runs add to those lines: bytes behind a byte go on with that one's line
-abbrev pub runs_behind : {U : Type 0} → (UnitRun U → List ℕ) → Bool → List (UnitRun U) → List ℕ
-runs_behind run_line true (Bytes bytes ∷ runs) = encode_upper bytes ++ flat_map run_line runs
-runs_behind run_line before runs = flat_map run_line runs
-
 -- a byte begins a run
 pub begins_run : (byte : ℕ) (bytes rest : List ℕ) → encode_upper (byte ∷ []) ++ (encode_upper bytes ++ rest)
     ≡ encode_upper (byte ∷ bytes) ++ rest
 begins_run byte bytes rest = sym (append_assoc (encode_upper (byte ∷ [])) (encode_upper bytes) rest)
     ∙ ap (λ z. z ++ rest) (sym (encode_append upper_digits (byte ∷ []) bytes))
-
-joins : (before : Bool) (e : Element) (runs : List (UnitRun Element))
-    → element_line before e ++ runs_behind run_line (is_put e) runs ≡ runs_behind run_line before (runs_with e runs)
-joins true (Put byte) [] = refl
-joins true (Put byte) (Bytes bytes ∷ runs) = begins_run byte bytes (flat_map run_line runs)
-joins true (Put byte) (Other e ∷ runs) = refl
-joins false (Put byte) [] = refl
-joins false (Put byte) (Bytes bytes ∷ runs) =
-    ap (λ z. 10 ∷ codes "  PUT " ++ z) (begins_run byte bytes (flat_map run_line runs))
-joins false (Put byte) (Other e ∷ runs) = refl
-joins true e runs = refl
-joins false e runs = refl
-
-lines_by_runs : (before : Bool) (es : List Element) → lines_behind is_put element_line before es
-    ≡ runs_behind run_line before (runs_of es)
-lines_by_runs true [] = refl
-lines_by_runs false [] = refl
-lines_by_runs before (e ∷ es) = ap (λ z. element_line before e ++ z) (lines_by_runs (is_put e) es)
-    ∙ joins before e (runs_of es)
-
--- the lines of elements are those of their runs
-pub all_lines : (es : List Element) → lines_behind is_put element_line false es ≡ element_lines es
-all_lines es = lines_by_runs false es

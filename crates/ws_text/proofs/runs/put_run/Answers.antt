@@ -1,4 +1,3 @@
-use Rattle.ws_text.proofs.Common.{sym}
 use Rattle.ws_text.proofs.PartialRecords.{led_run, bare_run}
 use Rattle.ws_text.proofs.runs.put_run.Goals as goal
 
