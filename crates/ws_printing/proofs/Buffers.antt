@@ -23,11 +23,7 @@ module _ {S : Type 0} (writer : Writer S) where
       let rest = buffered_writes p.0 to ws p.3 in (
         one.0 ++ rest.0,
         went_out_both writer from.sink p.0.sink to.sink one.0 rest.0 one.1 rest.1,
-        sym (append_assoc from.held (take w.count w.offered) (bytes_taken ws))
-            ∙ ap (λ z. z ++ bytes_taken ws) one.2
-            ∙ append_assoc one.0 p.0.held (bytes_taken ws)
-            ∙ ap (λ z. one.0 ++ z) rest.2
-            ∙ sym (append_assoc one.0 rest.0 to.held),
+        rw (← append_assoc, one.2, append_assoc, rest.2) (sym (append_assoc one.0 rest.0 to.held)),
       )
 
   module _ (from : Buffering S) (empty : from.held ≡ []) where

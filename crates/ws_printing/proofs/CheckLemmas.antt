@@ -1,8 +1,7 @@
 use Rattle.std.specs.Prelude.{Bool, Result, Ok, Err, IfOk, IfErr}
-use Rattle.std.proofs.Common.{◌≡◌, ℕ, ◌+◌, ◌-◌, ◌<◌, ◌≤◌, ◌^◌, List, [], ◌∷◌, ◌++◌, Some, length, take, drop, refl, sym}
-use Rattle.std.proofs.Common.{inr, ap, ◌∙◌, subst, arith, length-append, append_assoc}
-use Rattle.std.proofs.Math.Seq.{take-add}
-use Rattle.std.proofs.lemmas.List.{take-append-drop}
+use Rattle.std.proofs.Common.{◌≡◌, ℕ, ◌+◌, ◌-◌, ◌<◌, ◌^◌, List, [], ◌∷◌, ◌++◌, Some, length, take, drop, refl}
+use Rattle.std.proofs.Common.{inr, ap, ◌∙◌, arith, length-append, length-drop, append_assoc}
+use Rattle.std.proofs.lemmas.List.{take_all, take-append-drop}
 use Rattle.ws_code.specs.Code.{Rules}
 use Rattle.ws_code.specs.Device.{Writer, WentOut, FailedWithin}
 use Rattle.ws_code.specs.Keep.{nothing_keeper}
@@ -11,23 +10,18 @@ use Rattle.ws_code.specs.declared.fault.Fault.{Fault}
 use Rattle.ws_code.specs.declared.fault.Fault.TheVariants as device
 use Rattle.ws_code.specs.declared.keep.Kept.TheVariants as answer
 use Rattle.ws_code.specs.declared.reason.Reason.{Reason}
-use Rattle.ws_code.proofs.Lists.{same_front}
 use Rattle.ws_telnet.specs.Words.{telnet_of}
-use Rattle.ws_telnet.specs.declared.token.Telnet.{Telnet}
 use Rattle.ws_record.specs.Advance.{IsAdvance}
 use Rattle.ws_record.specs.DataStep.{record_of}
 use Rattle.ws_record.specs.Live.{Watching, Leads, stream}
 use Rattle.ws_record.specs.OpenRecord.{RecordSoFar, no_record}
-use Rattle.ws_record.specs.Refusal.{IsRefused}
 use Rattle.ws_record.specs.declared.news.News.{News}
 use Rattle.ws_record.specs.declared.news.News.TheVariants as told
 use Rattle.ws_record.specs.declared.record.Item.{Item}
 use Rattle.ws_record.specs.declared.record.Item.TheVariants.{Record as RecordItem, Telnet as TelnetItem}
-use Rattle.ws_record.specs.declared.record.Record.{Record}
-use Rattle.ws_record.proofs.Receivers.{refused_append}
 use Rattle.ws_text.specs.Printed.{IsPrinted}
 use Rattle.ws_printing.specs.CheckLine.{IsVerdict, is_accepted, line_of, record_count, command_count}
-use Rattle.ws_printing.specs.Checking.{Counts, check_printing, tally_after, one_record, one_command}
+use Rattle.ws_printing.specs.Checking.{Counts, check_printing, tally_after}
 use Rattle.ws_printing.specs.declared.check.Tally.{Tally}
 use Rattle.ws_printing.specs.declared.verdict.Verdict.{Verdict}
 
@@ -51,55 +45,7 @@ module _ {Place U : Type 0} (rules : Rules Place U) where
       news
 
   module _ {K : Type 0} (old new : Watching Place) (tally : Tally) (bytes front : List ℕ) (keep left : K)
-      (k : Counts rules old tally bytes) where
-    -- it never fails
-    pub bare_works : (news : News) → IsBareAdvance bytes k.items k.so_far keep front new left news
-        → news ≡ told.Failed → ⊥
-    bare_works news a e =
-        subst (λ (n : News). IsBareAdvance bytes k.items k.so_far keep front new left n) e a
-
-  module _ {K : Type 0} (old new : Watching Place) (tally : Tally) (bytes front : List ℕ) (keep left : K)
       (k : Counts rules old tally bytes) (some : 0 < length front) (fits : length (bytes ++ front) < 2 ^ 64) where
-    -- a record more
-    count_record : (r : Record U) (so_far : RecordSoFar U)
-        → Leads rules new (bytes ++ front) (k.items ++ RecordItem r ∷ []) so_far
-        → Counts rules new (one_record tally) (bytes ++ front)
-    count_record r so_far l = record {
-      items = k.items ++ RecordItem r ∷ [];
-      so_far = so_far;
-      leads = l;
-      records = omega (
-        arith,
-        k.records,
-        k.few,
-        fits,
-        length-append bytes front,
-        record_count-append k.items (RecordItem r ∷ []),
-      );
-      commands = omega (arith, k.commands, command_count-append k.items (RecordItem r ∷ []));
-      few = omega (arith, k.few, some, length-append bytes front);
-    }
-
-    -- a command more
-    count_command : (t : Telnet) (so_far : RecordSoFar U)
-        → Leads rules new (bytes ++ front) (k.items ++ TelnetItem t ∷ []) so_far
-        → Counts rules new (one_command tally) (bytes ++ front)
-    count_command t so_far l = record {
-      items = k.items ++ TelnetItem t ∷ [];
-      so_far = so_far;
-      leads = l;
-      records = omega (arith, k.records, record_count-append k.items (TelnetItem t ∷ []));
-      commands = omega (
-        arith,
-        k.commands,
-        k.few,
-        fits,
-        length-append bytes front,
-        command_count-append k.items (TelnetItem t ∷ []),
-      );
-      few = omega (arith, k.few, some, length-append bytes front);
-    }
-
     -- no item more
     count_none : (so_far : RecordSoFar U) → Leads rules new (bytes ++ front) k.items so_far
         → Counts rules new tally (bytes ++ front)
@@ -127,32 +73,39 @@ module _ {Place U : Type 0} (rules : Rules Place U) where
       head = Some head;
       units = k.so_far.units;
     }) a.1.1
-    counts_front (told.Close head) a good = count_record (record_of head k.so_far.units) no_record a.1
-    counts_front (told.Telnet word) a good = count_command (telnet_of word new.sub) k.so_far a.0
+    counts_front (told.Close head) a good =
+        let item : Item U = RecordItem (record_of head k.so_far.units) in record {
+          items = k.items ++ item ∷ [];
+          so_far = no_record;
+          leads = a.1;
+          records = omega (arith, length-append bytes front, record_count-append k.items (item ∷ []), k.few, k.records);
+          commands = omega (arith, command_count-append k.items (item ∷ []), k.commands);
+          few = omega (arith, length-append bytes front, k.few);
+        }
+    counts_front (told.Telnet word) a good =
+        let item : Item U = TelnetItem (telnet_of word new.sub) in record {
+          items = k.items ++ item ∷ [];
+          so_far = k.so_far;
+          leads = a.0;
+          records = omega (arith, record_count-append k.items (item ∷ []), k.records);
+          commands = omega (arith, length-append bytes front, command_count-append k.items (item ∷ []), k.few, k.commands);
+          few = omega (arith, length-append bytes front, k.few);
+        }
     counts_front (told.Refused reason) a good = absurd (good reason refl)
     counts_front told.NoMemory a good = (let e : answer.NoMemory ≡ answer.GoOn = a.1 in cc)
     counts_front told.Failed a good = absurd a
 
--- a front of a part of a list, behind the front before that part
-pub front_on : (bytes : List ℕ) (at end used : ℕ) → used ≤ length (take (end - at) (drop at bytes))
-    → take at bytes ++ take used (take (end - at) (drop at bytes)) ≡ take (at + used) bytes
-front_on bytes at end used within =
-    ap (λ x. take at bytes ++ x) (same_front (drop at bytes) used (end - at) within) ∙ sym (take-add at used bytes)
+-- bytes and what is left of a piece, as long as at the start
+pub fits_on : (so_far rest bytes piece : List ℕ) → so_far ++ rest ≡ bytes ++ piece
+    → length bytes + length piece < 2 ^ 64 → length so_far + length rest < 2 ^ 64
+fits_on so_far rest bytes piece e fits = omega (arith, fits, simp length-append at (ap length e))
 
--- a front of a piece, behind bytes and the front before it
-pub front_behind : (bytes piece : List ℕ) (at used : ℕ) → used ≤ length (take (length piece - at) (drop at piece))
-    → (bytes ++ take at piece) ++ take used (take (length piece - at) (drop at piece)) ≡ bytes ++ take (at + used) piece
-front_behind bytes piece at used within =
-    append_assoc bytes (take at piece) (take used (take (length piece - at) (drop at piece)))
-    ∙ ap (λ x. bytes ++ x) (front_on piece at (length piece) used within)
-
--- a byte that is refused at the end of a front is refused behind the whole piece
-pub refused_behind : {Place U : Type 0} (rules : Rules Place U) (bytes piece : List ℕ) (n place : ℕ) (reason : Reason)
-    → IsRefused rules (bytes ++ take n piece) place reason → IsRefused rules (bytes ++ piece) place reason
-refused_behind rules bytes piece n place reason r =
-    subst (λ (x : List ℕ). IsRefused rules x place reason)
-    (append_assoc bytes (take n piece) (drop n piece) ∙ ap (λ x. bytes ++ x) (take-append-drop n piece))
-    (refused_append rules (bytes ++ take n piece) (drop n piece) place reason r)
+-- a front more, and what is left after it
+pub goes_on : (so_far rest all : List ℕ) (n : ℕ) → so_far ++ rest ≡ all
+    → (so_far ++ take n rest) ++ take (length rest - n) (drop n rest) ≡ all
+goes_on so_far rest all n e = append_assoc so_far (take n rest) (take (length rest - n) (drop n rest))
+    ∙ ap (λ x. so_far ++ (take n rest ++ x)) (take_all (length rest - n) (drop n rest) (omega (arith, length-drop n rest)))
+    ∙ ap (λ x. so_far ++ x) (take-append-drop n rest) ∙ e
 
 module _ {S : Type 0} (writer : Writer S) (from to : S) where
   -- the line of a verdict

@@ -1,9 +1,10 @@
 -- What bytes show on a code page, and on page 037.
 
-use Rattle.std.specs.Prelude.{◌==◌, ◌&&◌, ◌||◌, if◌then◌else◌, nat_le, nat_lt, unwrap_or, is_some}
+use Rattle.std.specs.Prelude.{◌==◌, ◌||◌, if◌then◌else◌, unwrap_or, is_some}
 use Rattle.std.proofs.Common.{◌≡◌, ℕ, ◌≤◌, Bool, true, false, Option, Some, None, slice_index}
 use Rattle.std.proofs.Common.{refl, ap, ◌∙◌, arith}
-use borrow.Author.Tests.{ltb-true, ne_eqb}
+use Rattle.std.proofs.lemmas.Bool.Decides.{nat_tests}
+use borrow.Author.Tests.{ne_eqb}
 use Rattle.ws_code.specs.CodePage.{changes_of, char_on, national_char}
 use Rattle.ws_code.specs.Ebcdic.{char_of}
 use Rattle.ws_code.specs.declared.code_page.CodePage.{CodePage}
@@ -24,12 +25,7 @@ char_on_037 b = refl
 
 -- a byte of 40 and more is no attribute
 no_attribute : (b : ℕ) → 0x40 ≤ b → is_attribute b ≡ false
-no_attribute b low = go (nat_le 0x20 b) (nat_lt b 0x40) refl
-  where
-    go : (t u : Bool) → nat_lt b 0x40 ≡ u → (t && u) ≡ false
-    go t true q = absurd (omega (arith, low, ltb-true b 0x40 q))
-    go true false q = refl
-    go false false q = refl
+no_attribute b low = grind (arith, nat_tests)
 
 same_kept : (hidden : Bool) (c : ℕ) → (if hidden then c else c) ≡ c
 same_kept true c = refl
@@ -86,31 +82,30 @@ shown_byte page a v c byte only e = go (is_attribute v) e
     clash : {o : Option ℕ} {x : ℕ} → o ≡ None → o ≡ Some x → ⊥
     clash none some = cc
 
+    -- where nothing hides it
+    seen_as : (hidden blank dup : Bool) (own old : Option ℕ) → char_on page v ≡ own → char_of v ≡ old
+        → unwrap_or own (if hidden then 0x20 else (if blank then 0x20 else (if dup then 0x2A else unwrap_or old 0x2E)))
+        ≡ c → v ≡ byte
+    seen_as hidden blank dup (Some x) old p q e = only.2 v (p ∙ ap (λ z. Some z) e)
+    seen_as true blank dup None old p q e = absurd (omega (arith, only.0, e))
+    seen_as false true dup None old p q e = absurd (omega (arith, only.0, e))
+    seen_as false false true None old p q e = absurd (omega (arith, only.0, e))
+    seen_as false false false None None p q e = absurd (omega (arith, only.0, e))
+    seen_as false false false None (Some x) p q e = absurd (clash (none_of_037 page v p) q)
+
+    other : (hidden : Bool) → (if hidden then (if hidden then 0x20
+        else (if (v == 0) || false then 0x20 else (if v == DUP then 0x2A else unwrap_or (char_of v) 0x2E)))
+        else unwrap_or (char_on page v) (if hidden then 0x20
+        else (if (v == 0) || false then 0x20 else (if v == DUP then 0x2A else unwrap_or (char_of v) 0x2E)))) ≡ c
+        → v ≡ byte
+    other true e = absurd (omega (arith, only.0, e))
+    other false e = seen_as false ((v == 0) || false) (v == DUP) (char_on page v) (char_of v) refl refl e
+
     -- an attribute's own cell isn't hidden
-    marked : (hidden zero dup : Bool) (own old : Option ℕ) → char_on page v ≡ own
-        → unwrap_or own (if hidden then 0x20
-        else (if zero || true then 0x20 else (if dup then 0x2A else unwrap_or old 0x2E))) ≡ c → v ≡ byte
-    marked hidden zero dup (Some x) old p e = only.2 v (p ∙ ap (λ z. Some z) e)
-    marked true zero dup None old p e = absurd (omega (arith, only.0, e))
-    marked false true dup None old p e = absurd (omega (arith, only.0, e))
-    marked false false dup None old p e = absurd (omega (arith, only.0, e))
-
-    other : (hidden zero dup : Bool) (own old : Option ℕ) → char_on page v ≡ own → char_of v ≡ old
-        → (if hidden then (if hidden then 0x20
-        else (if zero || false then 0x20 else (if dup then 0x2A else unwrap_or old 0x2E)))
-        else unwrap_or own (if hidden then 0x20
-        else (if zero || false then 0x20 else (if dup then 0x2A else unwrap_or old 0x2E)))) ≡ c → v ≡ byte
-    other true zero dup own old p q e = absurd (omega (arith, only.0, e))
-    other false zero dup (Some x) old p q e = only.2 v (p ∙ ap (λ z. Some z) e)
-    other false true dup None old p q e = absurd (omega (arith, only.0, e))
-    other false false true None old p q e = absurd (omega (arith, only.0, e))
-    other false false false None None p q e = absurd (omega (arith, only.0, e))
-    other false false false None (Some x) p q e = absurd (clash (none_of_037 page v p) q)
-
     go : (attribute : Bool) → (if is_hidden (if attribute then 0x20 else a) then (if is_hidden a then 0x20
         else (if (v == 0) || attribute then 0x20 else (if v == DUP then 0x2A else unwrap_or (char_of v) 0x2E)))
         else unwrap_or (char_on page v) (if is_hidden a then 0x20
         else (if (v == 0) || attribute then 0x20 else (if v == DUP then 0x2A else unwrap_or (char_of v) 0x2E)))) ≡ c
         → v ≡ byte
-    go true e = marked (is_hidden a) (v == 0) (v == DUP) (char_on page v) (char_of v) refl e
-    go false e = other (is_hidden a) (v == 0) (v == DUP) (char_on page v) (char_of v) refl refl e
+    go true e = seen_as (is_hidden a) ((v == 0) || true) (v == DUP) (char_on page v) (char_of v) refl refl e
+    go false e = other (is_hidden a) e

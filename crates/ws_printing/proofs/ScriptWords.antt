@@ -14,8 +14,6 @@ use Rattle.std.proofs.lemmas.Slice.Eq.{bytes_eq-Decides}
 use Rattle.std.proofs.lemmas.Str.Pattern.{IsSplitOnceResult, split_parts, strip_prefix_char}
 use Rattle.ws_printing.specs.script.ScriptFaults.{IsNoComment, has_no_blank}
 
--- Words: blanks and digits.
-
 -- texts that a test tells apart
 pub differ : (a b : List ℕ) → bytes_eq a b ≡ false → a ≡ b → ⊥
 differ a b f e = false≢true (sym f ∙ (bytes_eq-Decides a b).1 e)

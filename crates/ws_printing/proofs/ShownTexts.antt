@@ -4,15 +4,14 @@ use Rattle.std.specs.Char.{encode_utf8}
 use Rattle.std.specs.List.{Contains, range_with_len}
 use Rattle.std.specs.Str.{encode_utf8_all}
 use Rattle.std.specs.Str.Iter.{HasSubslice}
-use Rattle.std.proofs.Common.{◌≡◌, ℕ, ◌+◌, ◌-◌, ◌*◌, ◌/◌, ◌%◌, ◌<◌, ◌≤◌, List, [], ◌∷◌, ◌++◌, Bool, true, false}
-use Rattle.std.proofs.Common.{length, map, cond, nat_lt, slice_index, inl, inr}
-use Rattle.std.proofs.Common.{refl, sym, ap, ◌∙◌, subst, arith}
-use Rattle.std.proofs.lemmas.Bool.{cases_lt}
-use Rattle.std.proofs.lemmas.List.{get_or-map, length-map}
+use Rattle.std.proofs.Common.{◌≡◌, ℕ, ◌+◌, ◌-◌, ◌*◌, ◌<◌, ◌≤◌, List, [], ◌∷◌, ◌++◌}
+use Rattle.std.proofs.Common.{length, map, slice_index, get_or, inl, inr, refl, sym, ap, ◌∙◌, subst, arith}
+use Rattle.std.proofs.lemmas.List.{append-nil, get_or-map, get_or_default, length-map}
 use Rattle.std.proofs.lemmas.List.Edits.{get_or-between, length-between}
-use Rattle.std.proofs.lemmas.List.Elements.{All-cons, All-nil, All-contains, Contains-get_or, Contains-append_left}
-use Rattle.std.proofs.lemmas.List.Elements.{Contains-append_right, Contains-append_cases}
+use Rattle.std.proofs.lemmas.List.Elements.{Contains-get_or, Contains-append_left, Contains-append_right}
+use Rattle.std.proofs.lemmas.List.Elements.{Contains-append_cases}
 use Rattle.std.proofs.lemmas.List.FromFn.{get_or-map-range_with_len, length-map-range_with_len}
+use Rattle.std.proofs.lemmas.Str.{inside_one}
 use Rattle.ws_code.specs.declared.code_page.CodePage.{CodePage}
 use Rattle.ws_screen.specs.Lines.{attribute_at}
 use Rattle.ws_printing.specs.ReportLines.{row_bytes}
@@ -20,48 +19,11 @@ use Rattle.ws_printing.specs.ShownOnPage.{row_on_page, shown_on}
 use Rattle.ws_printing.specs.ShownTexts.{IsNeededBy, text_of_shown}
 use Rattle.ws_printing.proofs.PageChars.{shown_byte}
 
-abbrev High : ℕ → Type 0
-High x = 0x80 ≤ x
-
-two_high : (a b x : ℕ) → High a → High b → Contains (a ∷ b ∷ []) x → High x
-two_high a b x ha hb h =
-    All-contains High (a ∷ b ∷ []) x (All-cons High a (b ∷ []) ha (All-cons High b [] hb (All-nil High))) h
-
-three_high : (a b c x : ℕ) → High a → High b → High c → Contains (a ∷ b ∷ c ∷ []) x → High x
-three_high a b c x ha hb hc h = elim (Contains-append_cases (a ∷ []) (b ∷ c ∷ []) x h) [
-  | inl here ↦ All-contains High (a ∷ []) x (All-cons High a [] ha (All-nil High)) here
-  | inr later ↦ two_high b c x hb hc later
-]
-
-four_high : (a b c d x : ℕ) → High a → High b → High c → High d → Contains (a ∷ b ∷ c ∷ d ∷ []) x → High x
-four_high a b c d x ha hb hc hd h = elim (Contains-append_cases (a ∷ []) (b ∷ c ∷ d ∷ []) x h) [
-  | inl here ↦ All-contains High (a ∷ []) x (All-cons High a [] ha (All-nil High)) here
-  | inr later ↦ three_high b c d x hb hc hd later
-]
-
-next_high : (n : ℕ) → High (128 + n % 64)
-next_high n = omega arith
-
 -- among the bytes of a character is one below 80 only if it is the character
 ascii_in : (c b : ℕ) → b < 0x80 → Contains (encode_utf8 c) b → c ≡ b
-unfolding encode_utf8
-ascii_in c b small h = go (nat_lt c 128) (nat_lt c 2048) (nat_lt c 65536) h
-  where
-    go : (x y z : Bool) → Contains (cond x (c ∷ []) (cond y ((192 + c / 64) ∷ (128 + c % 64) ∷ [])
-        (cond z ((224 + c / 4096) ∷ (128 + c / 64 % 64) ∷ (128 + c % 64) ∷ [])
-        ((240 + c / 262144) ∷ (128 + c / 4096 % 64) ∷ (128 + c / 64 % 64) ∷ (128 + c % 64) ∷ [])))) b → c ≡ b
-    go true y z h = All-contains (λ x. c ≡ x) (c ∷ []) b (All-cons (λ x. c ≡ x) c [] refl (All-nil (λ x. c ≡ x))) h
-    go false true z h =
-        let high = two_high (192 + c / 64) (128 + c % 64) b (omega arith) (next_high c) h in
-        absurd (omega (arith, small, high))
-    go false false true h =
-        let high = three_high (224 + c / 4096) (128 + c / 64 % 64) (128 + c % 64) b (omega arith) (next_high (c / 64))
-        (next_high c) h in
-        absurd (omega (arith, small, high))
-    go false false false h =
-        let high = four_high (240 + c / 262144) (128 + c / 4096 % 64) (128 + c / 64 % 64) (128 + c % 64) b (omega arith)
-        (next_high (c / 4096)) (next_high (c / 64)) (next_high c) h in
-        absurd (omega (arith, small, high))
+ascii_in c b small h =
+    let here : get_or (encode_utf8 c) h.0 0 ≡ b = get_or_default (encode_utf8 c) h.0 0 b h.1 ∙ h.2 in
+    inside_one c [] (encode_utf8 c) h.0 (sym (append-nil (encode_utf8 c))) h.1 (omega (arith, small, here)) ∙ here
 
 -- a character below 80 whose byte a text has is in the text
 in_text : (cs : List ℕ) (b : ℕ) → b < 0x80 → Contains (encode_utf8_all cs) b → Contains cs b
@@ -108,23 +70,8 @@ needed_there page cells text row byte low high whole needed found =
     let first = (row - 1) * 80 in
     let is : slice_index cells (first + at.0) ≡ byte = shown_byte page (attribute_at cells (first + at.0))
     (slice_index cells (first + at.0)) c byte only at.2 in
-    let inside : at.0 < length (row_bytes cells row) = omega (
-      arith,
-      at.1,
-      low,
-      high,
-      whole,
-      length-between cells first (first + 80) (omega (arith, low, high, whole)),
-    ) in
+    let inside : at.0 < length (row_bytes cells row) =
+    omega (arith, at.1, low, high, whole, length-between cells first (first + 80) (omega (arith, low, high, whole))) in
     subst (Contains (row_bytes cells row))
     (get_or-between cells first (first + 80) at.0 0 (omega (arith, at.1)) ∙ is)
     (Contains-get_or (row_bytes cells row) at.0 0 inside)
-
--- what no row up to one has, and that one neither
-pub below_next : (P : ℕ → Type 0) (at : ℕ) → ((row : ℕ) → 1 ≤ row → row < at → P row → ⊥) → (P at → ⊥) → (row : ℕ)
-    → 1 ≤ row → row < at + 1 → P row → ⊥
-below_next P at below here row low high p = elim (cases_lt row at) [
-  | inl less ↦ below row low less p
-  | inr more ↦ here
-      (subst P (let e : row ≡ at = omega (arith, high, more) in e) p)
-]

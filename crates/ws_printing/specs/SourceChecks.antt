@@ -7,14 +7,13 @@ use Rattle.ws_code.specs.declared.reason.Reason.{Reason}
 use Rattle.ws_record.specs.Live.{Watching}
 use Rattle.ws_record.specs.Refusal.{IsRefused}
 use Rattle.ws_printing.specs.Checking.{Counts}
-use Rattle.ws_printing.specs.declared.check.RefusedByte.{RefusedByte}
 use Rattle.ws_printing.specs.declared.check.Tally.{Tally}
 
 -- no byte is refused, and the tally is of the bytes' items; or this one is
-abbrev pub IsPieceTaken : {Place U : Type 0} → Rules Place U → Watching Place → Tally → List ℕ → Option RefusedByte
+abbrev pub IsPieceTaken : {Place U : Type 0} → Rules Place U → Watching Place → Tally → List ℕ → Option (ℕ × Reason)
     → Type 0
 IsPieceTaken rules live tally bytes None = Counts rules live tally bytes
-IsPieceTaken rules live tally bytes (Some refusal) = IsRefused rules bytes refusal.place refusal.reason
+IsPieceTaken rules live tally bytes (Some refusal) = IsRefused rules bytes refusal.0 refusal.1
 
 -- a byte is refused
 abbrev pub HasRefusal : {Place U : Type 0} → Rules Place U → List ℕ → Type 0

@@ -33,25 +33,6 @@ impl Tally {
     }
 }
 
-// A byte that is refused.
-#[derive(Clone, Copy)]
-struct RefusedByte {
-    place: u64,
-    reason: Reason,
-}
-
-impl RefusedByte {
-    // What holds of a stream with it.
-    fn verdict(self) -> Verdict
-        ensures { result ≡ Verdict.Refused self.place self.reason }
-    {
-        Verdict::Refused {
-            place: self.place,
-            reason: self.reason,
-        }
-    }
-}
-
 // A decoder, and the count of what it has met.
 #[derive(Drop)]
 struct Checker<B: Body> {
@@ -76,26 +57,24 @@ impl<B: Body> Checker<B> {
         }
     }
 
-    // Takes a piece: its first byte that is refused, if one is.
+    // Takes a piece: the place of its first byte that is refused, and for what reason, if one is.
     #[inline(always)]
-    fn take(&mut self, piece: &[u8]) -> Option<RefusedByte>
+    fn take(&mut self, piece: &[u8]) -> Option<(u64, Reason)>
         requires { (bytes : List ℕ) × Counts B.rules self.old.live self.old.tally bytes
             × (length bytes + length piece.now < 2 ^ 64) }
         ensures { (bytes : List ℕ) → Counts B.rules self.old.live self.old.tally bytes
             → length bytes + length piece.now < 2 ^ 64
             → IsPieceTaken B.rules self.new.live self.new.tally (bytes ++ piece.now) result }
     {
-        let mut at = 0;
-        while at < piece.len() {
-            let Advance { used, news } = self.live.advance(&piece[at..], &mut Nothing);
-            at += used;
+        let mut rest = piece;
+        while !rest.is_empty() {
+            let Advance { used, news } = self.live.advance(rest, &mut Nothing);
             if let News::Refused(reason) = news {
-                return Some(RefusedByte {
-                    place: self.live.taken() - 1,
-                    reason,
-                });
+                let place = self.live.taken() - 1;
+                return Some((place, reason));
             }
             self.tally.count(news);
+            rest = &rest[used..];
         }
         None
     }
@@ -173,7 +152,7 @@ pub fn verdict_of<B: Body>(bytes: &[u8], cut: u16) -> Verdict
     let mut checker = Checker::<B>::new();
     for piece in bytes.chunks(usize::from(cut)) {
         match checker.take(piece) {
-            Some(refusal) => return refusal.verdict(),
+            Some((place, reason)) => return Verdict::Refused { place, reason },
             None => {}
         }
     }
@@ -201,7 +180,9 @@ pub fn verdict_from<B: Body, R: Source>(
             Ok(given) => {
                 size += given;
                 match checker.take(&room[..given]) {
-                    Some(refusal) => return Ok((refusal.verdict(), size)),
+                    Some((place, reason)) => {
+                        return Ok((Verdict::Refused { place, reason }, size));
+                    }
                     None => {}
                 }
             }

@@ -10,15 +10,14 @@ returns-in-Some-clause-given g c =
     let inv = c.loop.invariant in
     let piece = take c.in-Ok.given c.read.new.into in
     let long = length-take-le c.in-Ok.given c.read.new.into c.in-Ok.ensures.ok.0 in
-    let refused = c.in-Some.ensures inv.bytes inv.counts (omega (arith, inv.few, long, c.in-Ok.ensures.ok.0)) in
-    rw c.verdict.ensures (
+    let refused = c.in-Some.ensures inv.bytes inv.counts (omega (arith, inv.few, long, c.in-Ok.ensures.ok.0)) in (
       inv.bytes ++ piece,
       inr (
         c.loop.counter + 1,
         gave_more g.R.Source.reader _ c.loop.source _ c.loop.counter inv.bytes (length c.loop.room)
             piece inv.gave (omega arith) c.in-Ok.ensures.ok.1
             (take_some c.read.new.into c.in-Ok.given c.in-Ok.given-test.1 c.in-Ok.ensures.ok.0) c.in-Ok.ensures.ok.2,
-        (c.in-Some.refusal.place, c.in-Some.refusal.reason, refused),
+        (c.in-Some.place, c.in-Some.reason, refused),
       ),
       refused,
       omega (arith, inv.sized, length-append inv.bytes piece, long),

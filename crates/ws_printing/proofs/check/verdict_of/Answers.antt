@@ -1,4 +1,5 @@
-use Rattle.std.proofs.Common.{◌≡◌, ◌++◌, ◌<◌, ◌^◌, ℕ, List, [], length, ap, sym, ◌∙◌, subst, arith, rules, append_assoc, append-nil, length-append}
+use Rattle.std.proofs.Common.{◌≡◌, ◌++◌, ℕ, List, [], length, ap, sym, ◌∙◌, subst, arith, rules, append_assoc}
+use Rattle.std.proofs.Common.{append-nil, length-append}
 use Rattle.std.proofs.lemmas.List.{nil_from_length}
 use Rattle.ws_record.specs.Refusal.{IsRefused}
 use Rattle.ws_record.proofs.Receivers.{refused_append}
@@ -10,14 +11,6 @@ parts : (bytes before rest piece left : List ℕ) → before ++ rest ≡ bytes �
     → (before ++ piece) ++ left ≡ bytes
 parts bytes before rest piece left e f = append_assoc before piece left ∙ ap (λ (l : List ℕ). before ++ l) (sym f) ∙ e
 
-front_fits : (bytes front left : List ℕ) → front ++ left ≡ bytes → length bytes < 2 ^ 64 → length front < 2 ^ 64
-front_fits bytes front left e short = omega (
-  arith,
-  short,
-  ap (λ (l : List ℕ). length l) e,
-  length-append front left,
-)
-
 pub loop-piece-init : goal.loop-piece-init
 loop-piece-init g c = (search rules, tt, search rules, [], search rules, search rules)
 
@@ -27,13 +20,9 @@ returns-in-Some-take g c =
     let before = c.loop-piece.invariant.3 in
     let piece = c.in-Some.piece.now in
     let all = parts bytes before _ piece _ c.loop-piece.invariant.5 c.in-Some.ensures.steps.1.0 in
-    rw c.verdict.ensures (subst (λ (l : List ℕ). IsRefused g.B.Code.rules l c.in-Some-take.refusal.place
-    c.in-Some-take.refusal.reason) all (refused_append g.B.Code.rules (before ++ piece) _ _ _
-    (c.in-Some-take.ensures before c.loop-piece.invariant.4 (omega (
-      arith,
-      front_fits bytes (before ++ piece) _ all (omega arith),
-      length-append before piece,
-    )))))
+    subst (λ (l : List ℕ). IsRefused g.B.Code.rules l c.in-Some-take.place c.in-Some-take.reason) all
+    (refused_append g.B.Code.rules (before ++ piece) _ _ _
+    (c.in-Some-take.ensures before c.loop-piece.invariant.4 (omega (arith, simp length-append at (ap length all)))))
 
 pub loop-piece-preserved : goal.loop-piece-preserved
 loop-piece-preserved g c =
@@ -45,11 +34,7 @@ loop-piece-preserved g c =
       tt,
       c.in-Some.ensures.steps.0 ∙ c.loop-piece.invariant.2,
       before ++ piece,
-      c.in-None-take.ensures before c.loop-piece.invariant.4 (omega (
-        arith,
-        front_fits bytes (before ++ piece) _ all (omega arith),
-        length-append before piece,
-      )),
+      c.in-None-take.ensures before c.loop-piece.invariant.4 (omega (arith, simp length-append at (ap length all))),
       all,
     )
 

@@ -1,29 +1,18 @@
-use Rattle.std.specs.Char.{len_utf8}
 use Rattle.std.specs.Prelude.{encode_utf8}
 use Rattle.std.specs.Str.{encode_utf8_all}
 use Rattle.std.proofs.Common.{◌≡◌, ◌+◌, ◌<◌, ◌≤◌, [], ◌∷◌, ◌++◌, ℕ, length, map, take, arith, lit<, sym, ◌∙◌, ap}
-use Rattle.std.proofs.Common.{length-append, Bool, cond, nat_lt, true, false}
+use Rattle.std.proofs.Common.{length-append}
 use Rattle.std.proofs.lemmas.List.{map_more}
-use Rattle.std.proofs.lemmas.Str.{length-encode}
+use Rattle.std.proofs.lemmas.Str.{length-encode, len_utf8_bounds}
 use Rattle.ws_screen.specs.declared.shown.Shown.{Shown}
 use Rattle.ws_screen.proofs.LineLemmas.{text-more}
 use Rattle.ws_printing.proofs.shown_text.characters.Goals as goal
 
--- a character takes at most four bytes
-four_bytes : (c : ℕ) → length (encode_utf8 c) ≤ 4
-four_bytes c = let short : len_utf8 c ≤ 4 = go (nat_lt c 0x80) (nat_lt c 0x800) (nat_lt c 0x1_0000) in
-    omega (arith, length-encode c)
-  where
-    go : (a b d : Bool) → cond a 1 (cond b 2 (cond d 3 4)) ≤ 4
-    go true b d = omega arith
-    go false true d = omega arith
-    go false false true = omega arith
-    go false false false = omega arith
-
 pub push-requires : goal.push-requires
 push-requires c =
-    let fits : length c.loop-cell.text.bytes + length (encode_utf8 c.cell-item.result.character) ≤ 7680 =
-    omega (arith, c.loop-cell.invariant.short, four_bytes c.cell-item.result.character, c.requires) in
+    let character = c.cell-item.result.character in
+    let fits : length c.loop-cell.text.bytes + length (encode_utf8 character) ≤ 7680 =
+    omega (arith, c.loop-cell.invariant.short, length-encode character, len_utf8_bounds character, c.requires) in
     (lit< tt, fits)
 
 pub loop-cell-preserved : goal.loop-cell-preserved
@@ -44,6 +33,7 @@ loop-cell-preserved c =
         c.loop-cell.invariant.short,
         ap length c.push.ensures.bytes,
         length-append c.loop-cell.text.bytes (encode_utf8 item.character),
-        four_bytes item.character,
+        length-encode item.character,
+        len_utf8_bounds item.character,
       );
     }

@@ -1,12 +1,12 @@
 use Rattle.std.specs.Str.Iter.{HasSubslice}
-use Rattle.std.proofs.Common.{sym, ◌∙◌, arith, append_assoc}
+use Rattle.std.proofs.Common.{◌≤◌, sym, ◌∙◌, arith, append_assoc}
+use borrow.Author.Count.{below_more}
 use Rattle.ws_printing.specs.ShownOnPage.{row_on_page}
 use Rattle.ws_printing.specs.ShownTexts.{text_of_shown}
-use Rattle.ws_printing.proofs.ShownTexts.{below_next}
 use Rattle.ws_printing.proofs.shown_text.shows.Goals as goal
 
 pub loop-row-init : goal.loop-row-init
-loop-row-init c = λ row low high found. absurd (omega arith)
+loop-row-init c = λ row high low found. absurd (omega arith)
 
 pub returns-then-row_shows-clause-shown : goal.returns-then-row_shows-clause-shown
 returns-then-row_shows-clause-shown c = λ yes.
@@ -21,11 +21,11 @@ returns-then-row_shows-clause-shown c = λ yes.
     }
 
 pub loop-row-preserved : goal.loop-row-preserved
-loop-row-preserved c =
-    below_next (λ row. HasSubslice (text_of_shown (row_on_page c.args.page c.args.screen.now.cells row)) c.args.text.now)
-    c.loop-row.row c.loop-row.invariant (c.row_shows.ensures.unshown c.if-row_shows.false)
+loop-row-preserved c = below_more (λ row. 1 ≤ row
+    → HasSubslice (text_of_shown (row_on_page c.args.page c.args.screen.now.cells row)) c.args.text.now → ⊥)
+    c.loop-row.row c.loop-row.invariant (λ low. c.row_shows.ensures.unshown c.if-row_shows.false)
 
 pub returns-clause-unshown : goal.returns-clause-unshown
 returns-clause-unshown c = λ no shown.
-    c.loop-row.invariant shown.row shown.low (omega (arith, shown.high, c.loop-row-test.false, c.loop-row.auto.row-end))
+    c.loop-row.invariant shown.row (omega (arith, shown.high, c.loop-row-test.false, c.loop-row.auto.row-end)) shown.low
     (shown.front, shown.back, shown.is ∙ append_assoc shown.front c.args.text.now shown.back)

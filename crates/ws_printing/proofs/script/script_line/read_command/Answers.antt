@@ -1,10 +1,9 @@
 use Rattle.std.specs.Prelude.{codes, true, false}
 use Rattle.std.proofs.Common.{List, ℕ, [], ◌∷◌, ◌++◌, refl, ap, inl, inr}
-use Rattle.std.proofs.lemmas.Result.{on_ok_weaker, err_from_is_err_and, IfErr-weaker}
+use Rattle.std.proofs.lemmas.Result.{on_ok_weaker, err_from_is_err_and}
 use Rattle.ws_printing.specs.script.Script.{IsMove, MeansMoves}
 use Rattle.ws_printing.specs.script.Script.MeansMoves.{one, typed, inserted}
-use Rattle.ws_printing.specs.script.ScriptFaults.{IsLineFault, IsGoodSoFar}
-use Rattle.ws_printing.proofs.Scripts.{no_command, fault_on, only_memory, typed_any}
+use Rattle.ws_printing.proofs.Scripts.{no_command, fault_on, good_before, typed_any}
 use Rattle.ws_printing.proofs.script.script_line.read_command.Goals as goal
 
 pub returns-in-type-clause-ok : goal.returns-in-type-clause-ok
@@ -35,29 +34,22 @@ returns-in_ok-step-in_default-clause-ok c = on_ok_weaker c.add.result
 
 pub returns-in_ok-step-in_default-clause-fault : goal.returns-in_ok-step-in_default-clause-fault
 returns-in_ok-step-in_default-clause-fault c =
-    let line : List ℕ = (c.args.command.now ++ codes " ") ++ c.args.words.now in
-    IfErr-weaker c.add.result _ (IsLineFault (MeansMoves line) (IsGoodSoFar line))
-    (λ fault e. only_memory (MeansMoves line) fault e
-    (inl (
+    good_before (MeansMoves ((c.args.command.now ++ codes " ") ++ c.args.words.now)) c.add.result (inl (
       c.in_ok-step-in_default.step ∷ [],
-      one c.in_ok-step-in_default.step c.in_ok-step-in_default.ensures.ok
-          refl,
-    ))) c.add.ensures.fault
+      one c.in_ok-step-in_default.step c.in_ok-step-in_default.ensures.ok refl,
+    )) c.add.ensures.fault
 
 pub returns-in-type-clause-fault : goal.returns-in-type-clause-fault
 returns-in-type-clause-fault c =
-    let line : List ℕ = (c.args.command.now ++ codes " ") ++ c.args.words.now in
-    let any = typed_any false c.args.words.now c.utf8.words in
-    IfErr-weaker c.type_text.result _ (IsLineFault (MeansMoves line) (IsGoodSoFar line))
-    (λ fault e. only_memory (MeansMoves line) fault e
-    (inl (any.0, typed c.args.words.now (ap (λ z. (z ++ codes " ") ++ c.args.words.now) c.in-type.is) any.1)))
-    c.type_text.ensures.fault
+    let words = c.args.words.now in
+    let any = typed_any false words c.utf8.words in
+    good_before (MeansMoves ((c.args.command.now ++ codes " ") ++ words)) c.type_text.result
+    (inl (any.0, typed words (ap (λ z. (z ++ codes " ") ++ words) c.in-type.is) any.1)) c.type_text.ensures.fault
 
 pub returns-in-insert-clause-fault : goal.returns-in-insert-clause-fault
 returns-in-insert-clause-fault c =
-    let line : List ℕ = (c.args.command.now ++ codes " ") ++ c.args.words.now in
-    let any = typed_any true c.args.words.now c.utf8.words in
-    IfErr-weaker c.type_text-in-insert.result _ (IsLineFault (MeansMoves line) (IsGoodSoFar line))
-    (λ fault e. only_memory (MeansMoves line) fault e
-    (inl (any.0, inserted c.args.words.now (ap (λ z. (z ++ codes " ") ++ c.args.words.now) c.in-insert.is) any.1)))
+    let words = c.args.words.now in
+    let any = typed_any true words c.utf8.words in
+    good_before (MeansMoves ((c.args.command.now ++ codes " ") ++ words)) c.type_text-in-insert.result
+    (inl (any.0, inserted words (ap (λ z. (z ++ codes " ") ++ words) c.in-insert.is) any.1))
     c.type_text-in-insert.ensures.fault

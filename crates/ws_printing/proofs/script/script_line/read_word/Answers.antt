@@ -1,10 +1,10 @@
 use Rattle.std.proofs.Common.{[], ◌∷◌, refl, arith}
 use Rattle.std.proofs.lemmas.Grind.{common_steps}
-use Rattle.std.proofs.lemmas.Result.{on_ok_weaker, IfErr-weaker}
+use Rattle.std.proofs.lemmas.Result.{on_ok_weaker}
 use Rattle.ws_session.specs.declared.world.Move.TheVariants.{Cancel}
 use Rattle.ws_printing.specs.script.Script.{MeansMoves, settling}
 use Rattle.ws_printing.specs.script.Script.MeansMoves.{one, settle}
-use Rattle.ws_printing.proofs.Scripts.{only_memory}
+use Rattle.ws_printing.proofs.Scripts.{good_before}
 use Rattle.ws_printing.proofs.script.script_line.read_word.Goals as goal
 
 pub returns-in-cancel-clause-ok : goal.returns-in-cancel-clause-ok
@@ -12,14 +12,12 @@ returns-in-cancel-clause-ok c = on_ok_weaker c.add.result (λ e. (Cancel ∷ [],
     c.add.ensures.ok
 
 pub returns-in-cancel-clause-fault : goal.returns-in-cancel-clause-fault
-returns-in-cancel-clause-fault c = IfErr-weaker c.add.result _ _
-    (λ fault e. only_memory (MeansMoves c.args.word.now) fault e (Cancel ∷ [], one Cancel c.in-cancel.is refl))
-    c.add.ensures.fault
+returns-in-cancel-clause-fault c = good_before (MeansMoves c.args.word.now) c.add.result
+    (Cancel ∷ [], one Cancel c.in-cancel.is refl) c.add.ensures.fault
 
 pub returns-in-settle-clause-fault : goal.returns-in-settle-clause-fault
-returns-in-settle-clause-fault c = IfErr-weaker c.settle.result _ _
-    (λ fault e. only_memory (MeansMoves c.args.word.now) fault e (settling, settle c.in-settle.is refl))
-    c.settle.ensures.fault
+returns-in-settle-clause-fault c = good_before (MeansMoves c.args.word.now) c.settle.result
+    (settling, settle c.in-settle.is refl) c.settle.ensures.fault
 
 pub returns-in_default-clause-fault : goal.returns-in_default-clause-fault
 returns-in_default-clause-fault c = grind (arith, common_steps)

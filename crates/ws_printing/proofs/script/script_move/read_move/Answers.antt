@@ -3,38 +3,39 @@ use Rattle.std.proofs.Common.{◌++◌, ℕ, List, ap, subst, refl}
 use Rattle.std.proofs.lemmas.Result.{err_from_is_err_and, IfErr-weaker}
 use Rattle.ws_printing.specs.script.Script.{IsMove, IsCount}
 use Rattle.ws_printing.specs.script.ScriptFaults.{IsLineFault, IsSendBegun, IsSendLine}
-use Rattle.ws_printing.proofs.Scripts.{no_down, no_up, no_other, fault_on}
+use Rattle.ws_printing.proofs.Scripts.{no_move, not_both, fault_on}
 use Rattle.ws_printing.proofs.script.script_move.read_move.Goals as goal
 
 pub returns-in_err-read_count-in-down-clause-fault : goal.returns-in_err-read_count-in-down-clause-fault
 returns-in_err-read_count-in-down-clause-fault c =
     let p = err_from_is_err_and c.from_residual.result c.from_residual.ensures.1 in
-    let command = c.args.command.now in
-    let words = c.args.words.now in
-    rw (p.1, p.2) (fault_on (IsCount words) (IsMove ((command ++ codes " ") ++ words)) _
-    (no_down command words c.in-down.is) (λ (h : ⊥). absurd h) c.in_err-read_count-in-down.ensures.fault)
+    rw (p.1, p.2) (fault_on (IsCount c.args.words.now) (IsMove ((c.args.command.now ++ codes " ") ++ c.args.words.now)) _
+    (λ none. no_move _ _ c.requires (not_both (codes "down") (codes "send") refl c.in-down.is) (λ e. none)
+    (not_both (codes "down") (codes "up") refl c.in-down.is) (not_both (codes "down") (codes "key") refl c.in-down.is))
+    (λ (h : ⊥). absurd h)
+    c.in_err-read_count-in-down.ensures.fault)
 
 pub returns-in_err-read_count-in-up-clause-fault : goal.returns-in_err-read_count-in-up-clause-fault
 returns-in_err-read_count-in-up-clause-fault c =
     let p = err_from_is_err_and c.from_residual-in_err-read_count-in-up.result
     c.from_residual-in_err-read_count-in-up.ensures.1 in
-    let command = c.args.command.now in
-    let words = c.args.words.now in
-    rw (p.1, p.2) (fault_on (IsCount words) (IsMove ((command ++ codes " ") ++ words)) _
-    (no_up command words c.in-up.is) (λ (h : ⊥). absurd h) c.in_err-read_count-in-up.ensures.fault)
+    rw (p.1, p.2) (fault_on (IsCount c.args.words.now) (IsMove ((c.args.command.now ++ codes " ") ++ c.args.words.now)) _
+    (λ none. no_move _ _ c.requires (not_both (codes "up") (codes "send") refl c.in-up.is)
+    (not_both (codes "up") (codes "down") refl c.in-up.is) (λ e. none)
+    (not_both (codes "up") (codes "key") refl c.in-up.is)) (λ (h : ⊥). absurd h)
+    c.in_err-read_count-in-up.ensures.fault)
 
 pub returns-in_default-clause-fault : goal.returns-in_default-clause-fault
 returns-in_default-clause-fault c = (
   refl,
-  no_other c.args.command.now c.args.words.now c.requires c.in_default.not-send c.in_default.not-down
-      c.in_default.not-up c.in_default.not-key,
+  no_move _ _ c.requires (λ e. absurd (c.in_default.not-send e)) (λ e. absurd (c.in_default.not-down e))
+      (λ e. absurd (c.in_default.not-up e)) (λ e. absurd (c.in_default.not-key e)),
 )
 
 pub returns-in-send-clause-fault : goal.returns-in-send-clause-fault
 returns-in-send-clause-fault c =
-    let command = c.args.command.now in
     let words = c.args.words.now in
-    let line : List ℕ = (command ++ codes " ") ++ words in
+    let line : List ℕ = (c.args.command.now ++ codes " ") ++ words in
     IfErr-weaker c.read_send.result (IsLineFault (IsMove (codes "send " ++ words)) (IsSendBegun words))
     (IsLineFault (IsMove line) (IsSendLine line)) (λ fault h.
     fault_on (IsMove (codes "send " ++ words)) (IsMove line) fault
