@@ -2,13 +2,11 @@
 
 use Rattle.std.specs.Option.{option_map}
 use Rattle.std.specs.Prelude.{true, false, ◌==◌, MatchOption, Option, None, Some}
-use Rattle.std.specs.Str.Pattern.{FindsCharPrefix}
-use Rattle.std.proofs.Common.{◌≡◌, ◌≢◌, ℕ, suc, ◌+◌, ◌<◌, List, [], ◌∷◌, ◌++◌, length, drop, refl, sym, ap, ◌∙◌, subst}
+use Rattle.std.proofs.Common.{◌≡◌, ◌≢◌, ℕ, suc, List, [], ◌∷◌, ◌++◌, length, refl, sym, ap, ◌∙◌, subst}
 use Rattle.std.proofs.Common.{arith, Bor, inl, inr}
 use Rattle.std.proofs.lemmas.Bool.{false≢true}
 use Rattle.std.proofs.lemmas.Bool.Decides.{eqb_tells}
 use Rattle.std.proofs.lemmas.List.{append-nil}
-use Rattle.std.proofs.lemmas.Str.Pattern.{IsSplitOnceResult, split_parts, strip_prefix_char}
 use Rattle.ws_script.specs.asked.Addresses.{IsV6, IsPlainV6, IsZone, IsZonedV6, HasNo, IsPort, IsPortOr, IsBehindHost}
 use Rattle.ws_script.specs.asked.Addresses.{IsBracketed, IsNamed, IsHostText, IsHostPort, IsListening}
 use Rattle.ws_script.specs.asked.Addresses.IsHostText.{bare, bracketed, named}
@@ -41,7 +39,7 @@ cut_same c (x ∷ xs) (u ∷ us) ys vs h k e =
     let first = head_same x u (xs ++ c ∷ ys) (us ++ c ∷ vs) e in
     let both : x ∷ xs ≡ u ∷ us = cc (first, more.0) in (both, more.1)
 
--- what stands behind a host tells its port
+-- what stands after a host tells its port
 pub behind_same : (behind : List ℕ) (p q : Option (List ℕ)) → IsBehindHost behind p → IsBehindHost behind q → p ≡ q
 behind_same behind None None e f = refl
 behind_same behind None (Some q) e f = absurd (let g : [] ≡ 58 ∷ q = sym e ∙ f in cc g)
@@ -52,7 +50,7 @@ behind_same behind (Some p) (Some q) e f = ap Some (tail_same 58 58 p q (sym e �
 whole_uncut : (xs us vs : List ℕ) → HasNo 58 xs → xs ++ [] ≡ us ++ 58 ∷ vs → ⊥
 whole_uncut xs us vs h e = uncut 58 us vs (subst (HasNo 58) (sym (append-nil xs) ∙ e) h)
 
--- so does a name with what stands behind it
+-- so does a name with what stands after it
 named_same : (host hosts behind behinds : List ℕ) (p q : Option (List ℕ)) → HasNo 58 host → HasNo 58 hosts
     → host ++ behind ≡ hosts ++ behinds → IsBehindHost behind p → IsBehindHost behinds q → p ≡ q
 named_same host hosts behind behinds None None h k e b d = refl
@@ -87,19 +85,6 @@ one_port text host hosts p q (named other behind h e) (bracketed another behinds
 one_port text host hosts p q (named other behind h e) (named another behinds k f) =
     named_same host hosts behind behinds p q h.whole k.whole (sym h.spelled ∙ k.spelled) e f
 
--- the clauses of `split_once` at such a byte
-abbrev Parts : Type 0
-Parts = Option (Bor (List ℕ) × Bor (List ℕ))
-
-pub parts : (c : ℕ) (bs : List ℕ) (r : Parts) (host behind : Bor (List ℕ))
-    → IsSplitOnceResult c bs r → c < 128 → r ≡ Some (host, behind)
-    → (bs ≡ host.now ++ c ∷ behind.now) × HasNo c host.now
-parts c bs r host behind s small e = split_parts c bs (Some (host, behind)) (subst (IsSplitOnceResult c bs) e s) small
-
-pub no_parts : (c : ℕ) (bs : List ℕ) (r : Parts) → IsSplitOnceResult c bs r → c < 128
-    → r ≡ None → HasNo c bs
-no_parts c bs r s small e = split_parts c bs None (subst (IsSplitOnceResult c bs) e s) small
-
 -- Within brackets. What isn't there makes no text, and what is there is it.
 module _ (inner : List ℕ) where
   pub unbracketed : HasNo 93 inner → (host behind : List ℕ) (port : Option (List ℕ))
@@ -119,7 +104,8 @@ module _ (inner : List ℕ) where
     pub is_bracketed : IsV6 here → IsBracketed (91 ∷ inner) here rest
     is_bracketed address = record { spelled = ap (λ z. 91 ∷ z) cut; address = address; inside = inside }
 
-    no_behind : (rest ≢ []) → ((more : List ℕ) → rest ≢ 58 ∷ more) → (port : Option (List ℕ)) → IsBehindHost rest port → ⊥
+    no_behind : rest ≢ [] → ((more : List ℕ) → rest ≢ 58 ∷ more) → (port : Option (List ℕ)) → IsBehindHost rest port
+        → ⊥
     no_behind some other None e = some e
     no_behind some other (Some port) e = other port e
 
@@ -128,7 +114,7 @@ module _ (inner : List ℕ) where
     no_port some other host behind port b d = no_behind some other port
         (subst (λ z. IsBehindHost z port) (sym (same_cut host behind b).1) d)
 
--- what `is_empty` and `strip_prefix` tell
+-- what `is_empty` tells
 pub empty_text : (text : List ℕ) → true ≡ (length text == 0) → text ≡ []
 empty_text [] e = refl
 empty_text (x ∷ xs) e = elim (eqb_tells (length (x ∷ xs)) 0) [
@@ -139,18 +125,6 @@ empty_text (x ∷ xs) e = elim (eqb_tells (length (x ∷ xs)) 0) [
 pub some_text : (text : List ℕ) → false ≡ (length text == 0) → text ≢ []
 some_text [] e f = false≢true e
 some_text (x ∷ xs) e f = cc f
-
-abbrev IsStripResult : ℕ → List ℕ → Option (Bor (List ℕ)) → Type 0
-IsStripResult c bs r = MatchOption r (FindsCharPrefix c bs None) (λ x. (n : ℕ) × FindsCharPrefix c bs (Some n)
-    × (x.now ≡ drop n bs) × (length x.now + n ≡ length bs))
-
-pub stripped : (c : ℕ) (bs : List ℕ) (r : Option (Bor (List ℕ))) (rest : Bor (List ℕ)) → IsStripResult c bs r
-    → c < 128 → r ≡ Some rest → bs ≡ c ∷ rest.now
-stripped c bs r rest s small e = strip_prefix_char c bs (Some rest) (subst (IsStripResult c bs) e s) small
-
-pub unstripped : (c : ℕ) (bs : List ℕ) (r : Option (Bor (List ℕ))) → IsStripResult c bs r → c < 128 → r ≡ None
-    → (rest : List ℕ) → bs ≢ c ∷ rest
-unstripped c bs r s small e = strip_prefix_char c bs None (subst (IsStripResult c bs) e s) small
 
 -- a host and a port's text, or none, where a bracket stands in front and where it doesn't
 abbrev Named : Type 0
@@ -208,30 +182,6 @@ module _ (text : List ℕ) (plain : (more : List ℕ) → text ≢ 91 ∷ more) 
       → IsNamed text here (58 ∷ rest)
   front_named here rest cut whole some = record { spelled = cut; some = some; whole = whole; unbracketed = plain }
 
--- what was split, and its port
-module _ (text : List ℕ) (r : Named) (split : IsPortSplit text r) where
-  pub unnamed : r ≡ None → IsNoHost text
-  unnamed e = subst (IsPortSplit text) e split
-
-  pub host_text : (host : Bor (List ℕ)) (port : Option (Bor (List ℕ))) → r ≡ Some (host, port)
-      → IsHostText text host.now (port_of port)
-  host_text host port e = subst (IsPortSplit text) e split
-
-  pub host_with_port : (host : Bor (List ℕ)) (port : Option (Bor (List ℕ))) (digits : Bor (List ℕ))
-      → r ≡ Some (host, port) → port ≡ Some digits → IsHostText text host.now (Some digits.now)
-  host_with_port host port digits e f =
-      subst (λ z. IsHostText text host.now (port_of z)) f (host_text host port e)
-
-  pub host_alone : (host : Bor (List ℕ)) (port : Option (Bor (List ℕ))) → r ≡ Some (host, port) → port ≡ None
-      → IsHostText text host.now None
-  host_alone host port e f = subst (λ z. IsHostText text host.now (port_of z)) f (host_text host port e)
-
-  pub no_host_port : r ≡ None → (host : List ℕ) (port : ℕ) → IsHostPort text host port → ⊥
-  no_host_port e host port n = unnamed e host n.0 n.1
-
-  pub no_listening : r ≡ None → (host : List ℕ) (port : ℕ) → IsListening text host port → ⊥
-  no_listening e host port n = unnamed e host (Some n.0) n.1
-
 pub no_digits : (text here : List ℕ) → IsHostText text here None → (host : List ℕ) (port : ℕ)
     → IsListening text host port → ⊥
 no_digits text here t host port n = let e = one_port text host here (Some n.0) None n.1 t in cc e
@@ -244,7 +194,7 @@ module _ (text here digits : List ℕ) (t : IsHostText text here (Some digits))
   pub bad_listening : (host : List ℕ) (port : ℕ) → IsListening text host port → ⊥
   bad_listening host port n = bad_port host port (Some n.0, n.1, n.2)
 
--- what is no address, and has no percent sign or none behind an address, has no zone
+-- what is no address, and has no percent sign or none after an address, has no zone
 module _ (text : List ℕ) (other : IsPlainV6 text → ⊥) where
   pub no_percent : HasNo 37 text → IsV6 text → ⊥
   no_percent none (inl plain) = other plain

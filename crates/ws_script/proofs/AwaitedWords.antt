@@ -6,7 +6,7 @@ use Rattle.std.proofs.lemmas.Bool.{false≢true}
 use Rattle.ws_script.specs.declared.lines.connect_line.Awaited.{Awaited}
 use Rattle.ws_script.specs.declared.lines.connect_line.Awaited.TheVariants.{Turn, Record, Text, At, Quiet}
 use Rattle.ws_script.specs.lines.ConnectLines.{IsAwaited, IsMilliseconds, IsPlaced, IsPlacedText, IsQuietAwaited}
-use Rattle.ws_script.specs.lines.ConnectLines.{IsSomeText, IsTextAnywhere, IsTextAt}
+use Rattle.ws_script.specs.lines.ConnectLines.{IsTextAnywhere, IsTextAt}
 use Rattle.ws_script.proofs.ReportWords.{one_rest}
 
 -- The words of a line that waits.
@@ -67,7 +67,7 @@ quiet_awaited words Record m = absurd m
 quiet_awaited words (Text t) m = absurd m
 quiet_awaited words (At cell t) m = absurd m
 
--- what stands behind `quiet ` is no time
+-- what stands after `quiet ` is no time
 pub no_quiet_time : (words word : List ℕ) → words ≡ codes "quiet " ++ word
     → ((time : ℕ) → IsMilliseconds word time → ⊥) → (awaited : Awaited) → IsQuietAwaited words awaited → ⊥
 no_quiet_time words word e none_is (Quiet time) m =
@@ -85,7 +85,7 @@ no_quiet words other Record m = m
 no_quiet words other (Text t) m = m
 no_quiet words other (At cell t) m = m
 
--- no cell with something behind it, and no text behind the cell
+-- no cell with something after it, and no text after the cell
 pub no_placed_text : (words : List ℕ) → ((cell : ℕ) (rest : List ℕ) → IsPlaced words cell rest → ⊥)
     → (awaited : Awaited) → IsPlacedText words awaited → ⊥
 no_placed_text words none_is (At cell t) m = none_is cell (string_bytes t) m.0

@@ -15,7 +15,7 @@ use Rattle.ws_printing.proofs.ScriptWords.{no_blank_from}
 
 -- Where words stand in a line.
 
--- what stands behind a blank at a line's end, with what is before it
+-- what stands after a blank at a line's end, with what is before it
 pub word_in : (line words word behind : List ℕ) → EndsWith line (32 ∷ words) → words ≡ word ++ behind
     → StandsIn line word
 word_in line words word behind e is = (
@@ -46,7 +46,7 @@ pub words_left : (line last : List ℕ) (rest : Option (Bor (List ℕ))) → IsL
 words_left line last None left = tt
 words_left line last (Some words) left = left
 
--- of a line's text, the words behind the first
+-- of a line's text, the words after the first
 pub left_at_first : (line front text word : List ℕ) (behind : Option (Bor (List ℕ))) → line ≡ front ++ text
     → MatchOption behind (text ≡ word) (λ b. text ≡ word ++ (32 ∷ b.now)) → IsLeft line word behind
 left_at_first line front text word None at is = (front, at ∙ ap (λ z. front ++ z) is)
@@ -95,25 +95,11 @@ stands_both line word part outer inner =
 -- what is true of a word of a line is true of the line
 pub of_line : (v : Vocabulary) (line : List ℕ) (cause : Cause) → IsTrueOf v line cause → IsCause v line cause
 of_line v line a_cause.NotUtf8 h = absurd h
-of_line v line a_cause.Tab h = h
-of_line v line a_cause.TwoBlanks h = h
 of_line v line a_cause.BlankInFront h = absurd h
-of_line v line a_cause.BlankAtEnd h = h
-of_line v line (a_cause.UnknownWord word) h = absurd h
-of_line v line (a_cause.Unexpected word) h = h
-of_line v line (a_cause.UnknownKey word) h = h
-of_line v line (a_cause.NoNumber word) h = h
-of_line v line (a_cause.OutOfRange word least most) h = h
-of_line v line (a_cause.NoHex word) h = h
-of_line v line (a_cause.OtherLength word digits) h = h
-of_line v line (a_cause.Illegal word asked) h = h
-of_line v line (a_cause.NoByte character) h = h
-of_line v line (a_cause.NoBody hex) h = h
-of_line v line (a_cause.Missing word) h = h
-of_line v line (a_cause.TooMany word) h = h
+of_line v line (a_cause.UnknownWord word known) h = absurd h
 of_line v line (a_cause.Misplaced word) h = absurd h
 of_line v line a_cause.Apart h = absurd h
-of_line v line a_cause.Other h = h
+of_line v line cause h = h
 
 -- a tab, at which a word is split
 pub tab_in : (word : List ℕ) (r : Option (Bor (List ℕ) × Bor (List ℕ))) → IsSplitOnceResult 9 word r
@@ -131,7 +117,7 @@ empty_split text (x ∷ word) behind none is = elim (eqb_tells (length (x ∷ wo
   | inr p ↦ absurd (false≢true (sym p.0 ∙ none))
 ]
 
--- the lines behind so many, and one more
+-- the lines after so many, and one more
 pub drop_next : (i : ℕ) (lines : List (List ℕ)) (line : List ℕ) (behind : List (List ℕ))
     → drop i lines ≡ line ∷ behind → drop (suc i) lines ≡ behind
 drop_next zero [] line behind e = cc

@@ -9,3 +9,4 @@ pub mod ServeWords
 pub mod StationLines
 pub mod StrokeWords
 pub mod WireWords
+pub mod WordTables

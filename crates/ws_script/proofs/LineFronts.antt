@@ -1,4 +1,4 @@
--- The lines of a front of a text, and those behind it.
+-- The lines of a front of a text, and those after it.
 
 use Rattle.std.specs.List.{slice_split, onto_first}
 use Rattle.std.specs.Str.Lines.{lines, lines_of_parts, strip_carriage_return}
@@ -8,7 +8,7 @@ use Rattle.std.proofs.lemmas.List.{append_cancel_right, append-nil}
 use Rattle.ws_text.specs.FirstLine.{IsBehindLines}
 use Rattle.ws_text.proofs.LineEnds.{split_some}
 
--- The lines of a front of a text, and those behind it.
+-- The lines of a front of a text, and those after it.
 
 split_cut : (a b : List ℕ) → slice_split (λ b. b == 10) (a ++ 10 ∷ b)
     ≡ slice_split (λ b. b == 10) a ++ slice_split (λ b. b == 10) b
@@ -45,7 +45,7 @@ ended_lines a b =
 lines_cut : (a b : List ℕ) → lines (a ++ 10 ∷ b) ≡ lines (a ++ 10 ∷ []) ++ lines b
 lines_cut a b = ended_lines a b ∙ ap (λ z. z ++ lines b) (sym (ended_lines a [] ∙ append-nil _))
 
--- the lines of a front, and those behind it
+-- the lines of a front, and those after it
 front_lines : (front rest more : List ℕ) → (front ≡ []) ⊎ ((rest ≡ []) ⊎ ((a : List ℕ) × (front ≡ a ++ 10 ∷ [])))
     → (rest ≡ [] → more ≡ []) → lines (front ++ more) ≡ lines front ++ lines more
 front_lines front rest more (inl e) h = ap (λ z. lines (z ++ more)) e ∙ ap (λ z. lines z ++ lines more) (sym e)

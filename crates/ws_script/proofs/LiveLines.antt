@@ -1,9 +1,10 @@
 -- What a line of a live script can't mean.
 
-use Rattle.std.specs.Prelude.{codes}
+use Rattle.std.specs.Prelude.{codes, Bool, MatchBool}
 use Rattle.std.specs.Str.{IsUtf8, bytes_eq}
 use Rattle.std.proofs.Common.{◌≡◌, ℕ, ◌<◌, List, ◌++◌, true, false, length, inl, inr, refl, sym, ap, ◌∙◌, subst, arith}
 use Rattle.std.proofs.lemmas.Bool.{false≢true}
+use Rattle.std.proofs.lemmas.Slice.Eq.{bytes_eq-Decides}
 use Rattle.ws_end.specs.declared.end_step.HostRequest.TheVariants.{Send, Cancel}
 use Rattle.ws_session.specs.declared.world.Move.{Move}
 use Rattle.ws_session.specs.declared.world.Move.TheVariants as moves
@@ -13,11 +14,11 @@ use Rattle.ws_script.specs.declared.lines.serve_line.HostLine.TheVariants as hos
 use Rattle.ws_script.specs.declared.lines.wire_line.WireLine.{WireLine}
 use Rattle.ws_script.specs.declared.lines.wire_line.WireLine.TheVariants as wire
 use Rattle.ws_script.specs.lines.ConnectLines.{IsNothing}
-use Rattle.ws_script.specs.lines.ServeLines.{IsAnswerAwaited, IsHostBegun, IsIdle, MeansHostLine as HostMeans, IsOneSoFar}
+use Rattle.ws_script.specs.lines.ServeLines.{IsAnswerAwaited, IsHostBegun, MeansHostLine as HostMeans, IsOneSoFar}
 use Rattle.ws_script.specs.lines.WireLines.{MeansWire}
 use Rattle.ws_printing.specs.script.Script.{IsMove}
 use Rattle.ws_printing.specs.script.ScriptFaults.{IsNoComment, has_no_blank}
-use Rattle.ws_printing.proofs.ScriptWords.{blank_inside, differ, split_unique}
+use Rattle.ws_printing.proofs.ScriptWords.{blank_inside, split_unique}
 
 -- What a line of a live script can't mean.
 
@@ -28,94 +29,84 @@ is_something line some plain (inr c) = plain c.0 c.1
 
 -- THE LINES OF A HOST
 
-no_wire_word : (word : List ℕ) → has_no_blank word ≡ true → (word ≡ codes "close" → ⊥) → (line : WireLine)
-    → MeansWire word line → ⊥
-no_wire_word word free nl (wire.Raw bytes) (inl m) = false≢true (ap has_no_blank (sym m.1) ∙ free)
-no_wire_word word free nl (wire.Raw bytes) (inr m) = false≢true (ap has_no_blank (sym m.0.1) ∙ free)
-no_wire_word word free nl (wire.Pause time) m = false≢true (ap has_no_blank (sym m.1) ∙ free)
-no_wire_word word free nl wire.Close m = nl m
-
--- a line with a command and words is not idle
-no_idle : (command words : List ℕ) → IsNoComment ((command ++ codes " ") ++ words)
-    → IsIdle ((command ++ codes " ") ++ words) → ⊥
-no_idle command words plain (inl (inl e)) = blank_inside command words (ap has_no_blank e)
-no_idle command words plain (inl (inr c)) = plain c.0 c.1
-no_idle command words plain (inr e) = blank_inside command words (ap has_no_blank e)
-
-differs : (command name other : List ℕ) → command ≡ name → bytes_eq name other ≡ false → command ≡ other → ⊥
-differs command name other is apart e = differ name other apart (sym is ∙ e)
-
--- a command other than those of the connection
-no_wire_line : (command words : List ℕ) → has_no_blank command ≡ true → (command ≡ codes "raw" → ⊥)
-    → (command ≡ codes "telnet" → ⊥) → (command ≡ codes "pause" → ⊥) → (line : WireLine)
-    → MeansWire ((command ++ codes " ") ++ words) line → ⊥
-no_wire_line command words free nr nt np (wire.Raw bytes) (inl m) =
-    nr (split_unique command (codes "raw") words m.0 free refl m.1).0
-no_wire_line command words free nr nt np (wire.Raw bytes) (inr m) =
-    nt (split_unique command (codes "telnet") words m.0.0 free refl m.0.1).0
-no_wire_line command words free nr nt np (wire.Pause time) m =
-    np (split_unique command (codes "pause") words m.0 free refl m.1).0
-no_wire_line command words free nr nt np wire.Close m = blank_inside command words (ap has_no_blank m)
-
 pub no_host_word : (word : List ℕ) → 0 < length word → has_no_blank word ≡ true → IsNoComment word
     → (word ≡ codes "await" → ⊥) → (word ≡ codes "cancel" → ⊥) → (word ≡ codes "close" → ⊥)
     → (word ≡ codes "end" → ⊥) → (word ≡ codes "show" → ⊥) → (line : HostLine) → HostMeans word line → ⊥
-no_host_word word some free plain na nc nl ne ns host.Nothing (inl m) = is_something word some plain m
-no_host_word word some free plain na nc nl ne ns host.Nothing (inr m) = ne m
-no_host_word word some free plain na nc nl ne ns (host.Give (Send opcode body)) m = false≢true (ap has_no_blank (sym m.1) ∙ free)
-no_host_word word some free plain na nc nl ne ns (host.Give Cancel) m = nc m
-no_host_word word some free plain na nc nl ne ns host.Await m = na m
-no_host_word word some free plain na nc nl ne ns (host.AwaitAnswer awaited) m = false≢true (ap has_no_blank (sym m.1) ∙ free)
-no_host_word word some free plain na nc nl ne ns host.Show m = ns m
-no_host_word word some free plain na nc nl ne ns (host.Wire line) m = no_wire_word word free nl line m
-no_host_word word some free plain na nc nl ne ns (host.Bad cause) m = m
+no_host_word word some free plain na nc nl ne ns line m = go line m
+  where
+    -- one word is no command with words
+    spaced : (line : List ℕ) → word ≡ line → has_no_blank line ≡ false → ⊥
+    spaced line e blank = false≢true (sym blank ∙ (ap has_no_blank (sym e) ∙ free))
 
-pub no_host_command : (command words : List ℕ) → has_no_blank command ≡ true → IsNoComment ((command ++ codes " ")
-    ++ words) → (command ≡ codes "send" → ⊥) → (command ≡ codes "await" → ⊥)
-    → ((line : WireLine) → MeansWire ((command ++ codes " ") ++ words) line → ⊥) → (line : HostLine)
-    → HostMeans ((command ++ codes " ") ++ words) line → ⊥
-no_host_command command words free plain ns na nw host.Nothing m = no_idle command words plain m
-no_host_command command words free plain ns na nw (host.Give (Send opcode body)) m =
-    ns (split_unique command (codes "send") words m.0 free refl m.1).0
-no_host_command command words free plain ns na nw (host.Give Cancel) m = blank_inside command words (ap has_no_blank m)
-no_host_command command words free plain ns na nw host.Await m = blank_inside command words (ap has_no_blank m)
-no_host_command command words free plain ns na nw (host.AwaitAnswer awaited) m =
-    na (split_unique command (codes "await") words m.0 free refl m.1).0
-no_host_command command words free plain ns na nw host.Show m = blank_inside command words (ap has_no_blank m)
-no_host_command command words free plain ns na nw (host.Wire line) m = nw line m
-no_host_command command words free plain ns na nw (host.Bad cause) m = m
+    go : (line : HostLine) → HostMeans word line → ⊥
+    go host.Nothing (inl m) = is_something word some plain m
+    go host.Nothing (inr m) = ne m
+    go (host.Give (Send opcode body)) m = spaced _ m.1 refl
+    go (host.Give Cancel) m = nc m
+    go host.Await m = na m
+    go (host.AwaitAnswer awaited) m = spaced _ m.1 refl
+    go host.Show m = ns m
+    go (host.Wire (wire.Raw bytes)) (inl m) = spaced _ m.1 refl
+    go (host.Wire (wire.Raw bytes)) (inr m) = spaced _ m.0.1 refl
+    go (host.Wire (wire.Pause time)) m = spaced _ m.1 refl
+    go (host.Wire wire.Close) m = nl m
+    go (host.Bad cause) m = m
 
--- a line that awaits says what is awaited
-pub no_awaited_answer : (command words : List ℕ) → has_no_blank command ≡ true → IsNoComment ((command ++ codes " ")
-    ++ words) → command ≡ codes "await" → ((awaited : AnswerAwaited) → IsAnswerAwaited words awaited → ⊥) → (line : HostLine)
-    → HostMeans ((command ++ codes " ") ++ words) line → ⊥
-no_awaited_answer command words free plain is none_is host.Nothing m = no_idle command words plain m
-no_awaited_answer command words free plain is none_is (host.Give (Send opcode body)) m =
-    let other : command ≡ codes "send" = (split_unique command (codes "send") words m.0 free refl m.1).0 in cc
-no_awaited_answer command words free plain is none_is (host.Give Cancel) m = blank_inside command words (ap has_no_blank m)
-no_awaited_answer command words free plain is none_is host.Await m = blank_inside command words (ap has_no_blank m)
-no_awaited_answer command words free plain is none_is (host.AwaitAnswer awaited) m =
-    none_is awaited (subst (λ (z : List ℕ). IsAnswerAwaited z awaited)
-    (sym (split_unique command (codes "await") words m.0 free refl m.1).1) m.2)
-no_awaited_answer command words free plain is none_is host.Show m = blank_inside command words (ap has_no_blank m)
-no_awaited_answer command words free plain is none_is (host.Wire line) m = no_wire_line command words free (differs command (codes "await") (codes "raw") is refl)
-    (differs command (codes "await") (codes "telnet") is refl) (differs command (codes "await") (codes "pause") is refl) line m
-no_awaited_answer command words free plain is none_is (host.Bad cause) m = m
+-- what is said where a test fails, and where it doesn't
+pub pick : (b : Bool) (A B : Type 0) → (b ≡ true → ⊥) → (B → ⊥) → MatchBool b A B → ⊥
+pick true A B untrue other h = untrue refl
+pick false A B untrue other h = other h
 
--- a line that sends is a move that sends
-pub no_send_line : (command words : List ℕ) → has_no_blank command ≡ true → IsNoComment ((command ++ codes " ")
-    ++ words) → command ≡ codes "send" → ((step : Move) → IsMove ((command ++ codes " ") ++ words) step → ⊥)
-    → (line : HostLine) → HostMeans ((command ++ codes " ") ++ words) line → ⊥
-no_send_line command words free plain is none_is host.Nothing m = no_idle command words plain m
-no_send_line command words free plain is none_is (host.Give (Send opcode body)) m = none_is (moves.Send opcode body) m
-no_send_line command words free plain is none_is (host.Give Cancel) m = blank_inside command words (ap has_no_blank m)
-no_send_line command words free plain is none_is host.Await m = blank_inside command words (ap has_no_blank m)
-no_send_line command words free plain is none_is (host.AwaitAnswer awaited) m =
-    let other : command ≡ codes "await" = (split_unique command (codes "await") words m.0 free refl m.1).0 in cc
-no_send_line command words free plain is none_is host.Show m = blank_inside command words (ap has_no_blank m)
-no_send_line command words free plain is none_is (host.Wire line) m = no_wire_line command words free (differs command (codes "send") (codes "raw") is refl)
-    (differs command (codes "send") (codes "telnet") is refl) (differs command (codes "send") (codes "pause") is refl) line m
-no_send_line command words free plain is none_is (host.Bad cause) m = m
+-- what a command with words says: a move that sends, what is awaited, or a line of the connection
+abbrev HostSays : List ℕ → List ℕ → List ℕ → Type 0
+HostSays line command words = MatchBool (bytes_eq command (codes "send")) ((step : Move) × IsMove line step)
+    (MatchBool (bytes_eq command (codes "await")) ((awaited : AnswerAwaited) × IsAnswerAwaited words awaited)
+    ((wire : WireLine) × MeansWire line wire))
+
+module _ (command words : List ℕ) (free : has_no_blank command ≡ true)
+    (plain : IsNoComment ((command ++ codes " ") ++ words)) where
+  alone : (line : List ℕ) → (command ++ codes " ") ++ words ≡ line → has_no_blank line ≡ true → ⊥
+  alone line e whole = blank_inside command words (ap has_no_blank e ∙ whole)
+
+  said : (name rest : List ℕ) → has_no_blank name ≡ true → (command ++ codes " ") ++ words ≡ (name ++ codes " ") ++ rest
+      → HostSays ((command ++ codes " ") ++ words) name rest → HostSays ((command ++ codes " ") ++ words) command words
+  said name rest whole e s =
+      let u = split_unique command name words rest free whole e in
+      subst (λ z. HostSays ((command ++ codes " ") ++ words) z words) (sym u.0)
+      (subst (λ z. HostSays ((command ++ codes " ") ++ words) name z) (sym u.1) s)
+
+  says : (line : HostLine) → HostMeans ((command ++ codes " ") ++ words) line
+      → HostSays ((command ++ codes " ") ++ words) command words
+  says host.Nothing (inl (inl e)) = absurd (alone _ e refl)
+  says host.Nothing (inl (inr c)) = absurd (plain c.0 c.1)
+  says host.Nothing (inr e) = absurd (alone _ e refl)
+  says (host.Give (Send opcode body)) m = said (codes "send") m.0 refl m.1 (moves.Send opcode body, m)
+  says (host.Give Cancel) m = absurd (alone _ m refl)
+  says host.Await m = absurd (alone _ m refl)
+  says (host.AwaitAnswer awaited) m = said (codes "await") m.0 refl m.1 (awaited, m.2)
+  says host.Show m = absurd (alone _ m refl)
+  says (host.Wire (wire.Raw bytes)) (inl m) = said (codes "raw") m.0 refl m.1 (wire.Raw bytes, inl m)
+  says (host.Wire (wire.Raw bytes)) (inr m) = said (codes "telnet") m.0.0 refl m.0.1 (wire.Raw bytes, inr m)
+  says (host.Wire (wire.Pause time)) m = said (codes "pause") m.0 refl m.1 (wire.Pause time, m)
+  says (host.Wire wire.Close) m = absurd (alone _ m refl)
+  says (host.Bad cause) m = absurd m
+
+  pub no_host_command : (command ≡ codes "send" → ⊥) → (command ≡ codes "await" → ⊥)
+      → ((line : WireLine) → MeansWire ((command ++ codes " ") ++ words) line → ⊥) → (line : HostLine)
+      → HostMeans ((command ++ codes " ") ++ words) line → ⊥
+  no_host_command ns na nw line m = pick (bytes_eq command (codes "send")) _ _
+      (λ e. ns ((bytes_eq-Decides command (codes "send")).0 e)) (pick (bytes_eq command (codes "await")) _ _
+      (λ e. na ((bytes_eq-Decides command (codes "await")).0 e)) (λ s. nw s.0 s.1)) (says line m)
+
+  pub no_awaited_answer : command ≡ codes "await" → ((awaited : AnswerAwaited) → IsAnswerAwaited words awaited → ⊥)
+      → (line : HostLine) → HostMeans ((command ++ codes " ") ++ words) line → ⊥
+  no_awaited_answer is none line m =
+      let s = subst (λ z. HostSays ((command ++ codes " ") ++ words) z words) is (says line m) in none s.0 s.1
+
+  pub no_send_line : command ≡ codes "send" → ((step : Move) → IsMove ((command ++ codes " ") ++ words) step → ⊥)
+      → (line : HostLine) → HostMeans ((command ++ codes " ") ++ words) line → ⊥
+  no_send_line is none line m =
+      let s = subst (λ z. HostSays ((command ++ codes " ") ++ words) z words) is (says line m) in none s.0 s.1
 
 -- what was read when a growth was refused
 pub host_so_far : (line text : List ℕ) → text ≡ line → IsUtf8 line → IsHostBegun text → IsOneSoFar line

@@ -19,7 +19,7 @@ indented_more : (are : List (List ℕ)) (line : List ℕ) → AreIndented are �
 indented_more [] line h e = (e, tt)
 indented_more (first ∷ are) line h e = (h.0, indented_more are line h.1 e)
 
--- so many lines of a text begin with two blanks; the rest is behind them
+-- so many lines of a text begin with two blanks; the rest is after them
 pub record Gathers (text rest : List ℕ) (count : ℕ) : Type 0 where
   pub behind : IsBehindLines text rest
   pub indented : AreIndented (lines behind.front)
@@ -88,7 +88,7 @@ module _ {L : Type 0} (language : LineLanguage L) where
         (omega (arith, sizes, ap length h.3, length-append h.1 h.2)),
   )
 
-  -- so many lines of a text are read; the rest is behind them
+  -- so many lines of a text are read; the rest is after them
   pub record Reads (text rest : List ℕ) (read : List (NumberedLine L)) (number : ℕ) : Type 0 where
     pub before : List (List ℕ)
     pub split : lines text ≡ before ++ lines rest
@@ -150,7 +150,7 @@ module _ {L : Type 0} (language : LineLanguage L) where
         counted = is ∙ ap (λ n. min (n + at) (2 ^ 64 - 1)) r.counted;
       }
 
-  -- a growth was refused within a line, or behind it
+  -- a growth was refused within a line, or after it
   pub reads_begun : (text rest next behind line inside : List ℕ) (read : List (NumberedLine L))
       (number count : ℕ) → Reads text rest read number → lines rest ≡ line ∷ lines next
       → HasBlock language line next (text_cut inside count behind) → IsGoodBlockSoFar language line (lines inside)

@@ -1,7 +1,7 @@
 -- The words of a line that prints what it asks for.
 
 use Rattle.std.specs.Prelude.{codes}
-use Rattle.std.proofs.Common.{◌≡◌, ℕ, List, ◌++◌, true, refl, sym, ap, ◌∙◌, subst}
+use Rattle.std.proofs.Common.{◌≡◌, ℕ, List, ◌++◌, true, sym, ap, ◌∙◌, subst}
 use Rattle.ws_code.specs.Address.{IsRowAndColumn}
 use Rattle.ws_text.specs.Words.{IsSmall, IsCell}
 use Rattle.ws_printing.specs.declared.station_report.Span.{Span}
@@ -28,7 +28,7 @@ pub no_row_there : (word : List ℕ) (row : ℕ) → IsSmall word row → (IsRow
 no_row_there word row is off cell m =
     off (subst (λ z. IsRowAndColumn z 1) (same_number word m.0 row m.1.0 is.0) m.2)
 
--- one word is no cell with something behind it, and no column
+-- one word is no cell with something after it, and no column
 pub no_placed_word : (words : List ℕ) → has_no_blank words ≡ true → (cell : ℕ) (rest : List ℕ)
     → IsPlaced words cell rest → ⊥
 no_placed_word words free cell rest m = blank_inside m.0 m.1 (ap has_no_blank (sym m.2) ∙ free)
@@ -52,7 +52,7 @@ no_column row words column rest e free none_is cell last m =
     let u = split_unique column m.0 rest last free (digits_have_no_blank m.0 m.2.3.0.0.1) (sym e ∙ m.1) in
     none_is cell (subst (λ (z : List ℕ). IsCell row z cell) (sym u.0) m.2)
 
--- words have one rest behind a cell
+-- words have one rest after a cell
 pub one_rest : (words : List ℕ) (a b : ℕ) (r q : List ℕ) → IsPlaced words a r → IsPlaced words b q → r ≡ q
 one_rest words a b r q m n =
     let u = split_unique m.0 n.0 m.1 n.1 (digits_have_no_blank m.0 m.3.2.2.0.0.1)

@@ -32,7 +32,7 @@ one_opcode : (line m n : List ℕ) (o p : Opcode) → SendsAlone line m o → Se
 one_opcode line m n o p a b =
     opcode_same p o (b.2.0.2 ∙ ap (digits_value 10) (same_number line m n a.1 b.1) ∙ sym a.2.0.2)
 
--- the elements behind a line are bad
+-- the elements after a line are bad
 pub bad_words : (line number : List ℕ) (elements : List (List ℕ)) (opcode : Opcode) (at told : ℕ)
     → SendsAlone line number opcode → elements ≢ []
     → IsAddFault element_rules element_wording elements (new_record opcode) (items.Line at)
@@ -51,7 +51,7 @@ bad_words line number elements opcode at told alone some bad only place = (
   inr (number, opcode, alone, place),
 )
 
--- no elements may stand behind a line
+-- no elements may stand after a line
 pub no_words : (line : List ℕ) (elements : List (List ℕ)) → elements ≢ [] → (OpensHostBlock line → ⊥)
     → IsBlockFault host_language line elements (Line 1)
 no_words line elements some other = (

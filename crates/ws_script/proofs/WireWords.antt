@@ -22,7 +22,7 @@ same_pause w word e = cc
 same_raw : (h hex : List ℕ) → codes "raw " ++ h ≡ codes "raw " ++ hex → h ≡ hex
 same_raw h hex e = cc
 
--- what stands behind `pause ` is no time
+-- what stands after `pause ` is no time
 pub no_pause : (line word : List ℕ) → line ≡ codes "pause " ++ word → ((time : ℕ) → IsMilliseconds word time → ⊥)
     → (read : WireLine) → MeansWire line read → ⊥
 no_pause line word e none_is (Raw bytes) (inl m) = false≢true (ap (begins 114) (sym e ∙ m.1))
@@ -38,7 +38,7 @@ no_wire line nc np nb (Raw bytes) m = nb bytes m
 no_wire line nc np nb (Pause time) m = np m.0 m.1
 no_wire line nc np nb Close m = nc m
 
--- what stands behind `raw ` is no hex
+-- what stands after `raw ` is no hex
 pub no_hex : (line hex : List ℕ) → line ≡ codes "raw " ++ hex → ((bytes : List ℕ) → IsHex hex bytes → ⊥)
     → (bytes : List ℕ) → IsRaw line bytes → ⊥
 no_hex line hex e none_is bytes (inl m) =

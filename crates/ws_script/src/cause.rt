@@ -6,11 +6,13 @@ pub(crate) mod body_refusal;
 pub(crate) mod cause_lines;
 pub(crate) mod cause_words;
 pub(crate) mod causes;
+pub(crate) mod nearest;
 pub(crate) mod told_line;
 pub(crate) mod vocabulary;
 pub(crate) mod word_kind;
 
 use crate::cause::body_refusal::body_refusal;
+use crate::cause::vocabulary::Switch;
 use std::alloc::{AllocError, Global};
 
 // How many characters of a word are told.
@@ -27,6 +29,15 @@ pub enum AskedByte {
     Key,
 }
 
+/// What is known of a word that no such line begins with.
+#[derive(Clone, Copy)]
+pub enum Known {
+    /// The nearest word that one begins with.
+    Near(&'static str),
+    /// With this switch one begins with it.
+    With(Switch),
+}
+
 /// Why a line is no line of a script, with the word at fault.
 #[derive(Clone, Copy)]
 pub enum Cause<'a> {
@@ -36,7 +47,7 @@ pub enum Cause<'a> {
     BlankInFront,
     BlankAtEnd,
     /// No such line begins with it.
-    UnknownWord(&'a str),
+    UnknownWord(&'a str, Option<Known>),
     /// It is another word than may stand there.
     Unexpected(&'a str),
     UnknownKey(&'a str),
@@ -79,12 +90,47 @@ pub enum Cause<'a> {
 ///
 /// `AllocError` where a growth was refused.
 pub fn cause_text(alloc: Global, cause: Cause<'_>) -> Result<String, AllocError>
+    ensures { IfOk result (λ text. Spec.IsCauseText cause.entry (string_bytes text)) }
+{
+    let text = told(alloc, cause)?;
+    match known_word(cause) {
+        None => Ok(text),
+        Some(Known::Near(word)) => {
+            let question = format!(in alloc; ", did you mean `{word}`?")?;
+            joined(alloc, text.as_str(), question.as_str())
+        }
+        Some(Known::With(switch)) => joined(alloc, text.as_str(), read_with(switch)),
+    }
+}
+
+// What a cause tells of the word at fault.
+fn known_word<'a>(cause: Cause<'a>) -> Option<Known>
+    ensures { result ≡ Spec.known_word cause.entry }
+{
+    match cause {
+        Cause::UnknownWord(_, known) => known,
+        _ => None,
+    }
+}
+
+// What is said of a word that is read with a switch.
+fn read_with(switch: Switch) -> &'static str
+    ensures { result.now ≡ Spec.read_with switch }
+{
+    match switch {
+        Switch::Extended => ", it is read with --extended",
+        Switch::Any => ", it is read with --any",
+    }
+}
+
+// A cause in words, without what is known.
+fn told(alloc: Global, cause: Cause<'_>) -> Result<String, AllocError>
     ensures { IfOk result (λ text. (shown : List ℕ)
         × (string_bytes text ≡ Spec.saying cause.entry ++ shown)) }
 {
     let said = saying(cause);
     match cause {
-        Cause::UnknownWord(word)
+        Cause::UnknownWord(word, _)
         | Cause::Unexpected(word)
         | Cause::UnknownKey(word)
         | Cause::NoNumber(word)
@@ -118,7 +164,7 @@ fn with_range(
 ) -> Result<String, AllocError>
     ensures { IfOk result (λ text. (shown : List ℕ) × (string_bytes text ≡ said.now ++ shown)) }
 {
-    let range = format!(in alloc; "{least} to {most}")?;
+    let range = format!(in alloc; "{least} to {most}:")?;
     let told = with_word(alloc, range.as_str(), word)?;
     joined(alloc, said, told.as_str())
 }
@@ -127,7 +173,7 @@ fn with_range(
 fn with_length(alloc: Global, said: &str, word: &str, digits: u32) -> Result<String, AllocError>
     ensures { IfOk result (λ text. (shown : List ℕ) × (string_bytes text ≡ said.now ++ shown)) }
 {
-    let length = format!(in alloc; "{digits} hex digits")?;
+    let length = format!(in alloc; "{digits} hex digits:")?;
     let told = with_word(alloc, length.as_str(), word)?;
     joined(alloc, said, told.as_str())
 }
@@ -162,7 +208,7 @@ fn with_refusal(alloc: Global, said: &str, hex: &str) -> Result<String, AllocErr
     joined(alloc, said, shown.as_str())
 }
 
-// A text and what stands behind it.
+// A text and what stands after it.
 fn joined(alloc: Global, said: &str, behind: &str) -> Result<String, AllocError>
     ensures { IfOk result (λ text. string_bytes text ≡ said.now ++ behind.now) }
 {
@@ -171,7 +217,7 @@ fn joined(alloc: Global, said: &str, behind: &str) -> Result<String, AllocError>
     Ok(text)
 }
 
-// The first characters of a word, behind a blank.
+// The first characters of a word, after a blank.
 fn quoted(alloc: Global, word: &str) -> Result<String, AllocError> {
     let mut shown = String::from_str(alloc, " `")?;
     for character in word.chars().take(SHOWN) {
@@ -181,7 +227,7 @@ fn quoted(alloc: Global, word: &str) -> Result<String, AllocError> {
     Ok(shown)
 }
 
-// Adds a character; a control character and `\` by two hex digits behind a `\`.
+// Adds a character; a control character and `\` by two hex digits after a `\`.
 fn put_character(shown: &mut String, character: char) -> Result<(), AllocError> {
     if !character.is_control() && character != '\\' {
         return shown.push(character);
@@ -209,17 +255,17 @@ fn saying(cause: Cause<'_>) -> &'static str
         Cause::TwoBlanks => "two blanks between words",
         Cause::BlankInFront => "a blank in front",
         Cause::BlankAtEnd => "a blank at the end",
-        Cause::UnknownWord(_) => "unknown word",
+        Cause::UnknownWord(..) => "unknown word",
         Cause::Unexpected(_) => "unexpected word",
         Cause::UnknownKey(_) => "unknown key",
-        Cause::NoNumber(_) => "no number",
-        Cause::NoHex(_) => "no hex",
+        Cause::NoNumber(_) => "no number:",
+        Cause::NoHex(_) => "no hex:",
         Cause::Illegal { asked, .. } => saying_asked(asked),
         Cause::NoByte(_) => "no byte in code page 037 for",
         Cause::NoBody(_) => "no body",
-        Cause::Missing(_) => "a word is missing behind",
-        Cause::TooMany(_) => "one word too many",
-        Cause::Misplaced(_) => "it can't stand there,",
+        Cause::Missing(_) => "a word is missing after",
+        Cause::TooMany(_) => "one word too many:",
+        Cause::Misplaced(_) => "it can't stand there:",
         Cause::Apart => "two blanks in front",
         Cause::OutOfRange { .. } => "not from ",
         Cause::OtherLength { .. } => "not ",
@@ -232,8 +278,8 @@ fn saying_asked(asked: AskedByte) -> &'static str
     ensures { result.now ≡ Spec.saying_asked asked }
 {
     match asked {
-        AskedByte::CellByte => "an order's code",
-        AskedByte::Attribute => "no attribute, 20 to 3F,",
-        AskedByte::Key => "no key",
+        AskedByte::CellByte => "an order's code:",
+        AskedByte::Attribute => "no attribute, 20 to 3F:",
+        AskedByte::Key => "no key:",
     }
 }

@@ -14,7 +14,7 @@ use Rattle.ws_stream.specs.FieldOrder.{is_attribute}
 use Rattle.ws_printing.specs.script.ExtendedKeyNames.{extended_key_named}
 use Rattle.ws_printing.specs.script.KeyNames.{key_named, aid_named}
 use Rattle.ws_printing.specs.script.ScriptFaults.{has_no_blank}
-use Rattle.ws_script.specs.cause.Vocabularies.{vocabulary_words}
+use Rattle.ws_script.specs.cause.Vocabularies.{vocabulary_words, wider}
 use Rattle.ws_script.specs.declared.cause.Cause.{Cause}
 use Rattle.ws_script.specs.declared.cause.Cause.TheVariants.{NotUtf8, Tab, TwoBlanks, BlankInFront, BlankAtEnd, UnknownWord}
 use Rattle.ws_script.specs.declared.cause.Cause.TheVariants.{Unexpected, UnknownKey, NoNumber, OutOfRange, NoHex}
@@ -22,6 +22,10 @@ use Rattle.ws_script.specs.declared.cause.Cause.TheVariants.{OtherLength, NoByte
 use Rattle.ws_script.specs.declared.cause.Cause.TheVariants.{Illegal, NoBody}
 use Rattle.ws_script.specs.declared.cause.AskedByte.{AskedByte}
 use Rattle.ws_script.specs.declared.cause.AskedByte.TheVariants.{CellByte, Attribute, Key}
+use Rattle.ws_script.specs.declared.cause.Known.{Known}
+use Rattle.ws_script.specs.declared.cause.Known.TheVariants.{Near, With}
+use Rattle.ws_script.specs.declared.cause.vocabulary.Switch.{Switch}
+use Rattle.ws_script.specs.declared.cause.vocabulary.Switch.TheVariants.{Extended, Any}
 use Rattle.ws_script.specs.declared.cause.vocabulary.Vocabulary.{Vocabulary}
 use Rattle.ws_script.specs.declared.cause.vocabulary.Vocabulary.TheVariants.{Station, ExtendedStation, Host, AnyHost}
 use Rattle.ws_script.specs.declared.cause.vocabulary.Vocabulary.TheVariants.{Items, Elements}
@@ -53,7 +57,7 @@ BeginsWith line word = (has_no_blank word ≡ true) × ((line ≡ word) ⊎ ((be
 
 -- what stands before the first word of a line of this kind: before that of a unit two blanks
 abbrev pub front_of : Vocabulary → List ℕ
-front_of (Elements sent) = 32 ∷ 32 ∷ []
+front_of (Elements sent switch) = 32 ∷ 32 ∷ []
 front_of vocabulary = []
 
 -- the text of a line of this kind, from its first word on
@@ -89,7 +93,7 @@ SaysUnits sender.ExtendedStation line = FindsUnits told_wording line
 
 -- a line of this kind says units
 abbrev pub IsUnitLine : Vocabulary → List ℕ → Type 0
-IsUnitLine (Elements sent) line = SaysUnits sent line
+IsUnitLine (Elements sent switch) line = SaysUnits sent line
 IsUnitLine vocabulary line = ⊥
 
 -- what a cause tells of a word of a line of this kind, or of what stands between two, is true
@@ -113,19 +117,31 @@ IsTrueOf vocabulary line (TooMany word) = StandsIn line word.now
 IsTrueOf vocabulary line Other = Unit {0}
 IsTrueOf vocabulary line cause = ⊥
 
--- the units of a record in lines of this kind
+-- lines of this kind are units, and with their switch one begins with a word
+abbrev pub IsReadWith : Vocabulary → Switch → List ℕ → Type 0
+IsReadWith (Elements sent switch) told word = (told ≡ switch)
+    × (look_up word (vocabulary_words (wider (Elements sent switch))) ≢ None)
+IsReadWith vocabulary told word = ⊥
+
+-- what is known of a word that no line of this kind begins with is true
+abbrev pub IsKnown : Vocabulary → List ℕ → Known → Type 0
+IsKnown vocabulary word (Near name) = look_up name.now (vocabulary_words vocabulary) ≢ None
+IsKnown vocabulary word (With switch) = IsReadWith vocabulary switch word
+
+-- the units of a record in lines of this kind, and the switch with which their command reads more
 abbrev pub units_of : Vocabulary → Option Vocabulary
-units_of Host = Some (Elements sender.Host)
-units_of AnyHost = Some (Elements sender.ExtendedHost)
-units_of (Items sent) = Some (Elements sent)
+units_of Host = Some (Elements sender.Host Any)
+units_of AnyHost = Some (Elements sender.ExtendedHost Any)
+units_of (Items sent) = Some (Elements sent Extended)
 units_of vocabulary = None
 
 -- what a cause tells of a line of this kind is true
 abbrev pub IsCause : Vocabulary → List ℕ → Cause → Type 0
 IsCause vocabulary line NotUtf8 = IsUtf8 line → ⊥
 IsCause vocabulary line BlankInFront = (rest : List ℕ) × IsTextOf vocabulary line (32 ∷ rest)
-IsCause vocabulary line (UnknownWord word) = HasFirst vocabulary line word.now
+IsCause vocabulary line (UnknownWord word known) = HasFirst vocabulary line word.now
     × (look_up word.now (vocabulary_words vocabulary) ≡ None)
+    × IfSome known (IsKnown vocabulary word.now)
 IsCause vocabulary line (Misplaced word) = HasFirst vocabulary line word.now × IsUnitLine vocabulary line
 IsCause vocabulary line Apart = (units_of vocabulary ≡ None) × ((rest : List ℕ) × (line ≡ 32 ∷ (32 ∷ rest)))
 IsCause vocabulary line cause = IsTrueOf vocabulary line cause

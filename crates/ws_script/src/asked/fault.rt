@@ -33,7 +33,7 @@ pub enum RunFault {
     /// The same.
     #[error("truncated at {at}")]
     Truncated { at: u64 },
-    /// A call behind a fault, which no command makes.
+    /// A call after a fault, which no command makes.
     #[error("failed")]
     Failed,
 }
@@ -48,6 +48,9 @@ pub enum ToldFault {
     Line { number: u64, cause: String },
     #[error("no connection: {0}")]
     NoConnection(Unconnected),
+    /// Why there is no connection, or none any more, with its address.
+    #[error("{0}")]
+    Connection(String),
 }
 
 /// Why there is no connection. Each has a word or some.

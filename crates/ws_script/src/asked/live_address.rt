@@ -11,13 +11,13 @@ pub const TELNET_PORT: u16 = 23;
 /// A host by its name or its address, and a port.
 #[derive(Clone, Copy, Debug, PartialEq, Eq)]
 pub struct HostPort<'a> {
-    /// A name, or an address of IPv4 or IPv6; one of IPv6 without brackets, and with its zone behind `%` if it has one.
+    /// A name, or an address of IPv4 or IPv6; one of IPv6 without brackets, and with its zone after `%` if it has one.
     pub host: &'a str,
     pub port: u16,
 }
 
 /// The host and the port of `HOST`, `HOST:PORT`, `[V6]`, `[V6]:PORT` or a bare `V6`, with an address `V6` of IPv6, maybe
-/// with a zone behind `%`. The port is 23 where none stands there. `None` of any other text.
+/// with a zone after `%`. The port is 23 where none stands there. `None` of any other text.
 pub fn host_and_port(text: &str) -> Option<HostPort<'_>>
     ensures { MatchOption result
         ((host : List ℕ) (port : ℕ) → IsHostPort text.now host port → ⊥)
@@ -71,7 +71,7 @@ fn split_port(text: &str) -> Option<(&str, Option<&str>)>
     }
 }
 
-// The same of what stands behind a bracket.
+// The same of what stands after a bracket.
 fn split_bracketed(inner: &str) -> Option<(&str, Option<&str>)>
     ensures { MatchOption result
         ((host behind : List ℕ) (port : Option (List ℕ))

@@ -18,7 +18,7 @@ use ws_printing::{NamedKey, aid_named};
 use ws_record::Opcode;
 use ws_text::{read_byte, read_number};
 
-/// The word before the first blank, and what stands behind it, where there is one.
+/// The word before the first blank, and what stands after it, where there is one.
 pub fn first_word(text: &str) -> (&str, Option<&str>)
     ensures no_blank { has_no_blank result.0.now ≡ true }
     ensures split { MatchOption result.1 (text.now ≡ result.0.now)
@@ -38,7 +38,7 @@ fn split_word(text: &str) -> Option<(&str, &str)>
     text.split_once(' ')
 }
 
-/// What is wrong with the words behind this one, where something is: they are to be of these kinds.
+/// What is wrong with the words after this one, where something is: they are to be of these kinds.
 pub fn wrong_words<'a>(
     vocabulary: Vocabulary,
     kinds: &[WordKind],
@@ -62,7 +62,7 @@ pub fn wrong_words<'a>(
     left_over(rest)
 }
 
-// The next word where it is of this kind, and what stands behind it; otherwise what is wrong with it, or nothing where
+// The next word where it is of this kind, and what stands after it; otherwise what is wrong with it, or nothing where
 // no more words are to be looked at.
 fn wrong_next<'a>(
     vocabulary: Vocabulary,
@@ -86,7 +86,7 @@ fn wrong_next<'a>(
     }
 }
 
-// What is wrong where the line ends behind this word.
+// What is wrong where the line ends after this word.
 fn at_end<'a>(kind: WordKind, last: &'a str) -> Option<Cause<'a>>
     ensures { IfSome result (λ cause. cause ≡ Cause.Missing last.entry) }
 {

@@ -10,14 +10,15 @@ ghost use Rattle.ws_text.specs.Names.{look_up};
 use crate::asked::sender::Sender;
 use crate::cause::Cause;
 use crate::cause::cause_words::{first_word, has_tab, wrong_words};
-use crate::cause::vocabulary::{Vocabulary, shape_of};
+use crate::cause::nearest::known_of;
+use crate::cause::vocabulary::{Switch, Vocabulary, shape_of};
 use crate::cause::word_kind::kinds_of;
 use std::str;
 use ws_extended::{ExtendedAnswers, ExtendedCommands};
 use ws_stream::{Answers, Commands};
 use ws_text::finds_units;
 
-/// Why a line, which is bad, is bad: one of this kind, or behind two blanks a unit of a record.
+/// Why a line, which is bad, is bad: one of this kind, or after two blanks a unit of a record.
 pub fn cause_of<'a>(line: &'a [u8], vocabulary: Vocabulary) -> Cause<'a>
     ensures { IsCauseOf vocabulary line.now result }
 {
@@ -26,7 +27,7 @@ pub fn cause_of<'a>(line: &'a [u8], vocabulary: Vocabulary) -> Cause<'a>
     };
     match text.strip_prefix("  ") {
         None => match vocabulary {
-            Vocabulary::Elements(_) => Cause::Other,
+            Vocabulary::Elements(..) => Cause::Other,
             _ => cause_in(line, text, vocabulary),
         },
         Some(words) => match units_of(vocabulary) {
@@ -36,15 +37,15 @@ pub fn cause_of<'a>(line: &'a [u8], vocabulary: Vocabulary) -> Cause<'a>
     }
 }
 
-// The units of a record in lines of this kind.
+// The units of a record in lines of this kind, and the switch with which their command reads more.
 fn units_of(vocabulary: Vocabulary) -> Option<Vocabulary>
     ensures { result ≡ Spec.units_of vocabulary }
 {
     match vocabulary {
-        Vocabulary::Host => Some(Vocabulary::Elements(Sender::Host)),
-        Vocabulary::AnyHost => Some(Vocabulary::Elements(Sender::ExtendedHost)),
-        Vocabulary::Items(sender) => Some(Vocabulary::Elements(sender)),
-        Vocabulary::Station | Vocabulary::ExtendedStation | Vocabulary::Elements(_) => None,
+        Vocabulary::Host => Some(Vocabulary::Elements(Sender::Host, Switch::Any)),
+        Vocabulary::AnyHost => Some(Vocabulary::Elements(Sender::ExtendedHost, Switch::Any)),
+        Vocabulary::Items(sender) => Some(Vocabulary::Elements(sender, Switch::Extended)),
+        Vocabulary::Station | Vocabulary::ExtendedStation | Vocabulary::Elements(..) => None,
     }
 }
 
@@ -58,7 +59,7 @@ fn cause_in<'a>(line: &[u8], text: &'a str, vocabulary: Vocabulary) -> Cause<'a>
         return no_first(rest);
     }
     let Some(shape) = shape_of(vocabulary, first) else {
-        return unknown(first);
+        return unknown(first, vocabulary);
     };
     match wrong_words(vocabulary, kinds_of(shape, rest), first, rest) {
         Some(cause) => cause,
@@ -79,15 +80,14 @@ fn no_first<'a>(rest: Option<&str>) -> Cause<'a>
 }
 
 // Why a line is bad whose first word no such line has.
-fn unknown<'a>(first: &'a str) -> Cause<'a>
-    ensures { (vocabulary : AVocabulary) (line : List ℕ) → HasFirst vocabulary line first.now
-        → StandsIn line first.now → look_up first.now (vocabulary_words vocabulary) ≡ None
-        → IsCause vocabulary line result }
+fn unknown<'a>(first: &'a str, vocabulary: Vocabulary) -> Cause<'a>
+    ensures { (line : List ℕ) → HasFirst vocabulary line first.now → StandsIn line first.now
+        → look_up first.now (vocabulary_words vocabulary) ≡ None → IsCause vocabulary line result }
 {
     if has_tab(first) {
         Cause::Tab
     } else {
-        Cause::UnknownWord(first)
+        Cause::UnknownWord(first, known_of(vocabulary, first))
     }
 }
 
@@ -97,7 +97,7 @@ fn well_worded<'a>(line: &[u8], vocabulary: Vocabulary, first: &'a str) -> Cause
     ensures { IsCause vocabulary line.now result }
 {
     match vocabulary {
-        Vocabulary::Elements(sender) if says_units(sender, line) => Cause::Misplaced(first),
+        Vocabulary::Elements(sender, _) if says_units(sender, line) => Cause::Misplaced(first),
         _ => Cause::Other,
     }
 }

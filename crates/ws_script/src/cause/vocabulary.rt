@@ -1,7 +1,7 @@
-//! The words that lines of a script begin with, and of what kind the words behind each are.
-ghost use Rattle.std.specs.Prelude.{◌≡◌, ◌∷◌, [], codes};
+//! The words that lines of a script begin with, and of what kind the words after each are.
+ghost use Rattle.std.specs.Prelude.{◌≡◌, map};
 ghost use Rattle.ws_script.specs.cause.Vocabularies as Spec;
-ghost use Rattle.ws_script.specs.cause.Vocabularies.{Words};
+ghost use Rattle.ws_script.specs.cause.Vocabularies.{vocabulary_words};
 ghost use Rattle.ws_text.specs.Names.{look_up};
 
 use crate::asked::sender::Sender;
@@ -19,11 +19,20 @@ pub enum Vocabulary {
     AnyHost,
     /// Items of a sender as text.
     Items(Sender),
-    /// Units of a record of that sender, behind two blanks each.
-    Elements(Sender),
+    /// Units of a record of that sender, after two blanks each, and the switch with which there are more.
+    Elements(Sender, Switch),
 }
 
-/// Of what kind the words behind a line's first word are.
+/// A switch with which a command reads what live hosts and their stations send.
+#[derive(Clone, Copy, Debug, PartialEq, Eq)]
+pub enum Switch {
+    /// `--extended`.
+    Extended,
+    /// `--any`.
+    Any,
+}
+
+/// Of what kind the words after a line's first word are.
 #[derive(Clone, Copy, Debug, PartialEq, Eq)]
 pub enum Shape {
     /// There are none.
@@ -76,174 +85,120 @@ pub enum Shape {
     Placed,
 }
 
-/// Of what kind the words behind this first word are; `None` where no such line begins with it.
+// A word that lines begin with, and of what kind the words after it are.
+type Word = (&'static str, Shape);
+
+static STATION: [Word; 13] = [
+    ("type", Shape::AnyText),
+    ("insert", Shape::AnyText),
+    ("key", Shape::AKey),
+    ("cursor", Shape::Cell),
+    ("field", Shape::Filling),
+    ("erase", Shape::Alone),
+    ("newline", Shape::Alone),
+    ("await", Shape::Awaited),
+    ("show", Shape::Shown),
+    ("fields", Shape::Alone),
+    ("cells", Shape::Row),
+    ("status", Shape::Alone),
+    ("note", Shape::AnyText),
+];
+
+// Those of a host, then those of both, then those of a host that takes any record.
+static HOSTS: [Word; 11] = [
+    ("send", Shape::Sent),
+    ("cancel", Shape::Alone),
+    ("await", Shape::AnswerAwaited),
+    ("show", Shape::Alone),
+    ("raw", Shape::Bytes),
+    ("telnet", Shape::Command),
+    ("pause", Shape::Pause),
+    ("close", Shape::Alone),
+    ("end", Shape::Alone),
+    ("send", Shape::SentAny),
+    ("await", Shape::KeyAwaited),
+];
+
+static ITEMS: [Word; 3] = [
+    ("record", Shape::Head),
+    ("telnet", Shape::Command),
+    ("at", Shape::Placed),
+];
+
+// The parts of an answer, the elements of the profile, from TEXT on, which is both, the commands that live hosts send
+// beside it, and what is told at once.
+static UNITS: [Word; 30] = [
+    ("HEAD", Shape::KeyAt),
+    ("AT", Shape::Cell),
+    ("BYTES", Shape::CellBytes),
+    ("TEXT", Shape::Coded),
+    ("CLEAR-UNIT", Shape::Alone),
+    ("CLEAR-FORMAT", Shape::Alone),
+    ("WRITE", Shape::Controls),
+    ("READ-INPUT", Shape::Controls),
+    ("READ-MDT", Shape::Controls),
+    ("READ-MDT-ALTERNATE", Shape::Controls),
+    ("SOH", Shape::Header),
+    ("RA", Shape::Repeat),
+    ("EA", Shape::Erased),
+    ("SBA", Shape::Cell),
+    ("IC", Shape::Cell),
+    ("MC", Shape::Cell),
+    ("SF", Shape::Field),
+    ("PUT", Shape::CellBytes),
+    ("QUERY", Shape::Alone),
+    ("SAVE-SCREEN", Shape::Alone),
+    ("RESTORE-SCREEN", Shape::Alone),
+    ("WRITE-ERROR", Shape::Alone),
+    ("READ-SCREEN", Shape::Alone),
+    ("READ-IMMEDIATE", Shape::Alone),
+    ("READ-IMMEDIATE-ALTERNATE", Shape::Alone),
+    ("ROLL", Shape::Rows),
+    ("SAVED", Shape::Alone),
+    ("SCREEN", Shape::Cell),
+    ("IMMEDIATE", Shape::Cell),
+    ("QUERY-REPLY", Shape::Bytes),
+];
+
+/// Of what kind the words after this first word are; `None` where no such line begins with it.
 pub fn shape_of(vocabulary: Vocabulary, word: &str) -> Option<Shape>
-    ensures { result ≡ look_up word.now (Spec.vocabulary_words vocabulary) }
+    ensures { result ≡ look_up word.now (vocabulary_words vocabulary) }
 {
-    match vocabulary {
-        Vocabulary::Station | Vocabulary::ExtendedStation => of_station(word),
-        Vocabulary::Host => of_host(word),
-        Vocabulary::AnyHost => of_any_host(word),
-        Vocabulary::Items(_) => of_item(word),
-        Vocabulary::Elements(sender) => of_unit(sender, word),
-    }
-}
-
-fn of_station(word: &str) -> Option<Shape>
-    ensures { result ≡ look_up word.now Spec.station_words }
-{
-    match word {
-        "type" => Some(Shape::AnyText),
-        "insert" => Some(Shape::AnyText),
-        "key" => Some(Shape::AKey),
-        "cursor" => Some(Shape::Cell),
-        "field" => Some(Shape::Filling),
-        "erase" => Some(Shape::Alone),
-        "newline" => Some(Shape::Alone),
-        "await" => Some(Shape::Awaited),
-        "show" => Some(Shape::Shown),
-        "fields" => Some(Shape::Alone),
-        "cells" => Some(Shape::Row),
-        "status" => Some(Shape::Alone),
-        "note" => Some(Shape::AnyText),
-        _ => None,
-    }
-}
-
-fn of_host(word: &str) -> Option<Shape>
-    ensures { result ≡ look_up word.now Spec.host_words }
-{
-    match word {
-        "send" => Some(Shape::Sent),
-        "cancel" => Some(Shape::Alone),
-        "await" => Some(Shape::AnswerAwaited),
-        "show" => Some(Shape::Alone),
-        _ => of_both_hosts(word),
-    }
-}
-
-fn of_any_host(word: &str) -> Option<Shape>
-    ensures { result ≡ look_up word.now Spec.any_words }
-{
-    match word {
-        "send" => Some(Shape::SentAny),
-        "await" => Some(Shape::KeyAwaited),
-        _ => of_both_hosts(word),
-    }
-}
-
-fn of_both_hosts(word: &str) -> Option<Shape>
-    ensures { result ≡ look_up word.now Spec.both_hosts }
-{
-    match word {
-        "raw" => Some(Shape::Bytes),
-        "telnet" => Some(Shape::Command),
-        "pause" => Some(Shape::Pause),
-        "close" => Some(Shape::Alone),
-        "end" => Some(Shape::Alone),
-        _ => None,
-    }
-}
-
-fn of_item(word: &str) -> Option<Shape>
-    ensures { result ≡ look_up word.now Spec.item_words }
-{
-    match word {
-        "record" => Some(Shape::Head),
-        "telnet" => Some(Shape::Command),
-        "at" => Some(Shape::Placed),
-        _ => None,
-    }
-}
-
-// The same of a sender's units.
-fn of_unit(sender: Sender, word: &str) -> Option<Shape>
-    ensures { result ≡ look_up word.now (Spec.unit_words sender) }
-{
-    match sender {
-        Sender::Host => of_element(word, None),
-        Sender::ExtendedHost => of_element(word, of_command(word, None)),
-        Sender::Station => of_part(word, of_typed(word)),
-        Sender::ExtendedStation => {
-            of_part(word, of_element(word, of_command(word, of_told(word))))
+    for known in words_of(vocabulary) {
+        if word == known.0 {
+            return Some(known.1);
         }
     }
+    None
 }
 
-fn of_typed(word: &str) -> Option<Shape>
-    ensures { result ≡ look_up word.now ((codes "TEXT", Shape.Coded) ∷ []) }
+// The words that such a line begins with.
+pub(crate) fn words_of(vocabulary: Vocabulary) -> &'static [Word]
+    ensures { map (λ known. (known.0.now, known.1)) result.now ≡ vocabulary_words vocabulary }
 {
-    match word {
-        "TEXT" => Some(Shape::Coded),
-        _ => None,
+    match vocabulary {
+        Vocabulary::Station | Vocabulary::ExtendedStation => &STATION,
+        Vocabulary::Host => &HOSTS[..9],
+        Vocabulary::AnyHost => &HOSTS[4..],
+        Vocabulary::Items(_) => &ITEMS,
+        Vocabulary::Elements(Sender::Host, _) => &UNITS[3..18],
+        Vocabulary::Elements(Sender::ExtendedHost, _) => &UNITS[3..26],
+        Vocabulary::Elements(Sender::Station, _) => &UNITS[..4],
+        Vocabulary::Elements(Sender::ExtendedStation, _) => &UNITS,
     }
 }
 
-// The same of an element of the profile; otherwise it is this.
-fn of_element(word: &str, other: Option<Shape>) -> Option<Shape>
-    ensures { (others : Words) → other ≡ look_up word.now others
-        → result ≡ look_up word.now (Spec.elements_before others) }
+// Units with those that the switch adds; the same lines where it adds none.
+pub(crate) fn wider(vocabulary: Vocabulary) -> Vocabulary
+    ensures { result ≡ Spec.wider vocabulary }
 {
-    match word {
-        "CLEAR-UNIT" => Some(Shape::Alone),
-        "CLEAR-FORMAT" => Some(Shape::Alone),
-        "WRITE" => Some(Shape::Controls),
-        "READ-INPUT" => Some(Shape::Controls),
-        "READ-MDT" => Some(Shape::Controls),
-        "READ-MDT-ALTERNATE" => Some(Shape::Controls),
-        "SOH" => Some(Shape::Header),
-        "RA" => Some(Shape::Repeat),
-        "EA" => Some(Shape::Erased),
-        "SBA" => Some(Shape::Cell),
-        "IC" => Some(Shape::Cell),
-        "MC" => Some(Shape::Cell),
-        "SF" => Some(Shape::Field),
-        "PUT" => Some(Shape::CellBytes),
-        "TEXT" => Some(Shape::Coded),
-        _ => other,
-    }
-}
-
-// The same of a command that live hosts send beside the profile.
-fn of_command(word: &str, other: Option<Shape>) -> Option<Shape>
-    ensures { (others : Words) → other ≡ look_up word.now others
-        → result ≡ look_up word.now (Spec.commands_before others) }
-{
-    match word {
-        "QUERY" => Some(Shape::Alone),
-        "SAVE-SCREEN" => Some(Shape::Alone),
-        "RESTORE-SCREEN" => Some(Shape::Alone),
-        "WRITE-ERROR" => Some(Shape::Alone),
-        "READ-SCREEN" => Some(Shape::Alone),
-        "READ-IMMEDIATE" => Some(Shape::Alone),
-        "READ-IMMEDIATE-ALTERNATE" => Some(Shape::Alone),
-        "ROLL" => Some(Shape::Rows),
-        _ => other,
-    }
-}
-
-// The same of a part of an answer.
-fn of_part(word: &str, other: Option<Shape>) -> Option<Shape>
-    ensures { (others : Words) → other ≡ look_up word.now others
-        → result ≡ look_up word.now (Spec.parts_before others) }
-{
-    match word {
-        "HEAD" => Some(Shape::KeyAt),
-        "AT" => Some(Shape::Cell),
-        "BYTES" => Some(Shape::CellBytes),
-        _ => other,
-    }
-}
-
-// The same of what is told at once.
-fn of_told(word: &str) -> Option<Shape>
-    ensures { result ≡ look_up word.now Spec.told_words }
-{
-    match word {
-        "SAVED" => Some(Shape::Alone),
-        "SCREEN" => Some(Shape::Cell),
-        "IMMEDIATE" => Some(Shape::Cell),
-        "QUERY-REPLY" => Some(Shape::Bytes),
-        _ => None,
+    match vocabulary {
+        Vocabulary::Elements(Sender::Host, switch) => {
+            Vocabulary::Elements(Sender::ExtendedHost, switch)
+        }
+        Vocabulary::Elements(Sender::Station, switch) => {
+            Vocabulary::Elements(Sender::ExtendedStation, switch)
+        }
+        _ => vocabulary,
     }
 }

@@ -1,4 +1,4 @@
-//! Which words may stand behind a line's first.
+//! Which words may stand after a line's first.
 use crate::cause::AskedByte;
 use crate::cause::cause_words::first_word;
 use crate::cause::vocabulary::Shape;
@@ -67,7 +67,7 @@ static FIELD: [WordKind; 11] = [
     WordKind::Number(0, 65_535),
 ];
 
-/// The words that may stand behind the first, of which some may settle what stands behind them.
+/// The words that may stand after the first, of which some may settle what stands after them.
 pub fn kinds_of(shape: Shape, rest: Option<&str>) -> &'static [WordKind] {
     match shape {
         Shape::Awaited => awaited(next_of(rest)),

@@ -119,7 +119,7 @@ fn read_word<Q: NamedKey>(word: &str) -> Result<StationLine<Q>, ScriptFault>
     }
 }
 
-// A command with words behind its blank.
+// A command with words after its blank.
 fn read_command<Q: NamedKey>(
     alloc: Global,
     command: &str,
@@ -179,7 +179,7 @@ fn read_quiet(words: &str) -> Result<Awaited, ScriptFault>
     }
 }
 
-// What stands behind `text `.
+// What stands after `text `.
 fn behind_text(words: &str) -> Option<&str>
     ensures { MatchOption result ((text : Seq ℕ) → words.now ≡ codes "text " ++ text → ⊥)
         (λ text. words.now ≡ codes "text " ++ text.now) }
@@ -187,7 +187,7 @@ fn behind_text(words: &str) -> Option<&str>
     words.strip_prefix("text ")
 }
 
-// What stands behind `at `.
+// What stands after `at `.
 fn behind_at(words: &str) -> Option<&str>
     ensures { MatchOption result ((placed : Seq ℕ) → words.now ≡ codes "at " ++ placed → ⊥)
         (λ placed. words.now ≡ codes "at " ++ placed.now) }
@@ -195,7 +195,7 @@ fn behind_at(words: &str) -> Option<&str>
     words.strip_prefix("at ")
 }
 
-// What stands behind `quiet `.
+// What stands after `quiet `.
 fn behind_quiet(words: &str) -> Option<&str>
     ensures { MatchOption result ((word : Seq ℕ) → words.now ≡ codes "quiet " ++ word → ⊥)
         (λ word. words.now ≡ codes "quiet " ++ word.now) }
@@ -214,7 +214,7 @@ fn read_text_anywhere(alloc: Global, text: &str) -> Result<Awaited, ScriptFault>
     }
 }
 
-// A text behind the row and the column of its first cell.
+// A text after the row and the column of its first cell.
 fn read_placed_text(alloc: Global, words: &str) -> Result<Awaited, ScriptFault>
     ensures awaited { IfOk result (Spec.IsPlacedText words.now) }
     ensures fault { IfErr result (IsLineFault (Spec.IsPlacedText words.now)

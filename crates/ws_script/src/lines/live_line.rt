@@ -11,7 +11,7 @@ use ws_text::first_line;
 
 /// A line of a script for a live session, with the lines that belong to it.
 ///
-/// Those stand directly behind it, and begin with two blanks.
+/// Those stand directly after it, and begin with two blanks.
 pub trait LiveLine: Drop {
     // What such lines mean, how far they are good, which belong to others, and where they are bad.
     ghost language: { LineLanguage Self };
@@ -87,7 +87,7 @@ pub fn read_lines<L: LiveLine>(
     Ok(read)
 }
 
-// The lines that belong to a line: their text and number, and what stands behind them.
+// The lines that belong to a line: their text and number, and what stands after them.
 #[derive(Clone, Copy)]
 struct Inside<'a> {
     text: &'a [u8],

@@ -55,12 +55,12 @@ fn read_counted(at: Address, word: &str) -> Result<Span, ScriptFault>
     }
 }
 
-/// A cell by its row and column, and what stands behind them and a blank.
+/// A cell by its row and column, and what stands after them and a blank.
 ///
 /// # Errors
 ///
 /// `Line(1)` where the words don't begin with a row from 1 to 24 and a column from 1 to 80, each in 1 to 9 decimal
-/// digits and with one blank behind it.
+/// digits and with one blank after it.
 pub fn read_placed(words: &str) -> Result<(Address, &str), ScriptFault>
     ensures placed { IfOk result (λ placed. Spec.IsPlaced words.now placed.0 placed.1.now) }
     ensures fault { IfErr result (λ fault. (fault ≡ ScriptFault.Line 1)
@@ -72,7 +72,7 @@ pub fn read_placed(words: &str) -> Result<(Address, &str), ScriptFault>
     }
 }
 
-// The same of what stands behind the row.
+// The same of what stands after the row.
 fn read_behind_row<'a>(row: &str, words: &'a str) -> Result<(Address, &'a str), ScriptFault>
     ensures placed { IfOk result (λ placed.
         Spec.IsBehindRow row.now words.now placed.0 placed.1.now) }

@@ -126,7 +126,7 @@ fn read_word(word: &str) -> Result<HostLine, ScriptFault>
     }
 }
 
-// A command with words behind its blank: a record to be sent, as in a script of both ends, a wait for an answer, or what
+// A command with words after its blank: a record to be sent, as in a script of both ends, a wait for an answer, or what
 // is done at the connection.
 fn read_command(
     alloc: Global,

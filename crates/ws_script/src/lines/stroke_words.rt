@@ -61,7 +61,7 @@ pub fn read_small(word: &str) -> Result<u8, ScriptFault>
     }
 }
 
-/// The number of a field, and the keys of the text behind it.
+/// The number of a field, and the keys of the text after it.
 ///
 /// # Errors
 ///

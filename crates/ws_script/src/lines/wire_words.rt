@@ -59,7 +59,7 @@ fn read_bytes(alloc: Global, line: &str) -> Result<List<u8>, ScriptFault>
     }
 }
 
-// What stands behind `pause `.
+// What stands after `pause `.
 fn behind_pause(line: &str) -> Option<&str>
     ensures { MatchOption result ((word : Seq ℕ) → line.now ≡ codes "pause " ++ word → ⊥)
         (λ word. line.now ≡ codes "pause " ++ word.now) }
@@ -67,7 +67,7 @@ fn behind_pause(line: &str) -> Option<&str>
     line.strip_prefix("pause ")
 }
 
-// What stands behind `raw `.
+// What stands after `raw `.
 fn behind_raw(line: &str) -> Option<&str>
     ensures { MatchOption result ((hex : Seq ℕ) → line.now ≡ codes "raw " ++ hex → ⊥)
         (λ hex. line.now ≡ codes "raw " ++ hex.now) }
@@ -75,7 +75,7 @@ fn behind_raw(line: &str) -> Option<&str>
     line.strip_prefix("raw ")
 }
 
-// What stands behind `telnet `.
+// What stands after `telnet `.
 fn behind_telnet(line: &str) -> Option<&str>
     ensures { MatchOption result ((words : Seq ℕ) → line.now ≡ codes "telnet " ++ words → ⊥)
         (λ words. line.now ≡ codes "telnet " ++ words.now) }

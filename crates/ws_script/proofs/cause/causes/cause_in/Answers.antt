@@ -9,7 +9,7 @@ returns-then-is_empty c = c.no_first.ensures c.args.vocabulary c.args.line.now c
     (sym c.is_empty.ensures ∙ c.if-is_empty.true) c.first_word.ensures.split)
 
 pub returns-in_default : goal.returns-in_default
-returns-in_default c = c.unknown.ensures c.args.vocabulary c.args.line.now (
+returns-in_default c = c.unknown.ensures c.args.line.now (
   c.args.text.now,
   c.requires,
   begins_with c.args.text.now c.first_word.result.0.now c.first_word.result.1

@@ -1,55 +1,55 @@
 use Rattle.std.specs.Prelude.{codes}
 use Rattle.std.proofs.Common.{◌++◌, List, ℕ, ap, refl}
-use Rattle.std.proofs.lemmas.Result.{err_from_is_err_and}
-use Rattle.ws_printing.specs.script.KeyWords.{AreNamed}
-use Rattle.ws_script.specs.lines.ConnectLines.{IsAwaited, IsCellText, IsFilling, IsRowText, IsSpanText}
-use Rattle.ws_script.specs.lines.ConnectLines.{MeansStationLine}
 use Rattle.ws_script.specs.lines.ConnectLines.MeansKeys.{typed, inserted, named}
-use Rattle.ws_printing.proofs.Scripts.{fault_on, only_memory}
-use Rattle.ws_script.proofs.StationLines.{types_so_far, inserts_so_far, named_so_far, awaits_so_far, no_named_line}
-use Rattle.ws_script.proofs.StationLines.{no_awaited_line, no_station_command, no_cell_line, no_filling_line}
-use Rattle.ws_script.proofs.StationLines.{fills_so_far, no_row_line, no_span_line, notes_so_far}
+use Rattle.ws_script.proofs.StationLines.{types_so_far, inserts_so_far, named_so_far, awaits_so_far, fills_so_far}
+use Rattle.ws_script.proofs.StationLines.{notes_so_far, no_station_command, command_fault, refused}
 use Rattle.ws_script.proofs.lines.connect_line.read_command.Goals as goal
-
-pub returns-in_err-typed_keys-in-type-clause-fault : goal.returns-in_err-typed_keys-in-type-clause-fault
-returns-in_err-typed_keys-in-type-clause-fault g c =
-    let p = err_from_is_err_and c.from_residual.result c.from_residual.ensures.1 in
-    let command = c.args.command.now in
-    let words = c.args.words.now in
-    rw (p.1, p.2) (only_memory (MeansStationLine g.Q.NamedKey.words ((command ++ codes " ") ++ words)) _
-    c.in_err-typed_keys-in-type.ensures.fault
-    (types_so_far g.Q.NamedKey.words command words c.in-type.is c.utf8.words))
-
-pub returns-in_err-typed_keys-in-insert-clause-fault : goal.returns-in_err-typed_keys-in-insert-clause-fault
-returns-in_err-typed_keys-in-insert-clause-fault g c =
-    let p = err_from_is_err_and c.from_residual-in_err-typed_keys-in-insert.result
-    c.from_residual-in_err-typed_keys-in-insert.ensures.1 in
-    let command = c.args.command.now in
-    let words = c.args.words.now in
-    rw (p.1, p.2) (only_memory (MeansStationLine g.Q.NamedKey.words ((command ++ codes " ") ++ words)) _
-    c.in_err-typed_keys-in-insert.ensures.fault
-    (inserts_so_far g.Q.NamedKey.words command words c.in-insert.is c.utf8.words))
 
 pub returns-in_err-named_key-in-key-clause-fault : goal.returns-in_err-named_key-in-key-clause-fault
 returns-in_err-named_key-in-key-clause-fault g c =
-    let p = err_from_is_err_and c.from_residual-in_err-named_key-in-key.result
-    c.from_residual-in_err-named_key-in-key.ensures.1 in
-    let command = c.args.command.now in
-    let words = c.args.words.now in
-    rw (p.1, p.2) (fault_on (AreNamed g.Q.NamedKey.words words) (MeansStationLine g.Q.NamedKey.words ((command ++ codes " ") ++
-    words)) _
-    (no_named_line g.Q.NamedKey.words command words c.requires.no_blank c.requires.no_comment c.in-key.is)
-    (named_so_far g.Q.NamedKey.words command words c.in-key.is) c.in_err-named_key-in-key.ensures.fault)
+    command_fault g.Q.NamedKey.words _ _ _ (codes "key") _ _ c.requires.no_blank c.requires.no_comment c.in-key.is (λ s. s)
+    (named_so_far g.Q.NamedKey.words c.args.command.now c.args.words.now c.in-key.is)
+    c.from_residual-in_err-named_key-in-key.ensures.1 c.in_err-named_key-in-key.ensures.fault
 
 pub returns-in_err-read_awaited-in-await-clause-fault : goal.returns-in_err-read_awaited-in-await-clause-fault
 returns-in_err-read_awaited-in-await-clause-fault g c =
-    let p = err_from_is_err_and c.from_residual-in_err-read_awaited-in-await.result
-    c.from_residual-in_err-read_awaited-in-await.ensures.1 in
-    let command = c.args.command.now in
-    let words = c.args.words.now in
-    rw (p.1, p.2) (fault_on (IsAwaited words) (MeansStationLine g.Q.NamedKey.words ((command ++ codes " ") ++ words)) _
-    (no_awaited_line g.Q.NamedKey.words command words c.requires.no_blank c.requires.no_comment c.in-await.is)
-    (awaits_so_far g.Q.NamedKey.words command words c.in-await.is) c.in_err-read_awaited-in-await.ensures.fault)
+    command_fault g.Q.NamedKey.words _ _ _ (codes "await") _ _ c.requires.no_blank c.requires.no_comment c.in-await.is (λ s. s)
+    (awaits_so_far g.Q.NamedKey.words c.args.command.now c.args.words.now c.in-await.is)
+    c.from_residual-in_err-read_awaited-in-await.ensures.1 c.in_err-read_awaited-in-await.ensures.fault
+
+pub returns-in_err-read_cell-in-cursor-clause-fault : goal.returns-in_err-read_cell-in-cursor-clause-fault
+returns-in_err-read_cell-in-cursor-clause-fault g c =
+    command_fault g.Q.NamedKey.words _ _ _ (codes "cursor") _ _ c.requires.no_blank c.requires.no_comment c.in-cursor.is (λ s. s)
+    (λ (h : ⊥). absurd h)
+    c.from_residual-in_err-read_cell-in-cursor.ensures.1 c.in_err-read_cell-in-cursor.ensures.fault
+
+pub returns-in_err-read_filling-in-field-clause-fault : goal.returns-in_err-read_filling-in-field-clause-fault
+returns-in_err-read_filling-in-field-clause-fault g c =
+    command_fault g.Q.NamedKey.words _ _ _ (codes "field") _ _ c.requires.no_blank c.requires.no_comment c.in-field.is (λ s. s)
+    (fills_so_far g.Q.NamedKey.words c.args.command.now c.args.words.now c.in-field.is)
+    c.from_residual-in_err-read_filling-in-field.ensures.1 c.in_err-read_filling-in-field.ensures.fault
+
+pub returns-in_err-read_row-in-cells-clause-fault : goal.returns-in_err-read_row-in-cells-clause-fault
+returns-in_err-read_row-in-cells-clause-fault g c =
+    command_fault g.Q.NamedKey.words _ _ _ (codes "cells") _ _ c.requires.no_blank c.requires.no_comment c.in-cells.is (λ s. s)
+    (λ (h : ⊥). absurd h)
+    c.from_residual-in_err-read_row-in-cells.ensures.1 c.in_err-read_row-in-cells.ensures.fault
+
+pub returns-in_err-read_span-in-show-clause-fault : goal.returns-in_err-read_span-in-show-clause-fault
+returns-in_err-read_span-in-show-clause-fault g c =
+    command_fault g.Q.NamedKey.words _ _ _ (codes "show") _ _ c.requires.no_blank c.requires.no_comment c.in-show.is (λ s. s)
+    (λ (h : ⊥). absurd h)
+    c.from_residual-in_err-read_span-in-show.ensures.1 c.in_err-read_span-in-show.ensures.fault
+
+pub returns-in_err-typed_keys-in-type-clause-fault : goal.returns-in_err-typed_keys-in-type-clause-fault
+returns-in_err-typed_keys-in-type-clause-fault g c =
+    refused _ _ _ c.from_residual.ensures.1 c.in_err-typed_keys-in-type.ensures.fault
+    (types_so_far g.Q.NamedKey.words c.args.command.now c.args.words.now c.in-type.is c.utf8.words)
+
+pub returns-in_err-typed_keys-in-insert-clause-fault : goal.returns-in_err-typed_keys-in-insert-clause-fault
+returns-in_err-typed_keys-in-insert-clause-fault g c =
+    refused _ _ _ c.from_residual-in_err-typed_keys-in-insert.ensures.1 c.in_err-typed_keys-in-insert.ensures.fault
+    (inserts_so_far g.Q.NamedKey.words c.args.command.now c.args.words.now c.in-insert.is c.utf8.words)
 
 pub returns-in_ok-typed_keys-in-type-clause-line : goal.returns-in_ok-typed_keys-in-type-clause-line
 returns-in_ok-typed_keys-in-type-clause-line g c =
@@ -73,37 +73,21 @@ returns-in_default-clause-fault g c =
       no_station_command g.Q.NamedKey.words c.args.command.now c.args.words.now c.requires.no_blank
           c.requires.no_comment (
             none.not-type,
-            none.not-insert,
-            none.not-key,
-            none.not-await,
-            none.not-cursor,
-            none.not-field,
-            none.not-cells,
-            none.not-show,
-            none.not-note,
+            (
+              none.not-insert,
+              (
+                none.not-key,
+                (
+                  none.not-await,
+                  (
+                    none.not-cursor,
+                    (none.not-field, (none.not-cells, (none.not-show, (none.not-note, tt)))),
+                  ),
+                ),
+              ),
+            ),
           ),
     )
-
-pub returns-in_err-read_cell-in-cursor-clause-fault : goal.returns-in_err-read_cell-in-cursor-clause-fault
-returns-in_err-read_cell-in-cursor-clause-fault g c =
-    let p = err_from_is_err_and c.from_residual-in_err-read_cell-in-cursor.result
-    c.from_residual-in_err-read_cell-in-cursor.ensures.1 in
-    let command = c.args.command.now in
-    let words = c.args.words.now in
-    rw (p.1, p.2) (fault_on (IsCellText words) (MeansStationLine g.Q.NamedKey.words ((command ++ codes " ") ++ words)) _
-    (no_cell_line g.Q.NamedKey.words command words c.requires.no_blank c.requires.no_comment c.in-cursor.is)
-    (λ (h : ⊥). absurd h) c.in_err-read_cell-in-cursor.ensures.fault)
-
-pub returns-in_err-read_filling-in-field-clause-fault : goal.returns-in_err-read_filling-in-field-clause-fault
-returns-in_err-read_filling-in-field-clause-fault g c =
-    let p = err_from_is_err_and c.from_residual-in_err-read_filling-in-field.result
-    c.from_residual-in_err-read_filling-in-field.ensures.1 in
-    let command = c.args.command.now in
-    let words = c.args.words.now in
-    rw (p.1, p.2) (fault_on (IsFilling g.Q.NamedKey.words words) (MeansStationLine g.Q.NamedKey.words ((command ++ codes " ") ++
-    words)) _
-    (no_filling_line g.Q.NamedKey.words command words c.requires.no_blank c.requires.no_comment c.in-field.is)
-    (fills_so_far g.Q.NamedKey.words command words c.in-field.is) c.in_err-read_filling-in-field.ensures.fault)
 
 pub returns-in_ok-read_cell-in-cursor-clause-line : goal.returns-in_ok-read_cell-in-cursor-clause-line
 returns-in_ok-read_cell-in-cursor-clause-line g c = (
@@ -119,34 +103,10 @@ returns-in_ok-read_filling-in-field-clause-line g c = (
   c.in_ok-read_filling-in-field.ensures.filling,
 )
 
-pub returns-in_err-read_row-in-cells-clause-fault : goal.returns-in_err-read_row-in-cells-clause-fault
-returns-in_err-read_row-in-cells-clause-fault g c =
-    let p = err_from_is_err_and c.from_residual-in_err-read_row-in-cells.result
-    c.from_residual-in_err-read_row-in-cells.ensures.1 in
-    let command = c.args.command.now in
-    let words = c.args.words.now in
-    rw (p.1, p.2) (fault_on (IsRowText words) (MeansStationLine g.Q.NamedKey.words ((command ++ codes " ") ++ words)) _
-    (no_row_line g.Q.NamedKey.words command words c.requires.no_blank c.requires.no_comment c.in-cells.is)
-    (λ (h : ⊥). absurd h) c.in_err-read_row-in-cells.ensures.fault)
-
-pub returns-in_err-read_span-in-show-clause-fault : goal.returns-in_err-read_span-in-show-clause-fault
-returns-in_err-read_span-in-show-clause-fault g c =
-    let p = err_from_is_err_and c.from_residual-in_err-read_span-in-show.result
-    c.from_residual-in_err-read_span-in-show.ensures.1 in
-    let command = c.args.command.now in
-    let words = c.args.words.now in
-    rw (p.1, p.2) (fault_on (IsSpanText words) (MeansStationLine g.Q.NamedKey.words ((command ++ codes " ") ++ words)) _
-    (no_span_line g.Q.NamedKey.words command words c.requires.no_blank c.requires.no_comment c.in-show.is)
-    (λ (h : ⊥). absurd h) c.in_err-read_span-in-show.ensures.fault)
-
 pub returns-in_err-read_note-in-note-clause-fault : goal.returns-in_err-read_note-in-note-clause-fault
 returns-in_err-read_note-in-note-clause-fault g c =
-    let p = err_from_is_err_and c.from_residual-in_err-read_note-in-note.result
-    c.from_residual-in_err-read_note-in-note.ensures.1 in
-    let command = c.args.command.now in
-    let words = c.args.words.now in
-    rw (p.1, p.2) (only_memory (MeansStationLine g.Q.NamedKey.words ((command ++ codes " ") ++ words)) _
-    c.in_err-read_note-in-note.ensures.fault (notes_so_far g.Q.NamedKey.words command words c.in-note.is))
+    refused _ _ _ c.from_residual-in_err-read_note-in-note.ensures.1 c.in_err-read_note-in-note.ensures.fault
+    (notes_so_far g.Q.NamedKey.words c.args.command.now c.args.words.now c.in-note.is)
 
 pub returns-in_ok-read_row-in-cells-clause-line : goal.returns-in_ok-read_row-in-cells-clause-line
 returns-in_ok-read_row-in-cells-clause-line g c = (

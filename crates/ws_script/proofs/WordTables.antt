@@ -1,0 +1,38 @@
+-- Tables of first words, as the code has them.
+
+use Rattle.std.specs.Prelude.{None, Some, if◌then◌else◌}
+use Rattle.std.proofs.Common.{◌≡◌, ◌≢◌, ◌<◌, ◌+◌, ℕ, zero, suc, List, [], ◌∷◌, Bool, true, false, Bor, Option, map, get_or}
+use Rattle.std.proofs.Common.{drop, length, arith, refl, sym, ap, ◌∙◌}
+use Rattle.std.proofs.lemmas.List.{at_drop_more}
+use Rattle.std.proofs.lemmas.Slice.Eq.{bytes_eq-Decides}
+use Rattle.std.specs.Str.{bytes_eq}
+use Rattle.ws_text.specs.Names.{look_up}
+use Rattle.ws_script.specs.cause.Vocabularies.{Words}
+use Rattle.ws_script.specs.declared.cause.vocabulary.Shape.{Shape}
+
+abbrev pub Known : Type 0
+Known = Bor (List ℕ) × Shape
+
+-- their bytes, with the kind of the words after each
+abbrev pub table : List Known → Words
+table words = map (λ known. (known.0.now, known.1)) words
+
+either : (b : Bool) (shape : Shape) (other : Option Shape) → other ≢ None → (if b then Some shape else other) ≢ None
+either true shape other some = λ e. absurd (cc)
+either false shape other some = some
+
+-- what a word is looked up for from a place on
+pub from_place : (word : List ℕ) (words : List Known) (i : ℕ) (d : Known) (is : Bool) → i < length words
+    → is ≡ bytes_eq word (get_or words i d).0.now → look_up word (table (drop i words))
+    ≡ (if is then Some (get_or words i d).1 else look_up word (table (drop (i + 1) words)))
+from_place word words i d is within e = at_drop_more (λ z. look_up word (table z)) words i d within
+    ∙ ap (λ b. if b then Some (get_or words i d).1 else look_up word (table (drop (i + 1) words))) (sym e)
+
+-- each word of a table is found
+pub known_in : (words : List Known) (i : ℕ) (d : Known) → i < length words
+    → look_up (get_or words i d).0.now (table words) ≢ None
+known_in [] i d within = absurd (omega arith)
+known_in (known ∷ words) zero d within =
+    rw ((bytes_eq-Decides known.0.now known.0.now).1 refl) (λ e. absurd (cc))
+known_in (known ∷ words) (suc i) d within =
+    either (bytes_eq (get_or words i d).0.now known.0.now) known.1 _ (known_in words i d (omega arith))
