@@ -1,27 +1,10 @@
-use Rattle.std.proofs.Common.{◌≡◌, ℕ, List, [], ◌∷◌, ◌++◌, None, refl, sym, ap, ◌∙◌, inl, inr, true}
-use Rattle.std.proofs.lemmas.Grind.{flat_map-append}
-use Rattle.std.proofs.lemmas.List.{map-append}
-use Rattle.ws_code.specs.Code.{Rules, IsPrefixFree, IsSpelled}
-use Rattle.ws_code.specs.declared.code.Push.TheVariants.{More, Unit as Whole}
-use Rattle.ws_code.proofs.CodeLaws.{Begins}
-use Rattle.ws_code.proofs.Lists.{same_last}
-use Rattle.ws_telnet.specs.Token.{token_rules}
-use Rattle.ws_telnet.specs.declared.token.Token.{Token}
-use Rattle.ws_telnet.specs.declared.token.Token.TheVariants.{Data, Eor, Telnet as TelnetToken}
-use Rattle.ws_record.specs.Encode.{item_spelling, plain_spelling}
-use Rattle.ws_record.specs.Grammar.{Holds}
-use Rattle.ws_record.specs.declared.record.Item.{Item}
-use Rattle.ws_record.specs.declared.record.Item.TheVariants.{Record as RecordItem, Telnet as TelnetItem}
-use Rattle.ws_record.proofs.Encodings.{holds_data, holds_more, holds_command, holds_record}
-use Rattle.ws_end.specs.Acts.{Act, Came, Did, AllTaken, Happen, Happening, doing}
-use Rattle.ws_end.specs.Reaction.{Reaction, Refuses, GoesOn, goes_on}
-use Rattle.ws_end.specs.station.Displays.{DisplayOf, KeyReactionOn, EndStateOn, on_display}
-use Rattle.ws_end.specs.station.Displays.{RefusesKey, Silent, Answers, Signals}
-use Rattle.ws_end.specs.station.StationTransitions.{at_key_on, key_on, takes_on}
-use Rattle.ws_end.specs.station.StationReacting.{applied_by, at_item_on, transitions_on}
-use Rattle.ws_lasting.specs.AsStation.{all_carried_out}
-use Rattle.ws_lasting.specs.Lasting.{Footing, IsAtByte, Lasts}
-use Rattle.ws_lasting.specs.declared.record_event.RecordEvent.TheVariants.{CarriedOut}
+use Rattle.ws_lasting.proofs.Common as C
+use C.{◌≡◌, ℕ, List, [], ◌∷◌, ◌++◌, None, refl, sym, ap, ◌∙◌, inl, inr, true, flat_map-append, map-append, Rules}
+use C.{IsPrefixFree, IsSpelled, More, Whole, Begins, same_last, token_rules, Token, Data, Eor, TelnetToken}
+use C.{item_spelling, plain_spelling, Holds, Item, RecordItem, TelnetItem, holds_data, holds_more, holds_command}
+use C.{holds_record, Act, Came, Did, AllTaken, Happen, Happening, doing, Reaction, Refuses, GoesOn, goes_on, DisplayOf}
+use C.{KeyReactionOn, EndStateOn, on_display, RefusesKey, Silent, Answers, Signals, at_key_on, key_on, takes_on}
+use C.{applied_by, at_item_on, transitions_on, all_carried_out, Footing, IsAtByte, Lasts, CarriedOut}
 use Rattle.ws_lasting.proofs.Holdings.{one_holds, ended, no_more}
 use Rattle.ws_lasting.proofs.ReadingOn.{gone_parts, plain_tokens}
 use Rattle.ws_lasting.proofs.TokenSteps.{token_step}

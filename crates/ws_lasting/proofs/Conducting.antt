@@ -1,19 +1,8 @@
-use Rattle.std.proofs.Common.{◌≡◌, ℕ, List, [], ◌∷◌, ◌++◌, refl, sym, ap, ◌∙◌, inl, inr, arith, length, take, suc, ◌≤◌, ◌<◌, ◌+◌, ◌-◌, ◌^◌, Ok, Err, Result, IsSome}
-use Rattle.std.proofs.lemmas.Bool.{cases_lt}
-use Rattle.std.specs.Result.{OnErr}
-use Rattle.ws_code.proofs.CodeLaws.{no_end}
-use Rattle.ws_code.proofs.Lists.{same_last}
-use Rattle.ws_end.specs.Behaviour.{TakesSome}
-use Rattle.ws_end.specs.Ends.{IsShut}
-use Rattle.ws_end.specs.declared.end_step.EndFed.{EndFed}
-use Rattle.ws_end.specs.declared.refusal.Refusal.{Refusal}
-use Rattle.ws_end.specs.declared.refusal.Refusal.TheVariants.{Failed}
-use Rattle.ws_end.specs.station.Displays.{OnDisplay}
-use Rattle.ws_end.proofs.Feedings.{value_at}
-use Rattle.ws_lasting.specs.Behaviour.{AreQuiet, AreTakenSo, LastingRefuses, lasting_behaviour}
-use Rattle.ws_lasting.specs.Footings.{AtLasting, LastingOf, LastingStep, bytes_written}
-use Rattle.ws_lasting.specs.declared.lasting_reply.LastingReply.{LastingReply}
-use Rattle.ws_lasting.specs.declared.record_event.RecordEvent.{RecordEvent}
+use Rattle.ws_lasting.proofs.Common as C
+use C.{◌≡◌, ℕ, List, [], ◌∷◌, ◌++◌, refl, sym, ap, ◌∙◌, inl, inr, arith, length, take, suc, ◌≤◌, ◌<◌, ◌+◌, ◌-◌, ◌^◌, Ok}
+use C.{Err, Result, IsSome, cases_lt, OnErr, no_end, same_last, TakesSome, IsShut, EndFed, Refusal, Failed, OnDisplay}
+use C.{value_at, AreQuiet, AreTakenSo, LastingRefuses, lasting_behaviour, AtLasting, LastingOf, LastingStep}
+use C.{bytes_written, LastingReply, RecordEvent}
 
 -- What a piece gives a station that no record ends is what one gives an end.
 
@@ -86,10 +75,7 @@ module _ (on : OnDisplay) (old : LastingOf on) (piece : List ℕ) (some : 0 < le
             led = λ at st few. rw is at (taken at st (omega (arith, few)));
             shut = λ shut. absurd (works shut);
           };
-          first = λ n lt. record {
-            led = λ at st few. first at st n lt;
-            shut = λ shut. absurd (works shut);
-          };
+          first = λ n lt. record { led = λ at st few. first at st n lt; shut = λ shut. absurd (works shut) };
           refused = tt;
           over = λ over. absurd (works (inl over));
           after = tt;

@@ -1,20 +1,9 @@
-use Rattle.std.proofs.Common.{◌≡◌, ℕ, List, [], ◌∷◌, ◌++◌, refl, sym, ap, ◌∙◌, append-nil, append_assoc, arith, length, length-append, take, zero, suc, ◌≤◌, ◌<◌, ◌+◌, Err, Ok, None, OnOk, Result}
-use Rattle.std.proofs.lemmas.List.{length-take, take-take}
-use Rattle.ws_code.proofs.DeviceLaws.{length_rest}
-use Rattle.ws_code.proofs.Pieces.{bytes_on, each_on, left_of}
-use Rattle.ws_end.specs.ActLaws.{bytes_came, came_append}
-use Rattle.ws_end.specs.Acts.{Came, all_came}
-use Rattle.ws_end.specs.declared.end_step.EndFed.{EndFed}
-use Rattle.ws_end.specs.declared.refusal.Refusal.{Refusal}
-use Rattle.ws_end.specs.declared.refusal.Refusal.TheVariants.{At, Failed, Memory}
-use Rattle.ws_end.specs.station.Displays.{OnDisplay}
-use Rattle.ws_lasting.specs.Behaviour.{AreQuiet, AreTakenSo, LeadsOnFrom}
-use Rattle.ws_lasting.specs.Footings.{AtLasting, LastingOf, LastingStep, IsByteTaken, IsRefusalPlaced, bytes_written}
-use Rattle.ws_lasting.specs.Fronts.{IsFrontTaken}
-use Rattle.ws_lasting.specs.Lasting.{FootingOn, IsAtByte, Lasts}
-use Rattle.ws_lasting.specs.declared.lasting_reply.LastingReply.{LastingReply}
-use Rattle.ws_lasting.specs.declared.record_event.RecordEvent.{RecordEvent}
-use Rattle.ws_lasting.specs.LastingLaws.{leads_both, lasts_both}
+use Rattle.ws_lasting.proofs.Common as C
+use C.{Act, ◌≡◌, ℕ, List, [], ◌∷◌, ◌++◌, refl, sym, ap, ◌∙◌, append-nil, append_assoc, arith, length, length-append}
+use C.{take, zero, suc, ◌≤◌, ◌<◌, ◌+◌, Err, Ok, None, OnOk, Result, length-take, take-take, length_rest, bytes_on}
+use C.{each_on, left_of, bytes_came, came_append, Came, all_came, EndFed, Refusal, At, Failed, Memory, OnDisplay}
+use C.{AreQuiet, AreTakenSo, LeadsOnFrom, AtLasting, LastingOf, LastingStep, IsByteTaken, IsRefusalPlaced}
+use C.{bytes_written, IsFrontTaken, FootingOn, IsAtByte, Lasts, LastingReply, RecordEvent, leads_both, lasts_both}
 use Rattle.ws_lasting.proofs.Placing.{placed_after}
 
 -- What comes of bytes one after another.
@@ -25,6 +14,12 @@ ok_so (Ok it) p = p
 ok_so (Err why) p = tt
 
 module _ (on : OnDisplay) where
+  -- a byte at which nothing is written or told, and what comes after it
+  pub quiet_then : (acts : List (Act on.Pressed)) (byte : ℕ) (at mid next : FootingOn on) (w : List ℕ)
+      (t : List RecordEvent) → IsAtByte on at byte mid [] [] → Lasts on mid acts next w t
+      → Lasts on at (Came byte ∷ acts) next w t
+  quiet_then acts byte at mid next w t a b = (mid, [], w, [], t, a, b, refl, refl)
+
   -- bytes at which nothing is written or told, and one more
   pub lasts_more : (came : List ℕ) (byte : ℕ) (at mid next : FootingOn on) (w : List ℕ) (t : List RecordEvent)
       → Lasts on at (all_came came) mid [] [] → IsAtByte on mid byte next w t

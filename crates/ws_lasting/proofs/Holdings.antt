@@ -1,22 +1,12 @@
-use Rattle.ws_record.proofs.Common as C
-use C.{AllByRecursion, ◌≡◌, ℕ, List, [], ◌∷◌, ◌++◌, drop, refl, sym, ap, ◌∙◌, length, inl, inr, arith}
-use C.{length-append, append-nil, append_assoc, take_at, ◌≤◌, ◌+◌, IsOpenPrefix, Rules, IsSpelled, IsUnfinished, IsPrefixFree, IsCut, Reason}
-use C.{SpellsBytes, Begins, one_cut, CanEnd, cut_ends, cut_unit, joined, AllByRecursion-append, flat_map-append, map-append}
-use C.{carried, HasNoEor, token_rules, token_prefix_free, token_begins, Token, Data, Eor, TelnetToken, IsRecord, Holds, record_bytes, IsStretch}
-use C.{IsFramed, CanBeFramed, IsRefused, Layer, IsReason, Tokens, Header, Body}
-use Rattle.ws_record.specs.declared.record.Item.{Item}
-use Rattle.ws_record.specs.declared.record.Record.{Record}
-use C.{BeginsList, IsFirstClosedTo, EndsWithToken, EndsRecord, IsBodyReason, header_reason}
-use Rattle.std.proofs.Common.{subst, subst₂, ap₂}
-use Rattle.ws_telnet.specs.Streams.{LeavesOpen}
-use Rattle.ws_telnet.proofs.LastRecords.{one_end}
-use Rattle.ws_telnet.proofs.Streams.{ends_with_one}
-use Rattle.ws_telnet.proofs.TokenLists.{one_join}
-use Rattle.ws_record.proofs.Encodings.{parts_of, holds_data, holds_more, holds_command}
-use Rattle.ws_record.proofs.OpenPrefixes.{refused_forms}
-use Rattle.ws_record.proofs.Reading.{one_items, parts_no_eor}
-use Rattle.ws_record.proofs.Refusals.{held}
-use Rattle.ws_lasting.specs.Records.{IsUnfit}
+use Rattle.ws_lasting.proofs.Common as C
+use C.{AllByRecursion, ◌≡◌, ℕ, List, [], ◌∷◌, ◌++◌, drop, refl, sym, ap, ◌∙◌, length, inl, inr, arith, length-append}
+use C.{append-nil, append_assoc, take_at, ◌≤◌, ◌+◌, IsOpenPrefix, Rules, IsSpelled, IsUnfinished, IsPrefixFree, IsCut}
+use C.{Reason, SpellsBytes, Begins, one_cut, CanEnd, cut_ends, cut_unit, joined, AllByRecursion-append, flat_map-append}
+use C.{map-append, carried, HasNoEor, token_rules, token_prefix_free, token_begins, Token, Data, Eor, TelnetToken}
+use C.{IsRecord, Holds, record_bytes, IsStretch, IsFramed, CanBeFramed, IsRefused, Layer, IsReason, Tokens, Header}
+use C.{Body, Item, Record, BeginsList, IsFirstClosedTo, EndsWithToken, EndsRecord, IsBodyReason, header_reason, subst}
+use C.{subst₂, ap₂, LeavesOpen, one_end, ends_with_one, one_join, parts_of, holds_data, holds_more, holds_command}
+use C.{refused_forms, one_items, parts_no_eor, held, IsUnfit}
 
 -- What a byte more tells of the items and the open record of bytes.
 
@@ -75,12 +65,8 @@ module _ {Place U : Type 0} (rules : Rules Place U) (free : IsPrefixFree rules) 
 
   -- a list isn't the same with one more
   pub no_more : {X : Type 0} (xs : List X) (x : X) → xs ≡ xs ++ x ∷ [] → ⊥
-  no_more xs x e = let n : length xs ≡ length (xs ++ x ∷ []) = ap length e in omega (
-    arith,
-    n,
-    length-append xs (x ∷
-        []),
-  )
+  no_more xs x e =
+      let n : length xs ≡ length (xs ++ x ∷ []) = ap length e in omega (arith, n, length-append xs (x ∷ []))
 
   module _ (can : CanEnd rules) (law : SpellsBytes rules) where
     leaves : {bytes : List ℕ} {items : List (Item U)} {so_far begun : List ℕ} (k : Holds rules bytes items so_far begun)

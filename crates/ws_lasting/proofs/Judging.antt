@@ -1,24 +1,9 @@
-use Rattle.std.proofs.Common.{◌≡◌, ℕ, List, [], ◌∷◌, ◌++◌, drop, refl, sym, ap, ◌∙◌, inl, inr, subst, append_assoc, arith}
-use Rattle.std.proofs.lemmas.Grind.{common_steps}
-use Rattle.ws_code.specs.Code.{Rules, IsPrefixFree, AreBytes, spelling_of}
-use Rattle.ws_code.specs.declared.reason.Reason.{Reason}
-use Rattle.ws_code.proofs.Bytes.{AreBytes-apart, SpellsBytes}
-use Rattle.ws_code.proofs.CodeLaws.{Begins}
-use Rattle.ws_code.proofs.Lists.{drop-front}
-use Rattle.ws_telnet.specs.declared.token.Token.TheVariants.{Eor}
-use Rattle.ws_record.specs.Grammar.{IsRecord, record_bytes, IsFramed, IsBodyBytes}
-use Rattle.ws_record.specs.declared.record.Item.TheVariants.{Record as RecordItem}
-use Rattle.ws_record.specs.declared.record.Record.{Record}
-use Rattle.ws_record.proofs.Encodings.{record_bytes_are}
-use Rattle.ws_record.proofs.Reading.{one_record}
-use Rattle.ws_end.specs.station.Displays.{DisplayOf, EndStateOn, on_display}
-use Rattle.ws_end.specs.station.StationTransitions.{takes_on}
-use Rattle.std.proofs.Common.{Bool, if◌then◌else◌}
-use Rattle.ws_code.specs.declared.reason.Reason.TheVariants.{RecordBeforeNegotiation}
-use Rattle.ws_end.specs.Reaction.{Refuses}
-use Rattle.ws_lasting.specs.Lasting.{IsPerformed, IsRefusedFor, IsDeclined}
-use Rattle.ws_lasting.specs.Records.{IsUnfit, IsSpoilt}
-use Rattle.ws_lasting.specs.declared.record_event.RefusedRecord.{RefusedRecord}
+use Rattle.ws_lasting.proofs.Common as C
+use C.{◌≡◌, ℕ, List, [], ◌∷◌, ◌++◌, drop, refl, sym, ap, ◌∙◌, inl, inr, subst, append_assoc, arith, common_steps, Rules}
+use C.{IsPrefixFree, AreBytes, spelling_of, Reason, AreBytes-apart, SpellsBytes, Begins, drop-front, Eor, IsRecord}
+use C.{record_bytes, IsFramed, IsBodyBytes, RecordItem, Record, record_bytes_are, one_record, DisplayOf, EndStateOn}
+use C.{on_display, takes_on, Bool, if◌then◌else◌, RecordBeforeNegotiation, Refuses, IsPerformed, IsRefusedFor}
+use C.{IsDeclined, IsUnfit, IsSpoilt, RefusedRecord}
 
 -- A record is carried out or refused, and not both.
 

@@ -1,30 +1,10 @@
-use Rattle.std.proofs.Common.{◌≡◌, ℕ, List, [], ◌∷◌, ◌++◌, append-nil, subst, refl, sym, ap, ◌∙◌, length, arith, ◌+◌, ◌<◌, ◌^◌}
-use Rattle.std.proofs.Common.{Option, Some, None, Ok, Err, Result}
-use Rattle.ws_code.specs.Code.{Rules, IsPrefixFree}
-use Rattle.ws_code.proofs.CodeLaws.{Begins}
-use Rattle.std.specs.Prelude.{IfOk, OnErr}
-use Rattle.ws_record.specs.Encode.{record_spelling}
-use Rattle.ws_record.specs.Grammar.{header}
-use Rattle.ws_record.specs.declared.opcode.Opcode.TheVariants.{PutGet}
-use Rattle.ws_record.specs.declared.record.Item.{Item}
-use Rattle.ws_keys.specs.declared.answer.Answer.{Answer}
-use Rattle.ws_keys.specs.declared.answer.Answer.TheVariants.{Read, Attention, SystemRequest}
-use Rattle.ws_end.specs.Acts.{Did}
-use Rattle.ws_end.specs.Ends.{IsShut}
-use Rattle.ws_end.specs.attached.Requests.{HasDoneKey}
-use Rattle.ws_end.specs.declared.station.key_fault.KeyFault.{KeyFault}
-use Rattle.ws_end.specs.declared.station.key_fault.KeyFault.TheVariants.{Failed as KeyFailed}
-use Rattle.ws_end.proofs.EndRequests.{SpellsOn}
-use Rattle.ws_end.specs.station.AnswerSpelling.{sent_by}
-use Rattle.ws_end.specs.station.Displays.{DisplayOf, EndStateOn, RefusesKey, on_display}
-use Rattle.ws_end.specs.station.StationTransitions.{key_on}
-use Rattle.ws_end.specs.station.Stations.{ReachedOn, IsKeyedOn, AtStationOn}
-use Rattle.ws_lasting.specs.Behaviour.{LastingTraces, LeadsOnFrom, lasting_key_judged}
-use Rattle.ws_lasting.specs.Counting.{IsCounted}
-use Rattle.ws_lasting.specs.Footings.{AtLasting, LastingParts, ReadsOrPasses, StandsAt, IsKeyHeard}
-use Rattle.ws_lasting.specs.LastingLaws.{counted_none}
-use Rattle.ws_lasting.specs.Lasting.{Footing}
-use Rattle.ws_lasting.specs.declared.record_event.RefusedRecord.{RefusedRecord}
+use Rattle.ws_lasting.proofs.Common as C
+use C.{◌≡◌, ℕ, List, [], ◌∷◌, ◌++◌, append-nil, subst, refl, sym, ap, ◌∙◌, length, arith, ◌+◌, ◌<◌, ◌^◌, Option, Some}
+use C.{None, Ok, Err, Result, Rules, IsPrefixFree, Begins, IfOk, OnErr, record_spelling, header, PutGet, Item, Answer}
+use C.{Read, Attention, SystemRequest, Did, IsShut, HasDoneKey, KeyFault, KeyFailed, SpellsOn, sent_by, DisplayOf}
+use C.{EndStateOn, RefusesKey, on_display, key_on, ReachedOn, IsKeyedOn, AtStationOn, LastingTraces, LeadsOnFrom}
+use C.{lasting_key_judged, IsCounted, AtLasting, LastingParts, ReadsOrPasses, StandsAt, IsKeyHeard, counted_none}
+use C.{Footing, RefusedRecord}
 use Rattle.ws_lasting.proofs.Holdings.{one_holds}
 use Rattle.ws_lasting.proofs.Passing.{stands_passing, stands_reading}
 
@@ -43,13 +23,7 @@ module _ {D P U H PlaceV V K R : Type 0} (rules : Rules P U) (d : DisplayOf D U 
   -- one that is refused leads nowhere
   key_idle : (at : Footing H) (fault : KeyFault) → IsKeyHeard (on_display rules d) old new at key (Err fault)
       → StandsAt (on_display rules d) old at → LeadsOnFrom (on_display rules d) old new at (Did key ∷ []) [] []
-  key_idle at fault k st = rw k.1 (
-    at,
-    rw k.0 ([], (refl, refl, refl), refl),
-    st,
-    counted_none old.counts,
-    omega arith,
-  )
+  key_idle at fault k st = rw k.1 (at, rw k.0 ([], (refl, refl, refl), refl), st, counted_none old.counts, omega arith)
 
   pub key_judges : (result : Result (Option Answer) KeyFault)
       → AtLasting (on_display rules d) old (λ at. old.taken + 1 < 2 ^ 64
@@ -144,13 +118,7 @@ module _ {D P U H PlaceV V K R : Type 0} (rules : Rules P U) (d : DisplayOf D U 
 
     key_leads : (at : Footing H) (answer : Option Answer) → IsKeyHeard (on_display rules d) old new at key (Ok answer)
         → LeadsOnFrom (on_display rules d) old new at (Did key ∷ []) (sent_by answer) []
-    key_leads at None k = (
-      record at { state = k.0 },
-      rw k.1 ([], (refl, refl, refl), refl),
-      k.2,
-      kept,
-      unread,
-    )
+    key_leads at None k = (record at { state = k.0 }, rw k.1 ([], (refl, refl, refl), refl), k.2, kept, unread)
     key_leads at (Some (Read body)) k = (
       record at { state = k.0 },
       rw k.3 (
@@ -163,20 +131,8 @@ module _ {D P U H PlaceV V K R : Type 0} (rules : Rules P U) (d : DisplayOf D U 
       kept,
       unread,
     )
-    key_leads at (Some Attention) k = (
-      at,
-      rw k.0 ([], (refl, refl, refl), refl),
-      k.1,
-      kept,
-      unread,
-    )
-    key_leads at (Some SystemRequest) k = (
-      at,
-      rw k.0 ([], (refl, refl, refl), refl),
-      k.1,
-      kept,
-      unread,
-    )
+    key_leads at (Some Attention) k = (at, rw k.0 ([], (refl, refl, refl), refl), k.1, kept, unread)
+    key_leads at (Some SystemRequest) k = (at, rw k.0 ([], (refl, refl, refl), refl), k.1, kept, unread)
 
     pub key_acts : (result : Result (Option Answer) KeyFault) → (IsShut old.ended old.taken → ⊥)
         → AtLasting (on_display rules d) old (λ at. old.taken + 1 < 2 ^ 64

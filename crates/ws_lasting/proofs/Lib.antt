@@ -1,4 +1,5 @@
 pub mod AsStation
+pub mod Common
 pub mod Conducting
 pub mod Feeding
 pub mod Holdings

@@ -1,12 +1,6 @@
-use Rattle.std.proofs.Common.{◌≡◌, refl, Option, Some, None, false}
-use Rattle.ws_code.specs.declared.code.Push.TheVariants.{More, Unit as Whole, Bad}
-use Rattle.ws_telnet.specs.declared.token.Telnet.{Telnet}
-use Rattle.ws_telnet.specs.declared.token.Telnet.TheVariants.{Command, Option as Negotiate, Sub as Subnegotiate}
-use Rattle.ws_telnet.specs.declared.token.Token.TheVariants.{Data, Eor, Telnet as TelnetToken}
-use Rattle.ws_identity.specs.Environ.{EnvironState, environ_answer, is_of_environ}
-use Rattle.ws_end.specs.station.Displays.{OnDisplay}
-use Rattle.ws_lasting.specs.Identity.{identity_told}
-use Rattle.ws_lasting.specs.Others.{OthersAsBefore}
+use Rattle.ws_lasting.proofs.Common as C
+use C.{◌≡◌, refl, Option, Some, None, false, More, Whole, Bad, Telnet, Command, Negotiate, Subnegotiate, Data, Eor}
+use C.{TelnetToken, EnvironState, environ_answer, is_of_environ, OnDisplay, identity_told, OthersAsBefore}
 
 -- At all but a token of NEW-ENVIRON a station with an identity does as one without.
 

@@ -1,26 +1,10 @@
-use Rattle.std.proofs.Common.{◌≡◌, ℕ, List, [], ◌∷◌, ◌++◌, refl, sym, ap, ap₂, ◌∙◌, inl, inr, subst, append_assoc, length}
-use Rattle.std.proofs.Common.{arith, Option, Some, None, Ok, true, false, Bool}
-use Rattle.std.specs.Prelude.{◌&&◌}
-use Rattle.ws_code.specs.Code.{Rules, IsPrefixFree}
-use Rattle.ws_code.specs.declared.code.Push.TheVariants.{More, Unit as Whole}
-use Rattle.ws_code.proofs.CodeLaws.{Begins}
-use Rattle.ws_telnet.specs.declared.token.Telnet.{Telnet}
-use Rattle.ws_telnet.specs.declared.token.Token.TheVariants.{Data, Eor, Telnet as TelnetToken}
-use Rattle.ws_nego.specs.Options.{telnet_bytes}
-use Rattle.ws_nego.specs.Station.{station_answer, station_allows_records}
-use Rattle.ws_record.proofs.Encodings.{holds_nothing}
-use Rattle.ws_end.specs.station.Displays.{DisplayOf, EndStateOn, on_display}
-use Rattle.ws_end.specs.station.Stations.{ReachedOn, PartsOn}
-use Rattle.ws_lasting.specs.Counting.{IsCounted}
-use Rattle.ws_lasting.specs.Footings.{LastingParts, LastingStep, IsPassingOver, IsReading, IsReplied, IsWordHeard, ReadsOrPasses, StandsAt}
-use Rattle.ws_lasting.specs.Footings.{bytes_written}
-use Rattle.ws_lasting.specs.Identity.{environ_after, reply_to}
-use Rattle.ws_lasting.specs.Lasting.{Footing}
-use Rattle.ws_lasting.specs.Negative.{negative}
-use Rattle.ws_lasting.specs.Records.{IsSpoilt}
-use Rattle.ws_lasting.specs.declared.record_event.RecordEvent.TheVariants.{Refused}
-use Rattle.ws_lasting.specs.declared.record_event.RefusedRecord.{RefusedRecord}
-use Rattle.ws_lasting.specs.LastingLaws.{counted_none}
+use Rattle.ws_lasting.proofs.Common as C
+use C.{◌≡◌, ℕ, List, [], ◌∷◌, ◌++◌, refl, sym, ap, ap₂, ◌∙◌, inl, inr, subst, append_assoc, length, arith, Option, Some}
+use C.{None, Ok, true, false, Bool, ◌&&◌, Rules, IsPrefixFree, More, Whole, Begins, Telnet, Data, Eor, TelnetToken}
+use C.{telnet_bytes, station_answer, station_allows_records, holds_nothing, DisplayOf, EndStateOn, on_display}
+use C.{ReachedOn, PartsOn, IsCounted, LastingParts, LastingStep, IsPassingOver, IsReading, IsReplied, IsWordHeard}
+use C.{ReadsOrPasses, StandsAt, bytes_written, environ_after, reply_to, Footing, negative, IsSpoilt, Refused}
+use C.{RefusedRecord, counted_none}
 use Rattle.ws_lasting.proofs.Holdings.{one_holds}
 
 -- What comes of a byte where a record is passed over.
@@ -128,9 +112,7 @@ module _ {D P U H PlaceV V K R : Type 0} (rules : Rules P U) (d : DisplayOf D U 
         → d.written mid.station.reacts.screen reply ≡ telnet_bytes (station_answer old.station.reacts.options t).reply
         → mid ≡ record old {
           station = record old.station {
-            reacts = record old.station.reacts {
-              options = (station_answer old.station.reacts.options t).after;
-            };
+            reacts = record old.station.reacts { options = (station_answer old.station.reacts.options t).after };
           };
         } → IsReplied (on_display rules d) mid new t reply step.reply → step.event ≡ None
         → IsWordHeard (on_display rules d) old.counts new at here (Whole (TelnetToken t)) (Ok step)
@@ -170,12 +152,7 @@ module _ {D P U H PlaceV V K R : Type 0} (rules : Rules P U) (d : DisplayOf D U 
         → station_allows_records old.station.reacts.options ≡ true
         → old.begun ≡ [] → bytes_written (on_display rules d) new step.reply ≡ negative why.reason
         → step.event ≡ Some (Refused why)
-        → new ≡ record old {
-          size = 0;
-          passing = None;
-          counts = new.counts;
-          refused_at = Some old.passing_from;
-        }
+        → new ≡ record old { size = 0; passing = None; counts = new.counts; refused_at = Some old.passing_from }
         → IsCounted old.counts (Refused why ∷ []) new.counts
         → IsWordHeard (on_display rules d) old.counts new at here (Whole Eor) (Ok step)
     passes_eor free begins new allows between written told same counted = rw told (

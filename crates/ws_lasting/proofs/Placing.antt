@@ -1,14 +1,7 @@
-use Rattle.std.proofs.Common.{◌≡◌, ℕ, ◌<◌, ◌≤◌, ◌⊎◌, inl, inr, refl, sym, ap, ◌∙◌, subst, arith, Option, Some, None, IsSome, Ok, Err, OnOk, Result}
-use Rattle.ws_code.specs.declared.code.Push.{Push}
-use Rattle.ws_code.specs.declared.code.Push.TheVariants.{More, Unit as Whole, Bad}
-use Rattle.ws_telnet.specs.declared.token.Token.{Token}
-use Rattle.ws_telnet.specs.declared.token.Token.TheVariants.{Data, Eor, Telnet as TelnetToken}
-use Rattle.ws_end.specs.station.Displays.{OnDisplay}
-use Rattle.ws_end.specs.declared.refusal.Refusal.{Refusal}
-use Rattle.ws_lasting.specs.Footings.{IsFollowed, IsRefusalPlaced, IsRefusalPlacedSo, LastingOf, LastingParts}
-use Rattle.ws_lasting.specs.Footings.{LastingStep, told_place}
-use Rattle.ws_lasting.specs.declared.record_event.RecordEvent.{RecordEvent}
-use Rattle.ws_lasting.specs.declared.record_event.RefusedRecord.{RefusedRecord}
+use Rattle.ws_lasting.proofs.Common as C
+use C.{◌≡◌, ℕ, ◌<◌, ◌≤◌, ◌⊎◌, inl, inr, refl, sym, ap, ◌∙◌, subst, arith, Option, Some, None, IsSome, Ok, Err, OnOk}
+use C.{Result, Push, More, Whole, Bad, Token, Data, Eor, TelnetToken, OnDisplay, Refusal, IsFollowed, IsRefusalPlaced}
+use C.{IsRefusalPlacedSo, LastingOf, LastingParts, LastingStep, told_place, RecordEvent, RefusedRecord}
 
 -- At which byte a record is refused.
 

@@ -1,17 +1,8 @@
-use Rattle.std.proofs.Common.{◌≡◌, ℕ, List, [], ◌∷◌, ◌++◌, refl, ap, ◌∙◌, inl, inr, append-nil, length, arith, ◌<◌, ◌+◌, ◌^◌}
-use Rattle.std.proofs.Common.{Option, Some, None, Ok, Err, true, length-take-le}
-use Rattle.ws_record.specs.Encode.{plain_spelling}
-use Rattle.ws_record.specs.declared.record.Item.{Item}
-use Rattle.ws_end.specs.Acts.{Arrives, as_list}
-use Rattle.ws_end.specs.Reaction.{goes_on}
-use Rattle.ws_end.specs.Reaction.{Reaction, Refuses, GoesOn}
-use Rattle.ws_end.specs.declared.end_step.EndStep.{EndStep}
-use Rattle.ws_end.specs.declared.refusal.Refusal.{Refusal}
-use Rattle.ws_end.specs.driver.Driven.{Driven, Driving, IsReached, Come, DriverPushes, GoesOnAt, IsWhy}
-use Rattle.ws_end.specs.driver.Driven.{TakesNoMore}
-use Rattle.ws_end.specs.driver.Reacting.{at_reaction}
-use Rattle.ws_end.proofs.EndSteps.{trace_none}
-use Rattle.ws_end.proofs.Shuts.{none_reached}
+use Rattle.ws_lasting.proofs.Common as C
+use C.{◌≡◌, ℕ, List, [], ◌∷◌, ◌++◌, refl, ap, ◌∙◌, inl, inr, append-nil, length, arith, ◌<◌, ◌+◌, ◌^◌, Option, Some}
+use C.{None, Ok, Err, true, length-take-le, plain_spelling, Item, Arrives, as_list, goes_on, Reaction, Refuses, GoesOn}
+use C.{EndStep, Refusal, Driven, Driving, IsReached, Come, DriverPushes, GoesOnAt, IsWhy, TakesNoMore, at_reaction}
+use C.{trace_none, none_reached}
 
 -- What a byte alone gives a driver.
 

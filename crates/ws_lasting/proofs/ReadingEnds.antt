@@ -1,37 +1,15 @@
-use Rattle.std.proofs.Common.{◌≡◌, ℕ, List, [], ◌∷◌, ◌++◌, refl, sym, ◌∙◌, subst, arith, length, length-append, append-nil, take, zero, suc, ◌≤◌, ◌<◌, ◌+◌, ◌-◌, ◌^◌, None, Some, Err, Ok, Result, inl, inr}
-use Rattle.std.proofs.lemmas.Bool.{cases_lt}
-use Rattle.ws_code.specs.Code.{IsPrefixFree, IsSpelled, Rules}
-use Rattle.ws_code.specs.declared.code.Push.TheVariants.{More, Unit as Whole}
-use Rattle.ws_code.specs.declared.reason.Reason.{Reason}
-use Rattle.ws_code.proofs.Bytes.{SpellsBytes}
-use Rattle.ws_code.proofs.CodeLaws.{Begins, CanEnd}
-use Rattle.ws_telnet.specs.Token.{token_rules}
-use Rattle.ws_telnet.specs.declared.codes.TheConstants.{EOR, IAC}
-use Rattle.ws_telnet.specs.declared.token.Token.TheVariants.{Eor}
-use Rattle.ws_telnet.proofs.Unfinished.{iac_goes_on}
-use Rattle.ws_record.specs.Grammar.{Holds}
-use Rattle.ws_record.specs.declared.record.Item.{Item}
-use Rattle.ws_record.proofs.Encodings.{holds_more}
-use Rattle.ws_end.specs.Acts.{Act, Happen, Happening, all_came}
-use Rattle.ws_end.specs.declared.end_step.Applied.{Applied}
-use Rattle.ws_end.specs.declared.end_step.EndStep.{EndStep}
-use Rattle.ws_end.specs.declared.refusal.Refusal.{Refusal}
-use Rattle.ws_end.specs.declared.refusal.Refusal.TheVariants.{At}
-use Rattle.ws_end.specs.driver.Driven.{Bring, DriverFeeds}
-use Rattle.ws_end.specs.station.Displays.{DisplayOf, on_display}
-use Rattle.ws_end.specs.station.StationReacting.{StationStands, station_driving}
-use Rattle.ws_end.specs.station.Stations.{PartsOn}
-use Rattle.ws_lasting.specs.Behaviour.{AreQuiet, AreTakenSo}
-use Rattle.ws_lasting.specs.Counting.{IsCounted}
-use Rattle.ws_lasting.specs.Footings.{LastingParts, LastingStep, IsWordHeard, StandsAt}
-use Rattle.ws_lasting.specs.Fronts.{IsWordRefused}
-use Rattle.ws_lasting.specs.Lasting.{Footing, IsTokenStep, Lasts}
-use Rattle.ws_lasting.specs.declared.record_counts.RecordCounts.{RecordCounts}
-use Rattle.ws_lasting.specs.declared.lasting_reply.LastingReply.TheVariants.{Station}
-use Rattle.ws_lasting.specs.declared.record_event.RecordEvent.TheVariants.{CarriedOut}
+use Rattle.ws_lasting.proofs.Common as C
+use C.{◌≡◌, ℕ, List, [], ◌∷◌, ◌++◌, refl, sym, ◌∙◌, subst, arith, length, length-append, append-nil, take, zero, suc}
+use C.{◌≤◌, ◌<◌, ◌+◌, ◌-◌, ◌^◌, None, Some, Err, Ok, Result, inl, inr, cases_lt, IsPrefixFree, IsSpelled, Rules, More}
+use C.{Whole, Reason, SpellsBytes, Begins, CanEnd, token_rules, EOR, IAC, Eor, iac_goes_on, Holds, Item, holds_more}
+use C.{Act, Happen, Happening, all_came, Applied, EndStep, Refusal, At, Bring, DriverFeeds, DisplayOf, on_display}
+use C.{StationStands, station_driving, PartsOn, AreQuiet, AreTakenSo, IsCounted, LastingParts, LastingStep, IsWordHeard}
+use C.{StandsAt, IsWordRefused, Footing, IsTokenStep, Lasts, RecordCounts, Station, CarriedOut, false, true}
+use C.{IsFrontTaken, OnErr, IsRefusalPlacedSo, IsSome, AtLasting, Push, Token}
+use Rattle.ws_lasting.proofs.Feeding.{quiet_then}
 use Rattle.ws_lasting.proofs.Holdings.{no_more, one_holds}
 use Rattle.ws_lasting.proofs.ReadingOn.{fits_so, heard, judged}
-use Rattle.ws_lasting.proofs.ReadingRuns.{brings, fresh, held, reading}
+use Rattle.ws_lasting.proofs.ReadingRuns.{brings, fresh, front_goes, front_refused, front_shut, held, reading}
 use Rattle.ws_lasting.proofs.Runs.{run_goes_on, run_stops, skipped_iac, taken_last}
 
 -- What comes of an EOR where a record is read: its FF brings nothing, and its last byte is heard.
@@ -42,172 +20,198 @@ eor_ends = record { stands = record { is_unit = tt; may_follow = refl }; spelled
 module _ {D P U H PlaceV V K R : Type 0} (rules : Rules P U) (d : DisplayOf D U H PlaceV V K R)
     (free : IsPrefixFree rules) (begins : Begins rules) (can : CanEnd rules) (law : SpellsBytes rules)
     (old : LastingParts D P) (fits : old.taken + 2 < 2 ^ 64) (between : old.begun ≡ []) (reads : old.passing ≡ None)
-    (station : PartsOn D P) (used : ℕ) (within : used ≤ 2) (at : Footing H) (st : StandsAt (on_display rules d) old at)
-    (step : Result (EndStep Applied R) Refusal)
+    (station : PartsOn D P) (used : ℕ) (step : Result (EndStep Applied R) Refusal)
     (feeds : DriverFeeds (station_driving (on_display rules d)) old.station (IAC ∷ EOR ∷ []) station
     (record { used = used; step = step }))
   where
     abbrev Both : List ℕ
     Both = IAC ∷ EOR ∷ []
 
-    none : at.begun ≡ []
-    none = fresh rules d free begins can law old Both fits between reads station used within at st
+    some : 0 < 2
+    some = omega arith
 
-    abbrev Bytes : List ℕ
-    Bytes = (reading rules d free begins can law old Both fits between reads station used within at st).0.bytes
+    module _ (at : Footing H) (st : StandsAt (on_display rules d) old at) where
+      none : at.begun ≡ []
+      none = fresh rules d free begins can old between reads at st
 
-    abbrev Items : List (Item U)
-    Items = (reading rules d free begins can law old Both fits between reads station used within at st).0.items
+      abbrev Bytes : List ℕ
+      Bytes = (reading rules d free begins can old between reads at st).0.bytes
 
-    few : length Bytes ≤ old.taken
-    few = (reading rules d free begins can law old Both fits between reads station used within at st).0.few
+      abbrev Items : List (Item U)
+      Items = (reading rules d free begins can old between reads at st).0.items
 
-    size : old.size ≡ length at.so_far
-    size = (reading rules d free begins can law old Both fits between reads station used within at st).1
+      few : length Bytes ≤ old.taken
+      few = (reading rules d free begins can old between reads at st).0.few
 
-    holds : Holds rules Bytes Items at.so_far []
-    holds = held rules d free begins can law old Both fits between reads station used within at st
+      size : old.size ≡ length at.so_far
+      size = (reading rules d free begins can old between reads at st).1
 
-    brought : Bring (station_driving (on_display rules d)) Bytes Items at.state (take used Both) station step
-    brought = brings rules d free begins can law old Both fits between reads station used within at st step feeds
-        (omega arith)
+      holds : Holds rules Bytes Items at.so_far []
+      holds = held rules d free begins can old between reads at st
 
-    -- after its FF
-    abbrev Mid : Footing H
-    Mid = record at { begun = IAC ∷ [] }
+      brought : Bring (station_driving (on_display rules d)) Bytes Items at.state (take used Both) station step
+      brought = brings rules d free begins can law old Both fits some between reads station used step feeds at st
 
-    holds_mid : Holds rules (Bytes ++ IAC ∷ []) Items Mid.so_far Mid.begun
-    holds_mid = holds_more rules holds (IAC ∷ []) iac_goes_on
+      -- after its FF
+      abbrev Mid : Footing H
+      Mid = record at { begun = IAC ∷ [] }
 
-    lasts_mid : Lasts (on_display rules d) at (all_came (IAC ∷ [])) Mid [] []
-    lasts_mid = (
-      Mid,
-      [],
-      [],
-      [],
-      [],
-      (More, rw none (refl, iac_goes_on), (refl, refl, refl, refl, refl)),
-      (refl, refl, refl),
-      refl,
-      refl,
-    )
+      holds_mid : Holds rules (Bytes ++ IAC ∷ []) Items Mid.so_far Mid.begun
+      holds_mid = holds_more rules holds (IAC ∷ []) iac_goes_on
 
-    pub end_quiet : (n : ℕ) → n < 2 → AreQuiet (on_display rules d) at (take n Both)
-    end_quiet zero lt = (at, (refl, refl, refl))
-    end_quiet (suc zero) lt = (Mid, lasts_mid)
-    end_quiet (suc (suc n)) lt = absurd (omega (arith, lt))
+      lasts_mid : Lasts (on_display rules d) at (all_came (IAC ∷ [])) Mid [] []
+      lasts_mid = quiet_then (on_display rules d) [] IAC at Mid Mid [] []
+          (More, rw none (refl, iac_goes_on), (refl, refl, refl, refl, refl)) (refl, refl, refl)
 
-    skip_iac : (acts : List (Act K)) (hs : List (Happening U K)) → Happen rules Bytes Items (all_came (IAC ∷ []) ++ acts)
-        hs → Happen rules (Bytes ++ IAC ∷ []) Items acts hs
-    skip_iac acts hs = skipped_iac rules free begins Bytes at.so_far acts hs holds
+      end_quiet : (n : ℕ) → n < 2 → AreQuiet (on_display rules d) at (take n Both)
+      end_quiet zero lt = (at, (refl, refl, refl))
+      end_quiet (suc zero) lt = (Mid, lasts_mid)
+      end_quiet (suc (suc n)) lt = absurd (omega (arith, lt))
 
-    token : (begun : List ℕ) → begun ≡ [] → IsTokenStep Mid.begun EOR begun (Whole Eor)
-    token begun empty = (empty, eor_ends)
+      skip_iac : (acts : List (Act K)) (hs : List (Happening U K)) → Happen rules Bytes Items (all_came (IAC ∷ []) ++
+          acts) hs → Happen rules (Bytes ++ IAC ∷ []) Items acts hs
+      skip_iac acts hs = skipped_iac rules free begins Bytes at.so_far acts hs holds
 
-    -- its last byte is used, and isn't refused
-    goes : (gave : EndStep Applied R) (counts : RecordCounts) → used ≡ 2 → step ≡ Ok gave
-        → IsCounted old.counts (CarriedOut ∷ []) counts → AreTakenSo (on_display rules d) old (record old {
-          station = station;
-          taken = old.taken + used;
-          size = 0;
-          passing = None;
-          counts = counts;
-        }) at (take used Both) (Ok (record { reply = Station gave.reply; event = Some CarriedOut }))
-    goes gave counts all ok counted =
-        let on = on_display rules d in
-        let mid : LastingParts D P = record old { station = station; taken = old.taken + used } in
-        let new : LastingParts D P = record mid { size = 0; passing = None; counts = counts } in
-        let is : take used Both ≡ (IAC ∷ []) ++ EOR ∷ [] = rw all refl in
-        let n = few in
-        let m = length-append Bytes (IAC ∷ []) in
-        let h = heard rules d free begins (Bytes ++ IAC ∷ []) Items Mid holds_mid EOR mid reads st.works st.is_environ
-        (omega (arith, n, m, all)) size (old.taken + 1) gave new
-        (record { reply = Station gave.reply; event = Some CarriedOut }) (Whole Eor)
-        (token mid.begun between) (run_goes_on (station_driving on) old.station station Bytes Items at.state
-        (take used Both) (IAC ∷ []) EOR is skip_iac gave (rw ok at brought)) (counts, refl, counted, refl)
-        (λ other e. cc) in
-        subst (λ x. AreTakenSo on old new at x (Ok (record { reply = Station gave.reply; event = Some CarriedOut }))) (sym is)
-        (taken_last on old new at Mid (IAC ∷ []) EOR (Whole Eor) (old.taken + 1)
-        (Ok (record { reply = Station gave.reply; event = Some CarriedOut })) lasts_mid (token new.begun between) h
-        (omega arith) (omega (arith, all)))
+      token : (begun : List ℕ) → begun ≡ [] → IsTokenStep Mid.begun EOR begun (Whole Eor)
+      token begun empty = (empty, eor_ends)
 
-    -- it is refused
-    stops : (place : ℕ) (reason : Reason) (new : LastingParts D P) (result : Result (LastingStep R) Refusal)
-        → used ≡ 2 → step ≡ Err (At place reason) → new.begun ≡ old.begun → new.taken ≡ old.taken + used
-        → ((mid : Footing H) (items : List (Item U)) (byte : ℕ) → StationStands d station.reacts items mid.state
-        → IsTokenStep mid.begun byte old.begun (Whole Eor) → IsWordRefused (on_display rules d) mid (Whole Eor) reason
-        → old.size ≡ length mid.so_far → old.environ ≡ mid.environ
-        → IsWordHeard (on_display rules d) old.counts new mid (old.taken + 1) (Whole Eor) result)
-        → AreTakenSo (on_display rules d) old new at (take used Both) result
-    stops place reason new result all err same counted then =
-        let on = on_display rules d in
-        let is : take used Both ≡ (IAC ∷ []) ++ EOR ∷ [] = rw all refl in
-        let why = run_stops (station_driving on) old.station station Bytes Items at.state (take used Both) (IAC ∷ [])
-        EOR is skip_iac (At place reason) (rw err at brought) in
-        let refused = judged rules d free begins (Bytes ++ IAC ∷ []) Items Mid holds_mid EOR can law reason place why.0
-        (λ q. fits_so rules d free begins can old.station old.taken at
-        (reading rules d free begins can law old Both fits between reads station used within at st).0) old.begun
-        (Whole Eor) (token old.begun between) (λ other e. cc) in
-        subst (λ x. AreTakenSo on old new at x result) (sym is)
-        (taken_last on old new at Mid (IAC ∷ []) EOR (Whole Eor) (old.taken + 1) result lasts_mid
-        (token new.begun (same ∙ between)) (then Mid Items EOR why.1 (token old.begun between) refused size st.is_environ)
-        (omega arith) (omega (arith, counted, all)))
+      -- its last byte is used, and isn't refused
+      goes : (gave : EndStep Applied R) (counts : RecordCounts) → used ≡ 2 → step ≡ Ok gave
+          → IsCounted old.counts (CarriedOut ∷ []) counts → AreTakenSo (on_display rules d) old (record old {
+            station = station;
+            taken = old.taken + used;
+            size = 0;
+            passing = None;
+            counts = counts;
+          }) at (take used Both) (Ok (record { reply = Station gave.reply; event = Some CarriedOut }))
+      goes gave counts all ok counted =
+          let on = on_display rules d in
+          let mid : LastingParts D P = record old { station = station; taken = old.taken + used } in
+          let new : LastingParts D P = record mid { size = 0; passing = None; counts = counts } in
+          let is : take used Both ≡ (IAC ∷ []) ++ EOR ∷ [] = rw all refl in
+          let n = few in
+          let m = length-append Bytes (IAC ∷ []) in
+          let h = heard rules d free begins (Bytes ++ IAC ∷ []) Items Mid holds_mid EOR mid reads st.works st.is_environ
+          (omega (arith, n, m, all)) size (old.taken + 1) gave new
+          (record { reply = Station gave.reply; event = Some CarriedOut }) (Whole Eor)
+          (token mid.begun between) (run_goes_on (station_driving on) old.station station Bytes Items at.state
+          (take used Both) (IAC ∷ []) EOR is skip_iac gave (rw ok at brought)) (counts, refl, counted, refl)
+          (λ other e. cc) in
+          subst (λ x. AreTakenSo on old new at x (Ok (record { reply = Station gave.reply; event = Some CarriedOut })))
+          (sym is) (taken_last on old new at Mid (IAC ∷ []) EOR (Whole Eor) (old.taken + 1)
+          (Ok (record { reply = Station gave.reply; event = Some CarriedOut })) lasts_mid (token new.begun between) h
+          (omega arith) (omega (arith, all)))
 
-    -- its FF alone isn't used
-    module _ (one : used ≡ 1) where
-      only : take used Both ≡ [] ++ IAC ∷ []
-      only = rw one refl
+      -- it is refused
+      stops : (place : ℕ) (reason : Reason) (new : LastingParts D P) (result : Result (LastingStep R) Refusal)
+          → used ≡ 2 → step ≡ Err (At place reason) → new.begun ≡ old.begun → new.taken ≡ old.taken + used
+          → ((mid : Footing H) (items : List (Item U)) (byte : ℕ) → StationStands d station.reacts items mid.state
+          → IsTokenStep mid.begun byte old.begun (Whole Eor) → IsWordRefused (on_display rules d) mid (Whole Eor) reason
+          → old.size ≡ length mid.so_far → old.environ ≡ mid.environ
+          → IsWordHeard (on_display rules d) old.counts new mid (old.taken + 1) (Whole Eor) result)
+          → AreTakenSo (on_display rules d) old new at (take used Both) result
+      stops place reason new result all err same counted then =
+          let on = on_display rules d in
+          let is : take used Both ≡ (IAC ∷ []) ++ EOR ∷ [] = rw all refl in
+          let why = run_stops (station_driving on) old.station station Bytes Items at.state (take used Both) (IAC ∷ [])
+          EOR is skip_iac (At place reason) (rw err at brought) in
+          let refused = judged rules d free begins (Bytes ++ IAC ∷ []) Items Mid holds_mid EOR can law reason place
+          why.0 (λ q. fits_so rules d free begins can old.station old.taken at
+          (reading rules d free begins can old between reads at st).0) old.begun
+          (Whole Eor) (token old.begun between) (λ other e. cc) in
+          subst (λ x. AreTakenSo on old new at x result) (sym is)
+          (taken_last on old new at Mid (IAC ∷ []) EOR (Whole Eor) (old.taken + 1) result lasts_mid
+          (token new.begun (same ∙ between)) (then Mid Items EOR why.1 (token old.begun between) refused size
+          st.is_environ) (omega arith) (omega (arith, counted, all)))
 
-      skip_none : (acts : List (Act K)) (hs : List (Happening U K)) → Happen rules Bytes Items (all_came [] ++ acts) hs
-          → Happen rules (Bytes ++ []) Items acts hs
-      skip_none acts hs p = rw (append-nil Bytes) p
+      -- its FF alone isn't used
+      module _ (one : used ≡ 1) where
+        only : take used Both ≡ [] ++ IAC ∷ []
+        only = rw one refl
 
-      not_one : (gave : EndStep Applied R) → step ≡ Ok gave → ⊥
-      not_one gave ok = elim (rw (append-nil Bytes) at (run_goes_on (station_driving (on_display rules d)) old.station
-          station Bytes Items at.state (take used Both) [] IAC only skip_none gave (rw ok at brought))) [
-            | inl s ↦ elim ((rw ok at feeds.whole) s.1 s.2) [
-              | inl two ↦ omega (arith, two, one)
-              | inr full ↦ (let n = few in
-                  let m = length-append Bytes (IAC ∷ []) in
-                  let k = s.0.reached.count in omega (arith, n, m, k, full, fits))
+        skip_none : (acts : List (Act K)) (hs : List (Happening U K)) → Happen rules Bytes Items (all_came [] ++ acts)
+            hs → Happen rules (Bytes ++ []) Items acts hs
+        skip_none acts hs p = rw (append-nil Bytes) p
+
+        not_one : (gave : EndStep Applied R) → step ≡ Ok gave → ⊥
+        not_one gave ok = elim (rw (append-nil Bytes) at (run_goes_on (station_driving (on_display rules d)) old.station
+            station Bytes Items at.state (take used Both) [] IAC only skip_none gave (rw ok at brought))) [
+              | inl s ↦ elim ((rw ok at feeds.whole) s.1 s.2) [
+                | inl two ↦ omega (arith, two, one)
+                | inr full ↦ (let n = few in
+                    let m = length-append Bytes (IAC ∷ []) in
+                    let k = s.0.reached.count in omega (arith, n, m, k, full, fits))
+              ]
+              | inr t ↦ no_more rules free begins Items t.0 (one_holds rules free begins holds_mid t.6.reached.holds).0
             ]
-            | inr t ↦ no_more rules free begins Items t.0 (one_holds rules free begins holds_mid t.6.reached.holds).0
-          ]
 
-      not_one_refused : (place : ℕ) (reason : Reason) → step ≡ Err (At place reason) → ⊥
-      not_one_refused place reason err =
-          let why = rw (append-nil Bytes) at (run_stops (station_driving (on_display rules d)) old.station station Bytes
-          Items at.state (take used Both) [] IAC only skip_none (At place reason) (rw err at brought)) in
-          judged rules d free begins Bytes Items (record at { begun = [] }) holds IAC can law reason place why.0
-          (λ q. fits_so rules d free begins can old.station old.taken at
-          (reading rules d free begins can law old Both fits between reads station used within at st).0) (IAC ∷ [])
-          More (refl, iac_goes_on) (λ other e. cc)
+        not_one_refused : (place : ℕ) (reason : Reason) → step ≡ Err (At place reason) → ⊥
+        not_one_refused place reason err =
+            let why = rw (append-nil Bytes) at (run_stops (station_driving (on_display rules d)) old.station station
+            Bytes Items at.state (take used Both) [] IAC only skip_none (At place reason) (rw err at brought)) in
+            judged rules d free begins Bytes Items (record at { begun = [] }) holds IAC can law reason place why.0
+            (λ q. fits_so rules d free begins can old.station old.taken at
+            (reading rules d free begins can old between reads at st).0) (IAC ∷ [])
+            More (refl, iac_goes_on) (λ other e. cc)
 
-    pub end_goes : (gave : EndStep Applied R) (counts : RecordCounts) → 0 < used → step ≡ Ok gave
-        → IsCounted old.counts (CarriedOut ∷ []) counts → AreTakenSo (on_display rules d) old (record old {
+      -- both are used
+      goes_all : (gave : EndStep Applied R) (counts : RecordCounts) → 0 < used → step ≡ Ok gave
+          → IsCounted old.counts (CarriedOut ∷ []) counts → AreTakenSo (on_display rules d) old (record old {
+            station = station;
+            taken = old.taken + used;
+            size = 0;
+            passing = None;
+            counts = counts;
+          }) at (take used Both) (Ok (record { reply = Station gave.reply; event = Some CarriedOut }))
+      goes_all gave counts any ok counted = elim (cases_lt 1 used) [
+        | inl more ↦ goes gave counts (omega (arith, more, feeds.within)) ok counted
+        | inr less ↦ absurd (not_one (omega (arith, less, any)) gave ok)
+      ]
+
+    quiet_end : AtLasting (on_display rules d) old (λ at. (n : ℕ) → n < used
+        → AreQuiet (on_display rules d) at (take n Both))
+    quiet_end at st n lt = end_quiet at st n (omega (arith, lt, feeds.within))
+
+    pub end_goes : (gave : EndStep Applied R) (counts : RecordCounts) (new : LastingParts D P) → step ≡ Ok gave
+        → new ≡ record old {
           station = station;
           taken = old.taken + used;
           size = 0;
           passing = None;
           counts = counts;
-        }) at (take used Both) (Ok (record { reply = Station gave.reply; event = Some CarriedOut }))
-    end_goes gave counts any ok counted = elim (cases_lt 1 used) [
-      | inl more ↦ goes gave counts (omega (arith, more, within)) ok counted
-      | inr less ↦ absurd (not_one (omega (arith, less, any)) gave ok)
-    ]
+        } → IsCounted old.counts (CarriedOut ∷ []) counts
+        → IsFrontTaken (on_display rules d) old Both new
+        (record { used = used; step = Ok (record { reply = Station gave.reply; event = Some CarriedOut }) })
+    end_goes gave counts new ok same counted =
+        let next : LastingParts D P =
+        record old { station = station; taken = old.taken + used; size = 0; passing = None; counts = counts } in
+        rw same (front_goes rules d free begins can law old Both fits some between reads station used step feeds
+        quiet_end gave (record { reply = Station gave.reply; event = Some CarriedOut }) next ok refl refl refl
+        (λ any at st. goes_all at st gave counts any ok counted))
 
     pub end_refused : (place : ℕ) (reason : Reason) (new : LastingParts D P)
-        (result : Result (LastingStep R) Refusal) → 0 < used → step ≡ Err (At place reason)
-        → new.begun ≡ old.begun → new.taken ≡ old.taken + used
-        → ((mid : Footing H) (items : List (Item U)) (byte : ℕ) → StationStands d station.reacts items mid.state
-        → IsTokenStep mid.begun byte old.begun (Whole Eor) → IsWordRefused (on_display rules d) mid (Whole Eor) reason
-        → old.size ≡ length mid.so_far → old.environ ≡ mid.environ
-        → IsWordHeard (on_display rules d) old.counts new mid (old.taken + (used - 1)) (Whole Eor) result)
-        → AreTakenSo (on_display rules d) old new at (take used Both) result
-    end_refused place reason new result any err same counted then = elim (cases_lt 1 used) [
-      | inl more ↦ (let all : used ≡ 2 = omega (arith, more, within) in
-          let here : used - 1 ≡ 1 = omega (arith, all) in
-          stops place reason new result all err same counted (λ mid items byte stands token refused long named.
-          rw here at (then mid items byte stands token refused long named)))
-      | inr less ↦ absurd (not_one_refused (omega (arith, less, any)) place reason err)
-    ]
+        (result : Result (LastingStep R) Refusal) → step ≡ Err (At place reason)
+        → (new.begun ≡ old.begun) × (new.taken ≡ old.taken + used) → OnErr result (IsSome new.ended)
+        → IsRefusalPlacedSo old (old.taken + used - 1) new result
+        → ((mid : Footing H) (items : List (Item U)) (byte : ℕ) (word : Push Token)
+        → StationStands d station.reacts items mid.state
+        → IsTokenStep mid.begun byte old.begun word → IsWordRefused (on_display rules d) mid word reason
+        → (true ≡ true → word ≡ Whole Eor) → (true ≡ false → word ≡ Whole Eor → ⊥)
+        → old.size ≡ length mid.so_far → old.ended ≡ None → old.environ ≡ mid.environ
+        → IsWordHeard (on_display rules d) old.counts new mid (old.taken + used - 1) word result)
+        → IsFrontTaken (on_display rules d) old Both new (record { used = used; step = result })
+    end_refused place reason new result err same after placed then =
+        front_refused rules d free begins can law old Both fits some between reads station used step feeds quiet_end
+        place reason new result err same.1 after placed (λ any at st. elim (cases_lt 1 used) [
+          | inl more ↦ (let all : used ≡ 2 = omega (arith, more, feeds.within) in
+              let here : old.taken + used - 1 ≡ old.taken + 1 = omega (arith, all) in
+              stops at st place reason new result all err same.0 same.1 (λ mid items b s token refused long named.
+              rw here at (then mid items b (Whole Eor) s token refused (λ e. refl) (λ e. cc) long st.works named)))
+          | inr less ↦ absurd (not_one_refused at st (omega (arith, less, any)) place reason err)
+        ])
+
+    pub end_shut : (why : Refusal) (new : LastingParts D P) → step ≡ Err why
+        → ((place : ℕ) (reason : Reason) → why ≡ At place reason → ⊥) → new.refused_at ≡ old.refused_at
+        → IsSome new.ended → IsFrontTaken (on_display rules d) old Both new (record { used = used; step = Err why })
+    end_shut =
+        front_shut rules d free begins can law old Both fits some between reads station used step feeds quiet_end

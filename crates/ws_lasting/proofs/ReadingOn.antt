@@ -1,43 +1,12 @@
-use Rattle.std.proofs.Common.{◌≡◌, ℕ, List, [], ◌∷◌, ◌++◌, refl, sym, ap, ◌∙◌, inl, inr, subst, subst₂, length, arith, ◌≤◌, ◌+◌}
-use Rattle.std.proofs.Common.{Option, None, Ok, map, length-append, drop}
-use Rattle.ws_code.specs.Code.{Rules, IsPrefixFree, IsSpelled}
-use Rattle.ws_code.specs.declared.code.Push.{Push}
-use Rattle.ws_code.specs.declared.code.Push.TheVariants.{More, Unit as Whole, Bad}
-use Rattle.ws_code.specs.declared.reason.Reason.{Reason}
-use Rattle.ws_code.proofs.Bytes.{SpellsBytes}
-use Rattle.ws_code.proofs.CodeLaws.{Begins, CanEnd, cut_ends}
-use Rattle.ws_code.proofs.Lists.{same_last}
-use Rattle.ws_telnet.specs.Token.{token_rules, telnet_spelling}
-use Rattle.ws_telnet.specs.declared.token.Telnet.{Telnet}
-use Rattle.ws_telnet.specs.declared.token.Token.{Token}
-use Rattle.ws_telnet.specs.declared.token.Token.TheVariants.{Data, Eor, Telnet as TelnetToken}
-use Rattle.ws_nego.specs.Options.{telnet_bytes}
-use Rattle.ws_identity.specs.Environ.{EnvironState}
-use Rattle.ws_record.specs.Encode.{plain_spelling}
-use Rattle.ws_record.specs.Grammar.{Holds}
-use Rattle.ws_record.specs.OpenPrefix.{BeginsList}
-use Rattle.ws_record.specs.OpenRecord.{CanBeFramed}
-use Rattle.ws_record.specs.Refusal.{IsRefused}
-use Rattle.ws_record.specs.declared.record.Item.{Item}
-use Rattle.ws_record.specs.declared.record.Item.TheVariants.{Record as RecordItem, Telnet as TelnetItem}
-use Rattle.ws_record.proofs.Encodings.{holds_data, holds_more, holds_command, holds_record}
-use Rattle.ws_end.specs.Reaction.{GoesOn}
-use Rattle.ws_end.specs.declared.end_step.Applied.{Applied}
-use Rattle.ws_end.specs.declared.end_step.EndStep.{EndStep}
-use Rattle.ws_end.specs.declared.refusal.Refusal.TheVariants.{At}
-use Rattle.ws_end.specs.driver.Driven.{GoesOnAt, IsWhy}
-use Rattle.ws_end.specs.station.Displays.{DisplayOf, EndStateOn, on_display}
-use Rattle.ws_end.specs.station.StationTransitions.{takes_on}
-use Rattle.ws_end.specs.station.Stations.{ReachedOn, PartsOn, station_driving}
-use Rattle.ws_lasting.specs.Counting.{IsCounted}
-use Rattle.ws_lasting.specs.Footings.{LastingParts, LastingStep, IsFollowed, IsReading, StandsAt, IsWordHeard}
-use Rattle.ws_lasting.specs.Identity.{environ_after, reply_to}
-use Rattle.ws_lasting.specs.Fronts.{IsWordRefused}
-use Rattle.ws_lasting.specs.Lasting.{Footing, IsTokenStep}
-use Rattle.ws_lasting.specs.Records.{IsUnfit}
-use Rattle.ws_lasting.specs.declared.record_counts.RecordCounts.{RecordCounts}
-use Rattle.ws_lasting.specs.declared.record_event.RefusedRecord.{RefusedRecord}
-use Rattle.ws_lasting.specs.LastingLaws.{counted_none}
+use Rattle.ws_lasting.proofs.Common as C
+use C.{◌≡◌, ℕ, List, [], ◌∷◌, ◌++◌, refl, sym, ap, ◌∙◌, inl, inr, subst, subst₂, length, arith, ◌≤◌, ◌+◌, Option, None}
+use C.{Ok, map, length-append, drop, Rules, IsPrefixFree, IsSpelled, Push, More, Whole, Bad, Reason, SpellsBytes}
+use C.{Begins, CanEnd, cut_ends, same_last, token_rules, telnet_spelling, Telnet, Token, Data, Eor, TelnetToken}
+use C.{telnet_bytes, EnvironState, plain_spelling, Holds, BeginsList, CanBeFramed, IsRefused, Item, RecordItem}
+use C.{TelnetItem, holds_data, holds_more, holds_command, holds_record, GoesOn, Applied, EndStep, At, GoesOnAt, IsWhy}
+use C.{DisplayOf, EndStateOn, on_display, takes_on, ReachedOn, PartsOn, station_driving, IsCounted, LastingParts}
+use C.{LastingStep, IsFollowed, IsReading, StandsAt, IsWordHeard, environ_after, reply_to, IsWordRefused, Footing}
+use C.{IsTokenStep, IsUnfit, RecordCounts, RefusedRecord, counted_none}
 use Rattle.ws_lasting.proofs.Holdings.{one_holds, ended, no_more, unfit, not_inside}
 use Rattle.ws_lasting.proofs.Passing.{stands_reading}
 
@@ -127,8 +96,8 @@ module _ {D P U H PlaceV V K R : Type 0} (rules : Rules P U) (d : DisplayOf D U 
             rw (f.0, f.1) (
               record at { so_far = at.so_far ++ v ∷ []; begun = mid.begun },
               (refl, refl, refl, s.1, refl),
-              reads_on at.state whole (at.so_far ++ v ∷ []) (mid.size + 1) mid.passing mid.counts mid.environ_reply named
-                  s.0 (sym same.1)
+              reads_on at.state whole (at.so_far ++ v ∷ []) (mid.size + 1) mid.passing mid.counts mid.environ_reply
+                  named s.0 (sym same.1)
                   (sym same.2 ∙ sym token.0) passing (omega (arith, size, length-append at.so_far (v ∷ []))),
               counted_none mid.counts,
             )

@@ -1,24 +1,8 @@
-use Rattle.std.proofs.Common.{◌≡◌, ℕ, [], ◌∷◌, ◌++◌, refl, inr, length, Some, None, Ok, Err, true, false, Bool}
-use Rattle.std.specs.Prelude.{◌&&◌}
-use Rattle.ws_code.specs.Code.{Rules, IsPrefixFree}
-use Rattle.ws_code.specs.declared.code.Push.{Push}
-use Rattle.ws_code.specs.declared.code.Push.TheVariants.{More, Unit as Whole, Bad}
-use Rattle.ws_code.specs.declared.reason.Reason.{Reason}
-use Rattle.ws_code.proofs.CodeLaws.{Begins}
-use Rattle.ws_telnet.specs.declared.token.Token.{Token}
-use Rattle.ws_telnet.specs.declared.token.Token.TheVariants.{Data, Eor, Telnet as TelnetToken}
-use Rattle.ws_end.specs.declared.refusal.Refusal.TheVariants.{At}
-use Rattle.ws_end.specs.station.Displays.{DisplayOf, on_display}
-use Rattle.ws_end.specs.station.Stations.{ReachedOn}
-use Rattle.ws_lasting.specs.Counting.{IsCounted}
-use Rattle.ws_lasting.specs.Footings.{LastingParts, LastingStep, IsWordHeard, bytes_written}
-use Rattle.ws_lasting.specs.Fronts.{IsWordRefused}
-use Rattle.ws_lasting.specs.Lasting.{may_pass_over, Footing}
-use Rattle.ws_lasting.specs.Negative.{negative}
-use Rattle.ws_lasting.specs.declared.record_counts.RecordCounts.{RecordCounts}
-use Rattle.ws_lasting.specs.declared.record_event.RecordEvent.TheVariants.{Refused}
-use Rattle.ws_lasting.specs.declared.record_event.RefusedRecord.{RefusedRecord}
-use Rattle.ws_lasting.specs.LastingLaws.{counted_none}
+use Rattle.ws_lasting.proofs.Common as C
+use C.{◌≡◌, ℕ, [], ◌∷◌, ◌++◌, refl, inr, length, Some, None, Ok, Err, true, false, Bool, ◌&&◌, Rules, IsPrefixFree}
+use C.{Push, More, Whole, Bad, Reason, Begins, Token, Data, Eor, TelnetToken, At, DisplayOf, on_display, ReachedOn}
+use C.{IsCounted, LastingParts, LastingStep, IsWordHeard, bytes_written, IsWordRefused, may_pass_over, Footing}
+use C.{negative, RecordCounts, Refused, RefusedRecord, counted_none}
 use Rattle.ws_lasting.proofs.Passing.{reads_anew, stands_passing, stands_reading}
 
 -- What comes of a token that is refused: what is told of it, and how the station stands then.

@@ -1,43 +1,17 @@
-use Rattle.std.proofs.Common.{◌≡◌, ℕ, List, [], ◌∷◌, ◌++◌, refl, sym, ap, ◌∙◌, subst, inl, inr, append-nil, append_assoc, arith, length, length-append, take, take_all, get_or, drop, ◌≤◌, ◌<◌, ◌+◌, ◌-◌, Err, Ok, None, Some, IsSome, Option, Result}
-use Rattle.std.proofs.lemmas.List.{take_at}
-use Rattle.std.proofs.Math.Seq.{drop-append_seam}
-use Rattle.ws_code.specs.Code.{AreBytes, IsPrefixFree, Rules}
-use Rattle.ws_code.specs.declared.code.Push.{Push}
-use Rattle.ws_code.specs.declared.code.Push.TheVariants.{Unit as Whole}
-use Rattle.ws_code.specs.declared.reason.Reason.{Reason}
-use Rattle.ws_code.proofs.Bytes.{SpellsBytes, front_bytes}
-use Rattle.ws_code.proofs.CodeLaws.{Begins, CanEnd}
-use Rattle.ws_record.proofs.Common.{AreBytes-front, AllByRecursion-front, AllByRecursion-last, IAC, ◌≢◌}
-use Rattle.ws_telnet.specs.declared.token.Token.{Token}
-use Rattle.ws_telnet.specs.declared.token.Token.TheVariants.{Data}
-use Rattle.ws_telnet.proofs.OneToken.{plain_byte}
-use Rattle.ws_telnet.proofs.Unfinished.{iac_goes_on}
-use Rattle.ws_record.specs.Grammar.{Holds}
-use Rattle.ws_record.specs.OpenPrefix.{BeginsList}
-use Rattle.ws_record.specs.OpenRecord.{CanBeFramed}
-use Rattle.ws_record.specs.Refusal.{IsRefused}
-use Rattle.ws_record.specs.Taking.{ArePlain}
-use Rattle.ws_record.specs.declared.record.Item.{Item}
-use Rattle.ws_record.proofs.Encodings.{holds_data, holds_more}
-use Rattle.ws_record.proofs.Lives.{holds_values}
-use Rattle.ws_end.specs.ActLaws.{bytes_append, bytes_came, came_append}
-use Rattle.ws_end.specs.Acts.{Act, Came, Happen, Happening, IsTrace, all_came, as_list, bytes_of, doing, items_of, protocol_of}
-use Rattle.ws_end.specs.driver.Driven.{Bring, Driven, Driving, GoesOnAt, IsReached, IsWhy, transitions_of}
-use Rattle.ws_end.proofs.EndSteps.{trace_none}
+use Rattle.ws_lasting.proofs.Common as C
+use C.{◌≡◌, ℕ, List, [], ◌∷◌, ◌++◌, refl, sym, ap, ◌∙◌, subst, inl, inr, append-nil, append_assoc, arith, length}
+use C.{length-append, take, take_all, get_or, drop, ◌≤◌, ◌<◌, ◌+◌, ◌-◌, Err, Ok, None, Some, IsSome, Option, Result}
+use C.{take_at, drop-append_seam, AreBytes, IsPrefixFree, Rules, Push, Whole, Reason, SpellsBytes, front_bytes, Begins}
+use C.{CanEnd, AreBytes-front, AllByRecursion-front, AllByRecursion-last, IAC, ◌≢◌, Token, Data, plain_byte}
+use C.{iac_goes_on, Holds, BeginsList, CanBeFramed, IsRefused, ArePlain, Item, holds_data, holds_more, holds_values}
+use C.{bytes_append, bytes_came, came_append, Act, Came, Happen, Happening, IsTrace, all_came, as_list, bytes_of, doing}
+use C.{items_of, protocol_of, Bring, Driven, Driving, GoesOnAt, IsReached, IsWhy, transitions_of, trace_none, EndStep}
+use C.{Refusal, At, Failed, Memory, DisplayOf, OnDisplay, on_display, PartsOn, ReachedOn, AreTakenSo, LeadsOnFrom}
+use C.{IsCounted, LastingOf, LastingParts, LastingStep, IsWordHeard, ReadsOrPasses, StandsAt, Footing, FootingOn}
+use C.{IsTokenStep, Lasts, counted_none, RefusedRecord}
 use Rattle.ws_lasting.proofs.Pushing.{came_one}
-use Rattle.ws_end.specs.declared.end_step.EndStep.{EndStep}
-use Rattle.ws_end.specs.declared.refusal.Refusal.{Refusal}
-use Rattle.ws_end.specs.declared.refusal.Refusal.TheVariants.{At, Failed, Memory}
-use Rattle.ws_end.specs.station.Displays.{DisplayOf, OnDisplay, on_display}
-use Rattle.ws_end.specs.station.Stations.{PartsOn, ReachedOn}
-use Rattle.ws_lasting.specs.Behaviour.{AreTakenSo, LeadsOnFrom}
-use Rattle.ws_lasting.specs.Counting.{IsCounted}
-use Rattle.ws_lasting.specs.Footings.{LastingOf, LastingParts, LastingStep, IsWordHeard, ReadsOrPasses, StandsAt}
-use Rattle.ws_lasting.specs.Lasting.{Footing, FootingOn, IsTokenStep, Lasts}
-use Rattle.ws_lasting.specs.LastingLaws.{counted_none}
-use Rattle.ws_lasting.specs.declared.record_event.RefusedRecord.{RefusedRecord}
 use Rattle.ws_lasting.proofs.Passing.{spoilt_more, stands_passing}
-use Rattle.ws_lasting.proofs.Feeding.{lasts_more}
+use Rattle.ws_lasting.proofs.Feeding.{lasts_more, quiet_then}
 use Rattle.ws_lasting.proofs.Holdings.{fits_before, no_more, one_holds}
 use Rattle.ws_lasting.proofs.TokenSteps.{at_end}
 
@@ -49,18 +23,11 @@ module _ (on : OnDisplay) where
       → Lasts on at (all_came v) (record at { so_far = at.so_far ++ v }) [] []
   lasts_plain [] at fresh are plain =
       (ap (λ x. (record at { so_far = x })) (append-nil at.so_far), refl, refl)
-  lasts_plain (b ∷ v) at fresh are plain = (
-    record at { so_far = at.so_far ++ b ∷ [] },
-    [],
-    [],
-    [],
-    [],
-    (Whole (Data b), (fresh, rw fresh (plain_byte b are.0 plain.0)), (refl, refl, refl, refl, refl)),
-    rw (append_assoc at.so_far (b ∷ []) v) at
-        (lasts_plain v (record at { so_far = at.so_far ++ b ∷ [] }) fresh are.1 plain.1),
-    refl,
-    refl,
-  )
+  lasts_plain (b ∷ v) at fresh are plain =
+      let mid : FootingOn on = record at { so_far = at.so_far ++ b ∷ [] } in
+      quiet_then on (all_came v) b at mid _ [] []
+      (Whole (Data b), (fresh, rw fresh (plain_byte b are.0 plain.0)), (refl, refl, refl, refl, refl))
+      (rw (append_assoc at.so_far (b ∷ []) v) at (lasts_plain v mid fresh are.1 plain.1))
 
   -- what comes of a byte after others at which nothing is written or told
   pub taken_last : (old new : LastingOf on) (at mid : FootingOn on) (front : List ℕ) (byte : ℕ) (word : Push Token)
@@ -94,8 +61,8 @@ at_last came front last is =
 
 module _ {Place U : Type 0} (rules : Rules Place U) (free : IsPrefixFree rules) (begins : Begins rules) where
   -- nothing happens at them
-  pub skipped : {Request : Type 0} {items : List (Item U)} (v : List ℕ) (bytes so_far : List ℕ) (acts : List (Act Request))
-      (hs : List (Happening U Request)) → Holds rules bytes items so_far [] → AreBytes v → ArePlain v
+  pub skipped : {Request : Type 0} {items : List (Item U)} (v : List ℕ) (bytes so_far : List ℕ) (acts : List (Act
+      Request)) (hs : List (Happening U Request)) → Holds rules bytes items so_far [] → AreBytes v → ArePlain v
       → Happen rules bytes items (all_came v ++ acts) hs → Happen rules (bytes ++ v) items acts hs
   skipped [] bytes so_far acts hs h are plain p = rw (append-nil bytes) p
   skipped (b ∷ v) bytes so_far acts hs h are plain (inl p) =

@@ -1,13 +1,6 @@
-use Rattle.std.proofs.Common.{◌≡◌, ℕ, refl, ap, subst, Ok, Err, Result}
-use Rattle.ws_code.specs.declared.code.Push.{Push}
-use Rattle.ws_code.specs.declared.code.Push.TheVariants.{More, Unit as Whole, Bad}
-use Rattle.ws_telnet.specs.declared.token.Token.{Token}
-use Rattle.ws_telnet.specs.declared.token.Token.TheVariants.{Data, Eor, Telnet as TelnetToken}
-use Rattle.ws_end.specs.declared.refusal.Refusal.{Refusal}
-use Rattle.ws_end.specs.declared.refusal.Refusal.TheVariants.{At, Failed, Memory}
-use Rattle.ws_end.specs.station.Displays.{OnDisplay}
-use Rattle.ws_lasting.specs.Footings.{LastingOf, LastingStep, IsByteTaken, IsFollowed, IsWordHeard}
-use Rattle.ws_lasting.specs.Lasting.{FootingOn, IsTokenStep}
+use Rattle.ws_lasting.proofs.Common as C
+use C.{◌≡◌, ℕ, refl, ap, subst, Ok, Err, Result, Push, More, Whole, Bad, Token, Data, Eor, TelnetToken, Refusal, At}
+use C.{Failed, Memory, OnDisplay, LastingOf, LastingStep, IsByteTaken, IsFollowed, IsWordHeard, FootingOn, IsTokenStep}
 
 module _ (on : OnDisplay) (old new : LastingOf on) (at : FootingOn on) (byte : ℕ) (word : Push Token) where
   -- what comes of a byte is what comes of its word

@@ -1,11 +1,7 @@
-use Rattle.std.proofs.Common.{◌≡◌, ℕ, List, [], ◌∷◌, ◌++◌, refl, sym, ap, ◌∙◌, inl, inr, ◌⊎◌, subst, append-nil, append_assoc}
-use Rattle.std.proofs.lemmas.Grind.{flat_map-append}
-use Rattle.ws_code.specs.Code.{IsChain, IsCut, IsSpelled, IsUnfinished, Stands, spelling_of}
-use Rattle.ws_code.proofs.CodeLaws.{no_end, one_cut}
-use Rattle.ws_code.proofs.Lists.{same_last}
-use Rattle.ws_telnet.specs.Token.{token_rules}
-use Rattle.ws_telnet.specs.TokenLaws.{token_begins, token_prefix_free}
-use Rattle.ws_telnet.specs.declared.token.Token.{Token}
+use Rattle.ws_lasting.proofs.Common as C
+use C.{◌≡◌, ℕ, List, [], ◌∷◌, ◌++◌, refl, sym, ap, ◌∙◌, inl, inr, ◌⊎◌, subst, append-nil, append_assoc, flat_map-append}
+use C.{IsChain, IsCut, IsSpelled, IsUnfinished, Stands, spelling_of, no_end, one_cut, same_last, token_rules}
+use C.{token_begins, token_prefix_free, Token}
 
 -- What a byte more makes of tokens, by how the bytes with it are cut.
 

@@ -1,5 +1,4 @@
-use Rattle.std.proofs.Common.{[]}
-use Rattle.ws_record.proofs.Encodings.{holds_nothing}
+use Rattle.ws_lasting.proofs.Common.{[], holds_nothing}
 use Rattle.ws_lasting.proofs.AsStation.{as_station}
 use Rattle.ws_lasting.proofs.laws.lasts_as_station.Goals as goal
 

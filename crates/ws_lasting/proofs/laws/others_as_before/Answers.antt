@@ -1,4 +1,4 @@
-use Rattle.ws_end.specs.station.Displays.{on_display}
+use Rattle.ws_lasting.proofs.Common.{on_display}
 use Rattle.ws_lasting.proofs.Others.{others_as_before}
 use Rattle.ws_lasting.proofs.laws.others_as_before.Goals as goal
 

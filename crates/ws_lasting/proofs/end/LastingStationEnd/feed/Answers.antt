@@ -1,4 +1,4 @@
-use Rattle.ws_end.specs.station.Displays.{on_display}
+use Rattle.ws_lasting.proofs.Common.{on_display}
 use Rattle.ws_lasting.proofs.Conducting.{takes_some}
 use Rattle.ws_lasting.proofs.end.LastingStationEnd.feed.Goals as goal
 

@@ -1,5 +1,4 @@
-use Rattle.std.proofs.Common.{◌≤◌, arith}
-use Rattle.std.proofs.lemmas.List.{length-take, take-take}
+use Rattle.ws_lasting.proofs.Common.{◌≤◌, arith, length-take, take-take}
 use Rattle.ws_lasting.proofs.lasting.LastingStation.feed.Goals as goal
 
 pub returns-clause-taken : goal.returns-clause-taken

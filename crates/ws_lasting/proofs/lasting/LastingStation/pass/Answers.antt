@@ -1,7 +1,4 @@
-use Rattle.std.proofs.Common.{◌-◌, ◌∙◌, None, Some, ap, refl, sym, rules}
-use Rattle.ws_lasting.specs.declared.lasting_reply.LastingReply.TheVariants.{Station}
-use Rattle.ws_lasting.specs.Footings.{LastingParts}
-use Rattle.ws_lasting.specs.declared.record_event.RecordEvent.TheVariants.{Refused}
+use Rattle.ws_lasting.proofs.Common.{◌-◌, ◌∙◌, None, Some, ap, refl, sym, rules, Station, LastingParts, Refused}
 use Rattle.ws_lasting.proofs.Placing.{placed_before}
 use Rattle.ws_lasting.proofs.Passing.{passes_more, passes_data, passes_telnet, passes_eor}
 use Rattle.ws_lasting.proofs.lasting.LastingStation.pass.Goals as goal

@@ -1,9 +1,6 @@
-use Rattle.std.proofs.Common.{ℕ, List, [], None, Option, ap, sym, subst, subst₂, arith, take, take_all, length}
-use Rattle.ws_end.specs.Acts.{all_came, as_list}
-use Rattle.ws_end.specs.station.Displays.{on_display}
-use Rattle.ws_lasting.specs.Behaviour.{LeadsOnFrom}
-use Rattle.ws_lasting.specs.Footings.{AtLasting, LastingParts}
-use Rattle.ws_lasting.specs.declared.record_event.RecordEvent.{RecordEvent}
+use Rattle.ws_lasting.proofs.Common as C
+use C.{ℕ, List, [], None, Option, ap, sym, subst, subst₂, arith, take, take_all, length, all_came, as_list, on_display}
+use C.{LeadsOnFrom, AtLasting, LastingParts, RecordEvent}
 use Rattle.ws_lasting.proofs.Feeding.{quiet_front}
 use Rattle.ws_lasting.proofs.Placing.{placed_before}
 use Rattle.ws_lasting.proofs.Runs.{run_bytes, run_passed}

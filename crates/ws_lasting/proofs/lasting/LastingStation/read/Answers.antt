@@ -1,10 +1,7 @@
-use Rattle.std.proofs.Common.{◌≡◌, ◌<◌, ◌+◌, ◌-◌, ◌^◌, Ok, length, ap, ◌∙◌, sym, subst, subst₂, arith, rules, inl, inr}
-use Rattle.ws_end.specs.declared.refusal.Refusal.TheVariants.{Failed, Memory}
-use Rattle.ws_end.specs.station.Displays.{on_display}
-use Rattle.ws_end.specs.station.Stations.{station_driving}
-use Rattle.ws_lasting.specs.Footings.{LastingParts, IsRefusalPlaced, IsRefusalPlacedSo, IsWordHeard}
-use Rattle.ws_lasting.specs.Lasting.{IsTokenStep}
-use Rattle.ws_lasting.specs.declared.record_counts.RecordCounts.{RecordCounts}
+use Rattle.ws_lasting.proofs.Common as C
+use C.{◌≡◌, ◌<◌, ◌+◌, ◌-◌, ◌^◌, Ok, length, ap, ◌∙◌, sym, subst, subst₂, arith, rules, inl, inr, Failed, Memory}
+use C.{on_display, station_driving, LastingParts, IsRefusalPlaced, IsRefusalPlacedSo, IsWordHeard, IsTokenStep}
+use C.{RecordCounts}
 use Rattle.ws_lasting.proofs.Placing.{placed_on}
 use Rattle.ws_lasting.proofs.Pushing.{pushed, refused}
 use Rattle.ws_lasting.proofs.ReadingOn.{fits_so, heard, held_so, judged}
@@ -20,14 +17,12 @@ returns-in-Ok g c =
     let old = c.args.self.now in
     let same = c.hear.ensures.same in
     let taken : c.hear.new.self.taken ≡ old.taken = ap (λ (z : LastingParts _ _). z.taken) same in
+    let kept = followed on c.hear.new.self c.follow.new.self c.args.word c.in-Ok.step.reply c.follow.result
+    c.follow.ensures in
     record {
       heard = λ at r step size passing works named. (
-          let few : length r.bytes + 1 < 2 ^ 64 = (let n = r.few in omega (
-            arith,
-            n,
-            c.requires.counted,
-            c.requires.few,
-          )) in
+          let n = r.few in
+          let few : length r.bytes + 1 < 2 ^ 64 = omega (arith, n, c.requires.counted, c.requires.few) in
           subst (λ (z : RecordCounts). IsWordHeard on z c.follow.new.self at (old.taken - 1) c.args.word
           (Ok c.follow.result))
           (ap (λ (z : LastingParts _ _). z.counts) same)
@@ -36,7 +31,7 @@ returns-in-Ok g c =
           r) c.args.byte c.hear.new.self (ap (λ (z : LastingParts _ _). z.passing) same ∙ passing)
           (ap (λ (z : LastingParts _ _). z.ended) same ∙ works)
           (ap (λ (z : LastingParts _ _). z.environ) same ∙ named)
-          (let n = r.few in omega (arith, n, taken, c.requires.counted))
+          (omega (arith, n, taken, c.requires.counted))
           (ap (λ (z : LastingParts _ _). z.size) same ∙ size) (old.taken - 1) c.in-Ok.step
           c.follow.new.self c.follow.result c.args.word
           (subst (λ x. IsTokenStep at.begun c.args.byte x c.args.word) (sym (ap (λ (z : LastingParts _ _). z.begun)
@@ -44,18 +39,10 @@ returns-in-Ok g c =
           (pushed (station_driving on) old.station c.hear.new.self.station c.args.byte r.bytes r.items at.state
           r.reached few c.in-Ok.step c.in-Ok.ensures.heard) c.follow.ensures c.in_default.not-Bad));
       placed = λ none. subst (λ (z : LastingParts _ _). IsRefusalPlaced z (old.taken - 1) c.follow.new.self
-          c.follow.result.event) same (placed_on on c.hear.new.self c.follow.new.self (old.taken - 1) c.args.word c.in-Ok.step.reply c.follow.result
-          c.follow.ensures (ap (λ (z : LastingParts _ _). z.passing) same ∙ none)
-          (omega (
-            arith,
-            c.requires.counted,
-            taken,
-            (followed on c.hear.new.self c.follow.new.self c.args.word c.in-Ok.step.reply c.follow.result
-                c.follow.ensures).1,
-          )));
-      same =
-          let kept = followed on c.hear.new.self c.follow.new.self c.args.word c.in-Ok.step.reply
-          c.follow.result c.follow.ensures in (kept.0 ∙ ap (λ (z : LastingParts _ _). z.begun) same, kept.1 ∙ taken);
+          c.follow.result.event) same (placed_on on c.hear.new.self c.follow.new.self (old.taken - 1) c.args.word
+          c.in-Ok.step.reply c.follow.result c.follow.ensures (ap (λ (z : LastingParts _ _). z.passing) same ∙ none)
+          (omega (arith, c.requires.counted, taken, kept.1)));
+      same = (kept.0 ∙ ap (λ (z : LastingParts _ _). z.begun) same, kept.1 ∙ taken);
       after = search rules;
     }
 

@@ -1,15 +1,7 @@
-use Rattle.std.proofs.Common.{rules, ◌≡◌, ◌∷◌, ◌∙◌, ◌-◌, [], None, Some, Ok, sym, ap, subst, subst₂, arith, true, false}
-use Rattle.std.specs.Prelude.{◌&&◌}
-use Rattle.ws_nego.specs.Station.{station_allows_records}
-use Rattle.ws_end.specs.station.Displays.{on_display}
-use Rattle.ws_end.specs.station.Stations.{ReachedOn}
-use Rattle.ws_lasting.specs.Counting.{IsCounted}
-use Rattle.ws_lasting.specs.Footings.{LastingParts, IsWordHeard}
-use Rattle.ws_lasting.specs.Negative.{is_of_record, negative}
-use Rattle.ws_lasting.specs.declared.lasting_reply.LastingReply.TheVariants.{Station}
-use Rattle.ws_lasting.specs.declared.record_counts.RecordCounts.{RecordCounts}
-use Rattle.ws_lasting.specs.declared.record_event.RecordEvent.TheVariants.{Refused}
-use Rattle.ws_lasting.specs.declared.record_event.RefusedRecord.{RefusedRecord}
+use Rattle.ws_lasting.proofs.Common as C
+use C.{rules, ◌≡◌, ◌∷◌, ◌∙◌, ◌-◌, [], None, Some, Ok, sym, ap, subst, subst₂, arith, true, false, ◌&&◌}
+use C.{station_allows_records, on_display, ReachedOn, IsCounted, LastingParts, IsWordHeard, is_of_record, negative}
+use C.{Station, RecordCounts, Refused, RefusedRecord}
 use Rattle.ws_lasting.proofs.Placing.{placed_here}
 use Rattle.ws_lasting.proofs.Refusing.{refused_at_end, refused_inside, refused_last}
 use Rattle.ws_lasting.proofs.lasting.LastingStation.refuse.Goals as goal
@@ -58,8 +50,8 @@ returns-clause-heard g c = λ at items byte word stands step refused yes no size
     (ap (λ (z : LastingParts _ _). z.ended) closed ∙ ap (λ (z : LastingParts _ _). z.ended) same ∙ works)
     (ap (λ (z : LastingParts _ _). z.environ) closed ∙ ap (λ (z : LastingParts _ _). z.environ) same ∙ named)
     (subst (λ x. ReachedOn on x [] [] at.state)
-    (sym (ap (λ (z : LastingParts _ _). z.station) closed ∙ ap (λ (z : LastingParts _ _). z.station) c.pass_over.ensures))
-    (c.revive.ensures.led items at.state stands))
+    (sym (ap (λ (z : LastingParts _ _). z.station) closed ∙ ap (λ (z : LastingParts _ _). z.station)
+    c.pass_over.ensures)) (c.revive.ensures.led items at.state stands))
     (subst (λ o. (is_of_record c.args.reason && station_allows_records o) ≡ true) stands.options
     (sym c.may_pass_over.ensures ∙ search (rules, c.if-not-may_pass_over.false)))
     (c.args.self.now.taken - 1) c.args.self.now.size size

@@ -1,5 +1,4 @@
-use Rattle.std.proofs.lemmas.List.{take_more}
-use Rattle.ws_record.proofs.Common.{AllByRecursion-append}
+use Rattle.ws_lasting.proofs.Common.{take_more, AllByRecursion-append}
 use Rattle.ws_lasting.proofs.lasting.LastingStation.run_length.Goals as goal
 
 pub loop-index-preserved : goal.loop-index-preserved

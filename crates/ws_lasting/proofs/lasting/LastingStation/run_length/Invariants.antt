@@ -1,5 +1,4 @@
-use Rattle.std.proofs.Common.{take}
-use Rattle.ws_record.specs.Taking.{ArePlain}
+use Rattle.ws_lasting.proofs.Common.{take, ArePlain}
 use Rattle.ws_lasting.proofs.lasting.LastingStation.run_length.Given as goal
 
 -- no byte so far is FF

@@ -1,5 +1,4 @@
-use Rattle.std.proofs.Common.{refl, arith}
-use Rattle.ws_telnet.proofs.OneToken.{fresh_begins}
+use Rattle.ws_lasting.proofs.Common.{refl, arith, fresh_begins}
 use Rattle.ws_lasting.proofs.Passing.{reads_anew}
 use Rattle.ws_lasting.proofs.lasting.LastingStation.start.Goals as goal
 

@@ -1,4 +1,4 @@
-use Rattle.ws_telnet.proofs.OneToken.{fresh_begins}
+use Rattle.ws_lasting.proofs.Common.{fresh_begins}
 use Rattle.ws_lasting.proofs.lasting.LastingStation.step.Goals as goal
 
 pub invariant_of-self : goal.invariant_of-self

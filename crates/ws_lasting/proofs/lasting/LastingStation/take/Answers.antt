@@ -1,11 +1,6 @@
-use Rattle.std.proofs.Common.{ℕ, List, [], Option, sym, subst₂, take, arith}
-use Rattle.std.proofs.lemmas.Result.{on_ok_weaker}
-use Rattle.ws_code.proofs.Pieces.{bytes_on, left_of}
-use Rattle.ws_end.specs.Acts.{all_came, as_list}
-use Rattle.ws_end.specs.station.Displays.{on_display}
-use Rattle.ws_lasting.specs.Behaviour.{LeadsOnFrom}
-use Rattle.ws_lasting.specs.declared.record_event.RecordEvent.{RecordEvent}
-use Rattle.ws_lasting.specs.LastingLaws.{leads_none}
+use Rattle.ws_lasting.proofs.Common as C
+use C.{ℕ, List, [], Option, sym, subst₂, take, arith, on_ok_weaker, bytes_on, left_of, all_came, as_list, on_display}
+use C.{LeadsOnFrom, RecordEvent, leads_none}
 use Rattle.ws_lasting.proofs.Feeding.{front_silent, quiet_at, quiet_on, taken_after}
 use Rattle.ws_lasting.proofs.Placing.{placed_after, placed_none}
 use Rattle.ws_lasting.proofs.lasting.LastingStation.take.Goals as goal

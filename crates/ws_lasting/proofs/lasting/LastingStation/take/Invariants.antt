@@ -1,8 +1,5 @@
-use Rattle.std.proofs.Common.{length, ◌-◌, ◌≤◌, ◌+◌, ◌≡◌, [], None, take}
-use Rattle.ws_end.specs.Acts.{all_came}
-use Rattle.ws_end.specs.station.Displays.{on_display}
-use Rattle.ws_lasting.specs.Behaviour.{LeadsOnFrom}
-use Rattle.ws_lasting.specs.Footings.{AtLasting, IsRefusalPlaced}
+use Rattle.ws_lasting.proofs.Common as C
+use C.{length, ◌-◌, ◌≤◌, ◌+◌, ◌≡◌, [], None, take, all_came, on_display, LeadsOnFrom, AtLasting, IsRefusalPlaced}
 use Rattle.ws_lasting.proofs.lasting.LastingStation.take.Given as goal
 
 -- the bytes so far were taken, where a record is refused among them is known, and nothing was written or told at them

@@ -1,9 +1,7 @@
-use Rattle.std.proofs.Common.{rules, ◌≡◌, ◌+◌, ◌-◌, None, Some, Option, sym, ap, ◌∙◌, subst, subst₂, arith}
-use Rattle.ws_end.specs.station.Displays.{on_display}
-use Rattle.ws_lasting.specs.Footings.{LastingParts, IsRefusalPlacedSo, ReadsOrPasses, IsReading, IsPassingOver, IsWordHeard}
-use Rattle.ws_lasting.specs.Lasting.{IsTokenStep}
-use Rattle.ws_lasting.specs.declared.record_counts.RecordCounts.{RecordCounts}
-use Rattle.ws_lasting.specs.declared.record_event.RefusedRecord.{RefusedRecord}
+use Rattle.ws_lasting.proofs.Common as C
+use C.{rules, ◌≡◌, ◌+◌, ◌-◌, None, Some, Option, sym, ap, ◌∙◌, subst, subst₂, arith, on_display, LastingParts}
+use C.{IsRefusalPlacedSo, ReadsOrPasses, IsReading, IsPassingOver, IsWordHeard, IsTokenStep, RecordCounts}
+use C.{RefusedRecord}
 use Rattle.ws_lasting.proofs.Taking.{taken_so}
 use Rattle.ws_lasting.proofs.lasting.LastingStation.take_byte.Goals as goal
 

@@ -1,7 +1,4 @@
-use Rattle.std.proofs.Common.{◌≡◌, refl, sym, subst, arith}
-use Rattle.std.proofs.lemmas.List.{take_more}
-use Rattle.ws_end.specs.station.Displays.{on_display}
-use Rattle.ws_lasting.specs.Fronts.{IsFrontTaken}
+use Rattle.ws_lasting.proofs.Common.{◌≡◌, refl, sym, subst, arith, take_more, on_display, IsFrontTaken}
 use Rattle.ws_lasting.proofs.Feeding.{front_so, taken_alone}
 use Rattle.ws_lasting.proofs.lasting.LastingStation.take_front.Goals as goal
 
