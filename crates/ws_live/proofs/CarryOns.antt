@@ -11,7 +11,7 @@ use Rattle.ws_code.proofs.DeviceLaws.{went_out_both}
 use Rattle.ws_text.specs.Printed.{IsPrinted}
 use Rattle.ws_live.specs.declared.live.AfterUnwell.TheVariants.{GoOn}
 use Rattle.ws_live.specs.declared.live.Closing.{Closing}
-use Rattle.ws_live.specs.declared.live.Closing.TheVariants.{Nothing, Done, Declined, Late, Ended, Stopped, Closed}
+use Rattle.ws_live.specs.declared.live.Closing.TheVariants.{Done}
 use Rattle.ws_live.specs.live.LiveText.{HaveRun, LinesDo, account, line_result, stops, line_printing}
 use Rattle.ws_live.specs.live.CarryingOn.{CarriesOn, carrying_on, goes_well, is_told}
 use Rattle.ws_live.proofs.LiveRuns.{run_more, fails_behind}
@@ -19,13 +19,8 @@ use Rattle.ws_live.proofs.LiveRuns.{run_more, fails_behind}
 -- A line that is carried out again and again.
 
 told_done : (closing : Closing) → is_told closing ≡ true → closing ≡ Done
-told_done Nothing e = absurd (false≢true e)
 told_done Done e = refl
-told_done Declined e = absurd (false≢true e)
-told_done Late e = absurd (false≢true e)
-told_done Ended e = absurd (false≢true e)
-told_done Stopped e = absurd (false≢true e)
-told_done Closed e = absurd (false≢true e)
+told_done closing e = absurd (false≢true e)
 
 -- one that closed with something that was told stops nothing
 pub told_goes : (closing : Closing) → is_told closing ≡ true → stops closing ≡ false

@@ -1,6 +1,5 @@
 pub mod CarryOns
 pub mod ConnectRuns
-pub mod FollowedKeys
 pub mod LiveOutput
 pub mod LiveRuns
 pub mod ServeRuns

@@ -3,6 +3,7 @@
 use Rattle.std.specs.Prelude.{Result, Ok, Err, ◌||◌, not}
 use Rattle.std.proofs.Common.{◌≡◌, ℕ, ◌+◌, ◌<◌, List, [], ◌∷◌, ◌++◌, Bool, true, false, ◌&&◌, length, take, drop, inl}
 use Rattle.std.proofs.Common.{inr, refl, sym, ap, ◌∙◌, subst, arith, append_assoc, suc, get_or, take-append-drop}
+use Rattle.std.proofs.Math.Bool.{and-true, and_assoc}
 use Rattle.std.proofs.Math.Seq.{drop-cons}
 use Rattle.std.proofs.lemmas.List.{append-nil, take_more}
 use Rattle.ws_code.specs.Device.{Writer, WentOut}
@@ -23,14 +24,6 @@ use Rattle.ws_live.specs.live.LiveText.{Account, LineResult, LinesDo, account, l
 use Rattle.ws_live.specs.live.LiveText.{lines_printing}
 
 -- Lines that are carried out one after another.
-
-and_true : (b : Bool) → (b && true) ≡ b
-and_true true = refl
-and_true false = refl
-
-and_assoc : (a b c : Bool) → ((a && b) && c) ≡ (a && (b && c))
-and_assoc true b c = refl
-and_assoc false b c = refl
 
 or_left : (a b : Bool) → (a || b) ≡ false → a ≡ false
 or_left true b e = e
@@ -57,7 +50,7 @@ module _ {L P : Type 0} (runs : LinesDo L P) where
     subst (λ (p : P). runs line p (line_result (Ok closing) last) to) h.0 r,
     s,
     (refl, refl, refl),
-    ap (λ b. b && is_well closing) h.1 ∙ sym (and_true (is_well closing)),
+    ap (λ b. b && is_well closing) h.1 ∙ sym (and-true (is_well closing)),
     ap (λ z. z ++ last) h.2 ∙ sym (append-nil last),
   )
   run_more after from mid to (first ∷ before) line came last closing h r s = (
@@ -72,16 +65,8 @@ module _ {L P : Type 0} (runs : LinesDo L P) where
     ap (λ z. z ++ last) h.8 ∙ append_assoc h.1 h.3.text last,
   )
 
-  -- one line, whose text went out or didn't
+  -- one line, of whose text what is out is out, at a fault
   module _ {O : Type 0} (writer : Writer O) (from to : P) (old new : O) (line : L) where
-    pub line_out : (closing : Closing) (text : List ℕ) → runs line from (line_result (Ok closing) text) to
-        → IsOut writer old new Open text → IsPrinted writer old new (line_printing runs from line to) (Ok closing)
-    line_out closing text r out = (text, r, out)
-
-    pub line_cut : (closing : Closing) (text : List ℕ) → runs line from (line_result (Ok closing) text) to
-        → IsOut writer old new Failed text → IsPrinted writer old new (line_printing runs from line to) (Err Write)
-    line_cut closing text r out = inr (text, inl (refl, (closing, r)), out)
-
     pub line_failed : (fault : Fault) (output : Output) (text : List ℕ) → runs line from (line_result
         (Err fault) text) to
         → IsOut writer old new output text → IsPrinted writer old new (line_printing runs from line to) (Err fault)

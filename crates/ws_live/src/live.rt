@@ -15,6 +15,7 @@ pub(crate) mod host_closing;
 pub(crate) mod live_station;
 pub(crate) mod pressing;
 pub(crate) mod repeated;
+pub(crate) mod sentences;
 pub(crate) mod serve;
 pub(crate) mod waiting;
 pub(crate) mod watch;
@@ -311,9 +312,7 @@ fn put_closing_word<O: Sink>(
         Closing::Ended => "ended",
         _ => return output,
     };
-    let output = put_text(out, output, word);
-    let output = put_line_behind(out, output, line);
-    put_text(out, output, "\n")
+    texts!(word, ByLine(line), "\n").put_to(out, output)
 }
 
 fn ready_word(ready: bool, closing: Closing) -> &'static str
@@ -328,13 +327,18 @@ fn ready_word(ready: bool, closing: Closing) -> &'static str
     }
 }
 
-// Writes the number of a script's line, after a blank and in parentheses, where one is told.
-pub(crate) fn put_line_behind<O: Sink>(out: &mut O, output: Output, line: Option<u64>) -> Output
-    ensures { Prints O.writer out.old out.new output result (Spec.line_behind line) }
-{
-    match line {
-        None => output,
-        Some(number) => texts!(" (line ", Number(number), ")").put_to(out, output),
+/// The number of a script's line, after a blank and in parentheses, where one is told.
+#[derive(Clone, Copy)]
+pub(crate) struct ByLine(pub(crate) Option<u64>);
+
+impl Text for ByLine {
+    ghost text = { λ by. Spec.line_behind by.0 };
+
+    fn put_to<S: Sink>(&self, sink: &mut S, output: Output) -> Output {
+        match self.0 {
+            None => output,
+            Some(number) => texts!(" (line ", Number(number), ")").put_to(sink, output),
+        }
     }
 }
 
@@ -344,10 +348,8 @@ pub fn put_bad<O: Sink>(out: &mut O, output: Output, cause: &str) -> Carried
     ensures text { Prints O.writer out.old out.new output result.output
         (Spec.bad_text cause.now) }
 {
-    let output = put_text(out, output, "bad line: ");
-    let output = put_text(out, output, cause);
     Carried {
-        output: put_text(out, output, "\n"),
+        output: texts!("bad line: ", cause, "\n").put_to(out, output),
         outcome: Ok(Closing::Declined),
     }
 }

@@ -1,8 +1,8 @@
 -- What a line of a script for a station does there, and what it prints.
 
-use Rattle.std.specs.Prelude.{◌≡◌, ◌≢◌, ℕ, ◌<◌, List, [], ◌∷◌, ◌++◌, ◌⊎◌, Bool, true, false, ◌&&◌, Option, None}
+use Rattle.std.specs.Prelude.{◌≡◌, ℕ, ◌<◌, List, [], ◌∷◌, ◌++◌, ◌⊎◌, Bool, true, false, ◌&&◌, Option, None}
 use Rattle.std.specs.Prelude.{Some}
-use Rattle.std.specs.Prelude.{Result, Ok, Err, string_bytes, length, if◌then◌else◌, codes, encode_utf8}
+use Rattle.std.specs.Prelude.{Result, Ok, Err, MatchResult, string_bytes, length, if◌then◌else◌, codes, encode_utf8}
 use Rattle.std.specs.List.{flat_map, list_all}
 use Rattle.std.specs.Option.{is_none}
 use Rattle.ws_code.specs.Device.{Devices, most_reads, one_more}
@@ -10,7 +10,7 @@ use Rattle.ws_code.specs.declared.fault.Fault.{Fault}
 use Rattle.ws_code.specs.declared.fault.Fault.TheVariants as fault
 use Rattle.ws_end.specs.Acts.{Did}
 use Rattle.ws_end.specs.attached.Attachments.{AttachedParts, HaveLedUnwritten, HasHeard, IsHearFault}
-use Rattle.ws_end.specs.attached.Requests.{HasActed, is_done}
+use Rattle.ws_end.specs.attached.Requests.{HasActed}
 use Rattle.ws_end.specs.declared.attached.acted.Acted.{Acted}
 use Rattle.ws_end.specs.declared.attached.acted.Acted.TheVariants as acted
 use Rattle.ws_end.specs.declared.station.key_fault.KeyFault.{KeyFault}
@@ -18,6 +18,7 @@ use Rattle.ws_session.specs.declared.world.Event.TheVariants.{StationRefused}
 use Rattle.ws_printing.specs.FieldLines.{AreFieldLines}
 use Rattle.ws_printing.specs.PlaceAndReason.{place_and_reason}
 use Rattle.ws_printing.specs.PlayLines.{event_text, key_fault_name}
+use Rattle.ws_live.specs.live.Sentences.{sentence_line, station_sentences}
 use Rattle.ws_printing.specs.ReportLines.{IsReportText, note_line}
 use Rattle.ws_printing.specs.ScreenLines.{IsDisplayText, look}
 use Rattle.ws_printing.specs.ShownTexts.{BeginsAt, ShowsText}
@@ -30,7 +31,7 @@ use Rattle.ws_script.specs.declared.lines.connect_line.StationLine.TheVariants.{
 use Rattle.ws_script.specs.declared.lines.connect_line.Awaited.{Awaited}
 use Rattle.ws_script.specs.declared.lines.connect_line.Awaited.TheVariants.{Turn, Record, Text, At, Quiet}
 use Rattle.ws_script.specs.lines.Stroking.{stroke_keys}
-use Rattle.ws_live.specs.live.LiveText.{Account, LineResult, LinesDo, account, bad_outcome, bad_text, line_behind}
+use Rattle.ws_live.specs.live.LiveText.{LineResult, LinesDo, bad_outcome, bad_text, line_behind}
 use Rattle.ws_live.specs.live.LiveText.{line_result}
 use Rattle.ws_live.specs.live.Operating.{LiveStation, station_page, station_screen}
 use Rattle.ws_live.specs.live.Watches.{InTime, WatchTells, WatchTimes, WatchedDevices}
@@ -38,6 +39,8 @@ use Rattle.ws_live.specs.declared.live.Closing.{Closing}
 use Rattle.ws_live.specs.declared.live.Closing.TheVariants.{Nothing, Done, Declined, Late, Ended, Stopped}
 use Rattle.ws_live.specs.declared.live.LiveSession.{LiveSession}
 use Rattle.ws_live.specs.declared.live.Telling.{Telling}
+use Rattle.ws_live.specs.declared.live.pressing.Untaken.{Untaken}
+use Rattle.ws_live.specs.declared.live.pressing.Untaken.TheVariants.{NoSuchField, Refused, Unwritten}
 use Rattle.ws_live.specs.declared.live.waiting.Waited.{Waited}
 use Rattle.ws_live.specs.declared.live.waiting.Waited.TheVariants.{Met, Late as WasLate, Ended as HasEnded, Failed}
 use Rattle.ws_live.specs.declared.live.watch.WaitSpan.{WaitSpan}
@@ -74,15 +77,16 @@ waited_outcome well HasEnded = Ok Ended
 waited_outcome well (Failed (fault.Refused place reason)) = Ok Stopped
 waited_outcome well (Failed why) = Err why
 
--- what the end of a wait prints: the station's refusal of a byte, or nothing
+-- what the end of a wait prints: the station's refusal of a byte and what its reason says, or nothing
 abbrev pub waited_text : Waited → List ℕ
 waited_text (Failed (fault.Refused place reason)) = event_text (StationRefused place reason)
+    ++ station_sentences reason
 waited_text waited = []
 
--- what is printed of a record: where in the session and why it was refused, if it was
+-- what is printed of a record: where in the session and why it was refused, if it was, and what the reason says
 abbrev pub record_text : Option PlaceAndReason → List ℕ
 record_text None = []
-record_text (Some why) = codes "record refused at " ++ place_and_reason why.0 why.1
+record_text (Some why) = codes "record refused at " ++ place_and_reason why.0 why.1 ++ sentence_line why.1
 
 -- none of the records was refused
 abbrev pub none_refused : List (Option PlaceAndReason) → Bool
@@ -122,14 +126,17 @@ abbrev pub key_refused_line : Option ℕ → Option ℕ → KeyFault → List �
 key_refused_line line entered why =
     codes "key refused " ++ key_fault_name why ++ entered_behind entered ++ line_behind line ++ codes "\n"
 
--- what is printed of a key that enters this: where it is refused, its line
-abbrev pub key_refused_text : Option ℕ → Option ℕ → Acted KeyFault → List ℕ
-key_refused_text line entered acted.Done = []
-key_refused_text line entered (acted.Refused why) = key_refused_line line entered why
+-- what is printed of keys by a line of this number: which was refused, or that the screen has no field of the number
+abbrev pub pressed_text : Option ℕ → Result (Unit {0}) Untaken → List ℕ
+pressed_text line (Err (Refused entered why)) = key_refused_line line entered why
+pressed_text line (Err NoSuchField) = codes "field refused NoSuchField" ++ line_behind line ++ codes "\n"
+pressed_text line pressed = []
 
--- what is printed where the screen has no field of the number
-abbrev pub no_field_line : Option ℕ → List ℕ
-no_field_line line = codes "field refused NoSuchField" ++ line_behind line ++ codes "\n"
+-- how they close
+abbrev pub pressed_outcome : Result (Unit {0}) Untaken → Result Closing Fault
+pressed_outcome (Ok taken) = Ok Done
+pressed_outcome (Err (Unwritten why)) = Err why
+pressed_outcome (Err untaken) = Ok Declined
 
 -- how keys close that close so, and one after them
 abbrev pub closing_of_both : Closing → Closing → Closing
@@ -166,33 +173,43 @@ module _ {S K : Type 0} (at : LiveStation) (devices : Devices S K) where
   HasPressedUnwritten key from to =
       HaveLedUnwritten (at.keyed key).behaviour devices from to (Did (at.keyed key).request ∷ [])
 
-  -- after a key that came to this, the one that follows it was pressed, if one does; where the key was refused, none
-  -- was. What the second comes to isn't told.
-  abbrev pub HasFollowed : Option at.Key → Acted KeyFault → AttachedStation → AttachedStation → Type 0
-  HasFollowed None acted from to = to ≡ from
-  HasFollowed (Some next) acted.Done from to = (untold : Acted KeyFault) × HasPressed next from untold to
-  HasFollowed (Some next) (acted.Refused why) from to = to ≡ from
+  -- what the key comes to that follows one that was taken, if one does: why it is refused isn't told
+  abbrev pub Followed : Option at.Key → AttachedStation → Result (Unit {0}) Untaken → AttachedStation → Type 0
+  Followed None from came to = (to ≡ from) × (came ≡ Ok tt)
+  Followed (Some next) from (Ok taken) to = (untold : Acted KeyFault) × HasPressed next from untold to
+  Followed (Some next) from (Err why) to = HasPressedUnwritten next from to × (why ≡ Unwritten fault.Write)
 
-  -- a key was pressed, and the one that follows it
-  abbrev pub IsKeyPressed : at.Pressed → AttachedStation → Acted KeyFault → AttachedStation → Type 0
-  IsKeyPressed key from acted to = (mid : AttachedStation) × HasPressed (at.typing.typed from.end key) from acted mid
-      × HasFollowed (at.typing.follows from.end key) acted mid to
+  -- what a key comes to: it is taken, and the one that follows it is pressed; or it is refused, and none is; or what it
+  -- sends doesn't go out
+  abbrev pub KeyComes : at.Pressed → AttachedStation → Result (Unit {0}) Untaken → AttachedStation → Type 0
+  KeyComes key from came to =
+      ((mid : AttachedStation) × HasPressed (at.typing.typed from.end key) from acted.Done mid
+      × Followed (at.typing.follows from.end key) mid came to)
+      ⊎ (((why : KeyFault) × HasPressed (at.typing.typed from.end key) from (acted.Refused why) to
+      × (came ≡ Err (Refused (at.words.entered key) why)))
+      ⊎ (HasPressedUnwritten (at.typing.typed from.end key) from to × (came ≡ Err (Unwritten fault.Write))))
 
-  -- of a key that was carried out, the one that follows it was pressed, and what that sends didn't go out
-  abbrev pub HasFollowedUnwritten : Option at.Key → AttachedStation → AttachedStation → Type 0
-  HasFollowedUnwritten None from to = ⊥
-  HasFollowedUnwritten (Some next) from to = HasPressedUnwritten next from to
+  -- what keys one after another come to, up to the first that isn't taken
+  abbrev pub KeysCome : List at.Pressed → AttachedStation → Result (Unit {0}) Untaken → AttachedStation → Type 0
+  KeysCome [] from came to = (to ≡ from) × (came ≡ Ok tt)
+  KeysCome (key ∷ keys) from came to =
+      ((mid : AttachedStation) × KeyComes key from (Ok tt) mid × KeysCome keys mid came to)
+      ⊎ ((why : Untaken) × KeyComes key from (Err why) to × (came ≡ Err why))
 
-  -- a key was pressed, and what it sends, or the one that follows it, didn't go out
-  abbrev pub IsKeyUnwritten : at.Pressed → AttachedStation → AttachedStation → Type 0
-  IsKeyUnwritten key from to = HasPressedUnwritten (at.typing.typed from.end key) from to
-      ⊎ ((mid : AttachedStation) × HasPressed (at.typing.typed from.end key) from acted.Done mid
-      × HasFollowedUnwritten (at.typing.follows from.end key) mid to)
+  -- what the keys of a stroke come to; the screen may not have the field that it names
+  abbrev pub StrokeComes : Option (List at.Pressed) → AttachedStation → Result (Unit {0}) Untaken → AttachedStation
+      → Type 0
+  StrokeComes None from came to = (to ≡ from) × (came ≡ Err NoSuchField)
+  StrokeComes (Some keys) from came to = KeysCome keys from came to
 
-  -- what the key comes to that follows one that was carried out
-  abbrev pub FollowRuns : Option at.Key → AttachedStation → Result Closing Fault → AttachedStation → Type 0
-  FollowRuns next from (Ok closing) to = (closing ≡ Done) × HasFollowed next acted.Done from to
-  FollowRuns next from (Err why) to = (why ≡ fault.Write) × HasFollowedUnwritten next from to
+  -- What keys one after another come to, up to one that isn't written, where a line of this number tells of each that is
+  -- refused; those before them closed so, and printed this.
+  abbrev pub KeysRun : Option ℕ → Closing → List ℕ → LinesDo (List at.Pressed) AttachedStation
+  KeysRun line closing text [] from came to = (to ≡ from) × (came ≡ line_result (Ok closing) text)
+  KeysRun line closing text (key ∷ keys) from came to = (pressed : Result (Unit {0}) Untaken) × (mid : AttachedStation)
+      × KeyComes key from pressed mid × MatchResult (pressed_outcome pressed)
+      (λ next. KeysRun line (closing_of_both closing next) (text ++ pressed_text line pressed) keys mid came to)
+      (λ why. (to ≡ mid) × (came ≡ line_result (Err why) (text ++ pressed_text line pressed)))
 
   -- such a station, and how many records are ahead
   abbrev pub StationAndAhead : Type 0
@@ -204,50 +221,6 @@ module _ {S K : Type 0} (at : LiveStation) (devices : Devices S K) where
   HasWaited Met' from [] to = to ≡ from
   HasWaited Met' from (refused ∷ more) to = (mid : AttachedStation) × (Met' from.0.end from.1 → ⊥)
       × HearsRecord from.0 refused mid × HasWaited Met' (mid, ahead_after from.1 refused) more to
-
--- Keys, where the number of the line in its script is told.
-module _ {S K : Type 0} (at : LiveStation) (devices : Devices S K) (line : Option ℕ) where
-  -- the station at which they are pressed
-  abbrev pub KeyedStation : Type 0
-  KeyedStation = AttachedStation at devices
-
-  -- what is printed of a key at it: where it is refused, its line
-  abbrev pub refusal_text : at.Pressed → Acted KeyFault → List ℕ
-  refusal_text key acted = key_refused_text line (at.words.entered key) acted
-
-  -- what a key comes to: it was pressed, and the one that follows it, or what one of them sends didn't go out
-  abbrev pub KeyRuns : LinesDo at.Pressed KeyedStation
-  KeyRuns key from came to = ((acted : Acted KeyFault) × IsKeyPressed at devices key from acted to
-      × (came.outcome ≡ Ok (closing_by (is_done acted))) × (came.text ≡ refusal_text key acted))
-      ⊎ (IsKeyUnwritten at devices key from to × (came.outcome ≡ Err fault.Write) × (came.text ≡ []))
-
-  -- the account of keys one after another
-  abbrev pub ArePressed : KeyedStation → List at.Pressed → Account → KeyedStation → Type 0
-  ArePressed from [] came to = (to ≡ from) × (came.all_well ≡ true) × (came.text ≡ [])
-  ArePressed from (key ∷ keys) came to = (acted : Acted KeyFault) × (mid : KeyedStation) × (rest : Account)
-      × IsKeyPressed at devices key from acted mid × ArePressed mid keys rest to
-      × (came.all_well ≡ is_done acted && rest.all_well) × (came.text ≡ refusal_text key acted ++ rest.text)
-
-  -- what keys at a station come to: all were pressed, or up to one that wasn't written
-  abbrev pub KeysRun : LinesDo (List at.Pressed) KeyedStation
-  KeysRun keys from came to =
-      ((well : Bool) × ArePressed from keys (account well came.text) to × (came.outcome ≡ Ok (closing_by well)))
-      ⊎ ((before : List at.Pressed) × (key : at.Pressed) × (after : List at.Pressed)
-      × (well : Bool) × (mid : KeyedStation)
-      × (keys ≡ before ++ key ∷ after) × ArePressed from before (account well came.text) mid
-      × IsKeyUnwritten at devices key mid to × (came.outcome ≡ Err fault.Write))
-
-  -- what keys one after another come to, up to the first that isn't taken
-  abbrev pub KeysUntil : LinesDo (List at.Pressed) KeyedStation
-  KeysUntil [] from came to = (to ≡ from) × (came.outcome ≡ Ok Done) × (came.text ≡ [])
-  KeysUntil (key ∷ keys) from came to =
-      ((mid : KeyedStation) × KeyRuns key from (line_result (Ok Done) []) mid × KeysUntil keys mid came to)
-      ⊎ (KeyRuns key from came to × (came.outcome ≢ Ok Done))
-
-  -- the keys of a stroke, or what is printed where the screen hasn't the field that it names
-  abbrev pub StrokeRuns : LinesDo (Option (List at.Pressed)) KeyedStation
-  StrokeRuns None from came to = (to ≡ from) × (came.outcome ≡ Ok Declined) × (came.text ≡ no_field_line line)
-  StrokeRuns (Some keys) from came to = KeysUntil keys from came to
 
 -- Waits, at a watch that tells of a source whether the read that failed was late; and lines.
 module _ {S K : Type 0} (at : LiveStation) (on : WatchedDevices S K) where
@@ -310,9 +283,10 @@ module _ {S K : Type 0} (at : LiveStation) (on : WatchedDevices S K) where
   abbrev pub StationRuns : Telling → LinesDo (StationLine at.Pressed) WatchedAndAhead
   StationRuns telling NoLine from came to = (to ≡ from) × (came.outcome ≡ Ok Nothing) × (came.text ≡ [])
   StationRuns telling (Press keys) from came to =
-      KeysRun at on.devices telling.line keys from.0 came to.0 × (to.1 ≡ 0)
-  StationRuns telling (Stroke stroke) from came to = StrokeRuns at on.devices telling.line
-      (stroke_keys at.words (station_screen at from.0.end) stroke) from.0 came to.0 × (to.1 ≡ 0)
+      KeysRun at on.devices telling.line Done [] keys from.0 came to.0 × (to.1 ≡ 0)
+  StationRuns telling (Stroke stroke) from came to = (pressed : Result (Unit {0}) Untaken)
+      × StrokeComes at on.devices (stroke_keys at.words (station_screen at from.0.end) stroke) from.0 pressed to.0
+      × (came.outcome ≡ pressed_outcome pressed) × (came.text ≡ pressed_text telling.line pressed) × (to.1 ≡ 0)
   StationRuns telling (Await awaited) from came to = (records : List (Option PlaceAndReason)) × (waited : Waited)
       × (ahead : ℕ) × IsWaited awaited from records waited (to.0, ahead)
       × (came.outcome ≡ waited_outcome (none_refused records) waited)

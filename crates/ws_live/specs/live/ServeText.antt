@@ -19,6 +19,7 @@ use Rattle.ws_session.specs.declared.world.Event.TheVariants.{HostRefused}
 use Rattle.ws_live.specs.live.LiveText.{LineResult, LinesDo, bad_outcome, bad_text, line_behind, line_result}
 use Rattle.ws_live.specs.live.Watches.{InTime, WatchTimes, WatchedDevices}
 use Rattle.ws_printing.specs.PlayLines.{event_text, send_fault_name}
+use Rattle.ws_live.specs.live.Sentences.{sentence_line}
 use Rattle.ws_printing.specs.ToldLines.{told_text}
 use Rattle.ws_printing.specs.ScreenLines.{IsScreenText, on_037}
 use Rattle.ws_live.specs.live.WireRuns.{WireRuns}
@@ -71,7 +72,7 @@ is_awaited awaited told = false
 
 -- what the host end's fault prints: the byte that it refused, or nothing
 abbrev pub unheard_text : Fault → List ℕ
-unheard_text (fault.Refused place reason) = event_text (HostRefused place reason)
+unheard_text (fault.Refused place reason) = event_text (HostRefused place reason) ++ sentence_line reason
 unheard_text why = []
 
 module _ {S K : Type 0} (devices : Devices S K) where

@@ -1,5 +1,5 @@
 //! What the lines of a station's session do and print.
-ghost use Rattle.std.specs.Prelude.{◌≡◌, List, ℕ, false, IfOk};
+ghost use Rattle.std.specs.Prelude.{◌≡◌, [], List, ℕ, false, IfOk};
 ghost use Rattle.ws_live.specs.live.ConnectText as Spec;
 ghost use Rattle.ws_live.specs.live.LiveText.{line_result, stops};
 ghost use Rattle.ws_live.specs.live.Operating.{live_station};
@@ -8,7 +8,7 @@ ghost use Rattle.ws_text.specs.Printing.{Prints};
 ghost use Rattle.ws_code.specs.Device.{on_devices};
 
 use crate::live::live_station::LiveStation;
-use crate::live::pressing::{press_key, press_stroke};
+use crate::live::pressing::{press_key, press_stroke, put_pressed};
 use crate::live::waiting::{Wait, put_waited, take_what_came, wait_for};
 use crate::live::watch::Watch;
 use crate::live::{Carried, Closing, LiveMove, LiveSession, Telling, put_bad};
@@ -52,7 +52,8 @@ where
             }
             StationLine::Stroke(stroke) => {
                 *ahead = 0;
-                press_stroke(attached, stroke, telling.line, out, output)
+                let pressed = press_stroke(attached, stroke);
+                put_pressed(out, output, telling.line, pressed)
             }
             StationLine::Await(awaited) => {
                 let wait = wait_for(attached, ahead, watch, awaited, out, output);
@@ -138,7 +139,7 @@ where
     ensures runs { (text : List ℕ) × Spec.KeysRun
         (live_station E.behaviour E.keyed E.typing E.seen E.Display.does.shown
         E.Display.operated E.Named.words)
-        (on_devices K.writer S.reader) line
+        (on_devices K.writer S.reader) line Closing.Done []
         keys.now attached.old (line_result result.outcome text) attached.new
         × Prints O.writer out.old out.new output result.output text }
     ensures works { IfOk result.outcome (λ closing. attached.new.broken ≡ false) }
@@ -146,7 +147,7 @@ where
     let mut output = output;
     let mut closing = Closing::Done;
     for key in keys {
-        let carried = press_key(attached, *key, line, out, output);
+        let carried = put_pressed(out, output, line, press_key(attached, *key));
         output = carried.output;
         match carried.outcome {
             Ok(next) => closing = closing_of_both(closing, next),

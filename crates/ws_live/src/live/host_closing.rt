@@ -4,12 +4,13 @@ ghost use Rattle.std.specs.Prelude.{◌≡◌, Bool, Ok};
 ghost use Rattle.ws_live.specs.live.ServeText as Spec;
 ghost use Rattle.ws_text.specs.Printing.{Prints};
 
+use crate::live::sentences::SentenceLine;
 use crate::live::watch::Watch;
-use crate::live::{Carried, Closing, put_line_behind};
+use crate::live::{ByLine, Carried, Closing};
 use ws_code::{Fault, Sink};
 use ws_printing::{Play, put_event};
 use ws_session::{Acted, Event, SendFault};
-use ws_text::{As, Output, Text, put_text, texts};
+use ws_text::{As, Output, Text, texts};
 
 /// Tells what came of a send, by a line of this number: nothing where it went out, and how it was refused.
 pub fn put_given<O: Sink>(
@@ -28,7 +29,9 @@ pub fn put_given<O: Sink>(
             outcome: Ok(Closing::Done),
         },
         Ok(Acted::Refused(fault)) => Carried {
-            output: put_send_refused(out, output, line, &fault),
+            output: texts!("send refused ", As(&fault, Play), ByLine(line), "\n").put_to(
+                out, output,
+            ),
             outcome: Ok(Closing::Declined),
         },
         Err(fault) => Carried {
@@ -38,22 +41,8 @@ pub fn put_given<O: Sink>(
     }
 }
 
-fn put_send_refused<O: Sink>(
-    out: &mut O,
-    output: Output,
-    line: Option<u64>,
-    fault: &SendFault,
-) -> Output
-    ensures { Prints O.writer out.old out.new output result
-        (Spec.given_text line (Ok (Acted.Refused fault.now))) }
-{
-    let output = texts!("send refused ", As(fault, Play)).put_to(out, output);
-    let output = put_line_behind(out, output, line);
-    put_text(out, output, "\n")
-}
-
-/// Tells what came of a wait that a fault ended: the byte that was refused, if one was. Where a read failed, the watch
-/// says whether that is for want of time.
+/// Tells what came of a wait that a fault ended: the byte that was refused, if one was, and what its reason says. Where a
+/// read failed, the watch says whether that is for want of time.
 pub fn put_unheard<S, W: Watch<S>, O: Sink>(
     watch: &W,
     source: &S,
@@ -67,10 +56,13 @@ pub fn put_unheard<S, W: Watch<S>, O: Sink>(
         (Spec.unheard_text fault) }
 {
     match fault {
-        Fault::Refused { place, reason } => Carried {
-            output: put_event(out, output, &Event::HostRefused { place, reason }),
-            outcome: Ok(Closing::Stopped),
-        },
+        Fault::Refused { place, reason } => {
+            let output = put_event(out, output, &Event::HostRefused { place, reason });
+            Carried {
+                output: SentenceLine(reason).put_to(out, output),
+                outcome: Ok(Closing::Stopped),
+            }
+        }
         Fault::Read => Carried {
             output,
             outcome: unread(watch, source),

@@ -10,6 +10,7 @@ ghost use Rattle.ws_live.specs.declared.live.watch.WaitSpan.TheVariants.{AtOnce}
 ghost use Rattle.ws_text.specs.Printing.{Prints};
 
 use crate::live::live_station::LiveStation;
+use crate::live::sentences::{SentenceLine, StationSentences};
 use crate::live::watch::{WaitSpan, Watch};
 use crate::live::{Carried, Closing};
 use ws_code::{Fault, Sink, Source};
@@ -224,13 +225,13 @@ fn well_after(well: bool, refused: Option<PlaceAndReason>) -> bool
     well && refused.is_none()
 }
 
-// Tells of a record that it was refused, if it was.
+// Tells of a record that it was refused, if it was, and what the reason says.
 fn put_record<O: Sink>(out: &mut O, output: Output, refused: Option<PlaceAndReason>) -> Output
     ensures { Prints O.writer out.old out.new output result (Spec.record_text refused) }
 {
     match refused {
         None => output,
-        Some(why) => texts!("record refused at ", why).put_to(out, output),
+        Some(why) => texts!("record refused at ", why, SentenceLine(why.1)).put_to(out, output),
     }
 }
 
@@ -292,10 +293,13 @@ pub(crate) fn put_waited<O: Sink>(out: &mut O, wait: Wait) -> Carried
             output,
             outcome: Ok(Closing::Ended),
         },
-        Waited::Failed(Fault::Refused { place, reason }) => Carried {
-            output: put_event(out, output, &Event::StationRefused { place, reason }),
-            outcome: Ok(Closing::Stopped),
-        },
+        Waited::Failed(Fault::Refused { place, reason }) => {
+            let output = put_event(out, output, &Event::StationRefused { place, reason });
+            Carried {
+                output: StationSentences(reason).put_to(out, output),
+                outcome: Ok(Closing::Stopped),
+            }
+        }
         Waited::Failed(fault) => Carried {
             output,
             outcome: Err(fault),

@@ -1,23 +1,12 @@
-use Rattle.std.proofs.Common.{◌≡◌, [], ◌+◌, Bool, List, take, drop, refl, sym, ap, ◌∙◌, subst}
+use Rattle.std.proofs.Common.{◌≡◌, ◌+◌, Bool, List, take, drop, sym, ap, ◌∙◌, subst}
 use Rattle.std.specs.Prelude.{Ok}
-use Rattle.ws_code.proofs.DeviceLaws.{went_out_none}
 use Rattle.ws_text.specs.Printed.{IsPrinted}
 use Rattle.ws_live.specs.declared.live.Ran.{Ran}
 use Rattle.ws_script.specs.declared.lines.live_line.NumberedLine.{NumberedLine}
-use Rattle.ws_live.specs.live.LiveText.{HaveRun, WithClosing, account, line_printing, lines_printing, ran_and, ran_by}
+use Rattle.ws_live.specs.live.LiveText.{HaveRun, WithClosing, account, lines_printing, ran_and, ran_by}
 use Rattle.ws_live.specs.live.Watches.{InTime}
 use Rattle.ws_live.proofs.LiveRuns.{goes_on, ends_here, breaks, split_here, taken_here, unstopped}
 use Rattle.ws_live.proofs.live.carry_lines.Goals as goal
-
-pub loop-line-init : goal.loop-line-init
-loop-line-init g c = (
-  [],
-  (refl, ap (λ (r : Ran). r.all_well) c.none-ran.ensures, refl),
-  went_out_none g.O.Sink.writer c.args.out.now.sink,
-  ap (λ (r : Ran). r.is_over) c.none-ran.ensures,
-  c.requires.works,
-  c.requires.empty,
-)
 
 pub returns-in-Err-clause-printed : goal.returns-in-Err-clause-printed
 returns-in-Err-clause-printed g c =
@@ -34,10 +23,7 @@ returns-in-Err-clause-printed g c =
     c.args.out.now.sink c.loop-line.out.sink c.carry_line.new.out.sink
     (take i lines) line c.loop-line.ran so_far.0 so_far.1 so_far.2 (drop (i + 1) lines) lines
     (split_here lines i line c.loop-line-test.true c.line-item.is) c.in-Err.fault
-    (subst (IsPrinted g.O.Sink.writer c.loop-line.out.sink c.carry_line.new.out.sink (line_printing runs
-    c.loop-line.session line
-    c.carry_line.new.session))
-    c.in-Err.is c.carry_line.ensures.printed)
+    (rw c.in-Err.is at c.carry_line.ensures.printed)
 
 pub returns-then-ran-clause-printed : goal.returns-then-ran-clause-printed
 returns-then-ran-clause-printed g c =
@@ -59,10 +45,7 @@ returns-then-ran-clause-printed g c =
     c.loop-line.out.sink c.carry_line.new.out.sink
     (take i lines) line c.loop-line.ran so_far.0 so_far.1 so_far.2 (drop (i + 1) lines) lines
     (split_here lines i line c.loop-line-test.true c.line-item.is) c.in-Ok.closing
-    (subst (IsPrinted g.O.Sink.writer c.loop-line.out.sink c.carry_line.new.out.sink (line_printing runs
-    c.loop-line.session line
-    c.carry_line.new.session))
-    c.in-Ok.is c.carry_line.ensures.printed)
+    (rw c.in-Ok.is at c.carry_line.ensures.printed)
     (ap (λ (r : Ran). r.is_over) (sym same) ∙ c.if-ran.true))
 
 pub loop-line-preserved : goal.loop-line-preserved
@@ -82,10 +65,7 @@ loop-line-preserved g c =
     c.carry_line.new.session c.args.out.now.sink
     c.loop-line.out.sink
     c.carry_line.new.out.sink (take i lines) line c.loop-line.ran so_far.0 so_far.1 so_far.2 c.in-Ok.closing
-    (subst (IsPrinted g.O.Sink.writer c.loop-line.out.sink c.carry_line.new.out.sink (line_printing runs
-    c.loop-line.session line
-    c.carry_line.new.session))
-    c.in-Ok.is c.carry_line.ensures.printed) going in
+    (rw c.in-Ok.is at c.carry_line.ensures.printed) going in
     let well = ap (λ (r : Ran). r.all_well) (sym same) in
     let next = taken_here lines i line c.loop-line-test.true c.line-item.is in (
       more.0,

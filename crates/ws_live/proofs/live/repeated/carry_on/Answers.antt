@@ -1,24 +1,12 @@
 use Rattle.ws_live.specs.live.LiveText.{telling_by}
 use Rattle.std.specs.Prelude.{None}
-use Rattle.std.proofs.Common.{◌≡◌, [], true, false, refl, sym, ◌∙◌, subst, arith}
+use Rattle.std.proofs.Common.{◌≡◌, true, false, sym, ◌∙◌, arith}
 use Rattle.ws_code.specs.Device.{most_reads}
-use Rattle.ws_code.proofs.DeviceLaws.{went_out_none}
-use Rattle.ws_text.specs.Printed.{IsPrinted}
 use Rattle.ws_printing.specs.declared.paint.Paint.TheVariants.{Plain}
 use Rattle.ws_live.specs.live.CarryingOn.{is_told}
-use Rattle.ws_live.specs.live.LiveText.{line_printing}
 use Rattle.ws_live.specs.live.Watches.{InTime}
 use Rattle.ws_live.proofs.CarryOns.{one_told, none_told, once_fails, too_much_told, told_goes}
 use Rattle.ws_live.proofs.live.repeated.carry_on.Goals as goal
-
-pub loop-init : goal.loop-init
-loop-init g c = (
-  [],
-  (refl, refl, refl),
-  went_out_none g.O.Sink.writer c.args.out.now.sink,
-  c.requires.works,
-  c.requires.empty,
-)
 
 pub returns-then-not-is_told-clause-printed : goal.returns-then-not-is_told-clause-printed
 returns-then-not-is_told-clause-printed g c =
@@ -28,10 +16,7 @@ returns-then-not-is_told-clause-printed g c =
     none_told runs c.args.line.now g.O.Sink.writer c.args.session.now
     c.loop.session c.carry_once.new.session c.args.out.now.sink c.loop.out.sink
     c.carry_once.new.out.sink c.loop.counter so_far.0 so_far.1 so_far.2 c.in-Ok.closing c.goes_well.result
-    (subst (IsPrinted g.O.Sink.writer c.loop.out.sink c.carry_once.new.out.sink
-    (line_printing runs c.loop.session c.args.line.now
-    c.carry_once.new.session)) c.in-Ok.is
-    c.carry_once.ensures.printed) untold c.goes_well.ensures
+    (rw c.in-Ok.is at c.carry_once.ensures.printed) untold c.goes_well.ensures
 
 pub returns-in-Err-clause-printed : goal.returns-in-Err-clause-printed
 returns-in-Err-clause-printed g c =
@@ -40,10 +25,7 @@ returns-in-Err-clause-printed g c =
     once_fails runs c.args.line.now g.O.Sink.writer c.args.session.now
     c.loop.session c.carry_once.new.session c.args.out.now.sink c.loop.out.sink
     c.carry_once.new.out.sink c.loop.counter so_far.0 so_far.1 so_far.2 c.in-Err.fault
-    (subst (IsPrinted g.O.Sink.writer c.loop.out.sink c.carry_once.new.out.sink
-    (line_printing runs c.loop.session c.args.line.now
-    c.carry_once.new.session)) c.in-Err.is
-    c.carry_once.ensures.printed)
+    (rw c.in-Err.is at c.carry_once.ensures.printed)
 
 pub loop-preserved : goal.loop-preserved
 loop-preserved g c =
@@ -53,10 +35,7 @@ loop-preserved g c =
     let more = one_told runs c.args.line.now g.O.Sink.writer c.args.session.now
     c.loop.session c.carry_once.new.session c.args.out.now.sink c.loop.out.sink
     c.carry_once.new.out.sink c.loop.counter so_far.0 so_far.1 so_far.2 c.in-Ok.closing
-    (subst (IsPrinted g.O.Sink.writer c.loop.out.sink c.carry_once.new.out.sink
-    (line_printing runs c.loop.session c.args.line.now
-    c.carry_once.new.session)) c.in-Ok.is
-    c.carry_once.ensures.printed) told in
+    (rw c.in-Ok.is at c.carry_once.ensures.printed) told in
     (more.0, more.1, more.2, c.in-Ok.ensures.works (told_goes c.in-Ok.closing told), c.carry_once.ensures.held)
 
 pub returns-clause-printed : goal.returns-clause-printed
