@@ -90,17 +90,11 @@ module _ {S K : Type 0} (on : WatchedDevices S K) where
       × (why ≡ fault.Read → on.tells.is_late to.source late)
       × (came.outcome ≡ unheard_outcome late why) × (came.text ≡ unheard_text why))
 
-  -- the host heard the station up to the first thing that it tells, which is printed, or none came
-  abbrev pub AnyHearsOne : WatchedAnyHost → LineResult → WatchedAnyHost → Type 0
-  AnyHearsOne from came to =
-      ((event : AnyEvent) × HasHeard any_behaviour on.devices from to (Some event)
-      × (came.outcome ≡ Ok Done) × (came.text ≡ any_event_text event))
-      ⊎ AnyHearsNone from came to
-
-  -- a record by the key is told, and printed
-  abbrev pub KeyComes : ℕ → WatchedAnyHost → LineResult → WatchedAnyHost → Type 0
-  KeyComes aid from came to = (event : AnyEvent) × HasHeard any_behaviour on.devices from to (Some event)
-      × (is_by aid event ≡ true) × (came.outcome ≡ Ok Done) × (came.text ≡ any_event_text event)
+  -- the host heard the station up to the first thing that it tells, which is printed, or tells none
+  abbrev pub AnyHears : WatchedAnyHost → Option AnyEvent → LineResult → WatchedAnyHost → Type 0
+  AnyHears from None came to = AnyHearsNone from came to
+  AnyHears from (Some event) came to = HasHeard any_behaviour on.devices from to (Some event)
+      × (came.outcome ≡ Ok Done) × (came.text ≡ any_event_text event)
 
   -- The host heard the station up to a record by the key, and printed all that it told: after some things the record
   -- came; or none more did; or as many were told as one wait takes.
@@ -109,8 +103,9 @@ module _ {S K : Type 0} (on : WatchedDevices S K) where
     pub mid : WatchedAnyHost
     pub before : HaveToldBeforeKey on.devices aid from told mid
     pub last : List ℕ
-    pub ends : KeyComes aid mid (line_result came.outcome last) to
-        ⊎ (AnyHearsNone mid (line_result came.outcome last) to
+    pub ends : ((event : AnyEvent) × (is_by aid event ≡ true)
+        × AnyHears mid (Some event) (line_result came.outcome last) to)
+        ⊎ (AnyHears mid None (line_result came.outcome last) to
         ⊎ ((length told ≡ most_reads) × (to ≡ mid) × (came.outcome ≡ Err fault.Read) × (last ≡ [])))
     pub all : came.text ≡ flat_map any_event_text told ++ last
 
@@ -120,7 +115,7 @@ module _ {S K : Type 0} (on : WatchedDevices S K) where
   AnyDoes number (Send r) from came to = (given : Result (Acted SendFault) Fault) × (from.broken ≡ false)
       × HasActed on.devices (any_judged r) from to given
       × (came.outcome ≡ given_outcome given) × (came.text ≡ given_text number given)
-  AnyDoes number Await from came to = AnyHearsOne from came to
+  AnyDoes number Await from came to = (told : Option AnyEvent) × AnyHears from told came to
   AnyDoes number (AwaitKey aid) from came to = HearsKey aid from came to
   AnyDoes number (Wire line) from came to = WireRuns on.devices.writer line from came.outcome to × (came.text ≡ [])
   AnyDoes number (Bad cause) from came to = (to ≡ from) × (came.outcome ≡ bad_outcome)

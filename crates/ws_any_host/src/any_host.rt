@@ -115,6 +115,7 @@ impl AnyHost {
     /// The first of these: `Failed` where the host has refused a byte, or has taken 18,446,744,073,709,551,615;
     /// `NotAllowed` where records aren't allowed yet; `TooBig` where the body has more than 65,525 bytes; `Memory`
     /// where a growth was refused.
+    #[tactic(auto, using(crate::proofs::AnySteps::fits, crate::proofs::AnySteps::too_big))]
     pub fn send(&self, record_: &Record<u8>) -> Result<Vec<u8>, SendFault>
         ensures sent { IfOk result (λ sent.
             (send_fault self.now.reacts record_.now ≡ None)
@@ -128,7 +129,7 @@ impl AnyHost {
         if self.driver.is_shut() {
             return Err(SendFault::Failed);
         }
-        if !self.driver.reacts().options.records_allowed() {
+        if !self.is_ready() {
             return Err(SendFault::NotAllowed);
         }
         let body = record_.body.as_slice();

@@ -83,13 +83,8 @@ fn read_words(alloc: Global, opcode: Opcode, text: &[u8]) -> Result<Vec<u8>, Tex
     ensures only { IfErr result (λ fault. (body : Seq ℕ)
         → Spec.SayBytes (lines text.now) opcode body → fault ≡ TextFault.Memory) }
 {
-    match read_elements::<ExtendedCommands>(alloc, opcode, text) {
-        Ok(elements) => match spelled(alloc, elements.as_slice()) {
-            Ok(bytes) => Ok(bytes),
-            Err(_) => Err(TextFault::Memory),
-        },
-        Err(fault) => Err(fault),
-    }
+    let elements = read_elements::<ExtendedCommands>(alloc, opcode, text)?;
+    spelled(alloc, elements.as_slice()).map_err(|_| TextFault::Memory)
 }
 
 // The bytes of elements.
@@ -129,10 +124,7 @@ fn read_text(alloc: Global, text: &str) -> Result<AnyLine, ScriptFault>
         return Ok(AnyLine::Nothing);
     }
     match sent_words(text) {
-        Some(words) => match read_sent(alloc, words) {
-            Ok(record) => Ok(AnyLine::Send(record)),
-            Err(fault) => Err(fault),
-        },
+        Some(words) => Ok(AnyLine::Send(read_sent(alloc, words)?)),
         None => read_word(alloc, text),
     }
 }
@@ -191,10 +183,7 @@ fn read_sent(alloc: Global, words: &str) -> Result<Record<u8>, ScriptFault>
             None => Err(ScriptFault::Line(1)),
         },
         Some((number, hex)) => match read_opcode(number) {
-            Some(opcode) => match read_hex(alloc, hex) {
-                Ok(body) => Ok(sent(opcode, body)),
-                Err(fault) => Err(fault),
-            },
+            Some(opcode) => Ok(sent(opcode, read_hex(alloc, hex)?)),
             None => Err(ScriptFault::Line(1)),
         },
     }

@@ -1,5 +1,5 @@
 //! The lines of a script, carried out at a host that takes any record.
-ghost use Rattle.std.specs.Prelude.{◌≡◌, false, List, ℕ, IfOk};
+ghost use Rattle.std.specs.Prelude.{◌≡◌, false, List, ℕ, Ok, IfOk};
 ghost use Rattle.ws_text.specs.Printing.{Prints};
 ghost use Rattle.ws_live.specs.live.LiveText.{line_result, stops};
 ghost use Rattle.ws_live.specs.live.Watches.{watched_devices};
@@ -31,10 +31,7 @@ impl<S: Source, K: Sink> LiveMove<AnyHost, S, K> for AnyLine {
         output: Output,
     ) -> Carried {
         match self {
-            AnyLine::Nothing => Carried {
-                output,
-                outcome: Ok(Closing::Nothing),
-            },
+            AnyLine::Nothing => closed(output, Closing::Nothing),
             AnyLine::Send(record) => {
                 let given = session.attached.act(record);
                 put_given(out, output, telling.line, given)
@@ -43,7 +40,7 @@ impl<S: Source, K: Sink> LiveMove<AnyHost, S, K> for AnyLine {
                 session
                     .watch
                     .begin(session.attached.source(), WaitSpan::Whole);
-                hear_event(&mut session.attached, &session.watch, out, output)
+                hear_event(&mut session.attached, &session.watch, out, output).0
             }
             AnyLine::AwaitKey(aid) => {
                 let source = session.attached.source();
@@ -59,31 +56,41 @@ impl<S: Source, K: Sink> LiveMove<AnyHost, S, K> for AnyLine {
     }
 }
 
-// Takes what the station sends up to the first thing that the host tells, and prints it.
+// Takes what the station sends up to the first thing that the host tells, which it prints and gives.
 fn hear_event<S: Source, K: Sink, W: Watch<S>, O: Sink>(
     attached: &mut Attached<AnyHost, S, K>,
     watch: &W,
     out: &mut O,
     output: Output,
-) -> Carried
+) -> (Carried, Option<AnyEvent>)
     requires works { attached.old.broken ≡ false }
-    ensures heard { (text : List ℕ) × Spec.AnyHearsOne
+    ensures heard { (text : List ℕ) × Spec.AnyHears
         (watched_devices (on_devices K.writer S.reader) W.tells)
-        attached.old (line_result result.outcome text) attached.new
-        × Prints O.writer out.old out.new output result.output text }
-    ensures works { IfOk result.outcome (λ closing.
+        attached.old result.1 (line_result result.0.outcome text) attached.new
+        × Prints O.writer out.old out.new output result.0.output text }
+    ensures works { IfOk result.0.outcome (λ closing.
         stops closing ≡ false → attached.new.broken ≡ false) }
 {
     match attached.hear() {
-        Ok(Some(event)) => Carried {
-            output: put_any_event(out, output, &event),
-            outcome: Ok(Closing::Done),
-        },
-        Ok(None) => Carried {
-            output,
-            outcome: Ok(Closing::Ended),
-        },
-        Err(fault) => put_unheard(watch, attached.source(), out, output, fault),
+        Ok(Some(event)) => {
+            let output = put_any_event(out, output, &event);
+            (closed(output, Closing::Done), Some(event))
+        }
+        Ok(None) => (closed(output, Closing::Ended), None),
+        Err(fault) => {
+            let carried = put_unheard(watch, attached.source(), out, output, fault);
+            (carried, None)
+        }
+    }
+}
+
+// A line that closed so.
+fn closed(output: Output, closing: Closing) -> Carried
+    ensures { (result.output ≡ output) × (result.outcome ≡ Ok closing) }
+{
+    Carried {
+        output,
+        outcome: Ok(closing),
     }
 }
 
@@ -105,22 +112,16 @@ fn hear_key<S: Source, K: Sink, W: Watch<S>, O: Sink>(
 {
     let mut output = output;
     for _ in 0..4_294_967_296u64 {
-        match attached.hear() {
-            Ok(Some(event)) => {
-                output = put_any_event(out, output, &event);
+        let (carried, event) = hear_event(attached, watch, out, output);
+        match event {
+            None => return carried,
+            Some(event) => {
                 if is_by(aid, &event) {
-                    return Carried {
-                        output,
-                        outcome: Ok(Closing::Done),
-                    };
+                    return carried;
                 }
             }
-            Ok(None) => return Carried {
-                output,
-                outcome: Ok(Closing::Ended),
-            },
-            Err(fault) => return put_unheard(watch, attached.source(), out, output, fault),
         }
+        output = carried.output;
     }
     Carried {
         output,

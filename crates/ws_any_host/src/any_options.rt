@@ -89,16 +89,11 @@ impl AnyOptions {
         ensures unchanged { OnErr result (self.new ≡ self.old) }
     {
         let was_known = self.options.terminal().is_some();
-        match self.options.answer(&known_name()) {
-            Ok(reply) => {
-                if was_known || self.options.terminal().is_none() {
-                    return Ok(reply);
-                }
-                self.told = copied(name);
-                Ok(reply)
-            }
-            Err(reason) => Err(reason),
+        let reply = self.options.answer(&known_name())?;
+        if !was_known && self.options.terminal().is_some() {
+            self.told = copied(name);
         }
+        Ok(reply)
     }
 
     /// Whether records are allowed: a name was told, and BINARY and END-OF-RECORD are on in both directions.

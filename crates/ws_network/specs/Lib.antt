@@ -1,10 +1,10 @@
-pub mod AnySessions
 pub mod InputLines
 pub mod Listening
 pub mod LiveSessions
 pub mod ManySessions
 pub mod Recordings
 pub mod ScriptFiles
+pub mod ServedHosts
 pub mod SessionPrinting
 pub mod Sessions
 pub mod TcpFaults

@@ -7,7 +7,8 @@ use Rattle.ws_script.specs.declared.lines.live_line.NumberedLine.{NumberedLine}
 use Rattle.ws_script.specs.lines.LiveScript.{LineLanguage}
 use Rattle.ws_live.specs.live.LiveText.{Account, account}
 use Rattle.ws_printing.specs.Printouts.{IsPrintedOut, Printout}
-use Rattle.ws_network.specs.Sessions.{AreFromScript}
+use Rattle.ws_network.specs.ServedHosts.{ServedHost}
+use Rattle.ws_network.specs.Sessions.{AreFromScript, IsServed}
 use Rattle.ws_live.specs.declared.session_asked.ServeAsked.{ServeAsked}
 
 -- the line of a session by its number
@@ -33,10 +34,9 @@ module _ (IsSession : Account → Type 0) where
   AreSessions (Some path) (Some sessions) came = AreMany sessions came
   AreSessions script sessions came = IsSession came
 
--- what the sessions of `serve` came to, after what tells the address at which it listens
-abbrev pub HasServedBy : {L O : Type 0} → LineLanguage L
-    → (ServeAsked → List (NumberedLine L) → Account → Type 0) → Printout O → ServeAsked → Bool → Type 0
-HasServedBy {L = L} language IsServed out asked all_well = (lines : List (NumberedLine L))
+-- what the sessions of `serve` at such a host came to, after what tells the address at which it listens
+abbrev pub HasServedBy : {L H O : Type 0} → LineLanguage L → ServedHost L H → Printout O → ServeAsked → Bool → Type 0
+HasServedBy {L = L} language host out asked all_well = (lines : List (NumberedLine L))
     × (first : List ℕ) × (text : List ℕ) × AreFromScript language asked.script lines
-    × AreSessions (IsServed asked lines) asked.script asked.sessions (account all_well text)
+    × AreSessions (IsServed host asked lines) asked.script asked.sessions (account all_well text)
     × IsPrintedOut out (first ++ text)

@@ -1,20 +1,15 @@
 -- What the sessions of `connect` and `serve` come to that don't end early.
 
-use Rattle.std.specs.Prelude.{ℕ, List, [], ◌∷◌, Bool, true, false, Option, None, MatchOption, ◌≡◌}
+use Rattle.std.specs.Prelude.{ℕ, List, [], Bool, true, false, Option, None, MatchOption, ◌≡◌}
 use Rattle.std.specs.Borrow.{Bor}
 use Rattle.std.specs.Option.{option_map}
 use Rattle.ws_code.specs.Device.{WentOut}
-use Rattle.ws_nego.specs.Host.{opening}
 use Rattle.ws_identity.specs.Environ.{new_environ}
-use Rattle.ws_record.specs.Encode.{plain_spelling}
-use Rattle.ws_record.specs.declared.record.Item.TheVariants.{Telnet}
 use Rattle.ws_entry.specs.Following.{on_entry}
 use Rattle.ws_end.specs.attached.Attachments.{AttachedParts}
-use Rattle.ws_end.specs.host_end.HostReached.{HostParts, HostReached, unopened_host_end, state_after_open}
 use Rattle.ws_end.specs.station.StationTransitions.{new_state_on}
 use Rattle.ws_end.specs.station.StationEndState.{on_profile, profile}
 use Rattle.ws_end.specs.station.Stations.{ReachedOn}
-use Rattle.ws_stream.specs.Elements.{element_rules}
 use Rattle.ws_script.specs.lines.ConnectLines.{station_language}
 use Rattle.ws_live.specs.live.ConnectText.{StationRunsInTime}
 use Rattle.ws_printing.specs.Printouts.{IsPrintedOut, Printout}
@@ -26,11 +21,9 @@ use Rattle.ws_lasting.specs.Footings.{LastingOf, StandsAt}
 use Rattle.ws_lasting.specs.Lasting.{new_footing}
 use Rattle.ws_live.specs.live.Operating.{LiveStation, entry_station, station_at}
 use Rattle.ws_live.specs.live.LiveText.{Account, IsLiveText, WithClosing, account}
-use Rattle.ws_live.specs.live.ServeText.{HostRunsInTime}
 use Rattle.ws_script.specs.declared.lines.connect_line.StationLine.{StationLine}
-use Rattle.ws_script.specs.declared.lines.serve_line.HostLine.{HostLine}
-use Rattle.ws_script.specs.declared.lines.serve_line.HostLine.TheVariants.{Await}
 use Rattle.ws_network.specs.SessionPrinting.{AreUnnumbered, IsTextAndOn, session_lines}
+use Rattle.ws_network.specs.ServedHosts.{ServedHost}
 use Rattle.ws_network.specs.Times.{ConnectionReads, ConnectionWrites, no_reads, no_writes, timed, timed_waits}
 use Rattle.ws_network.specs.Times.{timed_writer}
 use Rattle.ws_live.specs.declared.session_asked.ConnectAsked.{ConnectAsked}
@@ -58,16 +51,16 @@ module _ (at : LiveStation) where
         (WithClosing (StationRunsInTime at timed timed_waits) asked.settings)
         (begun_session (at_connection station no_writes) 0) lines is_over came to
 
--- a host end whose opening went out carried out the lines and answered on
-pub record IsServed (asked : ServeAsked) (lines : List (NumberedLine HostLine)) (came : Account) : Type 0 where
-  pub host : HostParts
-  pub opened : HostReached host [] [] (state_after_open unopened_host_end)
+-- such a host whose opening went out carried out the lines, and then awaited what came
+pub record IsServed {L H : Type 0} (at : ServedHost L H) (asked : ServeAsked) (lines : List (NumberedLine L))
+    (came : Account) : Type 0 where
+  pub host : H
+  pub opened : at.IsOpened host
   pub sink : ConnectionWrites
-  pub told : WentOut timed_writer no_writes sink
-      (plain_spelling element_rules (Telnet opening ∷ []))
-  pub to : LiveSession HostParts ConnectionReads ConnectionWrites ℕ
-  pub ran : IsTextAndOn (session_lines (HostRunsInTime timed timed_waits) asked.settings
-      (begun_session (at_connection host sink) 0) lines to) Await came
+  pub told : WentOut timed_writer no_writes sink at.opening
+  pub to : LiveSession H ConnectionReads ConnectionWrites ℕ
+  pub ran : IsTextAndOn (session_lines at.runs asked.settings (begun_session (at_connection host sink) 0) lines to)
+      at.await_next came
 
 module _ {O : Type 0} (out : Printout O) where
   -- the lines of `connect` were carried out at this station, and what they printed went out

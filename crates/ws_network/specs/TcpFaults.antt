@@ -11,10 +11,7 @@ use Rattle.ws_network.specs.declared.tcp.TcpFault.TheVariants as tcp
 abbrev pub tcp_fault : Fault → TcpFault
 tcp_fault device.Memory = tcp.Memory
 tcp_fault device.Write = tcp.Write
-tcp_fault device.Read = tcp.Read
-tcp_fault (device.Truncated at) = tcp.Read
-tcp_fault (device.Refused place reason) = tcp.Read
-tcp_fault device.Failed = tcp.Read
+tcp_fault other = tcp.Read
 
 -- a fault of a session over a connection as the program's own
 abbrev pub tcp_run_fault : TcpFault → RunFault

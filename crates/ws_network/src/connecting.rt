@@ -13,15 +13,58 @@ use std::net::{Net, SocketAddr, TcpStream, ToSocketAddrs};
 use std::time::Clock;
 use ws_script::{HostPort, RunFault, ToldFault, Unconnected, no_connection};
 
-/// Tries the addresses of a host one after another, for as long as the wait lasts. Each has its part of what is left of
-/// it then, so that one that doesn't answer leaves time for the others.
+/// A connection to a host.
 ///
 /// # Errors
 ///
-/// `NoConnection` with `UnknownName` where the host isn't found, with `Late` where the time is over before an address
-/// is tried, with the cause of the last one where none connects; else as `settled`. `Memory` where a growth was
-/// refused.
+/// `Connection` with the host and why there is none: its name isn't found, the time is over before an address is tried,
+/// or the cause of the last one where none connects; else as `settled`. `Memory` where a growth was refused.
 pub(crate) fn connect_to<R: Clock + Net<Stream = TcpStream>>(
+    rt: &R,
+    alloc: Global,
+    to: HostPort<'_>,
+    timer: &Timer<'_, R>,
+) -> Result<TcpStream, ToldFault> {
+    match try_addresses(rt, alloc, to, timer) {
+        Err(ToldFault::NoConnection(why)) => Err(unconnected(alloc, to, why)),
+        outcome => outcome,
+    }
+}
+
+/// A host and its port as text, an address of IPv6 in brackets.
+///
+/// # Errors
+///
+/// `AllocError` where a growth was refused.
+pub(crate) fn host_text(alloc: Global, to: HostPort<'_>) -> Result<String, AllocError> {
+    let HostPort { host, port } = to;
+    if host.contains(':') {
+        format!(in alloc; "[{host}]:{port}")
+    } else {
+        format!(in alloc; "{host}:{port}")
+    }
+}
+
+// That there is no connection to a host.
+fn unconnected(alloc: Global, to: HostPort<'_>, why: Unconnected) -> ToldFault {
+    match unconnected_text(alloc, to, why) {
+        Ok(text) => ToldFault::Connection(text),
+        Err(_) => ToldFault::NoConnection(why),
+    }
+}
+
+fn unconnected_text(
+    alloc: Global,
+    to: HostPort<'_>,
+    why: Unconnected,
+) -> Result<String, AllocError> {
+    let host = host_text(alloc, to)?;
+    format!(in alloc; "no connection to {host}: {why}")
+}
+
+// Tries the addresses of a host one after another, for as long as the wait lasts. Each has its part of what is left of
+// it then, so that one that doesn't answer leaves time for the others.
+fn try_addresses<R: Clock + Net<Stream = TcpStream>>(
     rt: &R,
     alloc: Global,
     to: HostPort<'_>,
@@ -53,10 +96,8 @@ pub(crate) fn connect_to<R: Clock + Net<Stream = TcpStream>>(
 ///
 /// `NoConnection` where it can't be set so, with the cause by the kind of the error.
 pub(crate) fn settled(stream: TcpStream) -> Result<TcpStream, ToldFault> {
-    match stream.set_nodelay(true) {
-        Ok(()) => Ok(stream),
-        Err(error) => Err(failed(error)),
-    }
+    stream.set_nodelay(true).map_err(failed)?;
+    Ok(stream)
 }
 
 /// No connection, since a call failed by this error.

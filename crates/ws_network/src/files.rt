@@ -30,10 +30,7 @@ pub(crate) fn read_script_file<R: Files + AllocGlobal, L: LiveLine>(
     let Some(path) = script else {
         return Ok(None);
     };
-    let text = match fs::read(rt, path) {
-        Ok(text) => text,
-        Err(error) => return Err(unread_line(error.kind())),
-    };
+    let text = fs::read(rt, path).map_err(|error| unread_line(error.kind()))?;
     match read_lines(rt.alloc(), text.as_slice()) {
         Ok(lines) => Ok(Some(lines)),
         Err(ScriptFault::Line(number)) => {

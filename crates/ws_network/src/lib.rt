@@ -2,16 +2,17 @@
 //! by the lines of a script or of standard input; and sessions of both ends over one.
 #![tactic(auto)]
 
-mod any_input;
 mod connecting;
 mod files;
 mod input_lines;
 mod line_help;
 mod listening;
 mod live_input;
+mod live_runtime;
 mod live_session;
 mod lookout;
 mod recording;
+mod served_line;
 mod serving;
 mod tcp;
 mod timed_sink;

@@ -37,7 +37,7 @@ on. --stop and --go-on change that.
 A record that the host sends and the station refuses is told, before what the
 line prints that took it, as `record refused at P: reason K NAME`: it has no
 other effect, and that line counts as refused. `station refused at P: reason K
-NAME` is the last line.
+NAME` ends the session. After both stands what the reason says.
 
 With --record, FILE has a line `MILLISECONDS host|station HEX` for each piece
 that crossed the connection. It holds what was typed into hidden fields,
@@ -94,9 +94,9 @@ A refused send is told as `send refused REASON`. A wait that runs out prints
 `late`; one whose station has closed prints `ended`. In a SCRIPT the line's
 number follows: `late (line 4)`, and the first such line ends the session, with
 status 1; on standard input the session goes on. --stop and --go-on change that.
-`host refused at P: reason K NAME` is the last line. After the last line of a
-script, unless a line ended the session, it answers on until the station closes,
-or the wait is over.
+`host refused at P: reason K NAME`, and what the reason says, come last. After the
+last line of a script, unless a line ended the session, it answers on until the
+station closes, or the wait is over.
 
 With --record, FILE has a line `MILLISECONDS host|station HEX` for each piece
 that crossed the connection. It holds what was typed into hidden fields,

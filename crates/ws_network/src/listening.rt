@@ -4,8 +4,9 @@ ghost use Rattle.ws_code.specs.Device.{WentOut};
 ghost use Rattle.ws_network.specs.Listening.{unbound_by};
 
 use crate::connecting::{failed, settled};
+use crate::live_runtime::LiveRuntime;
 use std::io::ErrorKind;
-use std::net::{Net, TcpListener, TcpStream};
+use std::net::{TcpListener, TcpStream};
 use ws_code::Sink;
 use ws_live::hand_on;
 use ws_printing::BufferedSink;
@@ -17,14 +18,11 @@ use ws_text::{Output, put_text};
 /// # Errors
 ///
 /// As `listen`, and then as `take_next`.
-pub(crate) fn take_station<R, O>(
+pub(crate) fn take_station<R: LiveRuntime, O: Sink>(
     rt: &R,
     at: HostPort<'_>,
     out: &mut BufferedSink<O>,
 ) -> Result<TcpStream, ToldFault>
-where
-    R: AllocGlobal + Net<Listener = TcpListener, Stream = TcpStream>,
-    O: Sink,
     requires empty { out.old.held ≡ [] }
     ensures held { out.new.held ≡ [] }
     ensures told { OnOk result ((line : List ℕ)
@@ -40,14 +38,11 @@ where
 ///
 /// `NoConnection` where nothing can listen there, or the address can't be told, with the cause by the kind of the
 /// error. `Memory` where a growth was refused; `Write` where the sink failed.
-pub(crate) fn listen<R, O>(
+pub(crate) fn listen<R: LiveRuntime, O: Sink>(
     rt: &R,
     at: HostPort<'_>,
     out: &mut BufferedSink<O>,
 ) -> Result<TcpListener, ToldFault>
-where
-    R: AllocGlobal + Net<Listener = TcpListener, Stream = TcpStream>,
-    O: Sink,
     requires empty { out.old.held ≡ [] }
     ensures held { out.new.held ≡ [] }
     ensures told { OnOk result ((line : List ℕ)
@@ -77,10 +72,8 @@ fn unbound(kind: ErrorKind) -> Unconnected
 ///
 /// `NoConnection` where none can be taken, with the cause by the kind of the error; also as `settled`.
 pub(crate) fn take_next(listener: &TcpListener) -> Result<TcpStream, ToldFault> {
-    match listener.accept() {
-        Ok((stream, _)) => settled(stream),
-        Err(error) => Err(failed(error)),
-    }
+    let (stream, _) = listener.accept().map_err(failed)?;
+    settled(stream)
 }
 
 fn put_listening<R: AllocGlobal, O: Sink>(
@@ -93,10 +86,7 @@ fn put_listening<R: AllocGlobal, O: Sink>(
     ensures told { OnOk result ((line : List ℕ)
         × WentOut O.writer out.old.sink out.new.sink line) }
 {
-    let address = match listener.local_addr() {
-        Ok(address) => address,
-        Err(error) => return Err(failed(error)),
-    };
+    let address = listener.local_addr().map_err(failed)?;
     let Ok(line) = format!(in rt.alloc(); "listening {address}\n") else {
         return Err(ToldFault::Run(RunFault::Memory));
     };

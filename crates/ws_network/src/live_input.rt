@@ -1,38 +1,42 @@
 //! The lines of a live session: those of a script, or of standard input one by one.
 ghost use Rattle.std.specs.Prelude.{◌≡◌, ◌⊎◌, [], List, Some, false, IfOk, IfErr, IfSome};
 ghost use Rattle.std.specs.Option.{is_some};
-ghost use Rattle.ws_code.specs.Device.{on_devices};
 ghost use Rattle.ws_live.specs.live.ConnectText.{StationRunsInTime};
 ghost use Rattle.ws_live.specs.live.Operating.{live_station};
-ghost use Rattle.ws_live.specs.live.Watches.{InTime, watched_devices};
+ghost use Rattle.ws_live.specs.live.Watches.{InTime};
 ghost use Rattle.ws_network.specs.InputLines.{IsInputFault, IsNextLine};
-ghost use Rattle.ws_network.specs.SessionPrinting.{AreScripted, AreUnnumbered, TellsWell, IsPrintedBehind};
-ghost use Rattle.ws_network.specs.SessionPrinting.{serve_printing, session_lines, session_printing};
-ghost use Rattle.ws_live.specs.live.ServeText.{HostRunsInTime};
+ghost use Rattle.ws_network.specs.SessionPrinting.{AreScripted, AreUnnumbered, TellsWell, session_lines, session_printing};
+ghost use Rattle.ws_network.specs.Times.{timed, timed_waits};
 ghost use Rattle.ws_script.specs.declared.lines.live_line.NumberedLine.{NumberedLine as ANumbered};
 ghost use Rattle.ws_script.specs.declared.lines.connect_line.StationLine.{StationLine as ALine};
-ghost use Rattle.ws_script.specs.declared.lines.serve_line.HostLine.{HostLine as AHostLine};
-ghost use Rattle.ws_script.specs.declared.lines.serve_line.HostLine.TheVariants.{Await};
 ghost use Rattle.ws_text.specs.Printed.{IsPrinted};
 
+use crate::connecting::host_text;
 use crate::input_lines::{InputLines, Next, TypedWord, next_line};
 use crate::line_help::put_line_help;
+use crate::live_runtime::LiveRuntime;
 use crate::lookout::comes_before_line;
-use std::io::{BufRead, BufReader, IsTerminal};
-use std::net::Net;
+use crate::timed_sink::TimedSink;
+use crate::timed_source::TimedSource;
+use crate::timer::TimedWatch;
+use std::io::{BufRead, BufReader};
 use std::os::fd::{AsRawFd, RawFd};
-use std::rt::Runtime;
 use ws_code::{Sink, Source};
 use ws_live::{
     AfterUnwell, Closing, ConnectAsked, LineSettings, LiveMove, LiveSession, LiveStation, Ran,
-    Watch, answer_on, carry_line, carry_lines,
+    Watch, carry_line, carry_lines,
 };
 use ws_printing::BufferedSink;
-use ws_script::{
-    HostLine, HostPort, LiveLine, NamedKey, NumberedLine, RunFault, StationLine, ToldFault,
-    Vocabulary,
-};
-use ws_session::{End, HostEnd};
+use ws_script::{LiveLine, NamedKey, NumberedLine, RunFault, StationLine, ToldFault, Vocabulary};
+use ws_session::End;
+
+/// A live session over a connection.
+pub(crate) type TimedSession<'a, E, R> = LiveSession<
+    E,
+    TimedSource<'a, R>,
+    TimedSink<'a, R>,
+    TimedWatch<'a, R>,
+>;
 
 /// Carries out the lines of a script at a station, or without one those of standard input: true where all went well.
 ///
@@ -40,9 +44,9 @@ use ws_session::{End, HostEnd};
 ///
 /// As `carry_line`. Without a script also `Read` where standard input can't be read, `Line` where a line of it is bad,
 /// unless the session tells when it is ready, and `Memory` where a growth was refused in reading it.
-pub(crate) fn carry_at_station<E, R, S, K, W, O>(
+pub(crate) fn carry_at_station<E, R, O>(
     rt: &R,
-    session: &mut LiveSession<E, S, K, W>,
+    session: &mut TimedSession<'_, E, R>,
     script: Option<&[NumberedLine<StationLine<E::Named>>]>,
     vocabulary: Vocabulary,
     settings: LineSettings,
@@ -51,11 +55,7 @@ pub(crate) fn carry_at_station<E, R, S, K, W, O>(
 where
     E: LiveStation,
     E::Named: NamedKey,
-    R: Runtime + AllocGlobal + Net,
-    R::Reader: IsTerminal,
-    S: Source + AsRawFd,
-    K: Sink,
-    W: Watch<S>,
+    R: LiveRuntime,
     O: Sink,
     requires works { session.old.attached.broken ≡ false }
     requires empty { out.old.held ≡ [] }
@@ -64,61 +64,12 @@ where
         × IsPrinted O.writer out.old.sink out.new.sink (session_printing (session_lines
         (StationRunsInTime
         (live_station E.behaviour E.keyed E.typing E.seen E.Display.does.shown
-        E.Display.operated E.Named.words)
-        (watched_devices (on_devices K.writer S.reader) W.tells) W.times) settings
+        E.Display.operated E.Named.words) timed timed_waits) settings
         session.old lines session.new)
         (is_some script.entry) TellsWell) result }
     ensures held { out.new.held ≡ [] }
 {
-    match carry_session(rt, session, script, vocabulary, settings, out) {
-        Ok(ran) => Ok(ran.all_well),
-        Err(fault) => Err(fault),
-    }
-}
-
-/// Carries out the lines of a script at a host, or without one those of standard input, and then answers the station
-/// on, unless a line ended the session: true where all went well.
-///
-/// # Errors
-///
-/// As `carry_at_station`; behind the lines as `answer_on`.
-pub(crate) fn carry_at_host<R, S, K, W, O>(
-    rt: &R,
-    session: &mut LiveSession<HostEnd, S, K, W>,
-    script: Option<&[NumberedLine<HostLine>]>,
-    settings: LineSettings,
-    out: &mut BufferedSink<O>,
-) -> Result<bool, ToldFault>
-where
-    R: Runtime + AllocGlobal + Net,
-    R::Reader: IsTerminal,
-    S: Source + AsRawFd,
-    K: Sink,
-    W: Watch<S>,
-    O: Sink,
-    // At an end that works, with nothing held back.
-    requires works { session.old.attached.broken ≡ false }
-    requires empty { out.old.held ≡ [] }
-    // What was printed, and how it ended.
-    ensures printed { (lines : List (ANumbered AHostLine))
-        × AreScripted script.entry lines
-        × IsPrintedBehind O.writer out.old.sink out.new.sink (serve_printing (session_lines
-        (HostRunsInTime (watched_devices (on_devices K.writer S.reader) W.tells) W.times) settings
-        session.old lines session.new)
-        (is_some script.entry) Await) result }
-    ensures held { out.new.held ≡ [] }
-{
-    let ran = match carry_session(rt, session, script, Vocabulary::Host, settings, out) {
-        Ok(ran) => ran,
-        Err(fault) => return Err(fault),
-    };
-    if ran.is_over {
-        return Ok(ran.all_well);
-    }
-    match answer_on(session, out) {
-        Ok(is_well) => Ok(ran.all_well && is_well),
-        Err(fault) => Err(ToldFault::from(fault)),
-    }
+    Ok(carry_session(rt, session, script, vocabulary, settings, out)?.all_well)
 }
 
 /// Carries out the lines of a script, or without one those of standard input.
@@ -135,8 +86,7 @@ pub(crate) fn carry_session<R, E, S, K, L, W, O>(
     out: &mut BufferedSink<O>,
 ) -> Result<Ran, ToldFault>
 where
-    R: Runtime + AllocGlobal + Net,
-    R::Reader: IsTerminal,
+    R: LiveRuntime,
     E: End,
     S: Source + AsRawFd,
     K: Sink,
@@ -174,8 +124,7 @@ fn carry_input<R, E, S, K, L, W, O>(
     out: &mut BufferedSink<O>,
 ) -> Result<Ran, ToldFault>
 where
-    R: Runtime + AllocGlobal + Net,
-    R::Reader: IsTerminal,
+    R: LiveRuntime,
     E: End,
     S: Source + AsRawFd,
     K: Sink,
@@ -204,21 +153,17 @@ where
     let mut input = InputLines::new(rt.alloc(), reader, is_typed(rt, settings));
     let mut connection = Some(session.attached.source().as_raw_fd());
     for _ in 0..u64::MAX {
-        let next = match line_to_do::<R, BufReader<R::Reader>, L>(
+        let next = line_to_do::<R, BufReader<R::Reader>, L>(
             rt, &mut input, connection, vocabulary, settings,
-        ) {
-            Ok(next) => next,
-            Err(fault) => return Err(fault),
-        };
+        )?;
         let Some(line) = next else {
             return Ok(ran);
         };
         let line = NumberedLine { number: None, line };
-        let closing = match carry_line(session, &line, settings, out) {
-            Ok(closing) => closing,
-            Err(fault) => return Err(ToldFault::from(fault)),
-        };
-        connection = still_open(connection, closing);
+        let closing = carry_line(session, &line, settings, out)?;
+        if matches!(closing, Closing::Ended) {
+            connection = None;
+        }
         input.ask_again_after(closing);
         ran = ran.and(closing.ran(settings.after));
         if ran.is_over {
@@ -228,44 +173,27 @@ where
     Ok(ran)
 }
 
-// The connection, as long as the other side hasn't closed it.
-fn still_open(connection: Option<RawFd>, closing: Closing) -> Option<RawFd> {
-    match closing {
-        Closing::Ended => None,
-        _ => connection,
-    }
-}
-
 /// Whether the lines are typed by someone who reads what each tells: standard input is a terminal, no program drives the
 /// session, and it isn't to stop after a bad line.
-pub(crate) fn is_typed<R: Runtime>(rt: &R, settings: LineSettings) -> bool
-where
-    R::Reader: IsTerminal,
-{
+pub(crate) fn is_typed<R: LiveRuntime>(rt: &R, settings: LineSettings) -> bool {
     let goes_on = matches!(settings.after, AfterUnwell::GoOn);
-    !settings.ready && goes_on && rt.reader().is_terminal()
+    !settings.ready && goes_on && rt.is_at_terminal()
 }
 
 /// Tells on standard error to whom there is a connection, where lines are typed at it.
-pub(crate) fn tell_connected<R: Runtime>(rt: &R, asked: &ConnectAsked<'_>)
-where
-    R::Reader: IsTerminal,
-{
+pub(crate) fn tell_connected<R: LiveRuntime>(rt: &R, asked: &ConnectAsked<'_>) {
     if asked.script.is_some() || !is_typed(rt, asked.settings) {
         return;
     }
-    let HostPort { host, port } = asked.host;
-    let _ = if host.contains(':') {
-        eprintln!(rt; "connected to [{host}]:{port}")
-    } else {
-        eprintln!(rt; "connected to {host}:{port}")
-    };
+    if let Ok(host) = host_text(rt.alloc(), asked.host) {
+        let _ = eprintln!(rt; "connected to {host}");
+    }
 }
 
 // The next line of standard input that is to be carried out; `None` where there is none more. Lines that are typed are
 // asked for, and of a bad one the cause is told, both on standard error; then the next is read. Where something comes
 // over the connection before one is typed, the line that takes it comes first.
-fn line_to_do<R: Runtime + AllocGlobal + Net, B: BufRead + Drop, L: LiveLine>(
+fn line_to_do<R: LiveRuntime, B: BufRead + Drop, L: LiveLine>(
     rt: &R,
     input: &mut InputLines<B>,
     connection: Option<RawFd>,
@@ -286,11 +214,7 @@ fn line_to_do<R: Runtime + AllocGlobal + Net, B: BufRead + Drop, L: LiveLine>(
                 return Ok(Some(line));
             }
         }
-        let next = match next_line::<B, L>(input, vocabulary, settings.ready) {
-            Ok(next) => next,
-            Err(fault) => return Err(fault),
-        };
-        match next {
+        match next_line::<B, L>(input, vocabulary, settings.ready)? {
             Next::Line(line) => return Ok(Some(line)),
             Next::Bad { number: _, cause } => {
                 let _ = eprintln!(rt; "bad line: {cause}");
@@ -307,22 +231,15 @@ fn line_to_do<R: Runtime + AllocGlobal + Net, B: BufRead + Drop, L: LiveLine>(
 }
 
 // The line that takes what has come over the connection before one was typed, where there is one and something has.
-fn come_before_line<R: Net + AllocGlobal, L: LiveLine>(
-    rt: &R,
-    connection: Option<RawFd>,
-) -> Option<L>
+fn come_before_line<R: LiveRuntime, L: LiveLine>(rt: &R, connection: Option<RawFd>) -> Option<L>
     ensures { IfSome result (λ line. L.language.meanwhile ≡ Some line) }
 {
     let line = L::meanwhile()?;
-    if comes_before_line(rt, connection?) {
-        Some(line)
-    } else {
-        None
-    }
+    comes_before_line(rt, connection?).then_some(line)
 }
 
 // Ends the row on which the end of what is typed came.
-fn end_asking<R: Runtime, B: BufRead + Drop>(rt: &R, input: &InputLines<B>) {
+fn end_asking<R: LiveRuntime, B: BufRead + Drop>(rt: &R, input: &InputLines<B>) {
     if input.is_typed_out() {
         let _ = eprintln!(rt);
     }

@@ -17,6 +17,7 @@ ghost use Rattle.ws_network.specs.Sessions.{HasConnected, HasConnectedOn};
 use crate::connecting::connect_to;
 use crate::files::{lines_of, read_script_file};
 use crate::live_input::{carry_at_station, tell_connected};
+use crate::live_runtime::LiveRuntime;
 use crate::recording::{PieceSender, RecordFile, Recording};
 use crate::serving::serve_lines;
 use crate::timed_sink::TimedSink;
@@ -70,16 +71,12 @@ where
 }
 
 // A station at a host.
-fn connect<R, O>(
+fn connect<R: LiveRuntime, O: Sink>(
     rt: &R,
     asked: ConnectAsked<'_>,
     streams: OpenStreams,
     out: &mut BufferedSink<O>,
 ) -> Result<bool, ToldFault>
-where
-    R: Runtime + AllocGlobal + Files<File = File> + Net<Listener = TcpListener, Stream = TcpStream>,
-    R::Reader: IsTerminal,
-    O: Sink,
     requires empty { out.old.held ≡ [] }
     ensures ran { IfOk result
         (HasConnected (printout O.writer out.old.sink out.new.sink) asked.entry) }
@@ -121,8 +118,7 @@ fn connect_on<E, R, O>(
 where
     E: LiveStation,
     E::Named: NamedKey,
-    R: Runtime + AllocGlobal + Files<File = File> + Net<Listener = TcpListener, Stream = TcpStream>,
-    R::Reader: IsTerminal,
+    R: LiveRuntime,
     O: Sink,
     requires empty { out.old.held ≡ [] }
     ensures ran { IfOk result (HasConnectedOn (printout O.writer out.old.sink out.new.sink)
@@ -132,7 +128,11 @@ where
     ensures closed { (why : AFault) → missing streams (is_none asked.now.script) ≡ Some why
         → IsErr result × (out.new.sink ≡ out.old.sink) }
 {
-    let vocabulary = vocabulary_of(asked);
+    let vocabulary = if asked.extended {
+        Vocabulary::ExtendedStation
+    } else {
+        Vocabulary::Station
+    };
     let script = read_script_file::<R, StationLine<E::Named>>(rt, asked.script, vocabulary)?;
     streams.suffice(script.is_none())?;
     let file = RecordFile::new(rt, asked.record)?;
@@ -153,26 +153,13 @@ where
     recording.judge(outcome)
 }
 
-// The kind of the lines for this station.
-fn vocabulary_of(asked: &ConnectAsked<'_>) -> Vocabulary {
-    if asked.extended {
-        Vocabulary::ExtendedStation
-    } else {
-        Vocabulary::Station
-    }
-}
-
 // A host for a station, or for some one after another.
-fn serve<R, O>(
+fn serve<R: LiveRuntime, O: Sink>(
     rt: &R,
     asked: &ServeAsked<'_>,
     streams: OpenStreams,
     out: &mut BufferedSink<O>,
 ) -> Result<bool, ToldFault>
-where
-    R: Runtime + AllocGlobal + Files<File = File> + Net<Listener = TcpListener, Stream = TcpStream>,
-    R::Reader: IsTerminal,
-    O: Sink,
     requires empty { out.old.held ≡ [] }
     ensures ran { IfOk result (HasServedAs (printout O.writer out.old.sink out.new.sink)
         asked.now.any asked.now) }
@@ -180,8 +167,8 @@ where
         → IsErr result × (out.new.sink ≡ out.old.sink) }
 {
     if asked.any {
-        serve_lines::<R, AnyLine, O>(rt, asked, Vocabulary::AnyHost, streams, out)
+        serve_lines::<R, AnyLine, O>(rt, asked, streams, out)
     } else {
-        serve_lines::<R, HostLine, O>(rt, asked, Vocabulary::Host, streams, out)
+        serve_lines::<R, HostLine, O>(rt, asked, streams, out)
     }
 }

@@ -1,5 +1,5 @@
 //! Recordings of what both ends sent: a line `MILLISECONDS host|station HEX` for each piece.
-ghost use Rattle.std.specs.Prelude.{◌≡◌, ◌⊎◌, IfOk, IfErr, Ok, Err};
+ghost use Rattle.std.specs.Prelude.{◌≡◌, ◌⊎◌, Err, IsErrAnd};
 ghost use Rattle.ws_script.specs.declared.asked.fault.RunFault.TheVariants as run;
 ghost use Rattle.ws_script.specs.declared.asked.fault.ToldFault.TheVariants as told;
 ghost use Rattle.ws_network.specs.Recordings as Spec;
@@ -8,6 +8,7 @@ ghost use Rattle.ws_text.specs.Printing.{Prints};
 use std::cell::{Cell, OnceCell};
 use std::fs::{File, OpenOptions};
 use std::io::ErrorKind;
+use std::net::SocketAddr;
 use std::os::unix::fs::OpenOptionsExt;
 use std::rt::{Files, Runtime};
 use std::time::Instant;
@@ -15,7 +16,7 @@ use std::{fs, io};
 use ws_code::{Sink, WriteSink};
 use ws_live::hand_on;
 use ws_printing::BufferedSink;
-use ws_script::{RunFault, ToldFault};
+use ws_script::{RunFault, ToldFault, Unconnected};
 use ws_text::{Output, put_hex, put_number, put_text};
 
 // How many names are tried for a file that isn't there yet.
@@ -68,13 +69,14 @@ impl<'a> RecordFile<'a> {
     }
 }
 
-/// What is recorded of a connection, which begins with it.
+/// What is recorded of a connection, which begins with it; and which other side has reset it.
 #[derive(Drop)]
 pub(crate) struct Recording<'a, R> {
     rt: &'a R,
     file: &'a RecordFile<'a>,
     begun: Option<Instant>,
     has_failed: Cell<bool>,
+    reset_by: Cell<Option<SocketAddr>>,
 }
 
 impl<'a, R: Runtime + AllocGlobal + Files<File = File>> Recording<'a, R> {
@@ -85,6 +87,7 @@ impl<'a, R: Runtime + AllocGlobal + Files<File = File>> Recording<'a, R> {
             file,
             begun: Instant::now(rt).ok(),
             has_failed: Cell::new(false),
+            reset_by: Cell::new(None),
         }
     }
 
@@ -92,16 +95,35 @@ impl<'a, R: Runtime + AllocGlobal + Files<File = File>> Recording<'a, R> {
     ///
     /// # Errors
     ///
-    /// `Write` where the file couldn't be written, whatever the session came to; else the fault that it came to.
+    /// `Write` where the file couldn't be written, whatever the session came to; `Connection` in place of `Read` where the
+    /// other side has reset the connection; else the fault that it came to.
     pub(crate) fn judge(&self, outcome: Result<bool, ToldFault>) -> Result<bool, ToldFault>
-        ensures done { IfOk result (λ all_well. outcome ≡ Ok all_well) }
-        ensures fault { IfErr result (λ fault.
-            (fault ≡ told.Run run.Write) ⊎ (outcome ≡ Err fault)) }
+        ensures { (result ≡ outcome) ⊎ IsErrAnd result (λ fault.
+            (fault ≡ told.Run run.Write) ⊎ (outcome ≡ Err (told.Run run.Read))) }
     {
         if self.has_failed.get() {
             return Err(ToldFault::Run(RunFault::Write));
         }
-        outcome
+        let Some(peer) = self.reset_by.get() else {
+            return outcome;
+        };
+        match outcome {
+            Err(ToldFault::Run(RunFault::Read)) => Err(self.reset(peer)),
+            _ => outcome,
+        }
+    }
+
+    /// Keeps that this other side, where it is known, has reset the connection.
+    pub(crate) fn note_reset(&self, peer: Option<SocketAddr>) {
+        self.reset_by.set(peer);
+    }
+
+    // That the other side has reset the connection.
+    fn reset(&self, peer: SocketAddr) -> ToldFault {
+        match format!(in self.rt.alloc(); "connection reset by {peer}") {
+            Ok(text) => ToldFault::Connection(text),
+            Err(_) => ToldFault::NoConnection(Unconnected::Reset),
+        }
     }
 
     /// Records a piece that crossed the connection.
@@ -140,10 +162,7 @@ impl<'a, R: Runtime + AllocGlobal + Files<File = File>> Recording<'a, R> {
         let (Some(begun), Ok(now)) = (self.begun, Instant::now(self.rt)) else {
             return 0;
         };
-        match now.checked_duration_since(begun) {
-            Some(since) => u64::try_from(since.as_millis()).unwrap_or(u64::MAX),
-            None => 0,
-        }
+        u64::try_from(now.saturating_duration_since(begun).as_millis()).unwrap_or(u64::MAX)
     }
 }
 

@@ -11,7 +11,7 @@ use std::fs::File;
 use std::io;
 use std::io::{ErrorKind, Read};
 use std::marker::Model;
-use std::net::{Shutdown, TcpStream};
+use std::net::{Shutdown, SocketAddr, TcpStream};
 use std::os::fd::{AsRawFd, RawFd};
 use std::rt::{Files, Runtime};
 use std::time::Duration;
@@ -27,6 +27,8 @@ pub(crate) struct TimedSource<'a, C> {
     timer: &'a Timer<'a, C>,
     recording: &'a Recording<'a, C>,
     sender: PieceSender,
+    // The address of the other side, where it is known.
+    peer: Option<SocketAddr>,
     failures: u64,
     // Of what kind the error of the last read that failed was, and whether the time that was over then was that in which
     // nothing had come.
@@ -57,6 +59,7 @@ impl<'a, C> TimedSource<'a, C> {
             timer,
             recording,
             sender,
+            peer: stream.peer_addr().ok(),
             failures: 0,
             failure: None,
             rested: false,
@@ -67,10 +70,7 @@ impl<'a, C> TimedSource<'a, C> {
     pub(crate) fn is_late(&self) -> bool
         ensures { result ≡ Spec.was_late self.now }
     {
-        match self.failure {
-            Some(kind) => is_want_of_time(kind),
-            None => false,
-        }
+        self.failure.is_some_and(is_want_of_time)
     }
 
     /// Whether the time that was over at the last read that failed was that in which nothing had come.
@@ -141,6 +141,9 @@ impl<'a, C: Runtime + AllocGlobal + Files<File = File>> TimedSource<'a, C> {
         match outcome {
             Ok(given) => Ok(given),
             Err(error) => {
+                if is_reset(error.kind()) {
+                    self.recording.note_reset(self.peer);
+                }
                 self.failure = Some(error.kind());
                 self.rested = self.timer.is_at_rest();
                 self.failures = self.failures.saturating_add(1);
@@ -163,6 +166,14 @@ impl<C> AsRawFd for TimedSource<'_, C> {
     fn as_raw_fd(&self) -> RawFd {
         self.stream.as_raw_fd()
     }
+}
+
+// Whether an error of this kind says that the other side has reset the connection.
+fn is_reset(kind: ErrorKind) -> bool {
+    matches!(
+        kind,
+        ErrorKind::ConnectionReset | ErrorKind::ConnectionAborted
+    )
 }
 
 // Whether an error of this kind says that a call took longer than its time.

@@ -101,9 +101,7 @@ impl<'a, C: Clock> Timer<'a, C> {
 
     /// What is left until then; `None` where nothing is.
     pub(crate) fn left_until(&self, until: Option<Instant>) -> Option<Duration> {
-        let Ok(now) = Instant::now(self.clock) else {
-            return None;
-        };
+        let now = Instant::now(self.clock).ok()?;
         let left = until?.checked_duration_since(now)?;
         if left.is_zero() { None } else { Some(left) }
     }
@@ -195,10 +193,7 @@ fn earlier(one: Option<Instant>, other: Option<Instant>) -> Option<Instant> {
 
 // When a wait ends that begins now.
 fn end_of_wait<C: Clock>(clock: &C, limit: Duration) -> Option<Instant> {
-    match Instant::now(clock) {
-        Ok(now) => now.checked_add(limit),
-        Err(_) => None,
-    }
+    Instant::now(clock).ok()?.checked_add(limit)
 }
 
 /// The error of a call for which no time is left.

@@ -1,4 +1,5 @@
 use Rattle.std.proofs.Common.{sym, ◌∙◌, inl}
+use Rattle.std.proofs.lemmas.Result.{err_from_is_err_and}
 use Rattle.ws_printing.proofs.ScriptWords.{is_no_comment}
 use Rattle.ws_printing.proofs.Scripts.{fault_on}
 use Rattle.ws_any_host.specs.AnyLines.{IsSendText, MeansAnyLine}
@@ -9,9 +10,10 @@ pub read_word-requires-clause-no_comment : goal.read_word-requires-clause-no_com
 read_word-requires-clause-no_comment c = is_no_comment c.args.text.now c.strip_prefix.result
     c.strip_prefix.ensures.cases (sym c.is_some.ensures ∙ c.if-is_some.false)
 
-pub returns-in-Err-clause-fault : goal.returns-in-Err-clause-fault
-returns-in-Err-clause-fault c =
+pub returns-in_err-read_sent-in-Some-clause-fault : goal.returns-in_err-read_sent-in-Some-clause-fault
+returns-in_err-read_sent-in-Some-clause-fault c =
     let words = c.in-Some.words.now in
-    fault_on (IsSendText words) (MeansAnyLine c.args.text.now) c.in-Err.fault
+    let p = err_from_is_err_and c.from_residual.result c.from_residual.ensures.1 in
+    rw (p.1, p.2) (fault_on (IsSendText words) (MeansAnyLine c.args.text.now) c.in_err-read_sent-in-Some.field-0.0
     (sends_only c.args.text.now words c.in-Some.ensures) (λ begun. inl (words, c.in-Some.ensures, begun))
-    c.in-Err.ensures.fault
+    c.in_err-read_sent-in-Some.ensures.fault)

@@ -1,5 +1,5 @@
 use Rattle.std.specs.Option.{option_map}
-use Rattle.std.proofs.Common.{Bool, Option, None, false, true, subst, sym}
+use Rattle.std.proofs.Common.{Bool, Option, false, true, subst, sym}
 use Rattle.std.proofs.lemmas.Result.{IfOk-weaker}
 use Rattle.std.specs.Result.{IfOk}
 use Rattle.ws_end.specs.station.StationTransitions.{new_state_on}
@@ -9,13 +9,20 @@ use Rattle.ws_identity.specs.Environ.{new_environ}
 use Rattle.ws_identity.specs.declared.identity.Identity.{Identity}
 use Rattle.ws_lasting.specs.Footings.{StandsAt}
 use Rattle.ws_lasting.specs.Lasting.{new_footing}
-use Rattle.ws_live.specs.live.Operating.{entry_station, station_at}
+use Rattle.ws_live.specs.declared.session_asked.ConnectAsked.{ConnectAsked}
+use Rattle.ws_live.specs.live.Operating.{LiveStation, entry_station, station_at}
 use Rattle.ws_printing.specs.Operating.{operated_profile}
-use Rattle.ws_printing.specs.Printouts.{printout}
+use Rattle.ws_printing.specs.Printouts.{Printout, printout}
 use Rattle.ws_printing.specs.script.KeyWords.{profile_words}
-use Rattle.ws_network.specs.Sessions.{HasConnectedAs}
-use Rattle.ws_network.proofs.SessionLaws.{connected_with}
+use Rattle.ws_network.specs.Sessions.{HasConnectedAs, HasConnectedOn}
 use Rattle.ws_network.proofs.live_session.connect.Goals as goal
+
+-- what a station has carried out doesn't rest on who is asked for
+connected_with : {O : Type 0} (out : Printout O) (at : LiveStation) (station : at.Station) (asked : ConnectAsked)
+    (identity : Option Identity) (well : Bool)
+    → HasConnectedOn out at station (record asked { identity = identity }) well → HasConnectedOn out at station asked well
+connected_with out at station asked identity well h =
+    (h.0, h.1, h.2, record { to = h.3.to; is_over = h.3.is_over; ran = h.3.ran }, h.4)
 
 pub returns-then-asked-clause-ran : goal.returns-then-asked-clause-ran
 returns-then-asked-clause-ran g c =

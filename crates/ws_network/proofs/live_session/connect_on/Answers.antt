@@ -1,35 +1,61 @@
-use Rattle.std.specs.Option.{is_some}
+use Rattle.std.specs.Borrow.{Bor}
+use Rattle.std.specs.Option.{is_none, is_some}
+use Rattle.std.specs.Prelude.{Option, None, Some, MatchOption}
+use Rattle.std.proofs.Common.{◌≡◌, ℕ, List, true, sym, subst, ◌∙◌}
+use Rattle.std.proofs.lemmas.Bool.{false≢true}
+use Rattle.std.proofs.lemmas.Result.{IfOk-weaker}
+use Rattle.ws_script.specs.declared.lines.live_line.NumberedLine.{NumberedLine}
 use Rattle.ws_script.specs.lines.ConnectLines.{station_language}
+use Rattle.ws_script.specs.lines.LiveScript.{AreLiveLines, LineLanguage}
 use Rattle.ws_live.specs.live.ConnectText.{StationRunsInTime}
-use Rattle.ws_live.specs.live.LiveText.{account}
 use Rattle.ws_live.specs.live.Operating.{live_station}
-use Rattle.ws_live.specs.live.Watches.{begun_session}
 use Rattle.ws_network.specs.SessionPrinting.{AreScripted}
+use Rattle.ws_network.specs.Sessions.{AreFromScript}
 use Rattle.ws_network.specs.Times.{timed, timed_waits}
-use Rattle.ws_network.proofs.SessionPrinted.{connected_well}
-use Rattle.ws_network.proofs.SessionLaws.{judged, from_script, connected}
+use Rattle.ws_network.proofs.SessionPrinted.{connected_well, judged}
 use Rattle.ws_network.proofs.live_session.connect_on.Goals as goal
+
+-- the lines of a session are those of the file that is named
+module _ {L V : Type 0} (items : V → List (NumberedLine L)) (language : LineLanguage L) where
+  -- the lines of a slice are those that were read
+  abbrev IsSliceOf : Option V → Option (Bor (List (NumberedLine L))) → Type 0
+  IsSliceOf read slice = MatchOption read (is_none slice ≡ true)
+      (λ v. MatchOption slice ⊥ (λ s. s.now ≡ items v))
+
+  from_script : (script : Option (Bor (List ℕ))) (read : Option V) (slice : Option (Bor (List (NumberedLine L))))
+      (lines : List (NumberedLine L))
+      → MatchOption read (is_none script ≡ true) (λ v. (file : List ℕ) × AreLiveLines language file (items v))
+      → is_none read ≡ is_none script → IsSliceOf read slice → AreScripted slice lines
+      → AreFromScript language script lines
+  from_script None None None lines file named is all = all
+  from_script None None (Some s) lines file named is all = absurd (false≢true is)
+  from_script None (Some v) slice lines file named is all = absurd (false≢true named)
+  from_script (Some path) None slice lines none named is all = absurd (false≢true none)
+  from_script (Some path) (Some v) None lines file named is all = absurd is
+  from_script (Some path) (Some v) (Some s) lines file named is all = (
+    file.0,
+    subst (λ z. AreLiveLines language file.0 z) (sym (all ∙ is)) file.1,
+  )
 
 pub returns-clause-ran : goal.returns-clause-ran
 returns-clause-ran g c =
     let at = live_station g.E.End.behaviour g.E.Keyed.keyed g.E.LiveStation.typing g.E.LiveStation.seen
     g.E.Display.StationDisplay.does.shown g.E.Display.OperatedDisplay.operated g.E.Named.NamedKey.words in
-    judged _ _ c.carry_at_station-outcome.result c.judge.result
-    (connected_well (StationRunsInTime at timed timed_waits)
-    c.args.asked.now.settings g.O.Sink.writer c.new-session.result c.carry_at_station-outcome.new.session
-    (is_some c.lines_of-lines.result) c.args.out.now.sink c.carry_at_station-outcome.new.out.sink
-    (AreScripted c.lines_of-lines.result) c.carry_at_station-outcome.result
-    c.carry_at_station-outcome.ensures.printed) c.judge.ensures.done
-    (λ all_well ran. (
+    let carried = c.carry_at_station-outcome in
+    let lines = c.lines_of-lines in
+    judged _ _ carried.result _ (IfOk-weaker carried.result _ _ (λ all_well ran. (
       ran.0,
       ran.1,
       from_script (λ v. v.items) (station_language g.E.Named.NamedKey.words) c.args.asked.now.script
-          c.in_ok-script.script c.lines_of-lines.result ran.0 c.in_ok-script.ensures.lines c.in_ok-script.ensures.named
-          c.lines_of-lines.ensures ran.2,
-      connected at c.args.asked.now ran.0
-          (account all_well ran.1) c.carry_at_station-outcome.new.session
-          ran.3.0 c.args.station c.new-2.result c.new-3.result c.new-attached.result c.new-4.result
-          c.new-session.result c.new-session.ensures c.new-attached.ensures c.new-2.ensures c.new-3.ensures
-          c.new-4.ensures ran.3.1,
+          c.in_ok-script.script lines.result ran.0 c.in_ok-script.ensures.lines c.in_ok-script.ensures.named
+          lines.ensures ran.2,
+      record {
+        to = carried.new.session;
+        is_over = ran.3.0;
+        ran = rw (c.new-session.ensures, c.new-attached.ensures, c.new-2.ensures, c.new-3.ensures, c.new-4.ensures)
+            at ran.3.1;
+      },
       ran.4,
-    ))
+    )) (connected_well (StationRunsInTime at timed timed_waits) c.args.asked.now.settings g.O.Sink.writer
+    c.new-session.result carried.new.session (is_some lines.result) c.args.out.now.sink carried.new.out.sink
+    (AreScripted lines.result) carried.result carried.ensures.printed)) c.judge.ensures

@@ -1,11 +1,14 @@
-use Rattle.std.proofs.Common.{◌≡◌, ℕ, ◌+◌, sym, ap, ◌∙◌, subst}
+use Rattle.std.proofs.Common.{◌≡◌, ℕ, ◌+◌, zero, suc, refl, sym, ap, ◌∙◌, subst}
 use Rattle.ws_code.specs.Device.{WentOut}
 use Rattle.ws_text.specs.Printing.{IsOut}
 use Rattle.ws_text.specs.declared.output.Output.{Output}
 use Rattle.ws_text.proofs.Prints.{whole_out}
 use Rattle.ws_network.specs.ManySessions.{number_line, session_line}
-use Rattle.ws_network.proofs.ServedLaws.{line_behind}
 use Rattle.ws_network.proofs.serving.put_session.Goals as goal
+
+line_behind : (before : ℕ) → (before ≡ 0 → ⊥) → session_line before ≡ number_line (before + 1)
+line_behind zero some = absurd (some refl)
+line_behind (suc before) some = refl
 
 pub returns-in-Open-clause-told : goal.returns-in-Open-clause-told
 returns-in-Open-clause-told g c =

@@ -2,10 +2,11 @@ use Rattle.std.proofs.Common.{◌≡◌, ℕ, List, [], ◌++◌}
 use Rattle.ws_code.specs.Device.{WentOut}
 use Rattle.ws_live.specs.live.LiveText.{account}
 use Rattle.ws_network.specs.ManySessions.{AreMany}
+use Rattle.ws_network.specs.Sessions.{IsServed}
 use Rattle.ws_network.proofs.serving.serve_many.Given as goal
 
 -- the sessions so far, behind what tells the address
 abbrev pub invariant-loop-number : goal.invariant-loop-number
 invariant-loop-number g l = (first : List ℕ) × (text : List ℕ)
-    × AreMany (g.L.ServedLine.served l.asked l.script) l.number (account l.all_well text)
+    × AreMany (IsServed g.L.HostedLine.served l.asked l.script) l.number (account l.all_well text)
     × WentOut g.O.Sink.writer l.fn.out.sink l.out.sink (first ++ text) × (l.out.held ≡ [])
