@@ -1,8 +1,10 @@
 //! What is shown of a stream: screens, fields and lines.
 
 use crate::{same, same_at, same_bytes};
-use ws_code::VecSink;
-use ws_program::{check_to, show_to};
+use ws_code::{FailingSource, VecSink};
+use ws_printing::{BufferedSink, Look, Paint};
+use ws_program::{check_to, show_source_openly, show_to};
+use ws_script::{OpenStreams, RunFault, Sender};
 use ws_stream::Commands;
 
 type Row<'a> = (&'a str, &'a [u8], &'a str, bool);
@@ -142,6 +144,38 @@ fn show_lines(rt: HostRuntime) {
         same_at(&rt, row, found, Ok(*accepted));
         let text = String::from_utf8(sink.into_inner()).expect(&rt, "a text");
         same_at(&rt, row, text.as_str(), *wanted);
+    }
+}
+
+// The same of a source that gives a byte a read; where it fails at its end, after the lines of all items.
+#[test]
+fn shown_while_read(rt: HostRuntime) {
+    let look = Look::on_037(Paint::Plain);
+    let streams = OpenStreams {
+        input: true,
+        output: true,
+    };
+    for (row, bytes, wanted, accepted) in &SHOWN {
+        let ending = if *accepted { "screen" } else { "truncated" };
+        for reads in [bytes.len(), bytes.len() + 1] {
+            let mut source = FailingSource::new(bytes, reads as u64);
+            let mut sink = BufferedSink::new(VecSink::new(rt.alloc()));
+            let found = show_source_openly(
+                rt.alloc(),
+                look,
+                Sender::Host,
+                streams,
+                &mut source,
+                &mut sink,
+            );
+            let (lines, outcome) = match wanted.split_once(ending) {
+                Some((lines, _)) if reads == bytes.len() => (lines, Err(RunFault::Read)),
+                _ => (*wanted, Ok(*accepted)),
+            };
+            same_at(&rt, row, found, outcome);
+            let text = String::from_utf8(sink.into_inner().into_inner()).expect(&rt, "a text");
+            same_at(&rt, row, text.as_str(), lines);
+        }
     }
 }
 

@@ -1,4 +1,4 @@
-use Rattle.std.specs.Prelude.{◌==◌, ◌&&◌, Bool, true, false, Result, Ok, Err, IfOk, IfErr, OnOk, OnErr, ◌↔◌, IsTrue}
+use Rattle.std.specs.Prelude.{◌==◌, ◌&&◌, Bool, Result, Ok, Err, IfOk, IfErr, ◌↔◌, IsTrue}
 use Rattle.std.proofs.Common.{◌≡◌, ℕ, ◌+◌, List, [], ◌∷◌, ◌++◌, inl, inr, Option, None, Some, length, map, take}
 use Rattle.std.proofs.Common.{refl, sym, ap, ◌∙◌, subst}
 use Rattle.std.proofs.lemmas.Grind.{flat_map-append}
@@ -11,10 +11,9 @@ use Rattle.ws_code.proofs.DeviceLaws.{went_out_none, went_out_both}
 use Rattle.std.proofs.lemmas.List.{append-nil}
 use Rattle.ws_code.proofs.Parts.{fails_first, fails_last}
 use Rattle.ws_record.specs.declared.record.Item.{Item}
-use Rattle.ws_screen.specs.Faults.{refusal}
 use Rattle.ws_text.specs.Printed.{IsPrinted}
 use Rattle.ws_printing.specs.Printouts.{printout}
-use Rattle.ws_trace.specs.Ends.{AreHeard, EndAt, carry_fault, end_begins, made_of, made_unless, told_with}
+use Rattle.ws_trace.specs.Ends.{AreHeard, EndAt, carry_fault, end_begins, made_of, told_with}
 use Rattle.ws_trace.specs.Reading.{StreamStanding, MayEndAt}
 use Rattle.ws_trace.specs.Reading.StreamStanding.{Reads}
 use Rattle.ws_trace.specs.Readers.{ReaderParts, IsNextOf, StandsThere}
@@ -22,46 +21,29 @@ use Rattle.ws_trace.specs.Tracers.{IsAdded, Tracks, TracerParts}
 use Rattle.ws_trace.specs.declared.told.Told.{Told}
 use Rattle.ws_trace.specs.declared.told.Told.TheVariants.{Whole, Refused}
 use Rattle.ws_trace.proofs.Tracings.{added_more, added_none, added_one, entries_there}
-use Rattle.ws_program.specs.StreamText.{Showing, View, showing}
 use Rattle.ws_program.specs.AllTold.{AllEnding, AreFirstTold, HasToldAll, IsAllTold, IsStopFault, IsUntold, PlacedTold}
-use Rattle.ws_program.specs.AllTold.{all_printing, carrying, counts_after, counts_of, makes_where, told_at, unseen_view}
-use Rattle.ws_program.specs.AllTold.{counts_with, lines_told, placed_text, refused_line, with_refusal}
+use Rattle.ws_program.specs.AllTold.{ToldWay, all_printing, carrying, counts_after, counts_of, counts_with, lines_told}
+use Rattle.ws_program.specs.AllTold.{makes_by, placed_text, told_at}
 use Rattle.ws_program.specs.declared.all_told.AllCounts.{AllCounts}
+use Rattle.ws_program.specs.declared.all_told.Way.{Way}
+use Rattle.ws_program.specs.declared.all_told.Way.TheVariants.{Lines, Objects, Refusals}
 
 -- A stream that is told as it is read.
 
 -- WHAT ITEMS MAKE
 
--- in a check each item is carried out
-pub unseen_fault : {U : Type 0} (items : List (Item U)) (came : Option (Told U))
-    → None ≡ carry_fault (carrying unseen_view) items came
-unseen_fault items None = refl
-unseen_fault items (Some (Whole item)) = refl
-unseen_fault items (Some (Refused reason)) = refl
-
-module _ {U Made : Type 0} (makes : List (Item U) → Made → Type 0) where
-  pub makes_there : (shows : Bool) (items : List (Item U)) (made : Made) → makes items made
-      → makes_where shows makes items made
-  makes_there true items made is = is
-  makes_there false items made is = tt
-
-  -- an item that was carried out, or refused
-  pub made_either : (items : List (Item U)) (item : Item U) (old new : Made) (result : Result (Unit {0}) Reason)
-      (fault : Option Reason) → makes items old → refusal result ≡ fault
-      → OnOk result (makes (items ++ item ∷ []) new) → OnErr result (new ≡ old)
-      → makes (made_unless items (items ++ item ∷ []) fault) new
-  made_either items item old new (Ok v) fault is why more same =
-      subst (λ (o : Option Reason). makes (made_unless items (items ++ item ∷ []) o) new) why more
-  made_either items item old new (Err reason) fault is why more same =
-      subst (λ (o : Option Reason). makes (made_unless items (items ++ item ∷ []) o) new) why
-      (subst (makes items) (sym same) is)
+pub makes_there : {U Made : Type 0} (makes : List (Item U) → Made → Type 0) (way : Way) (items : List (Item U))
+    (made : Made) → makes items made → makes_by way makes items made
+makes_there makes Lines items made is = is
+makes_there makes Objects items made is = is
+makes_there makes (Refusals head) items made is = tt
 
 -- WHAT BYTES TELL
 
 module _ {U : Type 0} where
-  lines_both : (view : View U) (head : List ℕ) (told more : List (PlacedTold U))
-      → lines_told view head (told ++ more) ≡ lines_told view head told ++ lines_told view head more
-  lines_both view head told more = flat_map-append _ told more
+  lines_both : (way : ToldWay U) (told more : List (PlacedTold U))
+      → lines_told way (told ++ more) ≡ lines_told way told ++ lines_told way more
+  lines_both way told more = flat_map-append _ told more
 
   counts_both : (told more : List (PlacedTold U)) (counts : AllCounts)
       → counts_after counts (told ++ more) ≡ counts_after (counts_after counts told) more
@@ -70,37 +52,40 @@ module _ {U : Type 0} where
 
 -- WITH ONE BYTE
 
-module _ {U S : Type 0} (view : View U) (head : List ℕ) (writer : Writer S) (place : ℕ) (told : Told U) where
+module _ {U S : Type 0} (way : ToldWay U) (writer : Writer S) (place : ℕ) (told : Told U) where
   abbrev pub TextWith : Option Reason → List ℕ
-  TextWith refused = lines_told view head (map (told_at place) (told_with (Some told) refused))
+  TextWith refused = lines_told way (map (told_at place) (told_with (Some told) refused))
 
   abbrev first_text : List ℕ
-  first_text = placed_text view head (told_at place told)
+  first_text = placed_text way (told_at place told)
 
   -- the sink fails within the lines of what came
   pub came_cut : (from to : S) (refused : Option Reason) → FailedWithin writer from to first_text
       → FailedWithin writer from to (TextWith refused)
   came_cut from to None f = fails_first writer from to first_text [] f
   came_cut from to (Some reason) f =
-      fails_first writer from to first_text (lines_told view head (told_at place (Refused reason) ∷ [])) f
+      fails_first writer from to first_text (lines_told way (told_at place (Refused reason) ∷ [])) f
 
   module _ (from mid to : S) (reason : Reason) (out : WentOut writer from mid first_text)
       (result : Result AllCounts Fault) where
     abbrev last_text : List ℕ
-    last_text = refused_line head place reason
+    last_text = placed_text way (told_at place (Refused reason))
+
+    abbrev with_last : AllCounts → AllCounts
+    with_last counts = counts_with {U = U} counts (Refused reason)
 
     -- what came is refused as a whole
     pub refusal_out : (counts more : AllCounts) → more ≡ counts_with counts told
-        → IfOk result (λ all. (all ≡ with_refusal more) × WentOut writer mid to last_text)
+        → IfOk result (λ all. (all ≡ with_last more) × WentOut writer mid to last_text)
         → IfOk result (λ all. (all ≡ counts_after counts (map (told_at place) (told_with (Some told) (Some reason))))
         × WentOut writer from to (TextWith (Some reason)))
     refusal_out counts more is h = on result h
       where
-        on : (r : Result AllCounts Fault) → IfOk r (λ all. (all ≡ with_refusal more) × WentOut writer mid to last_text)
-            → IfOk r (λ all. (all ≡ with_refusal (counts_with counts told))
+        on : (r : Result AllCounts Fault) → IfOk r (λ all. (all ≡ with_last more)
+            × WentOut writer mid to last_text) → IfOk r (λ all. (all ≡ with_last (counts_with counts told))
             × WentOut writer from to (TextWith (Some reason)))
         on (Ok all) h = (
-          h.0 ∙ ap with_refusal is,
+          h.0 ∙ ap with_last is,
           went_out_both writer from mid to first_text (last_text ++ []) out
               (subst (WentOut writer mid to) (sym (append-nil last_text)) h.1),
         )
@@ -123,24 +108,24 @@ module _ {U S : Type 0} (view : View U) (head : List ℕ) (writer : Writer S) (p
 -- WITH ALL SO FAR
 
 -- these bytes were told, of which so much was made and counted
-pub record ToldSoFar {Place U Made S : Type 0} (rules : Rules Place U) (view : View U) (head : List ℕ)
+pub record ToldSoFar {Place U Made S : Type 0} (rules : Rules Place U) (way : ToldWay U)
     (is_made : List (Item U) → Made → Type 0) (writer : Writer S) (from to : S) (bytes : List ℕ)
     (tracer : TracerParts Place U Made) (counts : AllCounts) : Type 0 where
   pub told : List (PlacedTold U)
-  pub added : IsAdded rules (carrying view) told_at (end_begins (carrying view)) bytes [] told
+  pub added : IsAdded rules (carrying way) told_at (end_begins (carrying way)) bytes [] told
       (Tracks rules is_made tracer)
-  pub out : WentOut writer from to (lines_told view head told)
+  pub out : WentOut writer from to (lines_told way told)
   pub counted : counts ≡ counts_of told
 
-module _ {Place U Made S : Type 0} (rules : Rules Place U) (view : View U) (head : List ℕ)
+module _ {Place U Made S : Type 0} (rules : Rules Place U) (way : ToldWay U)
     (is_made : List (Item U) → Made → Type 0) (writer : Writer S) (from : S) where
   -- none
   pub told_none : (reader : ReaderParts Place U) (made : Made) → StandsThere rules reader (Reads [] [])
-      → is_made [] made → ToldSoFar rules view head is_made writer from from [] (record { reader = reader; made = made; taken = 0 })
+      → is_made [] made → ToldSoFar rules way is_made writer from from [] (record { reader = reader; made = made; taken = 0 })
       (record { records = 0; commands = 0; refused = 0 })
   told_none reader made stands is = record {
     told = [];
-    added = added_none rules (carrying view) told_at (end_begins (carrying view)) [] _
+    added = added_none rules (carrying way) told_at (end_begins (carrying way)) [] _
         (record { stands = stands; made = is; counted = refl });
     out = went_out_none writer from;
     counted = refl;
@@ -149,72 +134,72 @@ module _ {Place U Made S : Type 0} (rules : Rules Place U) (view : View U) (head
   -- their lines
   pub first_told : {bytes : List ℕ} {told : List (PlacedTold U)} {IsThere : EndAt U (List (Item U)) → Type 0}
       (all : List ℕ) (count : ℕ) → take count all ≡ bytes
-      → IsAdded rules (carrying view) told_at (end_begins (carrying view)) bytes [] told IsThere
-      → AreFirstTold (showing rules view) head all (lines_told view head told)
+      → IsAdded rules (carrying way) told_at (end_begins (carrying way)) bytes [] told IsThere
+      → AreFirstTold rules way all (lines_told way told)
   first_told {bytes} {told} {IsThere} all count is a = (
     count,
     record {
       told = a.added;
       next = a.next;
-      heard = subst (λ (z : List ℕ). AreHeard rules (carrying view) told_at (end_begins (carrying view)) z a.added
+      heard = subst (λ (z : List ℕ). AreHeard rules (carrying way) told_at (end_begins (carrying way)) z a.added
           a.next) (sym is) a.heard;
-      lines = ap (lines_told view head) a.entries;
+      lines = ap (lines_told way) a.entries;
     },
   )
 
   module _ {to : S} {bytes : List ℕ} {reader : ReaderParts Place U} {made : Made} {taken : ℕ} {counts : AllCounts}
-      (s : ToldSoFar rules view head is_made writer from to bytes
+      (s : ToldSoFar rules way is_made writer from to bytes
       (record { reader = reader; made = made; taken = taken }) counts) (byte : ℕ) (next : ReaderParts Place U)
       (after : Made) (came : Option (Told U)) (refused : Option Reason) (on : IsNextOf rules reader next byte came)
-      (why : (items : List (Item U)) → is_made items made → refused ≡ carry_fault (carrying view) items came)
-      (makes : (items : List (Item U)) → is_made items made → is_made (made_of (carrying view) items came) after)
+      (why : (items : List (Item U)) → is_made items made → refused ≡ carry_fault (carrying way) items came)
+      (makes : (items : List (Item U)) → is_made items made → is_made (made_of (carrying way) items came) after)
     where
       abbrev More : List (PlacedTold U)
       More = map (told_at taken) (told_with came refused)
 
       -- a byte more
-      added_byte : IsAdded rules (carrying view) told_at (end_begins (carrying view)) (bytes ++ byte ∷ []) []
+      added_byte : IsAdded rules (carrying way) told_at (end_begins (carrying way)) (bytes ++ byte ∷ []) []
           (s.told ++ More) (Tracks rules is_made (record { reader = next; made = after; taken = taken + 1 }))
       added_byte =
           let a = s.added in
-          added_more rules (carrying view) told_at a (added_one rules (carrying view) told_at is_made
+          added_more rules (carrying way) told_at a (added_one rules (carrying way) told_at is_made
           (record { reader = reader; made = made; taken = taken }) next after a.next byte came s.told (s.told ++ More)
-          a.there on makes (entries_there rules (carrying view) told_at taken a.next came refused s.told a.there.counted
+          a.there on makes (entries_there rules (carrying way) told_at taken a.next came refused s.told a.there.counted
           (why a.next.state a.there.made)) (taken + 1) refl)
 
       pub told_more : (new : S) (more : AllCounts) → more ≡ counts_after counts More
-          → WentOut writer to new (lines_told view head More)
-          → ToldSoFar rules view head is_made writer from new (bytes ++ byte ∷ [])
+          → WentOut writer to new (lines_told way More)
+          → ToldSoFar rules way is_made writer from new (bytes ++ byte ∷ [])
           (record { reader = next; made = after; taken = taken + 1 }) more
       told_more new more is out = record {
         told = s.told ++ More;
         added = added_byte;
-        out = subst (WentOut writer from new) (sym (lines_both view head s.told More))
-            (went_out_both writer from to new (lines_told view head s.told) (lines_told view head More) s.out out);
+        out = subst (WentOut writer from new) (sym (lines_both way s.told More))
+            (went_out_both writer from to new (lines_told way s.told) (lines_told way More) s.out out);
         counted = is ∙ ap (λ (n : AllCounts). counts_after n More) s.counted ∙ sym (counts_both s.told More _);
       }
 
       -- the sink fails within its lines
       pub told_cut : (new : S) (all : List ℕ) → take (taken + 1) all ≡ bytes ++ byte ∷ [] → (fault : Fault)
-          → fault ≡ device.Write → FailedWithin writer to new (lines_told view head More)
-          → IsUntold (showing rules view) head (printout writer from new) all fault
+          → fault ≡ device.Write → FailedWithin writer to new (lines_told way More)
+          → IsUntold rules way (printout writer from new) all fault
       told_cut new all is fault write failed = (
-        lines_told view head (s.told ++ More),
+        lines_told way (s.told ++ More),
         first_told all (taken + 1) is added_byte,
         inr (
           write,
-          subst (FailedWithin writer from new) (sym (lines_both view head s.told More))
-              (fails_last writer from to new (lines_told view head s.told) (lines_told view head More) s.out failed),
+          subst (FailedWithin writer from new) (sym (lines_both way s.told More))
+              (fails_last writer from to new (lines_told way s.told) (lines_told way More) s.out failed),
         ),
       )
 
   module _ {to : S} {bytes : List ℕ} {tracer : TracerParts Place U Made} {counts : AllCounts}
-      (s : ToldSoFar rules view head is_made writer from to bytes tracer counts) where
+      (s : ToldSoFar rules way is_made writer from to bytes tracer counts) where
     -- no more are read
     pub told_stopped : (all : List ℕ) (count : ℕ) → take count all ≡ bytes → (fault : Fault) → IsStopFault fault
-        → IsUntold (showing rules view) head (printout writer from to) all fault
+        → IsUntold rules way (printout writer from to) all fault
     told_stopped all count is fault stop = (
-      lines_told view head s.told,
+      lines_told way s.told,
       first_told all count is s.added,
       inl (stop, s.out),
     )
@@ -222,14 +207,14 @@ module _ {Place U Made S : Type 0} (rules : Rules Place U) (view : View U) (head
     -- these are all
     pub told_all : (is_whole : Bool)
         → ((at : StreamStanding U) → StandsThere rules tracer.reader at → IsTrue is_whole ↔ MayEndAt rules at)
-        → HasToldAll (showing rules view) head (printout writer from to) bytes counts is_whole
+        → HasToldAll rules way (printout writer from to) bytes counts is_whole
         (λ items. is_made items tracer.made)
     told_all is_whole may_end = record {
-      text = lines_told view head s.told;
+      text = lines_told way s.told;
       first = record {
         told = s.told;
         next = s.added.next;
-        heard = subst (λ (z : List (PlacedTold U)). AreHeard rules (carrying view) told_at (end_begins (carrying view))
+        heard = subst (λ (z : List (PlacedTold U)). AreHeard rules (carrying way) told_at (end_begins (carrying way))
             bytes z s.added.next) (sym s.added.entries) s.added.heard;
         lines = refl;
       };
@@ -241,20 +226,15 @@ module _ {Place U Made S : Type 0} (rules : Rules Place U) (view : View U) (head
 
 -- WITH ITS END
 
-module _ {Place U S : Type 0} (rules : Rules Place U) (view : View U) (Ends : List (Item U) → List ℕ → Type 0)
-    (head : List ℕ) (writer : Writer S) (from mid to : S) (bytes : List ℕ) (counts : AllCounts) (is_whole : Bool)
-    (IsMade : List (Item U) → Type 0)
-    (h : HasToldAll (showing rules view) head (printout writer from mid) bytes counts is_whole IsMade)
-    (Ending : AllEnding U) (end : List ℕ)
-    (ends : Ending h.first.next.state (counts_of h.first.told) is_whole (length bytes) end) where
-  abbrev pub EndedWay : Showing Place U
-  EndedWay = showing rules (record { lines = view.lines; fault = view.fault; Ends = Ends })
-
+module _ {Place U S : Type 0} (rules : Rules Place U) (way : ToldWay U) (writer : Writer S) (from mid to : S)
+    (bytes : List ℕ) (counts : AllCounts) (is_whole : Bool) (IsMade : List (Item U) → Type 0)
+    (h : HasToldAll rules way (printout writer from mid) bytes counts is_whole IsMade) (Ending : AllEnding U)
+    (end : List ℕ) (ends : Ending h.first.next.state (counts_of h.first.told) is_whole (length bytes) end) where
   told_whole : (accepted : Bool) → accepted ≡ (is_whole && counts.refused == 0)
-      → IsAllTold EndedWay head Ending bytes accepted (h.text ++ end)
+      → IsAllTold rules way Ending bytes accepted (h.text ++ end)
   told_whole accepted is = record {
     front = h.text;
-    first = record { told = h.first.told; next = h.first.next; heard = h.first.heard; lines = h.first.lines };
+    first = h.first;
     is_whole = is_whole;
     may_end = h.may_end;
     end = end;
@@ -264,7 +244,7 @@ module _ {Place U S : Type 0} (rules : Rules Place U) (view : View U) (Ends : Li
   }
 
   pub end_out : (accepted : Bool) → accepted ≡ (is_whole && counts.refused == 0) → WentOut writer mid to end
-      → IsPrinted writer from to (all_printing EndedWay head Ending bytes) (Ok accepted)
+      → IsPrinted writer from to (all_printing rules way Ending bytes) (Ok accepted)
   end_out accepted is out = (
     h.text ++ end,
     told_whole accepted is,
@@ -272,7 +252,7 @@ module _ {Place U S : Type 0} (rules : Rules Place U) (view : View U) (Ends : Li
   )
 
   pub end_cut : FailedWithin writer mid to end
-      → IsPrinted writer from to (all_printing EndedWay head Ending bytes) (Err device.Write)
+      → IsPrinted writer from to (all_printing rules way Ending bytes) (Err device.Write)
   end_cut failed = inr (
     h.text ++ end,
     (refl, inr (_, told_whole _ refl)),

@@ -10,8 +10,8 @@ pub mod Pieces
 pub mod Plays
 pub mod Printings
 pub mod Shows
-pub mod ShowEnds
 pub mod SourceAnswers
+pub mod SourceShows
 pub mod TableLines
 pub mod Tasks
 pub mod ViewLaws

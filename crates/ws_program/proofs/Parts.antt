@@ -133,13 +133,13 @@ module _ {Place U : Type 0} (rules : Rules Place U) (prefix_free : IsPrefixFree 
       (subst (λ (z : List ℕ). HoldsItems rules z (items_without_places placed)) (sym (take_all (length bytes) bytes
       (omega arith)))
       ([], [], e.0)) (omega (arith, c.within)) c
-  ends_behind bytes placed false end (inl e) x c = none_complete bytes e.0 (items_without_places placed) x e.3
-      (before_refused bytes e.0 e.1 (items_without_places placed) x e.2 c) c
-  ends_behind bytes placed false end (inr (inl e)) x c = none_complete bytes (length bytes)
+  ends_behind bytes placed false end (inl e) x c = none_complete bytes (length bytes)
       (items_without_places placed) x
       (subst (λ (z : List ℕ). HoldsItems rules z (items_without_places placed)) (sym (take_all (length bytes) bytes
       (omega arith)))
       e.1) (omega (arith, c.within)) c
+  ends_behind bytes placed false end (inr (inl e)) x c = none_complete bytes e.0 (items_without_places placed) x e.3
+      (before_refused bytes e.0 e.1 (items_without_places placed) x e.2 c) c
   ends_behind bytes placed false end (inr (inr e)) x c =
       let same : e.0 ≡ x = one_next bytes (items_without_places placed) e.0 x e.2 c in (
         e.1,

@@ -11,19 +11,25 @@ use Rattle.ws_text.specs.Printing.{Prints}
 use Rattle.ws_text.specs.declared.output.Output.{Output}
 use Rattle.ws_text.specs.declared.output.Output.TheVariants.{Open, Failed}
 use Rattle.ws_text.proofs.Prints.{prints_same, whole_out}
-use Rattle.ws_program.specs.StreamText.{Showing, showing, View}
-use Rattle.ws_program.specs.AllTold.{AllEnding, IsCheckedEnd, IsShownEnd, all_printing, check_all_printing, file_head}
-use Rattle.ws_program.specs.AllTold.{show_all_printing, unseen_view}
+use Rattle.ws_program.specs.StreamText.{showing, View}
+use Rattle.ws_program.specs.AllTold.{AllEnding, IsCheckedEnd, IsObjectsEnd, IsShownEnd, ToldWay, all_printing}
+use Rattle.ws_program.specs.AllTold.{check_all_printing, file_head, refusals_told, show_all_printing, told_in}
 use Rattle.ws_program.specs.Actions.{Action, IsCarriedOut, print_made}
 use Rattle.ws_program.specs.Answering.{answer_action, of_bytes, run_outcome, sender_parts}
 use Rattle.ws_printing.specs.Checking.{check_printing}
+use Rattle.ws_printing.specs.ScreenLines.{on_037}
+use Rattle.ws_printing.specs.declared.look.Look.{Look}
+use Rattle.ws_printing.specs.declared.paint.Paint.TheVariants.{Plain}
 use Rattle.ws_program.specs.StreamText.{show_printing}
 use Rattle.ws_program.specs.StreamBytes.{AreBytesOf}
 use Rattle.ws_program.specs.Streams.{closed_outcome, into_closed}
 use Rattle.ws_program.specs.declared.words.command_line.InputAsked.{InputAsked}
 use Rattle.ws_program.specs.declared.words.command_line.InputAsked.TheVariants.{Check, CheckAll, Show, ShowAll}
 use Rattle.ws_program.specs.declared.words.command_line.InputAsked.TheVariants.{Trace, Play, Make}
+use Rattle.ws_program.specs.declared.all_told.Way.TheVariants.{Lines, Objects}
 use Rattle.ws_program.specs.declared.words.command_line.StreamForm.{StreamForm}
+use Rattle.ws_program.specs.declared.words.show_words.ShowForm.{ShowForm}
+use Rattle.ws_program.specs.declared.words.show_words.ShowForm.TheVariants as shown
 use Rattle.ws_program.proofs.Buffers.{CanBeCut}
 
 -- What commands print, and what of it may be cut.
@@ -32,7 +38,7 @@ pub check_cut : {Place U : Type 0} (rules : Rules Place U) (bytes : List ℕ)
     → CanBeCut (check_printing rules bytes) device.Write
 check_cut rules bytes text outcome h = (refl, (outcome, h))
 
-show_cut : {Place U : Type 0} (rules : Rules Place U) (view : View U) (bytes : List ℕ)
+pub show_cut : {Place U : Type 0} (rules : Rules Place U) (view : View U) (bytes : List ℕ)
     → CanBeCut (show_printing (showing rules view) bytes) device.Write
 show_cut rules view bytes text (Ok accepted) h = (refl, inr (accepted, h))
 show_cut rules view bytes text (Err device.Memory) h =
@@ -43,10 +49,17 @@ show_cut rules view bytes text (Err device.Read) h = absurd h
 show_cut rules view bytes text (Err device.Write) h = absurd h
 show_cut rules view bytes text (Err device.Failed) h = absurd h
 
-all_cut : {Place U : Type 0} (way : Showing Place U) (head : List ℕ) (Ends : AllEnding U) (bytes : List ℕ)
-    → CanBeCut (all_printing way head Ends bytes) device.Write
-all_cut way head Ends bytes text (Ok accepted) h = (refl, inr (accepted, h))
-all_cut way head Ends bytes text (Err fault) h = (refl, inl h.1)
+all_cut : {Place U : Type 0} (rules : Rules Place U) (way : ToldWay U) (Ends : AllEnding U) (bytes : List ℕ)
+    → CanBeCut (all_printing rules way Ends bytes) device.Write
+all_cut rules way Ends bytes text (Ok accepted) h = (refl, inr (accepted, h))
+all_cut rules way Ends bytes text (Err fault) h = (refl, inl h.1)
+
+show_all_cut : {Place U : Type 0} (rules : Rules Place U) (body : List U → List ℕ) (view : Look → View U)
+    (form : ShowForm) (bytes : List ℕ) → CanBeCut (show_all_printing rules body view form bytes) device.Write
+show_all_cut rules body view (shown.Lines look) bytes =
+    all_cut rules (told_in Lines body (view look)) (IsShownEnd (view look).Ends) bytes
+show_all_cut rules body view shown.Objects bytes =
+    all_cut rules (told_in Objects body (view (on_037 Plain))) IsObjectsEnd bytes
 
 bytes_cut : (form : StreamForm) (printing : List ℕ → Printing Bool Fault) (input : List ℕ)
     → ((bytes : List ℕ) → CanBeCut (printing bytes) device.Write) → CanBeCut (of_bytes form printing input).prints Write
@@ -58,15 +71,14 @@ answer_cut (Check file form cut sender) input = bytes_cut form
     (λ bytes. check_printing (sender_parts sender).rules bytes) input (check_cut (sender_parts sender).rules)
 answer_cut (CheckAll file form sender named) input = bytes_cut form
     (check_all_printing (sender_parts sender).rules (file_head (if named then file else None))) input
-    (all_cut (showing (sender_parts sender).rules unseen_view) (file_head (if named then file else None))
+    (all_cut (sender_parts sender).rules (refusals_told (file_head (if named then file else None)))
     (IsCheckedEnd (file_head (if named then file else None))))
 answer_cut (Show file form sender look) input = bytes_cut form
     (show_printing (showing (sender_parts sender).rules ((sender_parts sender).view look))) input
     (show_cut (sender_parts sender).rules ((sender_parts sender).view look))
-answer_cut (ShowAll file form sender look) input = bytes_cut form
-    (show_all_printing (showing (sender_parts sender).rules ((sender_parts sender).view look))) input
-    (all_cut (showing (sender_parts sender).rules ((sender_parts sender).view look)) []
-    (IsShownEnd ((sender_parts sender).view look).Ends))
+answer_cut (ShowAll file form sender shown) input = bytes_cut form (show_all_printing (sender_parts sender).rules
+    (sender_parts sender).lines (sender_parts sender).view shown) input
+    (show_all_cut (sender_parts sender).rules (sender_parts sender).lines (sender_parts sender).view shown)
 answer_cut (Trace file form) input = λ text outcome h. (refl, (outcome, h))
 answer_cut (Play file screen false paint) input = λ text outcome h. (refl, (outcome, h))
 answer_cut (Play file screen true paint) input = λ text outcome h. (refl, (outcome, h))

@@ -1,30 +1,33 @@
-use Rattle.std.specs.Prelude.{◌⊎◌, Bool, false, true, Err}
-use Rattle.std.proofs.Common.{◌≡◌, ℕ, ◌+◌, ◌-◌, ◌^◌, ◌<◌, ◌≤◌, List, [], ◌∷◌, ◌++◌, Option, None, Some, inl, inr}
-use Rattle.std.proofs.Common.{length, take, drop, refl, sym, ap, ◌∙◌, subst, arith, append_assoc, length-append}
-use Rattle.std.proofs.Common.{length-take, take-append-drop}
+use Rattle.std.specs.Prelude.{Result, Ok, Err, IfOk, IfErr, IfSome, ◌⊎◌}
+use Rattle.std.proofs.Common.{◌≡◌, ℕ, ◌+◌, ◌-◌, ◌<◌, ◌≤◌, List, [], ◌∷◌, ◌++◌, Bool, true, false, Option, None, Some}
+use Rattle.std.proofs.Common.{inl, inr, length, take, drop, refl, sym, ap, ◌∙◌, subst, arith, append_assoc}
+use Rattle.std.proofs.Common.{length-append, length-take, take-append-drop}
 use Rattle.std.proofs.Math.Seq.{take-append-add}
 use Rattle.std.proofs.lemmas.Grind.{flat_map-append}
-use Rattle.std.proofs.lemmas.List.{append-nil, take_all}
+use Rattle.std.proofs.lemmas.List.{append-nil, take-append-le, take-take, take_all}
 use Rattle.ws_code.specs.Code.{Rules}
 use Rattle.ws_code.specs.Device.{Writer, WentOut, FailedWithin}
 use Rattle.ws_code.specs.declared.fault.Fault.{Fault}
 use Rattle.ws_code.specs.declared.fault.Fault.TheVariants as faults
 use Rattle.ws_code.specs.declared.reason.Reason.{Reason}
-use Rattle.ws_code.proofs.DeviceLaws.{went_out_both}
+use Rattle.ws_code.proofs.DeviceLaws.{went_out_none, went_out_both}
 use Rattle.ws_code.proofs.Parts.{fails_last}
+use Rattle.ws_code.proofs.Pieces.{left_of, left_joined}
 use Rattle.ws_record.specs.Grammar.{IsInGrammar}
-use Rattle.ws_record.specs.Receiver.{Receiving, HasReceived, HasUnit, IsFeedFault, NoneBefore}
-use Rattle.ws_record.specs.Refusal.{IsOpen, IsRefused, IsTruncated}
+use Rattle.ws_record.specs.Receiver.{Receiving, HasReceived, IsFeedFault, NoneBefore, given}
+use Rattle.ws_record.specs.Refusal.{IsOpen, IsTruncated}
+use Rattle.ws_record.specs.declared.receiver.Fed.{Fed}
 use Rattle.ws_record.specs.declared.record.Item.{Item}
 use Rattle.ws_text.specs.Printed.{IsPrinted}
+use Rattle.ws_printing.specs.CheckLine.{is_accepted, line_of, verdict_by}
 use Rattle.ws_printing.specs.Printouts.{printout}
-use Rattle.ws_program.specs.StreamText.{showing}
-use Rattle.ws_printing.specs.CheckLine.{line_of, verdict_by}
-use Rattle.ws_program.specs.StreamText.{IsStop, show_printing}
-use Rattle.ws_program.specs.StreamText.{View, Placed, items_without_places, lines_of, HoldsItems, IsComplete, AreShown}
-use Rattle.ws_program.specs.StreamText.{IsShown, AreFirstLines, HasTaken, HasBegunStream}
-use Rattle.ws_program.specs.StreamText.{IsNextItem, IsNext, IsNextFault}
+use Rattle.ws_printing.specs.declared.verdict.Verdict.{Verdict}
 use Rattle.ws_printing.specs.declared.verdict.Verdict.TheVariants.{Refused, Truncated}
+use Rattle.ws_printing.proofs.SourceReads.{unrefused}
+use Rattle.ws_program.specs.ShownSources.{AreAllLines}
+use Rattle.ws_program.specs.StreamText.{Showing, View, Placed, items_without_places, lines_of, HoldsItems, IsComplete}
+use Rattle.ws_program.specs.StreamText.{AreShown, AreFirstLines, IsShown, HasStopped, IsStoppedEnd, HasShown}
+use Rattle.ws_program.specs.StreamText.{IsPieceShown, show_printing}
 
 -- Items that are shown one after another.
 
@@ -39,335 +42,311 @@ module _ {U : Type 0} where
   lines_more view placed x = flat_map-append (λ x. view.lines x.0 x.1) placed (x ∷ [])
       ∙ ap (λ z. lines_of view placed ++ z) (append-nil (view.lines x.0 x.1))
 
-module _ {Place U : Type 0} where
-  shown_more : (rules : Rules Place U) (view : View U) (bytes : List ℕ) (before : List (Item U))
-      (placed : List (Placed U)) (x : Placed U) → AreShown (showing rules view) bytes before placed
-      → IsComplete rules bytes
-      (before ++ items_without_places placed) x → view.fault (before ++ items_without_places placed) x.1 ≡ None
-      → AreShown (showing rules view) bytes before (placed ++ x ∷ [])
-  shown_more rules view bytes before [] x s c none = (
-    subst (λ (z : List (Item U)). IsComplete rules bytes z x) (append-nil before) c,
-    ap (λ (z : List (Item U)). view.fault z x.1) (sym (append-nil before)) ∙ none,
+module _ {Place U : Type 0} (rules : Rules Place U) where
+  -- an item that is complete in bytes is in more
+  complete_further : (bytes more : List ℕ) (before : List (Item U)) (x : Placed U) → IsComplete rules bytes before x
+      → IsComplete rules (bytes ++ more) before x
+  complete_further bytes more before x c =
+      let front : (n : ℕ) → n ≤ length bytes → take n bytes ≡ take n (bytes ++ more) =
+      λ n le. sym (take-append-le n bytes more le) in
+      let last = front (x.0 + 1) (omega (arith, c.within)) in
+      record {
+        within = omega (arith, c.within, length-append bytes more);
+        opened = λ layer. subst (λ (z : List ℕ). IsOpen rules layer z) last (c.opened layer);
+        not_before = subst (λ (z : List ℕ). HoldsItems rules z before) (front x.0 (omega (arith, c.within)))
+            c.not_before;
+        with_it = subst (λ (z : List ℕ). HoldsItems rules z (before ++ x.1 ∷ [])) last c.with_it;
+      }
+
+  -- and in all of a piece, where it is in a front of it
+  pub complete_in_piece : (bytes piece : List ℕ) (used : ℕ) (before : List (Item U)) (x : Placed U)
+      → IsComplete rules (bytes ++ take used piece) before x → IsComplete rules (bytes ++ piece) before x
+  complete_in_piece bytes piece used before x c =
+      subst (λ (z : List ℕ). IsComplete rules z before x)
+      (append_assoc bytes (take used piece) (drop used piece) ∙ ap (λ z. bytes ++ z) (take-append-drop used piece))
+      (complete_further (bytes ++ take used piece) (drop used piece) before x c)
+
+  -- the item that a receiver gave with the last byte that was used of a piece
+  next_complete : (bytes piece : List ℕ) (items : List (Item U)) (item : Item U) (new : Receiving Place U) (used : ℕ)
+      → 0 < used → used ≤ length piece → ((n : ℕ) → n < used → HoldsItems rules (bytes ++ take n piece) items)
+      → HasReceived rules new (bytes ++ take used piece) (items ++ item ∷ [])
+      → IsComplete rules (bytes ++ take used piece) items (new.live.taken - 1, item)
+  next_complete bytes piece items item new used some within first received =
+      let through : List ℕ = bytes ++ take used piece in
+      let place : ℕ = new.live.taken - 1 in
+      let count : new.live.taken ≡ length through = received.leads.1.count in
+      let size : length through ≡ length bytes + used = omega (
+        arith,
+        length-append bytes (take used piece),
+        length-take used piece,
+      ) in
+      let whole : through ≡ take (place + 1) through =
+      sym (take_all (place + 1) through (omega (arith, count, size))) in
+      let before : bytes ++ take (used - 1) piece ≡ take place through =
+      ap (λ z. bytes ++ z) (sym (take-take (used - 1) used piece (omega arith)))
+      ∙ sym (take-append-add bytes (take used piece) (used - 1))
+      ∙ ap (λ (n : ℕ). take n through) (let e : length bytes + (used - 1) ≡ place = omega (arith, count, size) in e) in
+      record {
+        within = omega (arith, count, size);
+        opened = λ layer. subst (λ (z : List ℕ). IsOpen rules layer z) whole (received.leads.1.opened layer);
+        not_before = subst (λ (z : List ℕ). HoldsItems rules z items) before (first (used - 1) (omega arith));
+        with_it = subst (λ (z : List ℕ). HoldsItems rules z (items ++ item ∷ [])) whole
+            (received.leads.0, new.live.begun, received.leads.1.holds);
+      }
+
+module _ {Place U : Type 0} (way : Showing Place U) where
+  shown_further : (bytes more : List ℕ) (before : List (Item U)) (placed : List (Placed U))
+      → AreShown way bytes before placed → AreShown way (bytes ++ more) before placed
+  shown_further bytes more before [] s = tt
+  shown_further bytes more before (x ∷ xs) s = (
+    complete_further way.rules bytes more before x s.0,
+    s.1,
+    shown_further bytes more (before ++ x.1 ∷ []) xs s.2,
+  )
+
+  shown_more : (bytes : List ℕ) (before : List (Item U)) (placed : List (Placed U)) (x : Placed U)
+      → AreShown way bytes before placed → IsComplete way.rules bytes (before ++ items_without_places placed) x
+      → way.view.fault (before ++ items_without_places placed) x.1 ≡ None → AreShown way bytes before (placed ++ x ∷ [])
+  shown_more bytes before [] x s c none = (
+    subst (λ (z : List (Item U)). IsComplete way.rules bytes z x) (append-nil before) c,
+    ap (λ (z : List (Item U)). way.view.fault z x.1) (sym (append-nil before)) ∙ none,
     tt,
   )
-  shown_more rules view bytes before (y ∷ ys) x s c none =
+  shown_more bytes before (y ∷ ys) x s c none =
       let on : before ++ items_without_places (y ∷ ys) ≡ (before ++ y.1 ∷ []) ++ items_without_places ys = sym
       (append_assoc before (y.1 ∷ [])
       (items_without_places ys)) in (
         s.0,
         s.1,
-        shown_more rules view bytes (before ++ y.1 ∷ []) ys x s.2
-            (subst (λ (z : List (Item U)). IsComplete rules bytes z x) on c)
-            (ap (λ (z : List (Item U)). view.fault z x.1) (sym on) ∙ none),
+        shown_more bytes (before ++ y.1 ∷ []) ys x s.2
+            (subst (λ (z : List (Item U)). IsComplete way.rules bytes z x) on c)
+            (ap (λ (z : List (Item U)). way.view.fault z x.1) (sym on) ∙ none),
       )
 
--- the bytes before the rest lead to the receiver, which has given the items
-pub record Taken {Place U : Type 0} (rules : Rules Place U) (bytes rest : List ℕ) (receiver : Receiving Place U)
-    (items : List (Item U)) : Type 0 where
-  pub before : List ℕ
-  pub on : before ++ rest ≡ bytes
-  pub received : HasReceived rules receiver before items
-
-pub taken_before : {Place U : Type 0} (rules : Rules Place U) (bytes rest : List ℕ) (receiver : Receiving Place U)
-    (items : List (Item U)) → rest ≡ drop receiver.live.taken bytes → HasTaken rules bytes receiver items
-    → Taken rules bytes rest receiver items
-taken_before rules bytes rest receiver items is taken = record {
-  before = take receiver.live.taken bytes;
-  on = ap (λ z. take receiver.live.taken bytes ++ z) is ∙ take-append-drop receiver.live.taken bytes;
-  received = taken;
-}
-
--- fewer bytes are left behind the next item
-pub fewer_left : {Place U : Type 0} {rules : Rules Place U} {bytes : List ℕ} {items : List (Item U)}
-    {old new : Receiving Place U} {x : Placed U} → IsNextItem rules bytes items old new x
-    → length bytes - new.live.taken < length bytes - old.live.taken
-fewer_left {Place} {U} {rules} {bytes} {items} {old} {new} {x} is =
-    omega (arith, is.further, is.taken.leads.1.count, length-take new.live.taken bytes)
-
-module _ {Place U : Type 0} {rules : Rules Place U} {bytes rest : List ℕ} {old : Receiving Place U}
-    {items : List (Item U)} (t : Taken rules bytes rest old items) where
-  -- the bytes that were taken and the rest are as many as all
-  pub room : length bytes + 1 < 2 ^ 64 → length t.before + length rest + 1 < 2 ^ 64
-  room fits = omega (arith, ap length t.on, length-append t.before rest)
-
-  held_before : (n : ℕ) → HoldsItems rules (t.before ++ take n rest) items → HoldsItems rules
-      (take (length t.before + n) bytes) items
-  held_before n h = subst (λ (z : List ℕ). HoldsItems rules z items) (sym (take-append-add t.before rest n)
-      ∙ ap (take (length t.before + n)) t.on) h
-
-  -- the item that is complete with the last byte that was used
-  pub next_complete : (new : Receiving Place U) (item : Item U) (used : ℕ) → 0 < used → used ≤ length rest
-      → ((n : ℕ) → n < used → HoldsItems rules (t.before ++ take n rest) items)
-      → HasReceived rules new (t.before ++ take used rest) (items ++ item ∷ []) → IsNextItem rules bytes items old new
-      (new.live.taken - 1, item)
-  next_complete new item used some within first received =
-      let count : new.live.taken ≡ length t.before + used = omega (
-        arith,
-        received.leads.1.count,
-        length-append t.before (take used rest),
-        length-take used rest,
-      ) in
-      let through : t.before ++ take used rest ≡ take new.live.taken bytes = sym (take-append-add t.before rest used)
-      ∙ ap (take (length t.before + used)) t.on ∙ ap (λ (n : ℕ). take n bytes) (sym count) in
-      let last : new.live.taken ≡ new.live.taken - 1 + 1 = omega arith in
-      let whole : t.before ++ take used rest ≡ take (new.live.taken - 1 + 1) bytes = through
-      ∙ ap (λ (n : ℕ). take n bytes) last in
-      let place : length t.before + (used - 1) ≡ new.live.taken - 1 = omega arith in
-      record {
-        complete = record {
-          within = omega (arith, ap length t.on, length-append t.before rest);
-          opened = λ layer. subst (λ (z : List ℕ). IsOpen rules layer z) whole (received.leads.1.opened layer);
-          not_before = subst (λ (n : ℕ). HoldsItems rules (take n bytes) items) place
-              (held_before (used - 1) (first (used - 1) (omega arith)));
-          with_it = subst (λ (z : List ℕ). HoldsItems rules z (items ++ item ∷ [])) whole
-              (received.leads.0, new.live.begun, received.leads.1.holds);
-        };
-        further = omega (arith, t.received.leads.1.count);
-        taken = subst (λ (z : List ℕ). HasReceived rules new z (items ++ item ∷ [])) through received;
-      }
-
-  -- a byte was taken for it
-  pub one_taken : (new : Receiving Place U) (item : Item U) (used : ℕ) → 0 < used → used ≤ length rest
-      → HasReceived rules new (t.before ++ take used rest) (items ++ item ∷ []) → 1 ≤ new.live.taken
-  one_taken new item used some within received = omega (
-    arith,
-    received.leads.1.count,
-    some,
-    within,
-    length-append t.before (take used rest),
-    length-take used rest,
-  )
-
-  -- none is complete in all the bytes
-  pub none_complete : (new : Receiving Place U) (used : ℕ) → used ≡ length rest → HasReceived rules new
-      (t.before ++ take used rest) (items ++ []) → HasReceived rules new bytes items
-  none_complete new used all received =
-      let whole : t.before ++ take used rest ≡ bytes = ap (λ z. t.before ++ z) (take_all used rest (omega arith))
-      ∙ t.on in
-      subst (λ (z : List ℕ). HasReceived rules new z items) whole
-      (subst (λ (z : List (Item U)). HasReceived rules new (t.before ++ take used rest) z)
-      (append-nil items) received)
-
--- why nothing comes next, by what a call of `feed` answered
-pub next_fault : {Place U : Type 0} (rules : Rules Place U) (bytes rest : List ℕ) (old : Receiving Place U) → rest
-    ≡ drop old.live.taken bytes → length bytes + 1 < 2 ^ 64 → HasBegunStream rules bytes old → (fault : Fault)
-    → ((bs : List ℕ) (items : List (Item U)) → HasReceived rules old bs items → length bs + length rest + 1 < 2 ^ 64
-    → IsFeedFault rules bs items rest fault)
-    → ((bs : List ℕ) (items : List (Item U)) → HasReceived rules old bs items → length bs + length rest + 1 < 2 ^ 64
-    → NoneBefore rules bs rest items fault) → IsNextFault rules bytes old fault
-next_fault rules bytes rest old is fits begun (faults.Refused place reason) faulted none =
-    let t = taken_before rules bytes rest old begun.0 is begun.1 in
-    let r = faulted t.before begun.0 t.received (room t fits) in (
-      subst (λ (z : List ℕ). IsRefused rules z place reason) t.on r.1,
-      λ items taken.
-          (let u = taken_before rules bytes rest old items is taken in
-          let low = (faulted u.before items u.received (room u fits)).0 in
-          let n : ℕ = place - length u.before in
-          let last : length u.before + n ≡ place = omega arith in
-          subst (λ (k : ℕ). HoldsItems rules (take k bytes) items) last
-          (held_before u n (none u.before items u.received (room u fits) n (omega arith)))),
-    )
-next_fault rules bytes rest old is fits begun (faults.Truncated n) faulted none =
-    let t = taken_before rules bytes rest old begun.0 is begun.1 in
-    absurd (faulted t.before begun.0 t.received (room t fits))
-next_fault rules bytes rest old is fits begun faults.Memory faulted none = λ items taken.
-    let before = take old.live.taken bytes in
-    let all : before ++ rest ≡ bytes = ap (λ z. before ++ z) is ∙ take-append-drop old.live.taken bytes in
-    let u : HasUnit rules before items rest =
-    faulted before items taken (omega (arith, fits, ap length all, length-append before rest)) in (
-      before ++ u.0,
-      u.1,
-      u.2,
-      sym all ∙ ap (λ z. before ++ z) u.3 ∙ sym (append_assoc before u.0 (u.1 ∷ u.2)),
-      u.4,
-    )
-next_fault rules bytes rest old is fits begun faults.Read faulted none =
-    let t = taken_before rules bytes rest old begun.0 is begun.1 in
-    absurd (faulted t.before begun.0 t.received (room t fits))
-next_fault rules bytes rest old is fits begun faults.Write faulted none =
-    let t = taken_before rules bytes rest old begun.0 is begun.1 in
-    absurd (faulted t.before begun.0 t.received (room t fits))
-next_fault rules bytes rest old is fits begun faults.Failed faulted none =
-    let t = taken_before rules bytes rest old begun.0 is begun.1 in
-    absurd (faulted t.before begun.0 t.received (room t fits))
-
--- The lines show the items of the bytes that were taken, of which so much is made.
-pub record Shows {Place U Made : Type 0} (rules : Rules Place U) (view : View U) (makes : List (Item U) → Made
-    → Type 0) (bytes : List ℕ) (receiver : Receiving Place U) (made : Made) (lines : List ℕ) : Type 0 where
-  pub placed : List (Placed U)
-  pub shown : AreShown (showing rules view) bytes [] placed
-  pub taken : HasTaken rules bytes receiver (items_without_places placed)
-  pub makes_it : makes (items_without_places placed) made
-  pub are_lines : lines ≡ lines_of view placed
-
--- before the first byte
-pub shows_none : {Place U Made : Type 0} (rules : Rules Place U) (view : View U) (makes : List (Item U) → Made
-    → Type 0) (bytes : List ℕ) (receiver : Receiving Place U) (made : Made) → HasReceived rules receiver [] []
-    → makes [] made → Shows rules view makes bytes receiver made []
-shows_none rules view makes bytes receiver made received none = record {
-  placed = [];
-  shown = tt;
-  taken = subst (λ (n : ℕ). HasReceived rules receiver (take n bytes) []) (sym received.leads.1.count) received;
-  makes_it = none;
-  are_lines = refl;
-}
-
-module _ {Place U Made : Type 0} {rules : Rules Place U} {view : View U} {makes : List (Item U) → Made → Type 0}
-    {bytes lines : List ℕ} {receiver : Receiving Place U} {made : Made}
-    (w : Shows rules view makes bytes receiver made lines) where
-  -- the item that comes next
-  pub next_is : (new : Receiving Place U) (found : Option (Placed U)) (x : Placed U) → found ≡ Some x
-      → IsNext rules bytes receiver new found → IsNextItem rules bytes (items_without_places w.placed) receiver new x
-  next_is new found x is next = (rw is at next) (items_without_places w.placed) w.taken
-
-  -- or none does
-  pub none_next : (new : Receiving Place U) (found : Option (Placed U)) → found ≡ None
-      → IsNext rules bytes receiver new found → HasReceived rules new bytes (items_without_places w.placed)
-  none_next new found is next = (rw is at next) (items_without_places w.placed) w.taken
-
-  -- and its lines
-  shows_next : (x : Placed U) (new : Receiving Place U) (next : Made) → IsNextItem rules bytes
-      (items_without_places w.placed) receiver new x → view.fault (items_without_places w.placed) x.1 ≡ None
-      → makes (items_without_places w.placed ++ x.1 ∷ []) next → Shows rules view makes bytes new next (lines
-      ++ view.lines x.0 x.1)
-  shows_next x new next is none more = record {
-    placed = w.placed ++ x ∷ [];
-    shown = shown_more rules view bytes [] w.placed x w.shown is.complete none;
-    taken = subst (HasTaken rules bytes new) (sym (items_more w.placed x)) is.taken;
-    makes_it = subst (λ (z : List (Item U)). makes z next) (sym (items_more w.placed x)) more;
-    are_lines = ap (λ z. z ++ view.lines x.0 x.1) w.are_lines ∙ sym (lines_more view w.placed x);
-  }
-
-  pub part : AreFirstLines (showing rules view) bytes lines
-  part = record { placed = w.placed; shown = w.shown; last = None; complete = tt; lines = w.are_lines }
-
-  -- the lines of an item more
-  pub part_more : (x : Placed U) → IsComplete rules bytes (items_without_places w.placed) x → AreFirstLines
-      (showing rules view) bytes
-      (lines ++ view.lines x.0 x.1)
-  part_more x c = record {
-    placed = w.placed;
-    shown = w.shown;
-    last = Some x;
-    complete = c;
-    lines = ap (λ z. z ++ view.lines x.0 x.1) w.are_lines;
-  }
-
-  -- a byte is refused behind them
-  refused_behind : (place : ℕ) (reason : Reason) → IsRefused rules bytes place reason → HoldsItems rules
-      (take place bytes) (items_without_places w.placed) → IsShown (showing rules view) bytes false (lines
-      ++ line_of (Refused place reason)
-      (length bytes))
-  refused_behind place reason r held =
-      let line : List ℕ = line_of (Refused place reason) (length bytes) in
-      record {
-        placed = w.placed;
-        shown = w.shown;
-        end = line;
-        ends = inl (place, reason, r, held, refl);
-        lines = ap (λ z. z ++ line) w.are_lines;
-      }
-
-  -- they end too early
-  truncated_behind : IsTruncated rules bytes → HoldsItems rules bytes (items_without_places w.placed)
-      → IsShown (showing rules view) bytes false (lines ++ line_of (Truncated (length bytes)) (length bytes))
-  truncated_behind t held =
-      let line : List ℕ = line_of (Truncated (length bytes)) (length bytes) in
-      record {
-        placed = w.placed;
-        shown = w.shown;
-        end = line;
-        ends = inr (inl (t, held, refl));
-        lines = ap (λ z. z ++ line) w.are_lines;
-      }
-
-  -- the next item isn't carried out
-  pub unapplied : (x : Placed U) (reason : Reason) → IsComplete rules bytes (items_without_places w.placed) x
-      → view.fault (items_without_places w.placed) x.1 ≡ Some reason → IsShown (showing rules view) bytes false
-      ((lines ++ view.lines x.0 x.1) ++ line_of (Refused x.0 reason) (length bytes))
-  unapplied x reason c found =
-      let line : List ℕ = line_of (Refused x.0 reason) (length bytes) in
-      record {
-        placed = w.placed;
-        shown = w.shown;
-        end = view.lines x.0 x.1 ++ line;
-        ends = inr (inr (x, reason, c, found, refl));
-        lines = append_assoc lines (view.lines x.0 x.1) line ∙ ap (λ z. z ++ (view.lines x.0 x.1 ++ line)) w.are_lines;
-      }
-
-  -- they are accepted
-  pub accepted_behind : IsInGrammar rules bytes (items_without_places w.placed) → (text : List ℕ)
-      → ((items : List (Item U)) → makes items made → view.Ends items text) → IsShown (showing rules view) bytes true
-      (lines ++ text)
-  accepted_behind a text ends = record {
-    placed = w.placed;
-    shown = w.shown;
-    end = text;
-    ends = (a, ends (items_without_places w.placed) w.makes_it);
-    lines = ap (λ z. z ++ text) w.are_lines;
-  }
-
-module _ {S : Type 0} (writer : Writer S) (from : S) where
+module _ {S Place U : Type 0} (writer : Writer S) (from mid to : S) (way : Showing Place U) (bytes : List ℕ) where
   -- what comes behind lines that went out doesn't go out whole
-  pub text_fails : {Place U : Type 0} (rules : Rules Place U) (view : View U) (bytes lines text : List ℕ) (mid to : S)
-      → WentOut writer from mid lines → AreFirstLines (showing rules view) bytes (lines ++ text)
-      ⊎ ((accepted : Bool) × IsShown (showing rules view) bytes accepted (lines ++ text))
+  text_fails : (lines text : List ℕ) → WentOut writer from mid lines → AreFirstLines way bytes (lines ++ text)
+      ⊎ ((accepted : Bool) × IsShown way bytes accepted (lines ++ text))
       → (fault : Fault) → (fault ≡ faults.Write) × FailedWithin writer mid to text
-      → IsPrinted writer from to (show_printing (showing rules view) bytes) (Err fault)
-  text_fails rules view bytes lines text mid to w shown fault f =
+      → IsPrinted writer from to (show_printing way bytes) (Err fault)
+  text_fails lines text w shown fault f =
       inr (lines ++ text, (f.0, shown), fails_last writer from mid to lines text w f.1)
 
-  module _ {Place U Made : Type 0} {rules : Rules Place U} {view : View U} {makes : List (Item U) → Made → Type 0}
-      {bytes lines : List ℕ} {receiver : Receiving Place U} {made : Made}
-      (w : Shows rules view makes bytes receiver made lines) (to : S) where
-    -- nothing comes next
-    pub stops_next : WentOut writer from to lines → (fault : Fault) → IsNextFault rules bytes receiver fault
-        → IsStop (printout writer from to) (showing rules view) bytes (verdict_by fault)
-    stops_next went (faults.Refused place reason) f =
-        (refl, (lines, part w, went, refused_behind w place reason f.0 (f.1 (items_without_places w.placed) w.taken)))
-    stops_next went (faults.Truncated n) f = absurd f
-    stops_next went faults.Memory f =
-        inl (lines, (w.placed, w.shown, f (items_without_places w.placed) w.taken, w.are_lines), went)
-    stops_next went faults.Read f = absurd f
-    stops_next went faults.Write f = absurd f
-    stops_next went faults.Failed f = absurd f
+  -- it goes out, or not the whole of it
+  pub printed_behind : (accepted : Bool) (lines text : List ℕ) → WentOut writer from mid lines
+      → IsShown way bytes accepted (lines ++ text) → (result : Result Bool Fault)
+      → IfOk result (λ made. (made ≡ accepted) × WentOut writer mid to text)
+      → IfErr result (λ fault. (fault ≡ faults.Write) × FailedWithin writer mid to text)
+      → IsPrinted writer from to (show_printing way bytes) result
+  printed_behind accepted lines text w shown (Ok made) done failed =
+      (lines ++ text, rw done.0 shown, went_out_both writer from mid to lines text w done.1)
+  printed_behind accepted lines text w shown (Err fault) done failed =
+      text_fails lines text w (inr (accepted, shown)) fault failed
 
-    -- the bytes end too early
-    pub stops_early : WentOut writer from to lines → (last : Receiving Place U) → HasReceived rules last bytes
-        (items_without_places w.placed) → (fault : Fault) → (fault ≡ faults.Truncated (length bytes))
-        × IsTruncated rules bytes
-        → IsStop (printout writer from to) (showing rules view) bytes (verdict_by fault)
-    stops_early went last received fault f =
-        rw f.0 (
-          refl,
-          (
-            lines,
-            part w,
-            went,
-            truncated_behind w f.1 (
-              received.leads.0,
-              last.live.begun,
-              received.leads.1.holds,
-            ),
-          ),
-        )
+  -- the line behind which nothing more is shown
+  pub line_stops : {Made : Type 0} (makes : List (Item U) → Made → Type 0) (receiver : Receiving Place U) (made : Made)
+      (verdict : Verdict) → is_accepted verdict ≡ false → (lines : List ℕ) → WentOut writer from mid lines
+      → HasStopped way bytes (lines ++ line_of verdict 0) → (result : Result Bool Fault)
+      → IfOk result (λ told. (told ≡ is_accepted verdict) × WentOut writer mid to (line_of verdict 0))
+      → IfErr result (λ fault. (fault ≡ faults.Write) × FailedWithin writer mid to (line_of verdict 0))
+      → IsPieceShown (printout writer from to) way makes bytes receiver made result
+  line_stops makes receiver made verdict refused lines w s (Ok true) done failed =
+      let e : true ≡ false = done.0 ∙ refused in cc
+  line_stops makes receiver made verdict refused lines w s (Ok false) done failed = (
+    (lines ++ line_of verdict 0, s),
+    printed_behind false lines (line_of verdict 0) w s.0 (Ok false) (refl, done.1) tt,
+  )
+  line_stops makes receiver made verdict refused lines w s (Err fault) done failed =
+      printed_behind false lines (line_of verdict 0) w s.0 (Err fault) tt failed
 
-    -- the next item's lines go out, and it is carried out
-    pub goes_on : (mid : S) (x : Placed U) (new : Receiving Place U) (next : Made)
-        → WentOut writer from mid lines → IsNextItem rules bytes (items_without_places w.placed) receiver new x
-        → WentOut writer mid to (view.lines x.0 x.1)
-        → view.fault (items_without_places w.placed) x.1 ≡ None → makes (items_without_places w.placed
-        ++ x.1 ∷ []) next → (more : List ℕ)
-        × Shows rules view makes bytes new next more × WentOut writer from to more
-    goes_on mid x new next went is more none made_more = (
-      lines ++ view.lines x.0 x.1,
-      shows_next w x new next is none made_more,
-      went_out_both writer from mid to lines (view.lines x.0 x.1) went more,
+-- what was taken of a piece, and the rest of it
+pub piece_through : (bytes piece : List ℕ) (used : ℕ)
+    → (bytes ++ take used piece) ++ left_of piece used ≡ bytes ++ piece
+piece_through bytes piece used = append_assoc bytes (take used piece) (left_of piece used)
+    ∙ ap (λ z. bytes ++ z) (left_joined piece used)
+
+-- before the first byte
+pub shows_none : {Place U Made S : Type 0} (writer : Writer S) (s : S) (way : Showing Place U)
+    (makes : List (Item U) → Made → Type 0) (receiver : Receiving Place U) (made : Made)
+    → HasReceived way.rules receiver [] [] → makes [] made
+    → HasShown (printout writer s s) way makes [] receiver made
+shows_none writer s way makes receiver made received none = record {
+  placed = [];
+  shown = tt;
+  received = received;
+  makes_it = none;
+  went_out = went_out_none writer s;
+}
+
+module _ {Place U Made S : Type 0} {way : Showing Place U} {makes : List (Item U) → Made → Type 0} {bytes : List ℕ}
+    {receiver : Receiving Place U} {made : Made} (writer : Writer S) (from mid : S)
+    (h : HasShown (printout writer from mid) way makes bytes receiver made) where
+  -- the lines that went out, and the items that they show
+  abbrev pub lines_out : List ℕ
+  lines_out = lines_of way.view h.placed
+
+  abbrev pub items_out : List (Item U)
+  items_out = items_without_places h.placed
+
+  holds_them : HoldsItems way.rules bytes items_out
+  holds_them = (h.received.leads.0, receiver.live.begun, h.received.leads.1.holds)
+
+  -- they are those of all items
+  pub all_lines : AreAllLines way bytes lines_out
+  all_lines = record {
+    placed = h.placed;
+    shown = h.shown;
+    holds = holds_them;
+    unrefused = unrefused way.rules bytes h.received.leads.1.opened;
+    lines = refl;
+  }
+
+  -- the bytes are accepted, or end too early
+  pub ends_accepted : IsInGrammar way.rules bytes items_out → (text : List ℕ)
+      → ((items : List (Item U)) → makes items made → way.view.Ends items text)
+      → IsShown way bytes true (lines_out ++ text)
+  ends_accepted a text ends = record {
+    placed = h.placed;
+    shown = h.shown;
+    end = text;
+    ends = (a, ends items_out h.makes_it);
+    lines = refl;
+  }
+
+  pub ends_early : IsTruncated way.rules bytes
+      → IsShown way bytes false (lines_out ++ line_of (Truncated (length bytes)) 0)
+  ends_early t = record {
+    placed = h.placed;
+    shown = h.shown;
+    end = line_of (Truncated (length bytes)) 0;
+    ends = inl (t, holds_them, refl);
+    lines = refl;
+  }
+
+  -- what a receiver gave of a piece: an item that is complete with the last byte that was used
+  pub fed_item : (piece : List ℕ) (new : Receiving Place U) (fed : Fed U) (item : Item U) (place : ℕ)
+      → fed.item ≡ Some item → place ≡ new.live.taken - 1 → fed.used ≤ length piece
+      → IfSome fed.item (λ _. 0 < fed.used)
+      → HasReceived way.rules new (bytes ++ take fed.used piece) (items_out ++ given fed.item)
+      → ((n : ℕ) → n < fed.used → HoldsItems way.rules (bytes ++ take n piece) items_out)
+      → IsComplete way.rules (bytes ++ take fed.used piece) items_out (place, item)
+      × HasReceived way.rules new (bytes ++ take fed.used piece) (items_out ++ item ∷ [])
+  fed_item piece new fed item place is last within some received first =
+      let taken : HasReceived way.rules new (bytes ++ take fed.used piece) (items_out ++ item ∷ []) =
+      rw is at received in (
+        rw last (next_complete way.rules bytes piece items_out item new fed.used (rw is at some) within first taken),
+        taken,
+      )
+
+  -- What more bytes bring.
+  module _ (more : List ℕ) where
+    still_shown : AreShown way (bytes ++ more) [] h.placed
+    still_shown = shown_further way bytes more [] h.placed h.shown
+
+    -- no item more
+    pub goes_on : (new : Receiving Place U) → HasReceived way.rules new (bytes ++ more) (items_out ++ [])
+        → HasShown (printout writer from mid) way makes (bytes ++ more) new made
+    goes_on new received = record {
+      placed = h.placed;
+      shown = still_shown;
+      received = subst (λ (z : List (Item U)). HasReceived way.rules new (bytes ++ more) z) (append-nil items_out)
+          received;
+      makes_it = h.makes_it;
+      went_out = h.went_out;
+    }
+
+    -- nothing more is shown
+    stopped : (end text : List ℕ) → IsStoppedEnd way (bytes ++ more) h.placed end → text ≡ lines_out ++ end
+        → HasStopped way (bytes ++ more) text
+    stopped end text e same =
+        (record { placed = h.placed; shown = still_shown; end = end; ends = inr e; lines = same }, e)
+
+    -- what a fault of the receiver comes to
+    abbrev pub IsStop : Result Verdict Fault → Type 0
+    IsStop (Ok verdict) = (is_accepted verdict ≡ false)
+        × HasStopped way (bytes ++ more) (lines_out ++ line_of verdict 0)
+    IsStop (Err fault) = IsPrinted writer from mid (show_printing way (bytes ++ more)) (Err fault)
+
+    pub feed_stops : (fault : Fault) → IsFeedFault way.rules bytes items_out more fault
+        → NoneBefore way.rules bytes more items_out fault → IsStop (verdict_by fault)
+    feed_stops (faults.Refused place reason) f none =
+        let n : ℕ = place - length bytes in
+        let last : length bytes + n ≡ place = omega (arith, f.0) in
+        let held : HoldsItems way.rules (take place (bytes ++ more)) items_out =
+        subst (λ (z : List ℕ). HoldsItems way.rules z items_out)
+        (sym (take-append-add bytes more n) ∙ ap (λ (k : ℕ). take k (bytes ++ more)) last)
+        (none n (omega (arith, last))) in
+        (refl, stopped (line_of (Refused place reason) 0) _ (inl (place, reason, f.1, held, refl)) refl)
+    feed_stops (faults.Truncated n) f none = absurd f
+    feed_stops faults.Memory f none = inl (
+      lines_out,
+      (
+        h.placed,
+        still_shown,
+        (
+          bytes ++ f.0,
+          f.1,
+          f.2,
+          ap (λ z. bytes ++ z) f.3 ∙ sym (append_assoc bytes f.0 (f.1 ∷ f.2)),
+          f.4,
+        ),
+        refl,
+      ),
+      h.went_out,
     )
+    feed_stops faults.Read f none = absurd f
+    feed_stops faults.Write f none = absurd f
+    feed_stops faults.Failed f none = absurd f
 
-    -- the next item's lines don't go out whole
-    pub stops_at_item : (mid : S) (x : Placed U) → WentOut writer from mid lines → IsComplete rules bytes
-        (items_without_places w.placed) x → (fault : Fault) → (fault ≡ faults.Write) × FailedWithin writer mid to
-        (view.lines x.0 x.1) → IsStop (printout writer from to) (showing rules view) bytes (verdict_by fault)
-    stops_at_item mid x went c fault f = rw f.0 (text_fails rules view bytes lines (view.lines x.0 x.1) mid to went
-        (inl (part_more w x c)) faults.Write (refl, f.1))
+    -- which is answered
+    pub fault_stops : (all : List ℕ) → bytes ++ more ≡ all → (fault why : Fault)
+        → IsFeedFault way.rules bytes items_out more fault → NoneBefore way.rules bytes more items_out fault
+        → Err why ≡ verdict_by fault → IsPrinted writer from mid (show_printing way all) (Err why)
+    fault_stops all on fault why f none is =
+        subst (λ (z : List ℕ). IsPrinted writer from mid (show_printing way z) (Err why)) on
+        (subst (λ (r : Result Verdict Fault). IsStop r) (sym is) (feed_stops fault f none))
+
+    -- The next item.
+    module _ (x : Placed U) (complete : IsComplete way.rules (bytes ++ more) items_out x) where
+      -- its lines don't go out whole
+      pub item_fails : (all : List ℕ) → bytes ++ more ≡ all → (to : S) (fault : Fault)
+          → (fault ≡ faults.Write) × FailedWithin writer mid to (way.view.lines x.0 x.1)
+          → IsPrinted writer from to (show_printing way all) (Err fault)
+      item_fails all on to fault f =
+          let first : AreFirstLines way (bytes ++ more) (lines_out ++ way.view.lines x.0 x.1) = record {
+            placed = h.placed;
+            shown = still_shown;
+            last = Some x;
+            complete = complete;
+            lines = refl;
+          } in
+          subst (λ (z : List ℕ). IsPrinted writer from to (show_printing way z) (Err fault)) on
+          (text_fails writer from mid to way (bytes ++ more) lines_out (way.view.lines x.0 x.1) h.went_out (inl first)
+          fault f)
+
+      -- they do, and it isn't carried out
+      pub item_stops : (reason : Reason) → way.view.fault items_out x.1 ≡ Some reason
+          → HasStopped way (bytes ++ more) ((lines_out ++ way.view.lines x.0 x.1) ++ line_of (Refused x.0 reason) 0)
+      item_stops reason found = stopped (way.view.lines x.0 x.1 ++ line_of (Refused x.0 reason) 0) _
+          (inr (x, reason, complete, found, refl))
+          (append_assoc lines_out (way.view.lines x.0 x.1) (line_of (Refused x.0 reason) 0))
+
+      module _ (to : S) (out : WentOut writer mid to (way.view.lines x.0 x.1)) where
+        pub item_out : WentOut writer from to (lines_out ++ way.view.lines x.0 x.1)
+        item_out = went_out_both writer from mid to lines_out (way.view.lines x.0 x.1) h.went_out out
+
+        -- or it is
+        pub goes_on_after : (new : Receiving Place U) (next : Made)
+            → HasReceived way.rules new (bytes ++ more) (items_out ++ x.1 ∷ [])
+            → way.view.fault items_out x.1 ≡ None → makes (items_out ++ x.1 ∷ []) next
+            → HasShown (printout writer from to) way makes (bytes ++ more) new next
+        goes_on_after new next received none made_more =
+            let same = sym (items_more h.placed x) in
+            record {
+              placed = h.placed ++ x ∷ [];
+              shown = shown_more way (bytes ++ more) [] h.placed x still_shown complete none;
+              received = subst (λ (z : List (Item U)). HasReceived way.rules new (bytes ++ more) z) same received;
+              makes_it = subst (λ (z : List (Item U)). makes z next) same made_more;
+              went_out = subst (λ (z : List ℕ). WentOut writer from to z) (sym (lines_more way.view h.placed x))
+                  item_out;
+            }

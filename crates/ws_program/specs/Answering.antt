@@ -16,10 +16,14 @@ use Rattle.ws_extended.specs.declared.extended_answer_place.ExtendedAnswerPlace.
 use Rattle.ws_extended.specs.declared.extended_element.ExtendedElement.{ExtendedElement}
 use Rattle.ws_extended.specs.declared.extended_place.ExtendedPlace.{ExtendedPlace}
 use Rattle.ws_screen.specs.ScreenParts.{ScreenParts}
+use Rattle.ws_text.specs.AnswerLines.{part_lines}
 use Rattle.ws_text.specs.AnswerWords.{answer_wording}
 use Rattle.ws_text.specs.ElementWords.{element_wording}
+use Rattle.ws_text.specs.ExtendedAnswerLines.{told_lines}
 use Rattle.ws_text.specs.ExtendedAnswerWords.{told_wording}
+use Rattle.ws_text.specs.ExtendedLines.{extended_lines}
 use Rattle.ws_text.specs.ExtendedWords.{extended_wording}
+use Rattle.ws_text.specs.ItemLines.{element_lines}
 use Rattle.ws_text.specs.Printed.{Printing, in_whole}
 use Rattle.ws_text.specs.Wording.{Wording}
 use Rattle.ws_script.specs.asked.RunFaults.{run_fault}
@@ -97,11 +101,13 @@ play_tcp_action paint screen script = record {
       × IsPaintedPlayText paint events shown screen text × (outcome ≡ Ok (no_end_refuses events))));
 }
 
--- What is known of a sender: what it sends, how that is shown in a paint and on a page, and how it is written as text.
+-- What is known of a sender: what it sends, the lines of a body, how that is shown in a paint and on a page, and how it
+-- is written as text.
 pub record SenderParts : Type 1 where
   pub Place : Type 0
   pub Sent : Type 0
   pub rules : Rules Place Sent
+  pub lines : List Sent → List ℕ
   pub view : Look → View Sent
   pub wording : Wording Sent
 
@@ -112,6 +118,7 @@ sender_parts Host = record {
   Place = ElementPlace;
   Sent = Element;
   rules = element_rules;
+  lines = element_lines;
   view = painted_host_view;
   wording = element_wording;
 }
@@ -119,6 +126,7 @@ sender_parts ExtendedHost = record {
   Place = ExtendedPlace;
   Sent = ExtendedElement;
   rules = extended_rules;
+  lines = extended_lines;
   view = extended_view;
   wording = extended_wording;
 }
@@ -126,6 +134,7 @@ sender_parts Station = record {
   Place = AnswerPlace;
   Sent = AnswerPart;
   rules = answer_rules;
+  lines = part_lines;
   view = λ look. answer_view;
   wording = answer_wording;
 }
@@ -133,6 +142,7 @@ sender_parts ExtendedStation = record {
   Place = ExtendedAnswerPlace;
   Sent = ExtendedAnswerPart;
   rules = extended_answer_rules;
+  lines = told_lines;
   view = λ look. told_view;
   wording = told_wording;
 }
@@ -166,8 +176,8 @@ answer_action (CheckAll file form sender named) input =
     of_bytes form (check_all_printing (sender_parts sender).rules (file_head (if named then file else None))) input
 answer_action (Show file form sender look) input =
     of_bytes form (show_printing (showing (sender_parts sender).rules ((sender_parts sender).view look))) input
-answer_action (ShowAll file form sender look) input =
-    of_bytes form (show_all_printing (showing (sender_parts sender).rules ((sender_parts sender).view look))) input
+answer_action (ShowAll file form sender shown) input = of_bytes form (show_all_printing (sender_parts sender).rules
+    (sender_parts sender).lines (sender_parts sender).view shown) input
 answer_action (Trace file form) input = trace_action form input
 answer_action (Play file screen false paint) input = play_action paint screen input
 answer_action (Play file screen true paint) input = play_tcp_action paint screen input

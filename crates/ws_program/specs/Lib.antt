@@ -9,6 +9,7 @@ pub mod HexText
 pub mod InputFaults
 pub mod Recorded
 pub mod Runs
+pub mod ShownSources
 pub mod StreamBytes
 pub mod StreamText
 pub mod StreamTraces

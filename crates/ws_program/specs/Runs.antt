@@ -1,6 +1,6 @@
 -- What a run of the program comes to: what it printed, and how it ended.
 
-use Rattle.std.specs.Prelude.{◌≡◌, ℕ, List, Bool, Option, None, Some, Ok, Err, ◌⊎◌}
+use Rattle.std.specs.Prelude.{◌≡◌, ℕ, List, Bool, Option, None, Some, Result, Ok, Err, IsErrAnd, ◌⊎◌}
 use Rattle.std.specs.Option.{is_none, option_map}
 use Rattle.ws_printing.specs.Printouts.{Printout}
 use Rattle.ws_script.specs.declared.asked.fault.RunFault.{RunFault}
@@ -12,7 +12,10 @@ use Rattle.ws_script.specs.declared.asked.open_streams.OpenStreams.{OpenStreams}
 use Rattle.ws_script.specs.asked.OpenStreams.{missing}
 use Rattle.ws_network.specs.LiveSessions.{HasRunLive, script_of}
 use Rattle.ws_program.specs.Actions.{IsCarriedOut}
-use Rattle.ws_program.specs.Streams.{openly}
+use Rattle.ws_program.specs.Answering.{of_bytes, sender_parts}
+use Rattle.ws_program.specs.ShownSources.{unread_printing}
+use Rattle.ws_program.specs.StreamText.{showing}
+use Rattle.ws_program.specs.Streams.{at_output, openly}
 use Rattle.ws_program.specs.FileChecks.{HasChecked, IsFaultOfChecks}
 use Rattle.ws_program.specs.FileChecksOfAll.{HaveAllChecked, IsFaultOfAllChecks}
 use Rattle.ws_program.specs.FileFaults.{IsToldBy, IsToldOfFile}
@@ -23,6 +26,8 @@ use Rattle.ws_program.specs.ToldFaults.{IsToldOf}
 use Rattle.ws_program.specs.declared.command_fault.CommandFault.{CommandFault}
 use Rattle.ws_program.specs.declared.command_fault.CommandFault.TheVariants.{Words, Run, Told, OfFile, Unwritten}
 use Rattle.ws_program.specs.declared.words.command_line.InputAsked.{InputAsked}
+use Rattle.ws_program.specs.declared.words.command_line.InputAsked.TheVariants.{Show}
+use Rattle.ws_program.specs.declared.words.command_line.StreamForm.TheVariants.{Raw}
 use Rattle.ws_program.specs.declared.words.command_line.Task.{Task}
 use Rattle.ws_program.specs.declared.words.command_line.Task.TheVariants.{Input, Files, AllFiles, Streams, Print, Live}
 
@@ -44,10 +49,26 @@ module _ {S : Type 0} (out : Printout S) (streams : OpenStreams) where
   HasRunInput asked accepted = (input : List ℕ)
       × IsCarriedOut out.writer out.from out.to (openly streams.output asked input) (Ok accepted)
 
-  -- Why what is asked of an input wasn't done. It can't be read, and nothing was written; or this was met with the
-  -- bytes that were read of it, and is told with its cause.
+  -- raw bytes were shown that couldn't be read to their end
+  abbrev pub IsShownUnread : InputAsked → RunFault → Type 0
+  IsShownUnread (Show file Raw sender look) why = (input : List ℕ) × IsCarriedOut out.writer out.from out.to
+      (at_output streams.output (of_bytes Raw (unread_printing
+      (showing (sender_parts sender).rules ((sender_parts sender).view look))) input)) (Err why)
+  IsShownUnread asked why = ⊥
+
+  -- an input can't be read, and nothing was written, or what is shown of raw bytes before
+  abbrev pub IsNotRead : InputAsked → RunFault → Type 0
+  IsNotRead asked why = ((out.to ≡ out.from) × IsInputUnread why) ⊎ IsShownUnread asked why
+
+  -- what is asked of raw bytes came to this: they can't be read, or it was done with those that were read
+  abbrev pub IsRawDone : InputAsked → Result Bool RunFault → Type 0
+  IsRawDone asked result = IsErrAnd result (IsNotRead asked)
+      ⊎ ((input : List ℕ) × IsCarriedOut out.writer out.from out.to (openly streams.output asked input) result)
+
+  -- Why what is asked of an input wasn't done. It can't be read; or this was met with the bytes that were read of it,
+  -- and is told with its cause.
   abbrev pub IsFaultOfInput : InputAsked → ToldFault → Type 0
-  IsFaultOfInput asked fault = ((why : RunFault) × (out.to ≡ out.from) × IsInputUnread why × (fault ≡ told.Run why))
+  IsFaultOfInput asked fault = ((why : RunFault) × IsNotRead asked why × (fault ≡ told.Run why))
       ⊎ ((why : RunFault) × ((input : List ℕ)
       × IsCarriedOut out.writer out.from out.to (openly streams.output asked input) (Err why)
       × IsToldOf asked input fault why))

@@ -16,8 +16,7 @@ pub use Rattle.ws_end.specs.Acts.{HoldsItems}
 pub use Rattle.ws_trace.specs.Ends.{IsWholeItem}
 use Rattle.ws_text.specs.Printed.{Printing, IsPrinted}
 use Rattle.ws_printing.specs.Printouts.{IsPrintedOut, Printout}
-use Rattle.ws_printing.specs.CheckLine.{line_of, is_accepted}
-use Rattle.ws_printing.specs.declared.verdict.Verdict.{Verdict}
+use Rattle.ws_printing.specs.CheckLine.{line_of}
 use Rattle.ws_printing.specs.declared.verdict.Verdict.TheVariants.{Refused, Truncated}
 
 -- How items of some body are shown: an item's lines, why one isn't carried out after others, and what stands after
@@ -94,11 +93,14 @@ module _ {Place U : Type 0} where
       × (way.view.fault (items_without_places placed) x.1 ≡ Some reason)
       × (text ≡ way.view.lines x.0 x.1 ++ line_of (Refused x.0 reason) (length bytes))
 
+  -- nothing more is shown after the items: a byte is refused, or the next item isn't carried out
+  abbrev pub IsStoppedEnd : Showing Place U → List ℕ → List (Placed U) → List ℕ → Type 0
+  IsStoppedEnd way bytes placed text = IsRefusedEnd way.rules bytes placed text ⊎ IsUnappliedEnd way bytes placed text
+
   -- what stands after the items: that of an accepted stream, or the line of one that is not
   abbrev pub IsEnd : Showing Place U → List ℕ → List (Placed U) → Bool → List ℕ → Type 0
   IsEnd way bytes placed true text = IsAcceptedEnd way bytes placed text
-  IsEnd way bytes placed false text = IsRefusedEnd way.rules bytes placed text
-      ⊎ (IsTruncatedEnd way.rules bytes placed text ⊎ IsUnappliedEnd way bytes placed text)
+  IsEnd way bytes placed false text = IsTruncatedEnd way.rules bytes placed text ⊎ IsStoppedEnd way bytes placed text
 
   -- the whole text that is shown of a stream: the lines of its items, and what comes after them
   pub record IsShown (way : Showing Place U) (bytes : List ℕ) (accepted : Bool) (text : List ℕ)
@@ -117,39 +119,13 @@ module _ {Place U : Type 0} where
     pub complete : IfSome last (IsComplete way.rules bytes (items_without_places placed))
     pub lines : text ≡ lines_with way.view placed last
 
-  -- a receiver has taken the first of the bytes, and has given these items
-  abbrev pub HasTaken : Rules Place U → List ℕ → Receiving Place U → List (Item U) → Type 0
-  HasTaken rules bytes receiver items = HasReceived rules receiver (take receiver.live.taken bytes) items
-
-  -- a receiver that has taken the first of the bytes
-  abbrev pub HasBegunStream : Rules Place U → List ℕ → Receiving Place U → Type 0
-  HasBegunStream rules bytes receiver = (items : List (Item U)) × HasTaken rules bytes receiver items
-
-  -- the item is complete next, and the receiver has taken the bytes up to its last one
-  pub record IsNextItem (rules : Rules Place U) (bytes : List ℕ) (items : List (Item U))
-      (old new : Receiving Place U) (x : Placed U) : Type 0 where
-    pub complete : IsComplete rules bytes items x
-    pub further : old.live.taken < new.live.taken
-    pub taken : HasTaken rules bytes new (items ++ x.1 ∷ [])
-
-  -- what comes next: an item, or none in all the bytes
-  abbrev pub IsNext : Rules Place U → List ℕ → Receiving Place U → Receiving Place U → Option (Placed U) → Type 0
-  IsNext rules bytes old new None = (items : List (Item U)) → HasTaken rules bytes old items
-      → HasReceived rules new bytes items
-  IsNext rules bytes old new (Some x) = (items : List (Item U)) → HasTaken rules bytes old items
-      → IsNextItem rules bytes items old new x
+  -- the whole text that is shown of a stream of which no byte more would be shown
+  abbrev pub HasStopped : Showing Place U → List ℕ → List ℕ → Type 0
+  HasStopped way bytes text = (shown : IsShown way bytes false text) × IsStoppedEnd way bytes shown.placed shown.end
 
   -- a unit of the record that comes next after the items is complete in the bytes, so that a list grows for it
   abbrev pub GrowsBehind : Rules Place U → List ℕ → List (Item U) → Type 0
   GrowsBehind rules bytes items = HasUnit rules [] items bytes
-
-  -- why nothing comes next: a byte is refused, before which no item more is complete, or the growth for a unit was
-  abbrev pub IsNextFault : Rules Place U → List ℕ → Receiving Place U → Fault → Type 0
-  IsNextFault rules bytes old (faults.Refused place reason) = IsRefused rules bytes place reason
-      × ((items : List (Item U)) → HasTaken rules bytes old items → HoldsItems rules (take place bytes) items)
-  IsNextFault rules bytes old Memory = (items : List (Item U)) → HasTaken rules bytes old items
-      → GrowsBehind rules bytes items
-  IsNextFault rules bytes old fault = ⊥
 
   -- how what is shown ends: with the whole text; or with the lines of the first items, after which a growth is refused
   abbrev pub IsShowEnd : Showing Place U → List ℕ → List ℕ → Result Bool Fault → Type 0
@@ -166,17 +142,20 @@ module _ {Place U : Type 0} where
         ⊎ ((accepted : Bool) × IsShown way bytes accepted text));
   }
 
-  module _ {S : Type 0} (out : Printout S) (way : Showing Place U) (bytes : List ℕ) where
-    -- what is answered where not all items are carried out: the items' lines went out, and the line of a verdict
-    -- goes on after them, or there was a fault
-    abbrev pub IsStop : Result Verdict Fault → Type 0
-    IsStop (Ok verdict) = (is_accepted verdict ≡ false) × ((lines : List ℕ) × AreFirstLines way bytes lines
-        × IsPrintedOut out lines × IsShown way bytes false (lines ++ line_of verdict (length bytes)))
-    IsStop (Err fault) = IsPrinted out.writer out.from out.to (show_printing way bytes) (Err fault)
+  module _ {Made S : Type 0} (out : Printout S) (way : Showing Place U) (makes : List (Item U) → Made → Type 0)
+      (bytes : List ℕ) (receiver : Receiving Place U) (made : Made) where
+    -- all items that the bytes hold were shown and carried out: they make this, and the bytes lead to the receiver
+    pub record HasShown : Type 0 where
+      pub placed : List (Placed U)
+      pub shown : AreShown way bytes [] placed
+      pub received : HasReceived way.rules receiver bytes (items_without_places placed)
+      pub makes_it : makes (items_without_places placed) made
+      pub went_out : IsPrintedOut out (lines_of way.view placed)
 
-    -- All items were shown and carried out, and so is a stream that is accepted; or the last one isn't carried out, and
-    -- the line of that verdict goes on after it.
-    abbrev pub IsThrough : (List ℕ → Type 0) → Option Verdict → Type 0
-    IsThrough IsEnding None = (lines : List ℕ) × AreFirstLines way bytes lines × IsPrintedOut out lines
-        × ((text : List ℕ) → IsEnding text → IsShown way bytes true (lines ++ text))
-    IsThrough IsEnding (Some verdict) = IsStop (Ok verdict)
+    -- what is answered where bytes are shown that may not be all: they go on, nothing more is shown, or there was a
+    -- fault
+    abbrev pub IsPieceShown : Result Bool Fault → Type 0
+    IsPieceShown (Ok true) = HasShown
+    IsPieceShown (Ok false) = ((text : List ℕ) × HasStopped way bytes text)
+        × IsPrinted out.writer out.from out.to (show_printing way bytes) (Ok false)
+    IsPieceShown (Err fault) = IsPrinted out.writer out.from out.to (show_printing way bytes) (Err fault)

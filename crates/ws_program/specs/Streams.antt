@@ -15,7 +15,7 @@ abbrev pub in_one_place : InputAsked → InputAsked
 in_one_place (Check file form cut sender) = Check file form cut sender
 in_one_place (CheckAll file form sender named) = CheckAll file form sender named
 in_one_place (Show file form sender look) = Show file form sender look
-in_one_place (ShowAll file form sender look) = ShowAll file form sender look
+in_one_place (ShowAll file form sender shown) = ShowAll file form sender shown
 in_one_place (Trace file form) = Trace file form
 in_one_place (Play file screen tcp paint) = Play file screen false paint
 in_one_place (Make file sender raw) = Make file sender raw
@@ -40,6 +40,11 @@ into_closed action = record {
     Cut = action.prints.Cut;
   };
 }
+
+-- what is done with an output, or without one
+abbrev pub at_output : Bool → Action Bool RunFault → Action Bool RunFault
+at_output true action = action
+at_output false action = into_closed action
 
 -- What the program does with its input, with an output or without. Where it has none it opens no connection, and what
 -- is found in the input and in running comes first.

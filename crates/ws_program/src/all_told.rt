@@ -1,20 +1,20 @@
 //! What a stream tells of which records may be refused: after each refusal the next record is read.
-ghost use Rattle.std.specs.Prelude.{◌≡◌, ◌==◌, ◌&&◌, List, ℕ, [], map, IfOk, IfErr, OnOk};
+ghost use Rattle.std.specs.Prelude.{◌≡◌, ◌==◌, ◌&&◌, List, [], map, IfOk, IfErr};
 ghost use Rattle.ws_code.specs.Device.{WentOut, FailedWithin};
 ghost use Rattle.ws_record.specs.declared.record.Item.{Item as AnItem};
 ghost use Rattle.ws_printing.specs.Printouts.{printout};
 ghost use Rattle.ws_trace.specs.Ends.{carry_fault, made_of, told_with};
 ghost use Rattle.ws_trace.specs.Tracers.{IsWholeCame};
 ghost use Rattle.ws_program.specs.AllTold as Spec;
-ghost use Rattle.ws_program.specs.StreamText.{showing};
+ghost use Rattle.ws_text.specs.Printing.{Prints};
 
-use crate::show::write_item;
 use crate::shown::Shown;
 use std::alloc::Global;
 use ws_code::{Fault, Reason, Sink};
+use ws_json::{put_json_item, put_json_refusal};
 use ws_printing::PlaceAndReason;
 use ws_record::Item;
-use ws_text::{Output, Text, print, texts};
+use ws_text::{Listed, Output, Text, texts};
 use ws_trace::{Reader, Told};
 
 /// How many records and Telnet commands are whole, and how often something is refused. A count stays at the highest
@@ -41,11 +41,15 @@ impl Text for FileHead<'_> {
     }
 }
 
-/// How a stream is told: whether its items are shown and carried out, and what stands before a refusal.
+/// How a stream is told.
 #[derive(Clone, Copy)]
-pub(crate) struct Way<'a> {
-    pub(crate) shows: bool,
-    pub(crate) head: FileHead<'a>,
+pub(crate) enum Way<'a> {
+    /// Its items as they are shown, and a line for each refusal.
+    Lines,
+    /// Its items and refusals as objects of JSON.
+    Objects,
+    /// A line for each refusal alone, after this. No item is carried out.
+    Refusals(FileHead<'a>),
 }
 
 /// Writes what bytes tell, and tells how often, and whether the stream may end with them.
@@ -62,13 +66,15 @@ pub(crate) fn tell_all<B: Shown, S: Sink>(
     made: &mut B::Made,
     sink: &mut S,
 ) -> Result<(AllCounts, bool), Fault>
+where
+    B::Unit: Listed,
     requires given { B.makes [] made.old }
     ensures told { IfOk result (λ told. Spec.HasToldAll
-        (showing B.rules (Spec.view_where way.entry.shows B.view)) (Spec.file_head way.entry.head.0)
+        B.rules (Spec.told_in way.entry B.Unit.lines_of B.view)
         (printout S.writer sink.old sink.new) bytes.now told.0 told.1
-        (λ items. Spec.makes_where way.entry.shows B.makes items made.new)) }
+        (λ items. Spec.makes_by way.entry B.makes items made.new)) }
     ensures fault { IfErr result (Spec.IsUntold
-        (showing B.rules (Spec.view_where way.entry.shows B.view)) (Spec.file_head way.entry.head.0)
+        B.rules (Spec.told_in way.entry B.Unit.lines_of B.view)
         (printout S.writer sink.old sink.new) bytes.now) }
 {
     let mut reader = Reader::<B>::new(alloc);
@@ -79,7 +85,7 @@ pub(crate) fn tell_all<B: Shown, S: Sink>(
     };
     for (place, byte) in bytes.iter().enumerate() {
         let came = reader.take(*byte)?;
-        let refused = carry_out::<B>(way.shows, made, &came);
+        let refused = carry_out::<B>(way, made, &came);
         counts = tell_came::<B, S>(way, place as u64, &came, refused, counts, sink)?;
     }
     Ok((counts, reader.may_end()))
@@ -94,20 +100,24 @@ pub(crate) fn are_accepted(counts: AllCounts, is_whole: bool) -> bool
 
 // Carries out an item that came, where items are, or tells why it can't be.
 fn carry_out<B: Shown>(
-    shows: bool,
+    way: Way<'_>,
     made: &mut B::Made,
     came: &Option<Told<B::Unit>>,
 ) -> Option<Reason>
+where
+    B::Unit: Listed,
     requires whole { IsWholeCame B.rules came.now }
     requires made { (items : List (AnItem B.Unit))
-        × Spec.makes_where shows B.makes items made.old }
-    ensures fault { (items : List (AnItem B.Unit)) → Spec.makes_where shows B.makes items made.old
-        → result ≡ carry_fault (Spec.carrying (Spec.view_where shows B.view)) items came.now }
-    ensures after { (items : List (AnItem B.Unit)) → Spec.makes_where shows B.makes items made.old
-        → Spec.makes_where shows B.makes
-        (made_of (Spec.carrying (Spec.view_where shows B.view)) items came.now) made.new }
+        × Spec.makes_by way B.makes items made.old }
+    ensures fault { (items : List (AnItem B.Unit)) → Spec.makes_by way.entry B.makes items made.old
+        → result ≡ carry_fault (Spec.carrying (Spec.told_in way.entry B.Unit.lines_of B.view))
+        items came.now }
+    ensures after { (items : List (AnItem B.Unit)) → Spec.makes_by way.entry B.makes items made.old
+        → Spec.makes_by way.entry B.makes
+        (made_of (Spec.carrying (Spec.told_in way.entry B.Unit.lines_of B.view)) items came.now)
+        made.new }
 {
-    if !shows {
+    if let Way::Refusals(_) = way {
         return None;
     }
     match came {
@@ -125,14 +135,16 @@ fn tell_came<B: Shown, S: Sink>(
     counts: AllCounts,
     sink: &mut S,
 ) -> Result<AllCounts, Fault>
+where
+    B::Unit: Listed,
     ensures ok { IfOk result (λ more. (more ≡ Spec.counts_after counts
         (map (Spec.told_at place) (told_with came.now refused)))
         × WentOut S.writer sink.old sink.new
-        (Spec.lines_told (Spec.view_where way.entry.shows B.view) (Spec.file_head way.entry.head.0)
+        (Spec.lines_told (Spec.told_in way.entry B.Unit.lines_of B.view)
         (map (Spec.told_at place) (told_with came.now refused)))) }
     ensures err { IfErr result (λ fault. (fault ≡ Fault.Write)
         × FailedWithin S.writer sink.old sink.new
-        (Spec.lines_told (Spec.view_where way.entry.shows B.view) (Spec.file_head way.entry.head.0)
+        (Spec.lines_told (Spec.told_in way.entry B.Unit.lines_of B.view)
         (map (Spec.told_at place) (told_with came.now refused)))) }
 {
     let Some(told) = came else {
@@ -140,7 +152,7 @@ fn tell_came<B: Shown, S: Sink>(
     };
     let counts = tell::<B, S>(way, place, told, counts, sink)?;
     match refused {
-        Some(reason) => tell_refusal(way.head, place, reason, counts, sink),
+        Some(reason) => tell::<B, S>(way, place, &Told::Refused(reason), counts, sink),
         None => Ok(counts),
     }
 }
@@ -153,78 +165,80 @@ fn tell<B: Shown, S: Sink>(
     counts: AllCounts,
     sink: &mut S,
 ) -> Result<AllCounts, Fault>
+where
+    B::Unit: Listed,
     ensures ok { IfOk result (λ more. (more ≡ Spec.counts_with counts told.now)
         × WentOut S.writer sink.old sink.new
-        (Spec.placed_text (Spec.view_where way.entry.shows B.view) (Spec.file_head way.entry.head.0)
+        (Spec.placed_text (Spec.told_in way.entry B.Unit.lines_of B.view)
         (Spec.told_at place told.now))) }
     ensures err { IfErr result (λ fault. (fault ≡ Fault.Write)
         × FailedWithin S.writer sink.old sink.new
-        (Spec.placed_text (Spec.view_where way.entry.shows B.view) (Spec.file_head way.entry.head.0)
+        (Spec.placed_text (Spec.told_in way.entry B.Unit.lines_of B.view)
         (Spec.told_at place told.now))) }
 {
-    match told {
-        Told::Whole(item) => {
-            put_shown::<B, S>(way.shows, place, item, sink)?;
-            Ok(with_item(counts, item))
-        }
-        Told::Refused(reason) => tell_refusal(way.head, place, *reason, counts, sink),
+    match put_told::<B, S>(sink, Output::Open, way, place, told) {
+        Output::Open => Ok(with_told(counts, told)),
+        Output::Failed => Err(Fault::Write),
     }
 }
 
-// Writes the line of a refusal, and counts it.
-fn tell_refusal<S: Sink>(
+// Writes what is told at a place.
+fn put_told<B: Shown, S: Sink>(
+    sink: &mut S,
+    output: Output,
+    way: Way<'_>,
+    place: u64,
+    told: &Told<B::Unit>,
+) -> Output
+where
+    B::Unit: Listed,
+    ensures { Prints S.writer sink.old sink.new output result (Spec.placed_text
+        (Spec.told_in way.entry B.Unit.lines_of B.view) (Spec.told_at place told.now)) }
+{
+    match told {
+        Told::Whole(item) => match way {
+            Way::Lines => B::put_lines(sink, output, place, item),
+            Way::Objects => put_json_item(sink, output, "", place, item),
+            Way::Refusals(_) => output,
+        },
+        Told::Refused(reason) => match way {
+            Way::Lines => put_refusal(sink, output, FileHead(None), place, *reason),
+            Way::Objects => put_json_refusal(sink, output, "", place, *reason),
+            Way::Refusals(head) => put_refusal(sink, output, head, place, *reason),
+        },
+    }
+}
+
+// Writes the line of a refusal.
+fn put_refusal<S: Sink>(
+    sink: &mut S,
+    output: Output,
     head: FileHead<'_>,
     place: u64,
     reason: Reason,
-    counts: AllCounts,
-    sink: &mut S,
-) -> Result<AllCounts, Fault>
-    ensures ok { IfOk result (λ more. (more ≡ Spec.with_refusal counts)
-        × WentOut S.writer sink.old sink.new
-        (Spec.refused_line (Spec.file_head head.entry.0) place reason)) }
-    ensures err { IfErr result (λ fault. (fault ≡ Fault.Write)
-        × FailedWithin S.writer sink.old sink.new
-        (Spec.refused_line (Spec.file_head head.entry.0) place reason)) }
+) -> Output
+    ensures { Prints S.writer sink.old sink.new output result
+        (Spec.refused_line (Spec.file_head head.entry.0) place reason) }
 {
     let line = texts!("refused at ", PlaceAndReason(place, reason));
-    print(&texts!(head, line), sink)?;
-    Ok(AllCounts {
-        refused: counts.refused.saturating_add(1),
-        ..counts
-    })
+    texts!(head, line).put_to(sink, output)
 }
 
-// Writes an item's lines, where items are shown.
-fn put_shown<B: Shown, S: Sink>(
-    shows: bool,
-    place: u64,
-    item: &Item<B::Unit>,
-    sink: &mut S,
-) -> Result<(), Fault>
-    ensures ok { OnOk result (WentOut S.writer sink.old sink.new
-        ((Spec.view_where shows B.view).lines place item.now)) }
-    ensures err { IfErr result (λ fault. (fault ≡ Fault.Write)
-        × FailedWithin S.writer sink.old sink.new
-        ((Spec.view_where shows B.view).lines place item.now)) }
+// The counts with what is told more.
+fn with_told<U>(counts: AllCounts, told: &Told<U>) -> AllCounts
+    ensures { result ≡ Spec.counts_with counts told.now }
 {
-    if shows {
-        write_item::<B, S>(place, item, sink)
-    } else {
-        Ok(())
-    }
-}
-
-// The counts with an item more.
-fn with_item<U>(counts: AllCounts, item: &Item<U>) -> AllCounts
-    ensures { result ≡ Spec.counts_with_item counts item.now }
-{
-    match item {
-        Item::Record(_) => AllCounts {
+    match told {
+        Told::Whole(Item::Record(_)) => AllCounts {
             records: counts.records.saturating_add(1),
             ..counts
         },
-        Item::Telnet(_) => AllCounts {
+        Told::Whole(Item::Telnet(_)) => AllCounts {
             commands: counts.commands.saturating_add(1),
+            ..counts
+        },
+        Told::Refused(_) => AllCounts {
+            refused: counts.refused.saturating_add(1),
             ..counts
         },
     }

@@ -14,7 +14,7 @@ use ws_extended::{ExtendedAnswers, ExtendedCommands};
 use ws_printing::{Verdict, VerdictLine};
 use ws_script::{RunFault, Sender};
 use ws_stream::{Answers, Commands};
-use ws_text::{Number, Output, Text, print, texts};
+use ws_text::{Listed, Number, Output, Text, print, texts};
 
 /// Writes what a check tells of the bytes that an input tells, as those of a sender, of which records may be refused;
 /// each line after the file's name, where one is told.
@@ -69,11 +69,13 @@ pub(crate) fn check_all_to<B: Shown, S: Sink>(
     head: FileHead<'_>,
     sink: &mut S,
 ) -> Result<bool, Fault>
+where
+    B::Unit: Listed,
     ensures { IsPrinted S.writer sink.old sink.new
         (check_all_printing B.rules (file_head head.entry.0) bytes.now) result }
 {
     let mut made = B::before_any();
-    let way = Way { shows: false, head };
+    let way = Way::Refusals(head);
     let (counts, is_whole) = tell_all::<B, S>(alloc, way, bytes, &mut made, sink)?;
     let size = bytes.len() as u64;
     let line = CheckedLine {

@@ -4,6 +4,7 @@ ghost use Rattle.std.specs.Option.{option_map};
 ghost use Rattle.ws_program.specs.FileFaults.{IsOfFile, IsToldBy, IsToldOfFile};
 
 use crate::command_fault::CommandFault;
+use crate::hex_text::is_blank;
 use crate::words::InputAsked;
 use std::fs;
 use std::fs::File;
@@ -12,7 +13,7 @@ use std::rt::Files;
 use thiserror::Error;
 use ws_script::{RunFault, ToldFault};
 
-/// Why a file can't be read.
+/// Why a file can't be read, or not as hex text.
 #[derive(Clone, Copy, Debug, PartialEq, Eq, Drop, Error)]
 pub enum Unreadable {
     #[error("no such file")]
@@ -21,6 +22,9 @@ pub enum Unreadable {
     Folder,
     #[error("not allowed")]
     NotAllowed,
+    /// The first byte that is no part of hex text, counted from 0.
+    #[error("byte {at} is '{shown}'")]
+    OtherByte { at: usize, shown: char },
 }
 
 /// What a command of an input came to, as it is told.
@@ -99,6 +103,7 @@ pub(crate) fn of_file<R: AllocGlobal + Files<File = File>>(
     match fault {
         RunFault::Memory | RunFault::Write => CommandFault::Told(ToldFault::Run(fault)),
         RunFault::Read => named(rt, file, fault, why_unread(rt, file)),
+        RunFault::NotHex => named(rt, file, fault, other_byte(rt, file)),
         _ => named(rt, file, fault, None),
     }
 }
@@ -132,6 +137,32 @@ fn why_unread<R: Files<File = File>>(rt: &R, name: &str) -> Option<Unreadable> {
     match File::open(rt, name) {
         Ok(_) => None,
         Err(error) => why_unopened(error.kind()),
+    }
+}
+
+// The first byte of this file that is no part of hex text, where there is one. The file is read once more.
+fn other_byte<R: AllocGlobal + Files<File = File>>(rt: &R, name: &str) -> Option<Unreadable> {
+    if !fs::metadata(rt, name).ok()?.is_file() {
+        return None;
+    }
+    let text = fs::read(rt, name).ok()?;
+    for (at, byte) in text.as_slice().iter().enumerate() {
+        if !byte.is_ascii_hexdigit() && !is_blank(*byte) {
+            return Some(Unreadable::OtherByte {
+                at,
+                shown: shown(*byte),
+            });
+        }
+    }
+    None
+}
+
+// A byte as a character, where it has a shape in ASCII.
+fn shown(byte: u8) -> char {
+    if byte.is_ascii_graphic() {
+        char::from(byte)
+    } else {
+        '\u{fffd}'
     }
 }
 

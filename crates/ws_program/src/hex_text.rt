@@ -28,8 +28,8 @@ impl From<TextFault> for RunFault {
     }
 }
 
-// A blank, a tab, CR or LF. Digits are told from them by the first comparison.
-fn is_blank(byte: u8) -> bool
+/// A blank, a tab, CR or LF. Digits are told from them by the first comparison.
+pub(crate) fn is_blank(byte: u8) -> bool
     ensures { result ≡ is_blank_byte byte }
 {
     byte <= b' ' && matches!(byte, b' ' | b'\t' | b'\r' | b'\n')

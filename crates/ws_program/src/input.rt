@@ -1,12 +1,12 @@
 //! The words of the command line, and the input of a command.
-ghost use Rattle.std.specs.Prelude.{◌≡◌, ◌⊎◌, [], List as Seq, ℕ, IfErr, IsErrAnd};
-ghost use Rattle.ws_program.specs.Actions.{IsCarriedOut};
+ghost use Rattle.std.specs.Prelude.{◌≡◌, [], IfErr};
+ghost use Rattle.ws_printing.specs.Printouts.{printout};
 ghost use Rattle.ws_program.specs.InputFaults.{IsInputUnread};
-ghost use Rattle.ws_program.specs.Runs.{IsWordsFault};
-ghost use Rattle.ws_program.specs.Streams.{openly};
+ghost use Rattle.ws_program.specs.Runs.{IsRawDone, IsWordsFault};
 
 use crate::command_fault::CommandFault;
 use crate::source_check::check_source_openly;
+use crate::source_show::show_source_openly;
 use crate::words::{InputAsked, StreamForm, no_text};
 use std::fs::File;
 use std::io::Read;
@@ -14,7 +14,7 @@ use std::num::NonZeroU16;
 use std::rt::{Env, Files};
 use std::{env, fs, io};
 use ws_code::{ReadSource, Sink};
-use ws_printing::BufferedSink;
+use ws_printing::{BufferedSink, Look};
 use ws_script::{OpenStreams, RunFault, Sender};
 
 /// The words of the command line, the program's name first.
@@ -70,10 +70,8 @@ pub(crate) fn check_file<R: Files<File = File> + Input, S: Sink>(
     sink: &mut BufferedSink<S>,
 ) -> Result<bool, RunFault>
     requires empty { sink.old.held ≡ [] }
-    // It can't be read; or this is done with the bytes that were read, as with a raw input.
-    ensures { IsErrAnd result (λ fault. (sink.new.sink ≡ sink.old.sink) × IsInputUnread fault)
-        ⊎ ((input : Seq ℕ) × IsCarriedOut S.writer sink.old.sink sink.new.sink (openly
-        streams.output (InputAsked.Check file.entry StreamForm.Raw cut from) input) result) }
+    ensures { IsRawDone (printout S.writer sink.old.sink sink.new.sink) streams
+        (InputAsked.Check file.entry StreamForm.Raw cut from) result }
 {
     match file {
         Some(path) => {
@@ -83,6 +81,35 @@ pub(crate) fn check_file<R: Files<File = File> + Input, S: Sink>(
         None => {
             let mut source = ReadSource::new(rt.reader());
             check_source_openly(cut, from, streams, &mut source, sink)
+        }
+    }
+}
+
+/// Shows the bytes of the file, or of standard input where none is named, while they are read.
+///
+/// # Errors
+///
+/// `Read` or `Memory` where the file can't be opened, and then nothing was written; else as `show_source_openly`.
+pub(crate) fn show_file<R: Files<File = File> + Input + AllocGlobal, S: Sink>(
+    rt: &R,
+    file: Option<&str>,
+    from: Sender,
+    look: Look,
+    streams: OpenStreams,
+    sink: &mut BufferedSink<S>,
+) -> Result<bool, RunFault>
+    requires empty { sink.old.held ≡ [] }
+    ensures { IsRawDone (printout S.writer sink.old.sink sink.new.sink) streams
+        (InputAsked.Show file.entry StreamForm.Raw from look) result }
+{
+    match file {
+        Some(path) => {
+            let mut source = ReadSource::new(File::open(rt, path)?);
+            show_source_openly(rt.alloc(), look, from, streams, &mut source, sink)
+        }
+        None => {
+            let mut source = ReadSource::new(rt.reader());
+            show_source_openly(rt.alloc(), look, from, streams, &mut source, sink)
         }
     }
 }

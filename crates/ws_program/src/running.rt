@@ -9,7 +9,7 @@ use crate::command_fault::CommandFault;
 use crate::file_check_all::check_all_files;
 use crate::file_checks::check_files;
 use crate::file_fault::{told_of, with_file};
-use crate::input::{check_file, given_words, read_input};
+use crate::input::{check_file, given_words, read_input, show_file};
 use crate::program::answer_openly;
 use crate::stream_trace::trace_streams;
 use crate::tables::print_table;
@@ -52,13 +52,14 @@ where
     run_task(rt, task, streams, sink)
 }
 
-/// Does this task. All of an input is read first, but for a check of raw bytes, which holds none of them.
+/// Does this task. All of an input is read first, but raw bytes are checked and shown while they are read.
 ///
 /// # Errors
 ///
-/// Of an input, `Read` or `Memory` where it can't be read, and then nothing was written; else as `answer_openly` has it,
-/// with its cause, as `told_of` tells it. Of files as `check_files` has it, of streams as `trace_streams`, of a table as
-/// `print_table`, of a live session as `run_live`, and of its script as `with_file`.
+/// Of an input, `Read` or `Memory` where it can't be read, and then nothing was written, or what is shown of raw bytes
+/// before; else as `answer_openly` has it, with its cause, as `told_of` tells it. Of files as `check_files` has it, of
+/// streams as `trace_streams`, of a table as `print_table`, of a live session as `run_live`, and of its script as
+/// `with_file`.
 pub(crate) fn run_task<R, S>(
     rt: &R,
     task: Task<'_>,
@@ -127,6 +128,36 @@ where
     {
         if let StreamForm::Raw = form {
             return Ok(check_file(rt, file, cut, from, streams, sink)?);
+        }
+    }
+    run_other(rt, asked, streams, sink)
+}
+
+// The same of any but a check of raw bytes.
+fn run_other<R, S>(
+    rt: &R,
+    asked: InputAsked<'_>,
+    streams: OpenStreams,
+    sink: &mut BufferedSink<S>,
+) -> Result<bool, ToldFault>
+where
+    R: Runtime + AllocGlobal + Files<File = File> + Net<Listener = TcpListener, Stream = TcpStream>,
+    S: Sink,
+    requires empty { sink.old.held ≡ [] }
+    ensures done { IfOk result (HasRunInput
+        (printout S.writer sink.old.sink sink.new.sink) streams asked.entry) }
+    ensures fault { IfErr result (IsFaultOfInput
+        (printout S.writer sink.old.sink sink.new.sink) streams asked.entry) }
+{
+    if let InputAsked::Show {
+        file,
+        form,
+        from,
+        look,
+    } = asked
+    {
+        if let StreamForm::Raw = form {
+            return Ok(show_file(rt, file, from, look, streams, sink)?);
         }
     }
     let input = read_input(rt, asked.file())?;

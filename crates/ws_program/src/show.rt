@@ -1,22 +1,21 @@
 //! The items of a stream as lines, and what they make.
-ghost use Rattle.std.specs.Prelude.{◌≡◌, ◌++◌, [], Bool, List, ℕ, true, IfOk, IfErr, OnOk};
+ghost use Rattle.std.specs.Prelude.{◌≡◌, ◌++◌, ◌+◌, ◌<◌, ◌^◌, Bool, List, ℕ, length, true, IfErr, OnOk};
 ghost use Rattle.ws_code.specs.Device.{WentOut, FailedWithin};
 ghost use Rattle.ws_record.specs.Grammar.{IsInGrammar};
 ghost use Rattle.ws_record.specs.declared.record.Item.{Item as AnItem};
 ghost use Rattle.ws_stream.specs.Elements.{element_rules};
 ghost use Rattle.ws_stream.specs.declared.element.Element.{Element as AnElement};
 ghost use Rattle.ws_printing.specs.Printouts.{printout};
-ghost use Rattle.ws_program.specs.StreamText.{showing, show_printing, IsShown, AreFirstLines, IsStop, IsThrough};
-ghost use Rattle.ws_program.specs.StreamText.{HasBegunStream, IsNext, IsNextFault};
+ghost use Rattle.ws_printing.specs.declared.look.Look.{Look as ALook};
+ghost use Rattle.ws_program.specs.ShownSources.{IsSourceShown};
+ghost use Rattle.ws_program.specs.StreamText.{showing, show_printing, IsShown, AreFirstLines, HasShown, IsPieceShown};
+ghost use Rattle.ws_program.specs.Views.{host_view, in_look};
 ghost use Rattle.ws_text.specs.Printed.{IsPrinted};
 ghost use Rattle.ws_text.specs.Shown.{ShowsElements};
-ghost use Rattle.ws_printing.specs.CheckLine.{verdict_by};
-ghost use Rattle.ws_printing.specs.declared.look.Look.{Look as ALook};
-ghost use Rattle.ws_program.specs.Views.{host_view, in_look};
 
 use crate::shown::Shown;
 use std::alloc::Global;
-use ws_code::{Body, Fault, Sink};
+use ws_code::{DeviceFailed, Fault, Sink, Source};
 use ws_printing::{Look, Paint, Verdict, verdict_by_fault};
 use ws_record::{Item, Receiver};
 use ws_stream::Commands;
@@ -70,58 +69,83 @@ pub(crate) fn show_body_to<B: Shown, S: Sink>(
         → AreFirstLines (showing B.rules (in_look B.view B.Ends look)) bytes.now part
         → (rest : List ℕ) × (whole ≡ part ++ rest) }
 {
+    let mut receiver = Receiver::<B>::new(alloc);
     let mut made = B::before_any();
-    match show_items::<B, S>(alloc, bytes, &mut made, sink) {
-        Ok(None) => write_end::<B, S>(look, &made, sink),
-        Ok(Some(verdict)) => verdict.write_to(bytes.len(), sink),
-        Err(fault) => verdict_by_fault(fault)?.write_to(bytes.len(), sink),
+    if !show_piece::<B, S>(&mut receiver, bytes, &mut made, sink)? {
+        return Ok(false);
     }
+    write_end::<B, S>(look, &mut receiver, &made, sink)
 }
 
-// Writes the items, and carries them out: the verdict of one that can't be carried out, which is the last. `Refused`
-// and `Truncated` where the stream isn't accepted. In no paint and on no page does an item show
-// otherwise.
-fn show_items<B: Shown, S: Sink>(
+/// Writes the same of all bytes that the source gives, while they are read: up to its end or to the piece with which it
+/// is decided what is written. None of them is kept but the units of the open record.
+///
+/// # Errors
+///
+/// `Read` where a read failed, or 4,294,967,296 reads didn't reach the end, and then the lines of all items before went
+/// out; else as `show_body_to`.
+pub(crate) fn show_source_to<B: Shown, R: Source, S: Sink>(
     alloc: Global,
-    bytes: &[u8],
-    made: &mut B::Made,
+    look: Look,
+    source: &mut R,
     sink: &mut S,
-) -> Result<Option<Verdict>, Fault>
-    requires given { B.makes [] made.old }
-    ensures ok { IfOk result (λ unapplied. (look : ALook)
-        → IsThrough (printout S.writer sink.old sink.new)
-        (showing B.rules (in_look B.view B.Ends look)) bytes.now (λ text.
-        (items : List (AnItem B.Unit)) → B.makes items made.new → B.Ends look items text)
-        unapplied) }
-    ensures err { IfErr result (λ fault. (look : ALook)
-        → IsStop (printout S.writer sink.old sink.new)
-        (showing B.rules (in_look B.view B.Ends look)) bytes.now (verdict_by fault)) }
+) -> Result<bool, Fault>
+    ensures { IsSourceShown R.reader source.old source.new (printout S.writer sink.old sink.new)
+        (showing B.rules (in_look B.view B.Ends look))
+        (λ printing bytes. IsPrinted S.writer sink.old sink.new (printing bytes) result) }
 {
     let mut receiver = Receiver::<B>::new(alloc);
-    while let Some((place, item)) = next_item::<B>(&mut receiver, bytes)? {
-        write_item::<B, S>(place, &item, sink)?;
-        if let Err(reason) = B::carry_out(made, &item) {
-            return Ok(Some(Verdict::Refused { place, reason }));
+    let mut made = B::before_any();
+    let mut room = [0u8; 4096];
+    for _ in 0..4_294_967_296u64 {
+        match source.read(&mut room) {
+            Ok(0) => return write_end::<B, S>(look, &mut receiver, &made, sink),
+            Ok(given) => {
+                if !show_piece::<B, S>(&mut receiver, &room[..given], &mut made, sink)? {
+                    return Ok(false);
+                }
+            }
+            Err(DeviceFailed) => return Err(Fault::Read),
         }
     }
-    receiver.finish()?;
-    Ok(None)
+    Err(Fault::Read)
 }
 
-// The item that is complete next behind the bytes that were taken, with the place of its last byte.
-fn next_item<B: Body>(
+// Writes the items that are complete with a piece, and carries them out: true where the stream may go on, false behind
+// the line of why it may not. In no paint and on no page does an item show otherwise.
+fn show_piece<B: Shown, S: Sink>(
     receiver: &mut Receiver<B>,
-    bytes: &[u8],
-) -> Result<Option<(u64, Item<B::Unit>)>, Fault>
-    requires { HasBegunStream B.rules bytes.now receiver.old }
-    ensures next { IfOk result (IsNext B.rules bytes.now receiver.old receiver.new) }
-    ensures fault { IfErr result (IsNextFault B.rules bytes.now receiver.old) }
+    piece: &[u8],
+    made: &mut B::Made,
+    sink: &mut S,
+) -> Result<bool, Fault>
+    requires { (from : S) × (look : ALook) × (bytes : List ℕ) × HasShown
+        (printout S.writer from sink.old) (showing B.rules (in_look B.view B.Ends look)) B.makes
+        bytes receiver.old made.old × (length bytes + length piece.now + 1 < 2 ^ 64) }
+    ensures { (from : S) (look : ALook) (bytes : List ℕ) → HasShown
+        (printout S.writer from sink.old) (showing B.rules (in_look B.view B.Ends look)) B.makes
+        bytes receiver.old made.old → length bytes + length piece.now + 1 < 2 ^ 64
+        → IsPieceShown (printout S.writer from sink.new)
+        (showing B.rules (in_look B.view B.Ends look)) B.makes (bytes ++ piece.now) receiver.new
+        made.new result }
 {
-    let rest = bytes.split_at(receiver.taken() as usize).1;
-    let Some(item) = receiver.feed(rest)?.item else {
-        return Ok(None);
-    };
-    Ok(Some((receiver.taken() - 1, item)))
+    let mut used = 0;
+    while used < piece.len() {
+        let fed = match receiver.feed(&piece[used..]) {
+            Ok(fed) => fed,
+            // The line of a stream that isn't accepted doesn't tell its size.
+            Err(fault) => return verdict_by_fault(fault)?.write_to(0, sink),
+        };
+        used += fed.used;
+        if let Some(item) = fed.item {
+            let place = receiver.taken().saturating_sub(1);
+            write_item::<B, S>(place, &item, sink)?;
+            if let Err(reason) = B::carry_out(made, &item) {
+                return Verdict::Refused { place, reason }.write_to(0, sink);
+            }
+        }
+    }
+    Ok(true)
 }
 
 /// Writes an item's lines.
@@ -145,15 +169,21 @@ pub(crate) fn write_item<B: Shown, S: Sink>(
     }
 }
 
-// Writes what stands behind all items.
-fn write_end<B: Shown, S: Sink>(look: Look, made: &B::Made, sink: &mut S) -> Result<bool, Fault>
-    ensures ok { IfOk result (λ accepted. (accepted ≡ true) × ((text : List ℕ)
-        × ((items : List (AnItem B.Unit)) → B.makes items made.now → B.Ends look items text)
-        × WentOut S.writer sink.old sink.new text)) }
-    ensures err { IfErr result (λ fault. (fault ≡ Fault.Write) × ((text : List ℕ)
-        × ((items : List (AnItem B.Unit)) → B.makes items made.now → B.Ends look items text)
-        × FailedWithin S.writer sink.old sink.new text)) }
+// Writes what stands behind all items of a stream that ends, or the line of one that ends too early.
+fn write_end<B: Shown, S: Sink>(
+    look: Look,
+    receiver: &mut Receiver<B>,
+    made: &B::Made,
+    sink: &mut S,
+) -> Result<bool, Fault>
+    ensures { (from : S) (bytes : List ℕ) → HasShown (printout S.writer from sink.old)
+        (showing B.rules (in_look B.view B.Ends look)) B.makes bytes receiver.old made.now
+        → length bytes + 1 < 2 ^ 64 → IsPrinted S.writer from sink.new
+        (show_printing (showing B.rules (in_look B.view B.Ends look)) bytes) result }
 {
+    if let Err(fault) = receiver.finish() {
+        return verdict_by_fault(fault)?.write_to(0, sink);
+    }
     match B::put_end(sink, Output::Open, look, made) {
         Output::Open => Ok(true),
         Output::Failed => Err(Fault::Write),

@@ -46,8 +46,8 @@ pub fn check_source_openly<R: Source, S: Sink>(
     }
 }
 
-// What a command comes to that came to this, with an output or without.
-fn settle(outcome: Result<bool, Fault>, has_output: bool) -> Result<bool, RunFault>
+/// What a command comes to that came to this, with an output or without.
+pub(crate) fn settle(outcome: Result<bool, Fault>, has_output: bool) -> Result<bool, RunFault>
     ensures { result ≡ command_outcome has_output outcome }
 {
     let accepted = outcome?;

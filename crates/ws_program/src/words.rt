@@ -6,8 +6,10 @@ mod identity_words;
 mod input_help;
 mod live_command;
 mod page_words;
+mod show_words;
 mod table_command;
 mod trace_words;
 
 pub use command_line::{InputAsked, RecordedEnd, StreamForm, Task};
 pub(crate) use command_line::{no_text, read_words};
+pub use show_words::ShowForm;

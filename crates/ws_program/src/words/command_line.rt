@@ -6,12 +6,12 @@ use crate::words::command_parts::{CommandParts, fault, flag, place};
 use crate::words::input_help::{
     ALL_HELP, ANSWERS_HELP, CHECK_EXAMPLES, EXTENDED_HELP, FILES_HELP, HEX_AND_STATUS, ITEMS_HELP,
     MAKE_EXAMPLES, OF_HELP, PLAY_EXAMPLES, RAW_HELP, RAW_OUT_HELP, SCREEN_HELP, SCRIPT_HELP,
-    SHOW_EXAMPLES, STREAM_HELP, TCP_HELP,
+    TCP_HELP,
 };
 use crate::words::live_command::{
     COLOR_HELP, connect_asked, connect_command, paint_asked, serve_asked, serve_command,
 };
-use crate::words::page_words::{code_page, page_asked};
+use crate::words::show_words::{ShowForm, show_asked, show_command};
 use crate::words::table_command::{keys_command, reasons_asked, reasons_command};
 use crate::words::trace_words::{trace_asked, trace_command};
 use clap::{Arg, ArgAction, ArgMatches, Command, value_parser};
@@ -88,7 +88,7 @@ pub enum InputAsked<'a> {
         file: Option<&'a str>,
         form: StreamForm,
         from: Sender,
-        look: Look,
+        shown: ShowForm,
     },
     /// To tell what both ends sent by a recording, in the order of time.
     Trace {
@@ -145,7 +145,7 @@ fn program<'a>(alloc: Global) -> Result<Command<'a>, AllocError> {
 fn bare_program<'a>(alloc: Global) -> Command<'a> {
     Command::new(alloc, "t5250")
         .version("4.0.0")
-        .about("Reads recorded IBM 5250 streams over Telnet (RFC 1205)")
+        .about("Checks, shows and makes IBM 5250 streams, and is a station or a host (RFC 1205)")
         .after_help(HEX_AND_STATUS)
         .subcommand_required(true)
 }
@@ -164,23 +164,6 @@ fn check_command<'a>(alloc: Global) -> CommandParts<'a> {
     .word(of(alloc))
     .made_word(raw(alloc))
     .word(files(alloc))
-}
-
-fn show_command<'a>(alloc: Global) -> CommandParts<'a> {
-    CommandParts::new(
-        alloc,
-        "show",
-        "Prints a stream's records and Telnet commands, and the screen that they make",
-        SHOW_EXAMPLES,
-    )
-    .word(flag(alloc, "answers", ANSWERS_HELP))
-    .word(flag(alloc, "extended", EXTENDED_HELP))
-    .word(flag(alloc, "all", ALL_HELP))
-    .word(flag(alloc, "color", COLOR_HELP))
-    .word(code_page(alloc))
-    .word(of(alloc))
-    .made_word(raw(alloc))
-    .word(place(alloc, "FILE", STREAM_HELP, false))
 }
 
 fn play_command<'a>(alloc: Global) -> CommandParts<'a> {
@@ -228,7 +211,8 @@ fn cut<'a>(alloc: Global) -> Arg<'a> {
 // The ends by name, the host first.
 const ENDS: [&str; 2] = ["host", "station"];
 
-fn of<'a>(alloc: Global) -> Arg<'a> {
+/// The option that names an end of a recording.
+pub(crate) fn of<'a>(alloc: Global) -> Arg<'a> {
     Arg::new(alloc, "of")
         .long("of")
         .value_name("END")
@@ -237,8 +221,8 @@ fn of<'a>(alloc: Global) -> Arg<'a> {
         .action(ArgAction::Set)
 }
 
-// An input is no recording and raw bytes at once.
-fn raw<'a>(alloc: Global) -> Result<Arg<'a>, AllocError> {
+/// The flag of raw bytes. An input is no recording and raw bytes at once.
+pub(crate) fn raw<'a>(alloc: Global) -> Result<Arg<'a>, AllocError> {
     flag(alloc, "raw", RAW_HELP).conflicts_with("of")
 }
 
@@ -333,8 +317,8 @@ fn one_check<'a>(
     }
 }
 
-// How the input tells the bytes. The parser of `--of` lets no other name through, and none beside `--raw`.
-fn form_asked(words: &ArgMatches<'_>) -> StreamForm {
+/// How the input tells the bytes. The parser of `--of` lets no other name through, and none beside `--raw`.
+pub(crate) fn form_asked(words: &ArgMatches<'_>) -> StreamForm {
     if words.get_flag("raw") {
         return StreamForm::Raw;
     }
@@ -345,40 +329,14 @@ fn form_asked(words: &ArgMatches<'_>) -> StreamForm {
     }
 }
 
-// Whose stream is read.
-fn sender_asked(words: &ArgMatches<'_>) -> Sender {
+/// Whose stream is read.
+pub(crate) fn sender_asked(words: &ArgMatches<'_>) -> Sender {
     match (words.get_flag("answers"), words.get_flag("extended")) {
         (false, false) => Sender::Host,
         (false, true) => Sender::ExtendedHost,
         (true, false) => Sender::Station,
         (true, true) => Sender::ExtendedStation,
     }
-}
-
-fn show_asked<'a>(alloc: Global, words: &ArgMatches<'a>) -> Result<InputAsked<'a>, clap::Error> {
-    let look = Look {
-        paint: paint_asked(words),
-        page: page_asked(alloc, words, show_command(alloc), "t5250 show")?,
-    };
-    let (file, form, from) = (
-        words.get_str("FILE"),
-        form_asked(words),
-        sender_asked(words),
-    );
-    if words.get_flag("all") {
-        return Ok(InputAsked::ShowAll {
-            file,
-            form,
-            from,
-            look,
-        });
-    }
-    Ok(InputAsked::Show {
-        file,
-        form,
-        from,
-        look,
-    })
 }
 
 fn play_asked<'a>(words: &ArgMatches<'a>) -> InputAsked<'a> {

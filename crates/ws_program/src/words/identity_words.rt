@@ -9,10 +9,10 @@ const DEVICE_HELP: &str =
     "The device's name that the host is told; 1 to 10 of letters, digits and $ # @ _ .";
 
 const KEYBOARD_HELP: &str =
-    "The keyboard's type that the host is told, three letters and digits; without it the code page's";
+    "The keyboard's type that the host is told, three letters and digits; that of the code page by default";
 
 const CODE_PAGE_HELP: &str =
-    "The code page of what is typed and shown, which the host is told too: 37, 273, 277, 278, 280, 284, 285, 297, 500, 871 or 1140 to 1149; 37 without it";
+    "The code page of what is typed and shown, which the host is told too: 37 by default, or another of those of `show --code-page`";
 
 /// A name of an identity that is none.
 #[derive(Clone, Copy)]

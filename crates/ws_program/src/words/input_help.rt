@@ -59,6 +59,13 @@ With --all it goes on after a refusal, as `check --all` does, and a record that
 the screen refuses leaves nothing. The screen has what the other records made.
 After it stands `truncated at N` where the stream ends too early.
 
+With --json each item and each refusal is an object of JSON on a line. It goes on
+after a refusal too, and prints no screen:
+  {\"at\":2,\"telnet\":\"DO 25\"}
+  {\"at\":18,\"flags\":\"0000\",\"opcode\":3,\"body\":[\"WRITE 00 08\"]}
+  {\"at\":30,\"refused\":21,\"name\":\"UnknownCommand\",\"sentence\":\"..\"}
+Where the stream ends too early, the last line is {\"truncated\":N}.
+
 A station's answers (--answers) have no screen. With --extended they have lines
 more for what a live host's station tells at once:
     QUERY-REPLY HEX   the reply to a query, its 61 bytes
@@ -67,12 +74,14 @@ more for what a live host's station tells at once:
     IMMEDIATE R C     the cursor; the fields that were read at once follow
 Of a host's stream the last line is then `error row R` where an error stands.
 
-With --of, FILE is a recording, as of check; with --raw it has the bytes.
+With --of, FILE is a recording, as of check. With --raw it has the bytes; each
+item is printed while they are read, and a read may fail after some lines.
 
 Examples:
   t5250 show examples/inquiry.hex
   t5250 show --of host examples/inquiry.recording
   t5250 show --all --of host examples/refused.recording
+  t5250 show --json --of host examples/refused.recording
   t5250 show --answers --of station examples/inquiry.recording
   t5250 show --color examples/inquiry.hex
   t5250 show --extended examples/live-host.hex
@@ -107,6 +116,7 @@ The status is 1 where anything is refused, or a stream ends too early.
 Examples:
   t5250 trace examples/inquiry.recording
   t5250 trace --json examples/inquiry.recording
+  t5250 trace examples/live-host.recording
   t5250 trace --host examples/inquiry.hex --station examples/inquiry-answers.hex
   t5250 make --raw examples/inquiry.show | t5250 trace --raw --host /dev/stdin";
 
@@ -138,7 +148,7 @@ A station's answers (--answers) have the lines that `show --answers` prints:
     HEAD 6 53 F1    the cursor's row and column, and the key
     AT 6 53         the cell of a field, and
     BYTES C1C2      its bytes; so too TEXT AB
-With --extended they have also those of `show --answers --extended`: a line
+With --extended they also have those of `show --answers --extended`: a line
 QUERY-REPLY with a whole reply, SAVED, SCREEN R C or IMMEDIATE R C.
 
 It prints a line of hex for each item, or with --raw the bytes.
@@ -160,10 +170,10 @@ pub(crate) const EXTENDED_HELP: &str =
 pub(crate) const ALL_HELP: &str = "Goes on after a refusal with the next record";
 
 pub(crate) const STREAM_HELP: &str =
-    "A hex text, or what --of or --raw says; without it, standard input is read";
+    "A hex text, or what --of or --raw says; standard input by default";
 
 pub(crate) const FILES_HELP: &str =
-    "Hex texts, or what --of or --raw says; without one, standard input is read";
+    "Hex texts, or what --of or --raw says; standard input by default";
 
 pub(crate) const OF_HELP: &str = "Reads a recording, and of that what this end has sent";
 
@@ -178,13 +188,12 @@ pub(crate) const SCREEN_HELP: &str = "Prints the station's screen at the end";
 pub(crate) const TCP_HELP: &str =
     "Carries the bytes over a TCP connection on 127.0.0.1; what is printed stays the same";
 
-pub(crate) const RECORDING_HELP: &str =
-    "A recording; where no FILE is named, standard input is read";
+pub(crate) const RECORDING_HELP: &str = "A recording; standard input by default";
 
 pub(crate) const HOST_STREAM_HELP: &str = "What the host sent, as hex text";
 
 pub(crate) const STATION_STREAM_HELP: &str = "What the station sent, as hex text";
 
-pub(crate) const SCRIPT_HELP: &str = "A script; without it, standard input is read";
+pub(crate) const SCRIPT_HELP: &str = "A script; standard input by default";
 
-pub(crate) const ITEMS_HELP: &str = "Items as text; without it, standard input is read";
+pub(crate) const ITEMS_HELP: &str = "Items as text; standard input by default";

@@ -22,7 +22,7 @@ const EXTENDED_HELP: &str = "Without effect: what it asked for is taken without 
 const ANY_HELP: &str = "Takes any terminal name and any record, for tests of emulators";
 
 const HOST_HELP: &str =
-    "A name or an address; one of IPv6 in brackets before a port, its zone as in fe80::1%eth0; port 23 where none is named";
+    "A name or an address; one of IPv6 in brackets before a port, its zone as in fe80::1%eth0; port 23 by default";
 
 const PORT_HELP: &str =
     "The port in a word of its own, of digits; where HOST has one, or in other words, the SCRIPT";
@@ -38,7 +38,7 @@ const STOP_HELP: &str =
 
 const GO_ON_HELP: &str = "Carries out the lines after such a line; the default without a SCRIPT";
 
-const SCRIPT_HELP: &str = "A script; without it, standard input is read a line at a time";
+const SCRIPT_HELP: &str = "A script; by default standard input, a line at a time";
 
 /// The commands of live sessions.
 pub(crate) fn connect_command<'a>(alloc: Global) -> CommandParts<'a> {
@@ -81,7 +81,7 @@ fn terminal<'a>(alloc: Global) -> Arg<'a> {
         .long("terminal")
         .value_name("NAME")
         .help(
-            "The terminal's type: IBM-3179-2 without it, IBM-5251-11, IBM-5291-1, IBM-5292-2 or IBM-3196-A1",
+            "The terminal's type: IBM-3179-2 by default, IBM-5251-11, IBM-5291-1, IBM-5292-2 or IBM-3196-A1",
         )
         .action(ArgAction::Set)
 }
@@ -130,7 +130,7 @@ fn wait<'a>(alloc: Global) -> Arg<'a> {
         .long("wait")
         .value_name("SECONDS")
         .help(
-            "The time of a whole await, of connecting and of a write, from 1 to 86400; 30 without it",
+            "The time of a whole await, of connecting and of a write, from 1 to 86400; 30 by default",
         )
         .value_parser(value_parser!(u32).range(1..=86400))
         .action(ArgAction::Set)

@@ -7,7 +7,7 @@ use ws_code::CodePage;
 
 /// What help says of the option.
 const CODE_PAGE_HELP: &str =
-    "The code page of a screen's text: 037 without it, 273, 277, 278, 280, 284, 285, 297, 500, 871 or 1140 to 1149";
+    "The code page of a screen's text: 037 by default, 273, 277, 278, 280, 284, 285, 297, 500, 871 or 1140 to 1149";
 
 /// The option that names a code page.
 pub(crate) fn code_page<'a>(alloc: Global) -> Arg<'a> {

@@ -8,6 +8,7 @@ const REASONS_EXAMPLES: &str = "\
 It prints a line for each reason, by its number and name as check prints them,
 with what was wrong:
   33 Roll: rolling of the screen isn't part of the profile
+
 1 to 4 are of Telnet, 10 to 16 of a record's header, 20 to 45 of its body, 50 to
 55 of the screen, 60 to 63 of a session.
 

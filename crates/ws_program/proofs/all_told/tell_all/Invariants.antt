@@ -1,10 +1,10 @@
 use Rattle.std.proofs.Common.{take}
-use Rattle.ws_program.specs.AllTold.{file_head, makes_where, view_where}
+use Rattle.ws_program.specs.AllTold.{makes_by, told_in}
 use Rattle.ws_program.proofs.AllLines.{ToldSoFar}
 use Rattle.ws_program.proofs.all_told.tell_all.Given as goal
 
 -- the bytes so far are told
 abbrev pub invariant-loop-place : goal.invariant-loop-place
-invariant-loop-place g l = ToldSoFar g.B.Code.rules (view_where l.way.shows g.B.Shown.view) (file_head l.way.head.0)
-    (makes_where l.way.shows g.B.Shown.makes) g.S.Sink.writer l.fn.sink l.sink (take l.place l.bytes)
+invariant-loop-place g l = ToldSoFar g.B.Code.rules (told_in l.way g.B.Unit.Listed.lines_of g.B.Shown.view)
+    (makes_by l.way g.B.Shown.makes) g.S.Sink.writer l.fn.sink l.sink (take l.place l.bytes)
     (record { reader = l.reader; made = l.made; taken = l.place }) l.counts
