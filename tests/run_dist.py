@@ -225,6 +225,23 @@ class TestRefusals(Test):
             self.assertIn(f"Version: {VERSION}+unproved\n", wheel.read(
                 f"ribbonscarp-{VERSION}+unproved.dist-info/METADATA").decode())
 
+    def test_quick(self):
+        """`make quick` in a folder with a blank says what to type next; what it has built is installed as unproved."""
+        put(self.top, "build/unproved/t5250", "build/unproved/libws_c.a")
+        said = done("make", "quick", cwd=self.top)
+        self.assertIn("\nNothing of this is proved.\nType next, for example:\n    build/bin/t5250 ", said)
+        self.assertIn("accepted: ", done("build/bin/t5250", "check", "examples/inquiry.hex", cwd=self.top))
+        self.assertIn(VERSION, done("build/bin/term5250", "--version", cwd=self.top))
+        stage = pathlib.Path(self.folder) / "a stage"
+        words = ["PREFIX=/some where", f"DESTDIR={stage}"]
+        said = done("make", "install", *words, cwd=self.top)
+        self.assertTrue(said.endswith("Nothing of what was installed is proved.\n"), said[-300:])
+        there = {str(path.relative_to(stage / "some where")) for path in stage.rglob("*") if not path.is_dir()}
+        self.assertEqual(there, {file for file in FILES if "/doc/" not in file})
+        (stage / "some").touch()
+        done("make", "uninstall", *words, cwd=self.top)
+        self.assertEqual([path.name for path in stage.rglob("*") if not path.is_dir()], ["some"])
+
     def test_stale(self):
         """What is older than its sources, or than what its contracts cite, and what isn't of a commit."""
         for first, folder in ("crates/t5250/out", "crates/ws_c/out"), ("build/unproved", "build/unproved"):

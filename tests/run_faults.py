@@ -66,7 +66,8 @@ class TestConnections(Test):
             self.connect_to_many(["127.0.0.2", "127.0.0.3", "127.0.0.4"], port, 6, 3.8, 5.9)
             host.end()
             # Where none answers it is over when the wait is.
-            self.connect_to_many(["127.0.0.2", "127.0.0.3"], port, 1, 0.9, 30, 2, "no connection: late\n")
+            self.connect_to_many(["127.0.0.2", "127.0.0.3"], port, 1, 0.9, 30, 2,
+                                 "no connection to many.test:%d: late\n" % port)
 
     def test_families_take_turns(self):
         # Behind the first address of IPv4 that of IPv6 is tried, before the others of IPv4.
@@ -114,7 +115,8 @@ class TestConnections(Test):
             Run(["connect", "--wait", "1", "[%s%%%s]:%d" % (address, name, port)], "await\n").end(1, "late\n")
             serve.end(0, "")
         # An interface that isn't there.
-        Run(["connect", "[%s%%none]:23" % address]).end(2, "", "no connection: unknown name\n")
+        nowhere = "[%s%%none]:23" % address
+        Run(["connect", nowhere]).end(2, "", f"no connection to {nowhere}: unknown name\n")
         Run(["serve", "[%s%%none]:0" % address]).end(2, "", "no connection: unknown name\n")
 
     def test_a_zone_by_its_number(self):
@@ -134,7 +136,7 @@ class TestLines(unittest.TestCase):
             if ending == "\r\r":
                 side.take_end()
                 side.close()
-                wanted = "script line 3: unknown word `CLEAR-UNIT\\0D`\n"
+                wanted = "script line 3: unknown word `CLEAR-UNIT\\0D`, did you mean `CLEAR-UNIT`?\n"
                 serve.end(2, READY, wanted)
                 Run(["serve", "127.0.0.1:0"], script=text).end(2, "", wanted)
             else:

@@ -116,7 +116,7 @@ class Shell:
         if command not in ("connect", "serve"):
             return [self.end(self.begin(line))]
         at = "[::1]:0" if "[::1]" in line else "127.0.0.1:0"
-        line = re.sub(r"'\[::1\]:\d+'|\b[\w.-]+(?::\d+|\.com)\b", at, line)
+        line = re.sub(r"'\[::1\]:\d+'|\b127\.0\.0\.1:\d+\b", at, line)
         script = re.search(r"\S+\.(?:connect|serve)\b", line)
         name = script[0].rpartition(".")[0] if script else None
         if command == "connect":
@@ -138,6 +138,35 @@ class TestManual(Test):
                 # A stream of which a record is refused has status 1.
                 status = 1 if "refused" in line else 0
                 self.count(f"{line} gives {ends}", all(end == (status, "") for end in ends))
+
+    def test_hosts(self):
+        """Nobody is sent to a host of someone else: what examples name is this machine."""
+        for command in "connect", "serve":
+            for line in examples(run(PROGRAM, "help", command)):
+                named = re.findall(r"(\[.*?\]|[\w.-]+):\d+", line)
+                self.count(f"{line} names {named}", named in (["127.0.0.1"], ["[::1]"]))
+        for page in "README.md", "docs/MANUAL.md", "docs/DRIVING.md", "terminal/term5250.1":
+            text = (TOP / page).read_text(encoding="utf-8")
+            lines = re.findall(r"^.*\b(?:connect|serve|tap|term5250) .*\b[a-z]\w*\.(?:com|net|org)\b.*$", text, re.M)
+            self.count(f"{page}: {lines}", lines == [])
+
+    def test_begin(self):
+        """What README shows first is what is printed, and what `make quick` says to type next goes well, pasted whole."""
+        block = re.search(r"^```\n(.*?)^```$", (TOP / "README.md").read_text(encoding="utf-8"), re.M | re.S)[1]
+        shell, typed, shown = Shell(self.folder), re.findall(r"^\$ (.*\n)", block, re.M), re.sub(r"^\$ .*\n", "", block, flags=re.M)
+        self.count("README", self.pasted(shell, typed) == (1, shown, ""))
+        after = re.findall(r"^\t'    (build/bin/.*?)'", (TOP / "c/Makefile").read_text(encoding="utf-8"), re.M)
+        status, said, fault = self.pasted(shell, [line + "\n" for line in after])
+        self.count(f"make quick: {status}, {said}, {fault}", (status, len(after), fault) == (0, 3, "") and "answer" in said)
+
+    def pasted(self, shell, lines):
+        """What lines come to in a shell, at a port that is free: the last one's status, and what is told."""
+        with socket.create_server(("127.0.0.1", 0)) as taken:
+            port = taken.getsockname()[1]
+        text = "".join(lines).replace(":5250", f":{port}").replace("build/bin/t5250", "t5250")
+        process = shell.begin(text + "status=$?\nwait\nexit $status\n")
+        said, fault = process.communicate(timeout=120)
+        return process.returncode, said, fault
 
     def test_page(self):
         page = made("page", PROGRAM, "1.2.3")

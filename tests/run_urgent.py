@@ -15,6 +15,7 @@ from counted import main
 from live.lines import KINDS, NAMED, at_host, served
 from peers import Side, negotiate_as_host
 from records import ANSWERED, ASKED, record
+from refusals import told_refusal
 
 DATA_MARK = b"\xff\xf2"
 # A record of opcode 0 without a body. Its first byte is 00, which is no Telnet command.
@@ -40,7 +41,7 @@ def send_synch_and_command(side):
 
 # The record's first byte stands behind the IAC then, and is refused there, or in the place of a record's type: how many
 # bytes of the stream it comes behind, and why it is refused.
-LOST = (send_synch, 1, "reason 1 BadCommand"), (send_synch_and_command, 3, "reason 11 BadType")
+LOST = (send_synch, 1, "1 BadCommand"), (send_synch_and_command, 3, "11 BadType")
 
 
 def connect(play, words, status, printed):
@@ -84,10 +85,10 @@ class TestUrgent(unittest.TestCase):
         for words in [], ["--strict"]:
             with self.subTest(words):
                 for play, count, reason in LOST:
-                    told = f"refused at {len(ASKED) + count}: {reason}\n"
                     # Where the bytes are tokens, it is a record that a live station refuses, and goes on after.
-                    goes_on = not words and reason != "reason 1 BadCommand"
-                    connect(play, words, 1, f"record {told}ended (line 1)\n" if goes_on else f"station {told}")
+                    goes_on = not words and reason != "1 BadCommand"
+                    told = told_refusal("record" if goes_on else "station", len(ASKED) + count, reason)
+                    connect(play, words, 1, told + "ended (line 1)\n" * goes_on)
 
     def test_serve_takes_a_data_mark(self):
         serve(lambda side: side.send(DATA_MARK + RECORD), ["--any"], 0, NAMED + "record flags 0000 opcode 0\n")
@@ -96,7 +97,7 @@ class TestUrgent(unittest.TestCase):
         for words, told in KINDS:
             with self.subTest(words):
                 for play, count, reason in LOST:
-                    serve(play, words, 1, told + f"host refused at {len(ANSWERED) + count}: {reason}\n")
+                    serve(play, words, 1, told + told_refusal("host", len(ANSWERED) + count, reason))
 
 
 main()

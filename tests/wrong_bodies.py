@@ -192,7 +192,8 @@ def try_crates(trials: list[Trial], jobs: int) -> None:
                 next(steps)
                 heapq.heappush(waiting, (done + 1, place, trial, steps))
             except StopIteration:
-                continue
+                # What its checks kept may be a gigabyte.
+                trial.crate.kept.cleanup()
             except NoTime:
                 left = len(trial.edits) + len(trial.twins) - trial.report.told
                 tell(f"left out: {left} wrong bodies and twins of {trial.crate.name}, for want of time")

@@ -4,6 +4,7 @@ import unittest
 
 from live.lines import NAMED, READY, served
 from records import is_name, record
+from refusals import told_refusal
 
 # What a station sends (RFC 1205, section 3; RFC 885), and what is told: no body, Attention, an answer, a body with FF,
 # one that is no body of the data stream, two records, and a command inside one.
@@ -49,13 +50,13 @@ class TestAny(unittest.TestCase):
         for sent, reason in REFUSED:
             serve, side = served("await\nawait\nsend 3\n", "--any")
             send_last(side, bytes.fromhex(sent))
-            serve.end(1, NAMED + "host refused at %d: reason %s\n" % (len(side.sent) - 1, reason))
+            serve.end(1, NAMED + told_refusal("host", len(side.sent) - 1, reason))
             side.close()
 
     def test_a_record_before_it_is_allowed(self):
         serve, side = served("send 10\nawait\n", "--any", is_ready=False)
         send_last(side, record(opcode=0, flags=0x4000))
-        serve.end(1, "send refused NotAllowed\nhost refused at 11: reason 60 RecordBeforeNegotiation\n")
+        serve.end(1, "send refused NotAllowed\n" + told_refusal("host", 11, "60 RecordBeforeNegotiation"))
         side.close()
 
     def test_any_terminal(self):
@@ -67,7 +68,7 @@ class TestAny(unittest.TestCase):
             serve.end(0, "terminal %s\n" % name.decode())
         serve, side = served("await\n", "--any", is_ready=False)
         send_last(side, bytes.fromhex("FFFC18"))
-        serve.end(1, "host refused at 2: reason 61 UnsupportedTerminal\n")
+        serve.end(1, told_refusal("host", 2, "61 UnsupportedTerminal"))
         side.close()
 
     def test_the_first_name_stays(self):

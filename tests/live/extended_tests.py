@@ -4,6 +4,7 @@ import unittest
 from live.lines import at_host
 from peers import negotiate_as_host
 from records import ASKED, OF_COMMAND, OF_OTHER, record
+from refusals import told_refusal
 
 WORDS = ["--wait", "60"]
 FORM = "044004110008110634" "1D400020000A" "04520000"
@@ -86,14 +87,14 @@ class TestExtended(unittest.TestCase):
         place = len(ASKED + record(QUERY)) - 8
         for words in ["--strict", "--extended"], ["--extended", "--strict"]:
             at_host(answered([(record(QUERY), [])]), WORDS + words, "await record\n", 1,
-                    "station refused at %d: reason 30 StructuredField\n" % place)
+                    told_refusal("station", place, "30 StructuredField"))
         at_host(answered([(record(QUERY), [record(IBM_3179, 0)])]), WORDS + ["--extended"], "await record\n", 0, "")
 
     def test_records_that_are_refused(self):
         for body, reason, answer in REFUSED:
             place = len(ASKED + record(body)) - 1
             at_host(answered([(record(body) + record(FORM), [answer])]), WORDS, "await\nnote A\n", 1,
-                    "record refused at %d: reason %s\nA\n" % (place, reason))
+                    told_refusal("record", place, reason) + "A\n")
 
     def test_screens_that_are_saved(self):
         """A new screen, and a form that comes back over another with its fields, switches, text and cursor."""

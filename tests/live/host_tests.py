@@ -5,6 +5,7 @@ import unittest
 from live.lines import READY, served
 from live.screens import INQUIRY, PAST_END, PRICE, SIGN_ON
 from records import SEND_NAME, is_name, record
+from refusals import told_refusal
 
 # The sign-on and a price, as the host keeps them: what was typed isn't there, and the answer has locked the keyboard.
 SERVED_SCREEN = """screen
@@ -66,7 +67,7 @@ class TestHost(unittest.TestCase):
     def test_an_answer_that_nobody_asked(self):
         serve, side = served("await\nawait\nawait\n")
         side.send(record("0634F1"))
-        serve.end(1, READY + "host refused at %d: reason 62 UnaskedAnswer\n" % (len(side.sent) - 1))
+        serve.end(1, READY + told_refusal("host", len(side.sent) - 1, "62 UnaskedAnswer"))
         side.close()
 
     def test_an_unknown_terminal(self):
@@ -74,7 +75,7 @@ class TestHost(unittest.TestCase):
         side.send(bytes.fromhex("FFFB18"))
         side.take(SEND_NAME)
         side.send(is_name(b"XTERM"))
-        serve.end(1, "host refused at 13: reason 61 UnsupportedTerminal\n")
+        serve.end(1, told_refusal("host", 13, "61 UnsupportedTerminal"))
         side.close()
 
     def test_a_station_that_closes_inside_an_answer(self):

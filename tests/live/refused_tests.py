@@ -7,6 +7,7 @@ from live.screens import PAST_END, PRICE, SIGN_ON, SIGN_ON_SCREEN
 from live.taking_tests import PRICED_SCREEN, told_connect
 from peers import expect
 from records import ASKED, OF_COMMAND, OF_OTHER, record
+from refusals import told_refusal
 
 # An order that is left out, at the record's byte 14; and the same behind three FFs, which are doubled on the line.
 ORDER, ORDER_BEHIND = "0411000010" "C1C2", "04110008" "010700000000FFFFFF" "10"
@@ -22,8 +23,8 @@ REFUSED = [
 BEHIND_SIGN_ON = len(ASKED + record(SIGN_ON))
 
 
-def told(place, reason="39 TransparentData"):
-    return "record refused at %d: reason %s\n" % (BEHIND_SIGN_ON + place, reason)
+def told(place, reason="39 TransparentData", who="record"):
+    return told_refusal(who, BEHIND_SIGN_ON + place, reason)
 
 
 def behind_sign_on(sent, answer):
@@ -48,7 +49,7 @@ class TestRefused(unittest.TestCase):
 
     def test_a_station_of_the_profile(self):
         play = behind_sign_on(record(ORDER), b"")
-        printed = told(14).replace("record", "station")
+        printed = told(14, who="station")
         at_host(play, ["--strict", "--wait", "60"], "await\nawait record\nshow\n", 1, printed)
 
     def test_some_in_one_wait(self):
@@ -79,9 +80,9 @@ class TestRefused(unittest.TestCase):
     def test_what_a_status_counts(self):
         """The bytes of a record that is refused, and not the record."""
         connect, host = told_connect(60, record(ORDER) + record(PRICE), OF_OTHER)
-        refused, status = connect.asked("status").splitlines(keepends=True)
+        *refused, status = connect.asked("status").splitlines(keepends=True)
         taken = BEHIND_SIGN_ON + len(record(ORDER) + record(PRICE))
-        expect(refused, told(14), "status")
+        expect("".join(refused), told(14), "status")
         expect(status, "status unlocked ready 6 53 field 1 records 2 bytes %d\n" % taken, "status")
         connect.end(1, "")
         host.end()

@@ -8,6 +8,7 @@ from live.program import Run
 from live.screens import SIGN_ON, SIGN_ON_FIELDS
 from peers import Side, negotiate_as_host, negotiate_as_station
 from records import OPENING, record
+from refusals import told_refusal
 
 
 class TestScript(Test):
@@ -32,7 +33,7 @@ class TestScript(Test):
         rows = [(station, "await\ncancel\n", READY + "send refused NoReadToCancel (line 2)\n"),
                 (station, "await\nawait\n", READY + "late (line 2)\n"),
                 (negotiate_as_station, "await\nawait\n", READY + "ended (line 2)\n"),
-                (bad_station, "await\nawait\n", "host refused at 1: reason 10 LengthBelowHeader\n")]
+                (bad_station, "await\nawait\n", told_refusal("host", 1, "10 LengthBelowHeader"))]
         for play, text, printed in rows:
             serve = Run(["serve", "--wait", "3", "127.0.0.1:0"], script=text)
             side = station_at(serve)
@@ -47,7 +48,7 @@ class TestScript(Test):
         rows = [(sending(SIGN_ON), "await\nkey Dup\n", "key refused DupNotAllowed (line 2)\n"),
                 (sending(SIGN_ON), "await\nawait record\n", "late (line 2)\n"),
                 (negotiate_as_host, "await\n", "ended (line 1)\n"),
-                (bad_host, "await\n", "station refused at 1: reason 10 LengthBelowHeader\n")]
+                (bad_host, "await\n", told_refusal("station", 1, "10 LengthBelowHeader"))]
         for play, text, printed in rows:
             at_host(play, ["--wait", "3"], None, 1, printed, script=text)
 

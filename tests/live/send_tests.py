@@ -63,7 +63,7 @@ class TestSend(unittest.TestCase):
         serve.tell("  CLEAR-UNIT")
         expect(serve.asked("# none"), "", "send")
         side.take(record("0440"))
-        told = "bad line: it can't stand there, `CLEAR-UNIT`\n"
+        told = "bad line: it can't stand there: `CLEAR-UNIT`\n"
         expect(serve.asked("  CLEAR-UNIT"), told, "a line that belongs to nothing")
         side.close()
         serve.end(1, "")

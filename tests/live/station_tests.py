@@ -6,6 +6,7 @@ from live.lines import at_host, sending
 from live.screens import INQUIRY, PAST_END, PRICE, PRICE_SCREEN, SIGN_ON, SIGN_ON_FIELDS, SIGN_ON_SCREEN
 from peers import negotiate_as_host
 from records import ASKED, negotiation, record
+from refusals import told_refusal
 
 
 def inquiry_as_host(side, pieces=0):
@@ -100,14 +101,14 @@ class TestStation(unittest.TestCase):
         """It ends the session of a station of the profile."""
         place = len(ASKED + record(SIGN_ON) + record(PAST_END)) - 1
         at_host(sending(SIGN_ON, PAST_END), ["--strict", "--ready", "--wait", "60"], "await\nawait record\nshow\n", 1,
-                "ok\nstation refused at %d: reason 53 FieldPastEnd\n" % place)
+                "ok\n" + told_refusal("station", place, "53 FieldPastEnd"))
 
     def test_garbage_from_a_host(self):
         at_host(lambda side: side.send(b"HTTP/1.1 400 Bad Request\r\n"), ["--wait", "60"], "await\nshow\n", 1,
-                "station refused at 2: reason 11 BadType\n", host_ends=False)
+                told_refusal("station", 2, "11 BadType"), host_ends=False)
 
     def test_a_query_is_refused(self):
-        printed = "station refused at 32: reason 30 StructuredField\n"
+        printed = told_refusal("station", 32, "30 StructuredField")
         at_host(sending("04F30005D97000"), ["--strict", "--wait", "60"], "await\n", 1, printed)
 
     def test_a_host_that_closes_inside_a_record(self):

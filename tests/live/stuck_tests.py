@@ -14,6 +14,11 @@ from peers import Host, expect, negotiate_as_station
 from records import IAC, OPENING, SEND_NAME
 
 
+def told_reset(address):
+    """What is told where the other side, at this address, has reset the connection."""
+    return "connection reset by %s:%d\n" % tuple(address)
+
+
 class TestStuck(unittest.TestCase):
     def test_a_host_that_never_reads(self):
         def play(side):
@@ -51,8 +56,9 @@ class TestStuck(unittest.TestCase):
     def test_a_reset_is_a_fault(self):
         serve, side = served("await\nawait\n", wait=60, keep_open=True)
         expect(serve.line(), READY, "await")
+        told = told_reset(side.stream.getsockname())
         reset(side)
-        serve.end(2, "", "cannot read\n")
+        serve.end(2, "", told)
 
     def test_a_reset_behind_a_late_wait(self):
         go = threading.Event()
@@ -61,12 +67,13 @@ class TestStuck(unittest.TestCase):
         go.set()
         host.end()
         connect.tell("await record")
-        connect.end(2, "", "cannot read\n")
+        connect.end(2, "", told_reset(("127.0.0.1", host.port)))
         serve, side = settled_serve(2)
         expect(serve.asked("await"), "late\n", "await")
+        told = told_reset(side.stream.getsockname())
         reset(side)
         serve.tell("await")
-        serve.end(2, "", "cannot read\n")
+        serve.end(2, "", told)
 
     def test_the_other_side_sends_on_at_the_end(self):
         # What comes for a moment is taken, so that nobody is told of a fault.

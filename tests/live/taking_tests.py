@@ -8,6 +8,7 @@ from live.program import Run, timed
 from live.screens import PRICE, SIGN_ON, SIGN_ON_FIELDS, SIGN_ON_SCREEN
 from peers import Host, Side, expect
 from records import ASKED, record
+from refusals import told_refusal
 
 # A write that unlocks nothing and shows a cell.
 DOT = record("04110000" "1101014B", 2)
@@ -136,7 +137,7 @@ class TestTaking(unittest.TestCase):
         for line, printed in SHOWING:
             connect, host = told_connect(60, record(PRICE) + bytes.fromhex("FFF0"))
             connect.tell(line + "\nshow")  # At once: the first may end it.
-            connect.end(1, printed + "station refused at %d: reason 2 StraySe\n" % place)
+            connect.end(1, printed + told_refusal("station", place, "2 StraySe"))
             host.end()
 
     def test_a_wait_for_quiet(self):
@@ -182,5 +183,5 @@ class TestTaking(unittest.TestCase):
     def test_a_wait_for_quiet_ends_otherwise(self):
         text = "await quiet 20000\nnote A\n"
         at_host(sending(SIGN_ON, closes=True), ["--wait", "60"], text, 1, "ended\nA\n")
-        printed = "station refused at %d: reason 2 StraySe\n" % (len(ASKED + record(SIGN_ON)) + 1)
+        printed = told_refusal("station", len(ASKED + record(SIGN_ON)) + 1, "2 StraySe")
         at_host(sending(SIGN_ON, then=bytes.fromhex("FFF0")), ["--wait", "60"], text, 1, printed)

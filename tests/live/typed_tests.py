@@ -16,6 +16,7 @@ from live.program import Run
 from live.screens import SIGN_ON
 from peers import Host, Side, expect, negotiate_as_host, negotiate_as_station, refusing
 from records import ASKED, OF_COMMAND, record
+from refusals import told_refusal
 
 PROMPT = "t5250> "
 END_OF_INPUT = "\x04"
@@ -97,7 +98,7 @@ class TestTyped(unittest.TestCase):
         expect(typist.told("show 1 37 7"), "Sign On\n", "show")
         expect(typist.told("type A"), "", "type")
         expect(typist.told("key F25"), "bad line: unknown key `F25`\n", "a key that is none")
-        expect(typist.told("shwo"), "bad line: unknown word `shwo`\n", "a word that is none")
+        expect(typist.told("shwo"), "bad line: unknown word `shwo`, did you mean `show`?\n", "a word that is none")
         expect(typist.told(""), "", "an empty line")
         expect(typist.told("show 6 53 1"), "A\n", "a good line after bad ones")
         typist.type("quit\n")
@@ -149,7 +150,7 @@ class TestTyped(unittest.TestCase):
         typist = connected(host)
         expect(came.wait(60), True, "the answers")
         place = len(ASKED + record(SIGN_ON)) + 11
-        told = "record refused at %d: reason 21 UnknownCommand\n" % place
+        told = told_refusal("record", place, "21 UnknownCommand")
         expect(typist.until(PROMPT), told + PROMPT, "what is told meanwhile")
         expect(typist.told("show 1 37 7"), "Sign On\n", "show")
         expect(typist.told("await record"), "", "a record that came before")
@@ -164,14 +165,14 @@ class TestTyped(unittest.TestCase):
         host.end()
         expect(typist.until(PROMPT), "ended\n" + PROMPT, "what is told where the host closes")
         expect(typist.told("await record"), "ended\n", "a wait for a host that has closed")
-        expect(typist.told("shwo"), "bad line: unknown word `shwo`\n", "a bad line after that")
+        expect(typist.told("shwo"), "bad line: unknown word `shwo`, did you mean `show`?\n", "a bad line after that")
         typist.type("quit\n")
         typist.end(1)
 
     def test_no_host(self):
         with refusing() as port:
             typist = Typist(["connect", "127.0.0.1:%d" % port])
-            typist.end(2, "no connection: refused\n")
+            typist.end(2, "no connection to 127.0.0.1:%d: refused\n" % port)
 
     def test_address_in_brackets(self):
         host = Host(sending(SIGN_ON), "::1")
@@ -206,7 +207,7 @@ class TestTyped(unittest.TestCase):
         host = Host(sending(SIGN_ON))
         typist = Typist(["connect", "--stop", "127.0.0.1:%d" % host.port])
         typist.type("await\nshwo\n")
-        typist.end(2, "script line 2: unknown word `shwo`\n")
+        typist.end(2, "script line 2: unknown word `shwo`, did you mean `show`?\n")
         host.end()
 
     def test_script_at_a_terminal(self):
@@ -244,7 +245,7 @@ class TestTyped(unittest.TestCase):
             negotiate_as_station(side)
             expect(typist.until(PROMPT), PROMPT, "await")
             expect(typist.told("help").endswith(listed("serve")), True, "the lines of serve")
-            expect(typist.told("sned"), "bad line: unknown word `sned`\n", "a word that is none")
+            expect(typist.told("sned"), "bad line: unknown word `sned`, did you mean `send`?\n", "a word that is none")
             expect(typist.told("send 3\n  CLEAR-UNIT\nend"), "", "a send")
             side.take(record("0440"))
             typist.type("close\n")

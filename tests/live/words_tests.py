@@ -77,15 +77,17 @@ class TestWords(Test):
         gone.bind(("127.0.0.1", 0))
         port = gone.getsockname()[1]
         # It is bound, and nobody listens.
-        Run(["connect", "--wait", "60", "127.0.0.1:%d" % port], "await\n").end(2, "", "no connection: refused\n")
+        refused = "no connection to 127.0.0.1:%d: refused\n" % port
+        Run(["connect", "--wait", "60", "127.0.0.1:%d" % port], "await\n").end(2, "", refused)
         Run(["serve", "127.0.0.1:%d" % port], "").end(2, "", "no connection: address in use\n")
         gone.close()
-        Run(["connect", "--wait", "60", "no-such-host.invalid"], "await\n").end(2, "", "no connection: unknown name\n")
+        unknown = "no connection to no-such-host.invalid:23: unknown name\n"
+        Run(["connect", "--wait", "60", "no-such-host.invalid"], "await\n").end(2, "", unknown)
         Run(["serve", "no-such-host.invalid:0"], "").end(2, "", "no connection: unknown name\n")
         # By each option, of which one has a longer number than it needs.
         words = ["--ready", "--color", "--strict", "--extended", "--stop", "--wait=007", "--terminal=ibm-3196-a1",
                  "--record=" + self.folder + "/it"]
-        Run(["connect", *words, "127.0.0.1:%d" % port], script="await\n").end(2, "", "no connection: refused\n")
+        Run(["connect", *words, "127.0.0.1:%d" % port], script="await\n").end(2, "", refused)
         # Not one of this machine's addresses.
         Run(["serve", "192.0.2.1:0"], "").end(2, "", "no connection: no address of this machine\n")
         fault = "cannot read: no such file: no such file\n"
@@ -100,5 +102,5 @@ class TestWords(Test):
     def test_a_time_out_while_connecting(self):
         with swallowed("127.0.0.1") as port:
             run = Run(["connect", "--wait", "1", "127.0.0.1:%d" % port], "")
-            run.end(2, "", "no connection: late\n")
+            run.end(2, "", "no connection to 127.0.0.1:%d: late\n" % port)
         timed(0.9, 30, run.began, "it")

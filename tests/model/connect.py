@@ -7,6 +7,7 @@ from model.keys import AIDS, Keys
 from model.keys import Refused as KeyRefused
 from model.options import Station
 from records import record
+from refusals import told_refusal
 from model.screen import COLUMNS, Faulty, Screen
 from model.wire import NAMES, Record, Refused, Spoilt, Stream, elements, extended_elements
 
@@ -122,7 +123,7 @@ class Connect:
         self.refused_records += 1
         is_command = reason in (20, 21, *range(30, 37))
         self.sent += record(bytes.fromhex("10030101" if is_command else "10050121"), 0, flags=0x8000)
-        self.print(f"record refused at {place}: reason {reason} {NAMES[reason]}\n")
+        self.print(told_refusal("record", place, f"{reason} {NAMES[reason]}"))
 
     def apply(self, item):
         """Carries a record out; one that a live station refuses changes nothing."""

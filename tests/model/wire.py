@@ -3,6 +3,8 @@
 A body is read by a generator: it waits for a byte at each `yield`, and a bare `yield "may end"` says that the body may
 end before the byte that it waits for. A byte that can't follow is refused by its reason.
 """
+from refusals import told_refusal
+
 IAC, EOR, SB, SE = 0xFF, 0xEF, 0xFA, 0xF0
 COMMANDS = range(0xF1, 0xFA)
 OPTIONS = range(0xFB, 0xFF)
@@ -29,7 +31,7 @@ class Refused(Exception):
         self.place, self.reason = place, reason
 
     def line(self, side):
-        return f"{side} refused at {self.place}: reason {self.reason} {NAMES[self.reason]}\n"
+        return told_refusal(side, self.place, f"{self.reason} {NAMES[self.reason]}")
 
 
 class Wrong(Exception):

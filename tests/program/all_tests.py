@@ -1,5 +1,7 @@
-"""What `show --all` and `check --all` print of streams of which records are refused, and go on after."""
+"""What `show --all`, `show --json` and `check --all` print of streams of which records are refused, and go on after."""
+import json
 import os
+import re
 
 from program.runs import Runs, run, spelled
 from program.texts import (ANSWER, ANSWER_LINE, ANSWER_LINES, HELLO, HELLO_LINES, INVITE, INVITE_LINE, QUERY, QUERY_LINE,
@@ -63,12 +65,56 @@ CHECKED = [
     (["--cut", "1"], QUERY + INVITE, 1, QUERY_LINE + "1 records, 0 commands, 31 bytes, 1 refused\n"),
 ]
 
+# What reasons say, by their numbers.
+SENTENCES = {
+    1: "no Telnet command has the byte that stands after FF",
+    10: "a record's length is less than its ten header bytes",
+    16: "a record is shorter than its header says",
+    30: "structured fields aren't part of the profile",
+    43: "no key has the byte that tells which key was pressed",
+    51: "a write goes past the last cell of the screen",
+}
+
+# The words behind `show --json`, a text, the status, and what is printed to the letter.
+OBJECTS = [
+    ([], "", 0, ""),
+    ([], "FFFD18" + HELLO, 0, '{"at":2,"telnet":"DO 24"}\n'
+     '{"at":25,"flags":"0000","opcode":2,"body":["CLEAR-UNIT","WRITE 00 08","SBA 1 2","PUT C8C9"]}\n'),
+    ([], QUERY + INVITE, 1, '{"at":11,"refused":30,"name":"StructuredField","sentence":'
+     '"30: structured fields aren\'t part of the profile"}\n{"at":30,"flags":"0000","opcode":1,"body":[]}\n'),
+    (["--extended"], QUERY, 0, '{"at":18,"flags":"0000","opcode":3,"body":["QUERY"]}\n'),
+    (["--answers"], ANSWER + SHORT, 1,
+     '{"at":20,"flags":"0000","opcode":3,"body":["HEAD 6 56 F1","AT 6 53","BYTES C2D6C2"]}\n{"truncated":24}\n'),
+    (["--answers", "--extended"], TOLD, 0,
+     '{"at":19,"flags":"0000","opcode":3,"body":["IMMEDIATE 6 55","AT 6 53","BYTES C2D6"]}\n'),
+    # The page is that of a screen, and there is none.
+    (["--code-page", "273"], HELLO + "FF", 1,
+     '{"at":22,"flags":"0000","opcode":2,"body":["CLEAR-UNIT","WRITE 00 08","SBA 1 2","PUT C8C9"]}\n{"truncated":24}\n'),
+]
+
+
+def objects(text):
+    """The objects of JSON that say what the lines of `show --all` say, without those of a screen."""
+    text = re.sub(r"^screen\n(?:.*\n)*?cursor .*\n", "", text, flags=re.M)
+    for lines in re.findall(r"^\S.*\n(?:  .*\n)*", text, re.M):
+        head, *body = (line.strip() for line in lines.splitlines())
+        if refused := re.fullmatch(r"refused at (\d+): reason (\d+) (\w+)", head):
+            place, number = (int(word) for word in refused.groups()[:2])
+            yield {"at": place, "refused": number, "name": refused[3], "sentence": f"{number}: {SENTENCES[number]}"}
+        elif truncated := re.fullmatch(r"truncated at (\d+)", head):
+            yield {"truncated": int(truncated[1])}
+        elif telnet := re.fullmatch(r"at (\d+) telnet (.*)", head):
+            yield {"at": int(telnet[1]), "telnet": telnet[2]}
+        else:
+            place, flags, opcode = re.fullmatch(r"at (\d+) record flags (\w+) opcode (\d+)", head).groups()
+            yield {"at": int(place), "flags": flags, "opcode": int(opcode), "body": body}
+
 
 class TestAll(Runs):
     def each(self, command, rows):
-        for words, text, status, written in rows:
-            name = f"{command} --all {words} of {text}"
-            words = [command, "--all", *words]
+        for more, text, status, written in rows:
+            words = [*command, *more]
+            name = f"{words} of {text}"
             self.expect(name, run(words, text), status, written, "")
             with open(os.path.join(self.folder, "raw"), "wb") as file:
                 file.write(bytes.fromhex(text))
@@ -78,10 +124,23 @@ class TestAll(Runs):
                         written, "")
 
     def test_shown(self):
-        self.each("show", SHOWN)
+        self.each(["show", "--all"], SHOWN)
 
     def test_checked(self):
-        self.each("check", CHECKED)
+        self.each(["check", "--all"], CHECKED)
+
+    def test_objects(self):
+        """With --json the items and refusals of `show --all` are objects, and so is the end of a stream that isn't whole."""
+        self.each(["show", "--json"], OBJECTS)
+        self.each(["show", "--all", "--json"], OBJECTS)
+        for more, text, status, written in SHOWN:
+            done = run(["show", "--json", *more], text)
+            found = [json.loads(line) for line in done.stdout.splitlines()]
+            self.count(f"show --json {more} of {text} told {done.stdout}",
+                       (done.returncode, found) == (status, list(objects(written))))
+        for words in ["--color"], ["--json"], ["--code-page", "1"]:
+            self.expect(words, run(["show", "--json", *words], HELLO), 2, "", None)
+        self.expect("check --json", run(["check", "--json"], HELLO), 2, "", None)
 
     def test_example(self):
         """A refused record in the middle of a recording, with a Telnet command in it."""
@@ -91,6 +150,11 @@ class TestAll(Runs):
             self.expect(f"show {more}", run(["show", "--all", *more, "--of", "host", REFUSED]), 1, lines + FREE_SCREEN, "")
             self.expect(f"check {more}", run(["check", "--all", *more, "--of", "host", REFUSED]), 1,
                         "refused at 30: reason 21 UnknownCommand\n2 records, 2 commands, 49 bytes, 1 refused\n", "")
+        self.expect("show --json", run(["show", "--json", "--of", "host", REFUSED]), 1,
+                    '{"at":2,"telnet":"DO 25"}\n{"at":18,"flags":"0000","opcode":3,"body":["WRITE 00 08"]}\n'
+                    '{"at":30,"refused":21,"name":"UnknownCommand","sentence":'
+                    '"21: the command after the escape (04) isn\'t known"}\n'
+                    '{"at":32,"telnet":"NOP"}\n{"at":48,"flags":"0000","opcode":1,"body":[]}\n', "")
 
     def test_files(self):
         """Each line stands after its file's name, and a file that can't be read ends the checks."""
@@ -111,8 +175,7 @@ class TestAll(Runs):
         self.expect(f"check --all {names}", done, status, out, err)
 
     def test_faults(self):
-        for command in "show", "check":
-            words = [command, "--all"]
+        for words in ["show", "--all"], ["show", "--json"], ["check", "--all"]:
             self.expect(f"{words} of odd digits", run(words, "000"), 2, "", "not hex\n")
             self.expect(f"{words} without output", run(words, INVITE, preexec_fn=lambda: os.close(1)), 2, "",
                         "cannot write\n")

@@ -259,7 +259,7 @@ class TestExtended(Runs):
         # What the profile leaves out: commands by their names alone, and bodies.
         for _, body, lines in LINES[:7]:
             done = run(["make"], f"record opcode 3\n  {lines[0]}\n")
-            wanted = f"script line 2: unknown word `{lines[0]}`\n"
+            wanted = f"script line 2: unknown word `{lines[0]}`, it is read with --extended\n"
             self.expect(f"make of {lines[0]}", done, 2, "", wanted)
             self.count(f"check of {body}", run(["check"], spelled(body)).stdout.startswith("refused at 11: "))
 

@@ -62,7 +62,8 @@ class TestFault(Runs):
     def test_one_word_and_two(self):
         """A port in a word of its own is one behind the host; a script is the word behind both."""
         for words in ["127.0.0.1:1"], ["127.0.0.1", "1"], ["127.0.0.1", "001"]:
-            self.expect(words, run(["connect", "--wait", "5", *words], "show\n"), 2, "", "no connection: refused\n")
+            fault = "no connection to 127.0.0.1:1: refused\n"
+            self.expect(words, run(["connect", "--wait", "5", *words], "show\n"), 2, "", fault)
         for words in ["127.0.0.1:1", "1"], ["127.0.0.1", "1", "1"], ["127.0.0.1", "a"]:
             fault = f"cannot read: {words[-1]}: no such file\n"
             self.expect(words, run(["connect", *words], cwd=self.folder), 2, "", fault)

@@ -48,7 +48,7 @@ class TestFiles(Runs):
     def test_faults(self):
         """The first file that has a fault ends the checks, behind the lines of those before it."""
         rows = [("no such file", "cannot read: no such file: no such file"), ("a.hex/b", "cannot read: a.hex/b: no such file"),
-                ("folder", "cannot read: folder: is a folder"), ("odd", "not hex: odd"), ("letters", "not hex: letters")]
+                ("folder", "cannot read: folder: is a folder"), ("odd", "not hex: odd"), ("letters", "not hex: letters: byte 1 is 'g'")]
         for name, fault in rows:
             for before in [], ["a.hex"], ["b c.hex", "a.hex"]:
                 names = [*before, name, "a.hex"]

@@ -66,6 +66,16 @@ RECORDINGS = [
     (["play", "--raw"], "settle\n", 2, "", None),
 ]
 
+# 600 records without a body as they are shown, and then one that the screen refuses.
+INVITES = "".join(f"at {12 * number + 11} record flags 0000 opcode 1\n" for number in range(600))
+PAST_END = "0013 12A0 0000 04 0000 03 0411 0000 111850 C1C2 FFEF"
+PAST_END_LINES = """at 7220 record flags 0000 opcode 3
+  WRITE 00 00
+  SBA 24 80
+  PUT C1C2
+refused at 7220: reason 51 PastEnd
+"""
+
 # The same of bytes, which standard input and a file have, spelled in hex.
 BYTES = [
     (["check", "--raw"], INVITE, 0, INVITE_LINE, ""),
@@ -84,6 +94,11 @@ BYTES = [
     (["show", "--raw", "--answers"], ANSWER, 0, ANSWER_LINES, ""),
     (["show", "--raw", "--answers", "--extended"], TOLD, 0, TOLD_LINES, ""),
     (["show", "--raw"], "", 0, EMPTY_SCREEN, ""),
+    # in several pieces, cut in a record, refused, or with a record that isn't carried out, after which nothing is read
+    (["show", "--raw"], INVITE * 600, 0, INVITES + EMPTY_SCREEN, ""),
+    (["show", "--raw"], INVITE * 600 + SHORT, 1, INVITES + "truncated at 7203\n", ""),
+    (["show", "--raw"], INVITE * 600 + QUERY * 600, 1, INVITES + "refused at 7211: reason 30 StructuredField\n", ""),
+    (["show", "--raw"], INVITE * 600 + PAST_END * 600, 1, INVITES + PAST_END_LINES, ""),
 ]
 
 # What is made of items as text, in bytes that are spelled in hex.
@@ -156,8 +171,9 @@ class TestForm(Runs):
                 done = run(words, HELLO_TEXT if words[0] == "make" else "", stdout=full)
             self.expect(f"{words} into a full device", done, 2, "", "cannot write\n")
         for data in b"", b"\0\0", b"\0":
-            done = piped(["check", "--raw"], data, preexec_fn=lambda: os.close(1))
-            self.expect(f"{data} without standard output", done, 2, "", "cannot write\n")
+            for word in "check", "show":
+                done = piped([word, "--raw"], data, preexec_fn=lambda: os.close(1))
+                self.expect(f"{word} of {data} without standard output", done, 2, "", "cannot write\n")
 
     def test_long_streams(self):
         """A pipe of 100 MB, of which nothing is held: accepted, truncated, refused in its last piece, and at once."""
@@ -183,13 +199,36 @@ class TestForm(Runs):
             self.count(f"{length} bytes of a pipe, {name}: {found} {err}", (*found, err) == (*wanted, b""))
             self.count(f"{length} bytes of a pipe, {name}: {memory} KiB", memory < 8 << 10)
 
-    def test_refused_early(self):
-        """A refused byte is told though the pipe stays open."""
-        process = subprocess.Popen([PROGRAM, "check", "--raw"], stdin=subprocess.PIPE, stdout=subprocess.PIPE)
-        process.stdin.write(bytes.fromhex(INVITE) + b"\0\0")
+    def test_shown_early(self):
+        """The first lines come though the pipe stays open; of 100 MB nothing is held but a record."""
+        words, pipe = [PROGRAM, "show", "--raw"], subprocess.PIPE
+        process = subprocess.Popen(words, stdin=pipe, stdout=pipe, preexec_fn=limit)
+        process.stdin.write(LONG * 16)
         process.stdin.flush()
         line = process.stdout.readline().decode()
-        self.count(f"an open pipe: {line}", line == "refused at 13: reason 10 LengthBelowHeader\n")
+        self.count(f"an open pipe: {line}", line == "at 1771 record flags 0000 opcode 2\n")
         process.stdin.close()
-        self.count("an open pipe", process.wait(timeout=300) == 1)
+        rest = process.stdout.read()
+        self.count(f"the rest: {rest[-200:]}", rest.count(b"\nat ") == 15 and process.wait(timeout=300) == 0)
         process.stdout.close()
+        process = subprocess.Popen(words, stdin=pipe, stdout=subprocess.DEVNULL, stderr=pipe, preexec_fn=limit)
+        for _ in range(100_000_000 // (64 * len(LONG))):
+            process.stdin.write(LONG * 64)
+        process.stdin.flush()
+        memory = most_memory(process)
+        _, err = process.communicate(timeout=300)
+        self.count(f"100 MB of a pipe: {process.returncode}, {err}", process.returncode == 0 and err == b"")
+        self.count(f"100 MB of a pipe: {memory} KiB", memory < 8 << 10)
+
+    def test_refused_early(self):
+        """A refused byte is told though the pipe stays open."""
+        refused = "refused at 13: reason 10 LengthBelowHeader\n"
+        for word, lines in ("check", refused), ("show", "at 11 record flags 0000 opcode 1\n" + refused):
+            process = subprocess.Popen([PROGRAM, word, "--raw"], stdin=subprocess.PIPE, stdout=subprocess.PIPE)
+            process.stdin.write(bytes.fromhex(INVITE) + b"\0\0")
+            process.stdin.flush()
+            found = process.stdout.read().decode()
+            self.count(f"{word} of an open pipe: {found}", found == lines)
+            process.stdin.close()
+            self.count(f"{word} of an open pipe", process.wait(timeout=300) == 1)
+            process.stdout.close()

@@ -187,12 +187,13 @@ class TestStreams(Runs):
             self.expect(words, run(words, ""), 2, "", None)
 
     def test_faults(self):
-        there, bad = (os.path.join(self.folder, name) for name in ("there", "bad"))
-        for path, text in (there, "FFF1"), (bad, "FFF"):
+        there, bad, other = (os.path.join(self.folder, name) for name in ("there", "bad", "other"))
+        for path, text in (there, "FFF1"), (bad, "FFF"), (other, "FF F1\n0x"):
             with open(path, "w") as file:
                 file.write(text)
         unread = [(f"{there}s", "no such file"), (self.folder, "is a folder"), ("-", "no such file"), ("", "no such file")]
-        faults = [(path, f"cannot read: {path}: {why}\n") for path, why in unread] + [(bad, f"not hex: {bad}\n")]
+        faults = [(path, f"cannot read: {path}: {why}\n") for path, why in unread]
+        faults += [(bad, f"not hex: {bad}\n"), (other, f"not hex: {other}: byte 7 is 'x'\n")]
         for path, fault in faults:
             for words in ["--host", path], ["--station", path], ["--host", path, "--station", there], \
                     ["--host", there, "--station", path], ["--station", bad + "s", "--host", path]:
