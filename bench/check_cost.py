@@ -4,7 +4,7 @@
 Build the program first (`cd crates/t5250 && rt run -- check < stdin`), then call this script from anywhere.
 Each stream is checked whole, by `--cut 1` and as raw bytes; a cost is given in nanoseconds of processor time per byte
 of the stream, reading of the hex text included, and relative to that of the smallest stream. Where `valgrind` is
-installed, the instructions of the smallest one are counted too, and those of the raw bytes beside those of the text.
+installed, the instructions of the smallest one are counted too, and those of the raw bytes and of the text.
 """
 import os
 import re

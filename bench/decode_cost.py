@@ -1,5 +1,5 @@
 #!/usr/bin/env python3
-"""What `t5250 check` costs beside a plain decoder of the same profile (plain_decoder.rs), on the same streams.
+"""What `t5250 check` costs, compared with a plain decoder of the same profile (plain_decoder.rs), on the same streams.
 
 Build the program first (`cd crates/t5250 && rt run -- check < stdin`), then call this script from anywhere; `--help`
 names its options. It builds the plain decoder by `rustc -O` into a temporary folder and
@@ -7,14 +7,14 @@ names its options. It builds the plain decoder by `rustc -O` into a temporary fo
 - checks that both print the same line for many randomly changed streams, and for each stream that is measured,
 - prints for each of four streams, whole and by `--cut 1`, the processor time of both (user and system, the lowest of
   runs taken in turn) and its ratio, and where `valgrind` is installed the instructions per byte of the stream and
-  their ratio. What the reading of the hex text costs is measured on the same text behind two bytes that are refused,
+  their ratio. What the reading of the hex text costs is measured on the same text after two bytes that are refused,
   and the columns `hex` have it; the columns `less hex` have the ratio of what is left on both sides,
 - prints what a byte of small records costs from 1 KB to 100 MB, less what a run on the empty stream costs,
-- with `--keep` prints instead what `decode_all`, which keeps all items to its end, costs on the four streams beside
-  the plain decoder that keeps all of its own,
-- with `--feed` prints instead what `Receiver::feed` costs beside the plain decoder, each over the whole stream, and
-  `Station::feed`, in pieces of 4,096 bytes and with the screen, beside `Receiver::feed`, `ExtendedStation::feed`
-  beside that, and `LastingStation::feed` on its display beside that.
+- with `--keep` prints instead what `decode_all`, which keeps all items to its end, costs on the four streams,
+  compared with the plain decoder that keeps all of its own,
+- with `--feed` prints instead what `Receiver::feed` costs, compared with the plain decoder, each over the whole
+  stream; `Station::feed`, in pieces of 4,096 bytes and with the screen, with `Receiver::feed`; `ExtendedStation::feed`
+  with that, and `LastingStation::feed` on its display with that.
 
 For the last two it makes a crate of keep_all.rattle or feed.rattle in a temporary folder, over copies of the crates
 that it needs, with the work that checks kept in them (some gigabytes), and builds it by `rt`, which proves first what
@@ -424,7 +424,7 @@ def compare_fed(feeder, plain, folder, size, runs, counts):
 
 
 def main():
-    parser = argparse.ArgumentParser(description="What t5250 check costs beside a plain decoder.")
+    parser = argparse.ArgumentParser(description="What t5250 check costs, compared with a plain decoder.")
     parser.add_argument("program", nargs="?", default=PROGRAM, help="the program t5250")
     parser.add_argument("--megabytes", type=float, default=20, help="the size of each measured stream, 20")
     parser.add_argument("--largest", type=float, default=100, help="the largest stream of the cost by size, 100")

@@ -4,7 +4,7 @@
 Build the program first (`cd crates/t5250 && rt run -- check < stdin`), then call this script from anywhere, with
 another program's path if it is to be that one. It needs `cc`. A round of `connect` is `key Enter` and `await`: an
 answer goes to a host, which sends the next screen. One of `serve` is `send 3 HEX` and `await`: a screen goes to a
-station, which sends an answer. Beside them runs a bare echo, a program in C that carries as many bytes through the
+station, which sends an answer. With them runs a bare echo, a program in C that carries as many bytes through the
 same pipes, and over a connection to the same other side, and looks at none. Rounds of both take turns, and the ratio
 is told, the median and the middle half; how long a round takes hangs on the machine and isn't told.
 """
@@ -111,7 +111,7 @@ class Piped:
         while not text.endswith(end):
             piece = os.read(self.program.stdout.fileno(), 65_536)
             if not piece:
-                sys.exit(f"it has ended behind {text!r}")
+                sys.exit(f"it has ended after {text!r}")
             text += piece
         return text
 

@@ -2,12 +2,13 @@
  * answer bytes out. A host's end: records out; bytes of a station in, its answers out. And a decoder of host streams,
  * which only tells what they hold.
  *
- * Stations come in three kinds, decoders in two. Take a live station, by ribbon_station_new_live, for an operator at a
- * live host: no record that it can't take ends it, it says who it is, and it shows the characters of a code page. Take
- * the extended kind, by ribbon_station_new_extended and ribbon_decoder_new_extended, for the streams of a live host,
- * which also saves and restores screens, asks what a screen shows and sends error lines; take the profile's, by
- * ribbon_station_new and ribbon_decoder_new, where all that docs/PROFILE.md leaves out is to be refused. Every other call
- * serves all kinds.
+ * Stations come in three kinds, decoders in two:
+ *  - a live station, by ribbon_station_new_live, is for an operator at a live host. No record that it can't take ends it,
+ *    it says who it is, and it shows the characters of a code page.
+ *  - the extended kind, by ribbon_station_new_extended and ribbon_decoder_new_extended, is for the streams of a live
+ *    host, which also saves and restores screens, asks what a screen shows and sends error lines.
+ *  - the profile's, by ribbon_station_new and ribbon_decoder_new, refuses all that docs/PROFILE.md leaves out.
+ * Every other call serves all kinds.
  *
  * A station at a host:
  *
@@ -74,10 +75,9 @@
  *         }
  *     ribbon_host_free(&host);
  *
- * Behind each function named here stands one that is proved to do what is said of it, for arguments that are what C
- * asks for. What is C alone is small: it turns a null pointer into RIBBON_NULL, compares rows for
- * ribbon_station_changed, puts texts of code page 037 together character by character and bodies element by element,
- * and gives sentences and sizes.
+ * Each function named here calls one that is proved to do what is said of it, for arguments that are what C asks for.
+ * What is C alone is small. It turns a null pointer into RIBBON_NULL, compares rows for ribbon_station_changed, and gives
+ * sentences and sizes. It puts texts of code page 037 together character by character, and bodies element by element.
  *
  * Outputs. Every call sets every structure that it is given to, in every outcome: where nothing is told, all of it is
  * zero. A buffer is written at its front alone, so many bytes as the structure says; the rest stays as it was. A call
@@ -96,9 +96,9 @@
  *  - malloc, realloc and free come from one allocator, and align as C asks. No call is made in a signal handler, or in
  *    a forked child of a process with threads.
  *
- * Memory. Each `new` asks for what its kind takes, in two blocks: a decoder for at most 200 bytes, a host for 3,800, a
- * station of the profile for 72,792, one of the extended kind for 81,552 and a live one for 81,952. A station and a
- * decoder ask for no more. A host does in ribbon_host_push for what an answer holds, and in ribbon_host_send for the
+ * Memory. Each `new` asks for what its kind takes, in two blocks: a decoder for at most 200 bytes, a host for 3,800. A
+ * station of the profile asks for 72,792, one of the extended kind for 81,552, a live one for 81,952. A station and a
+ * decoder ask for no more later. A host does in ribbon_host_push for what an answer holds, and in ribbon_host_send for the
  * elements that it reads and the record that it keeps.
  *
  * Stack, in bytes, as measured on x86-64 (`make bench`): with a station of the profile, one of
@@ -429,9 +429,9 @@ typedef struct {
     bool is_full;           /* the field that holds the cursor takes no further character: a key has to leave it */
 } ribbon_state;
 
-/* A cell of a screen. It holds a character of the code page (40 to FE), of 037 but at a live station that has another; an
- * attribute (20 to 3F), nothing (00), Dup (1C), or another byte that a host has sent and that is no order code (01 to 04,
- * 10 to 15 and 1D); that is shown as a full stop. */
+/* A cell of a screen. It holds a character of the code page (40 to FE), of 037 but at a live station that has another. Or
+ * it holds an attribute (20 to 3F), nothing (00), Dup (1C), or another byte that a host has sent and that is no order code
+ * (01 to 04, 10 to 15 and 1D). That one is shown as a full stop. */
 typedef struct {
     uint32_t character; /* what it shows, as a Unicode scalar value */
     uint16_t field;     /* index of the field that holds it, or RIBBON_NO_FIELD */
@@ -687,9 +687,9 @@ RIBBON_API ribbon_status ribbon_station_key(ribbon_station *station, uint32_t ki
 RIBBON_API ribbon_status ribbon_station_move_cursor(ribbon_station *station, uint8_t row, uint8_t column,
                                                     ribbon_told *told);
 
-/* New Line: the cursor goes to the first cell of the first field that keys enter and that begins in a row below, of the
- * first of all where none does, and where keys enter no field to column 1 of the row below, from the last row of the
- * first. */
+/* New Line: the cursor goes to the first cell of the first field that keys enter and that begins in a row below. Where
+ * none does it goes to the first such field of all. Where keys enter no field it goes to column 1 of the row below, from
+ * the last row to that of the first. */
 RIBBON_API ribbon_status ribbon_station_new_line(ribbon_station *station, ribbon_told *told);
 
 /* Erase EOF: the cells from the cursor to the end of its field become 00, and the cursor stays; in a signed numeric field
@@ -702,10 +702,10 @@ RIBBON_API ribbon_status ribbon_station_erase_eof(ribbon_station *station, ribbo
  * RIBBON_BAD_ARGUMENT where no refusal has the number, RIBBON_NOTHING_HELD where the handle holds no live station. */
 RIBBON_API ribbon_status ribbon_station_missing(ribbon_station *station, uint8_t refusal, uint16_t *field);
 
-/* Tells whether records are allowed, what was refused, how many records were carried out, the cursor and its field, the
- * keyboard's lock, the lights, the read that waits for a key, the number of fields, the row of an error, and how many
- * alarms the host has sounded: an alarm is a Write to Display, in a record that was carried out, whose second control
- * character has the bit 04. A terminal rings where the number has grown. RIBBON_NOTHING_HELD where the handle holds no
+/* Tells whether records are allowed, what was refused, how many records were carried out, the cursor and its field, and
+ * the keyboard's lock. It also tells the lights, the read that waits for a key, the number of fields, the row of an error,
+ * and how many alarms the host has sounded. An alarm is a Write to Display, in a record that was carried out, whose second
+ * control character has the bit 04. A terminal rings where the number has grown. RIBBON_NOTHING_HELD where the handle holds no
  * station. */
 RIBBON_API ribbon_status ribbon_station_state(ribbon_station *station, ribbon_state *state);
 
@@ -725,8 +725,8 @@ RIBBON_API ribbon_status ribbon_station_cells(ribbon_station *station, uint8_t f
  * attribute in force at one is another. RIBBON_NOTHING_HELD where the handle holds no station. */
 RIBBON_API ribbon_status ribbon_station_changed(ribbon_station *station, uint32_t *rows);
 
-/* Puts what a row shows into `text` as UTF-8, `told->length` bytes and no final 0: 80 characters, a blank for 00, for an
- * attribute and for a cell that isn't displayed, `*` for Dup (1C), a full stop for what the code page lacks.
+/* Puts what a row shows into `text` as UTF-8, `told->length` bytes and no final 0. These are 80 characters: a blank for
+ * 00, for an attribute and for a cell that isn't displayed, `*` for Dup (1C), a full stop for what the code page lacks.
  *
  * RIBBON_BAD_ARGUMENT at a row that isn't 1 to 24, RIBBON_NO_ROOM where `text` has fewer than RIBBON_ROW_ROOM bytes,
  * RIBBON_NOTHING_HELD where the handle holds no station. */
@@ -737,8 +737,8 @@ RIBBON_API ribbon_status ribbon_station_row(ribbon_station *station, uint8_t row
  * the index, RIBBON_NOTHING_HELD where the handle holds no station. */
 RIBBON_API ribbon_status ribbon_station_field(ribbon_station *station, size_t index, ribbon_field *field);
 
-/* Puts the text of a field into `text` as UTF-8, `told->length` bytes and no final 0, by its index from 0: what its cells
- * show up to the last that isn't 00, as ribbon_station_row shows it, but also where it isn't displayed.
+/* Puts the text of a field into `text` as UTF-8, `told->length` bytes and no final 0, by its index from 0. It is what the
+ * field's cells show up to the last that isn't 00, as ribbon_station_row shows it, but also where it isn't displayed.
  *
  * RIBBON_NO_ROOM where `text` has fewer bytes than that: `told->length` says how many they are, and no byte is put; that
  * doesn't come at RIBBON_FIELD_ROOM bytes. RIBBON_BAD_ARGUMENT where there is no field of the index,

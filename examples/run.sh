@@ -69,7 +69,7 @@ for hex in *-answers.hex; do
     compare_raw "$name" --answers
 done
 
-# What a live host sends, beside the profile too.
+# What a live host sends, in addition to the profile.
 compare live-host.check check --extended live-host.hex
 compare live-host.check check --extended --cut 1 live-host.hex
 compare live-host.show show --extended live-host.hex
@@ -87,8 +87,20 @@ compare_raw live-station --answers --extended
 compare_end host
 compare_end station --answers
 
-# What both ends sent, in the order of time; in the second one record is refused.
+# compare_told NAME END SHOWN: what the trace of a recording tells of an end is what `show` prints of its stream.
+compare_told() {
+    "$program" trace "$1.recording" | awk -v end="$2" '
+        /^[+]/ { is_of_end = $2 == end; sub(/^[^ ]+ [^ ]+ /, "") }
+        /^[a-z]+: / { is_of_end = 0 }
+        is_of_end' | cmp -s - <(sed '/^screen$/,$d' "$3.show")
+    count $? "differs: trace $1.recording, of its $2"
+}
+
+# What both ends sent, in the order of time; in the last one record is refused.
 compare inquiry.trace trace inquiry.recording
+compare live-host.trace trace live-host.recording
+compare_told live-host host live-host
+compare_told live-host station live-station
 compare_refused() {
     "$program" trace "$1.recording" | cmp -s - "$1.trace"
     [ "${PIPESTATUS[*]}" = "1 0" ]

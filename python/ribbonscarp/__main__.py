@@ -55,13 +55,13 @@ def parser() -> argparse.ArgumentParser:
         help="between an emulator and its host: passes bytes on, records both ends, prints what passes",
         description="Listens for an emulator, connects to its host, and passes on what both send, one connection after "
         "another. It prints each record and each Telnet command as it passes, and where the host's stream goes wrong. It "
-        "records both ends, passwords too.",
+        "records both ends, passwords too. ^C ends it.",
     )
     add = tap.add_argument
     add("listen", metavar="LISTEN", type=listening, help="ADDRESS:PORT for the emulator; 0 takes a free port")
-    add("host", metavar="HOST", type=host, help="HOST[:PORT] of the host; without a port 23")
-    add("--record", metavar="FILE", default="tap.recording", help="the recording's file; default tap.recording")
-    add("--wait", metavar="SECONDS", type=seconds, default=10.0, help="how long the host has to answer; default 10")
+    add("host", metavar="HOST", type=host, help="HOST[:PORT] of the host; PORT is 23 by default")
+    add("--record", metavar="FILE", default="tap.recording", help="the recording's file, tap.recording by default")
+    add("--wait", metavar="SECONDS", type=seconds, default=10.0, help="how long the host has to answer, 10 by default")
     return whole
 
 

@@ -35,8 +35,13 @@ _RESTORE, _CLEAR = b"\x04\x12", b"\x04\x40"
 _CELLS = 1920
 
 _LONGEST, _LONGEST_COMMAND = 0x20000, 0x2000
-"""How many bytes of a station's record, and of a command, are kept before its end: more than the longest record has,
-each FF twice."""
+"""How many bytes of a record, and of a command, are kept before its end: more than the longest record has, each FF
+twice."""
+
+_WITHOUT_END = "unread from here: a record or a command without an end"
+
+_FIRST_OF_RECORDS = 10
+"""The first of the reasons that are about a record; those before it are about what is no Telnet."""
 
 
 def command_line(spelling: bytes) -> str:
@@ -73,55 +78,97 @@ def body_lines(steps: Iterable[Step]) -> Iterator[str]:
             yield from ("  " + element_line(step) for step in run if isinstance(step, Element))
 
 
-def refusal_line(error: Refused) -> str:
+def refusal_line(place: int, reason: Reason) -> str:
     """The line of a refusal, with the sentence of its reason."""
-    name = error.reason.name.title().replace("_", "")
-    return f"refused at {error.place}: reason {error.reason:d} {name}: {reason_text(error.reason).partition(': ')[2]}"
+    name = reason.name.title().replace("_", "")
+    return f"refused at {place}: reason {reason:d} {name}: {reason_text(reason).partition(': ')[2]}"
 
 
 class HostLines:
     """The lines of a host's stream, each record's and each command's once it is complete. It takes what live hosts
     send.
 
-    A byte that is refused has a line with its reason, after those of the record in which it stands, and nothing of the
-    stream is told from then on.
+    A byte that is refused has a line with its reason, after those of the record in which it stands. The rest of that
+    record is passed over, but for commands, and the next one is told. After what is no Telnet nothing is told.
     """
 
     def __init__(self) -> None:
-        self._decoder = Decoder()
+        self._decoder, self._begin = Decoder(), 0
+        self._tokens, self._taken = Tokens(), 0
         self._header: Header | None = None
         self._body: list[Step] = []
+        self._refused: int | None = None
         self._is_over = False
 
     def push(self, data: bytes) -> list[str]:
         """Takes bytes in any pieces."""
+        lines: list[str] = []
         if self._is_over:
-            return []
-        try:
-            return [line for step in self._decoder.push(data) for line in self._told(step)]
-        except Refused as error:
-            lines = [line for step in error.steps for line in self._told(step)]
-            return [*lines, *self._unfinished(), refusal_line(error)]
+            return lines
+        tokens = [(self._tokens.taken, token) for token in self._tokens.push(data)]
+        at = self._taken
+        self._taken += len(data)
+        while at < self._taken and not self._is_over:
+            if self._refused is None:
+                at = self._read(data[at - self._taken :], lines)
+            if self._refused is not None:
+                at = self._pass_over(tokens, lines)
+        if _is_without_end(self._tokens):
+            self._is_over = True
+            lines.append(_WITHOUT_END)
+        return lines
 
     def finish(self) -> list[str]:
         """Says that the stream has ended."""
         try:
-            if not self._is_over:
-                self._decoder.finish()
+            if self._is_over:
+                return []
+            if self._refused is not None:
+                return [f"truncated at {self._taken}"]
+            self._decoder.finish()
         except Truncated as error:
-            return [*self._unfinished(), f"truncated at {error.length}"]
+            return [*self._record("unfinished"), f"truncated at {self._begin + error.length}"]
         finally:
             self._is_over = True
             self._decoder.close()
         return []
 
+    def _read(self, data: bytes, lines: list[str]) -> int:
+        """Tells what bytes complete, up to one that is refused; gives the place after it, or after them."""
+        refused: Refused | None = None
+        try:
+            steps = tuple(self._decoder.push(data))
+        except Refused as error:
+            steps, refused = error.steps, error
+        for step in steps:
+            lines += self._told(step)
+        if refused is None:
+            return self._taken
+        self._refused = self._begin + refused.place
+        lines += [*self._record("unfinished"), refusal_line(self._refused, refused.reason)]
+        self._is_over = refused.reason < _FIRST_OF_RECORDS
+        return self._refused + 1
+
+    def _pass_over(self, tokens: list[tuple[int, Record | bytes]], lines: list[str]) -> int:
+        """Tells the commands after the refused byte, up to the end of its record; gives the place after that, or after
+        all that has come. Each token stands with the place after it."""
+        refused = self._taken if self._refused is None else self._refused
+        for end, token in tokens:
+            if isinstance(token, Record) and end > refused:
+                self._decoder.close()
+                self._decoder, self._begin, self._refused = Decoder(), end, None
+                return end
+            if isinstance(token, bytes) and end - 1 > refused:
+                lines.append(f"at {end - 1} {command_line(token)}")
+        return self._taken
+
     def _told(self, step: Step) -> Iterator[str]:
         if isinstance(step, Command):
-            yield f"at {step.place} {command_line(step.spelling)}"
+            yield f"at {self._begin + step.place} {command_line(step.spelling)}"
         elif isinstance(step, Header):
             self._header = step
         elif isinstance(step, RecordEnd):
-            yield from self._record(f"at {step.place}")
+            yield from self._record(f"at {self._begin + step.place}")
         else:
             self._body.append(step)
 
@@ -131,11 +178,6 @@ class HostLines:
             yield f"{what} record flags {header.flags:04X} opcode {header.opcode:d}"
             yield from body_lines(self._body)
             self._body.clear()
-
-    def _unfinished(self) -> list[str]:
-        """What there is of the open record, where no more of the stream is told."""
-        self._is_over = True
-        return list(self._record("unfinished"))
 
 
 class StationLines:
@@ -154,10 +196,10 @@ class StationLines:
         for token in self._tokens.push(data):
             place = self._tokens.taken - 1
             lines += _record_lines(place, token) if isinstance(token, Record) else [f"at {place} {command_line(token)}"]
-        if self._tokens.held > _LONGEST or self._tokens.waiting > _LONGEST_COMMAND:
+        if _is_without_end(self._tokens):
             self._is_over = True
             self._tokens = Tokens()
-            lines.append("unread from here: a record or a command without an end")
+            lines.append(_WITHOUT_END)
         return lines
 
     def finish(self) -> list[str]:
@@ -166,6 +208,11 @@ class StationLines:
             return []
         self._is_over = True
         return [f"truncated at {self._tokens.taken + self._tokens.waiting}"] if self._tokens.held else []
+
+
+def _is_without_end(tokens: Tokens) -> bool:
+    """Whether more is kept than a record or a command can have."""
+    return tokens.held > _LONGEST or tokens.waiting > _LONGEST_COMMAND
 
 
 def _record_lines(place: int, record: Record) -> list[str]:

@@ -2,6 +2,7 @@
 from __future__ import annotations
 
 import random
+import re
 import subprocess
 import unittest
 from typing import TypeAlias
@@ -29,6 +30,13 @@ def shown(data: bytes, *words: str) -> list[str]:
     command = [PROGRAM, "show", "--extended", "--raw", *words]
     told = subprocess.run(command, input=data, stdout=subprocess.PIPE, check=False).stdout.decode()
     return told.partition("screen\n")[0].splitlines()
+
+
+def traced(data: bytes) -> list[str]:
+    """The first line of each item and each refusal that `trace` prints of a host's stream, without the sentences."""
+    command = [PROGRAM, "trace", "--raw", "--host", "/dev/stdin"]
+    told = subprocess.run(command, input=data, stdout=subprocess.PIPE, check=False).stdout.decode()
+    return [line.removeprefix("host ") for line in told.splitlines() if line.startswith("host ")]
 
 
 def told(lines: Lines, data: bytes, pieces: int) -> list[str]:
@@ -75,23 +83,40 @@ class LinesTest(unittest.TestCase):
             self.compare(bytes.fromhex(file.read_text()), *["--answers"] * is_answers)
 
     def test_refused(self) -> None:
-        """A refusal comes once, with the record that it stands in and its sentence; then nothing is told."""
+        """A refusal comes with the record that it stands in and its sentence; the next record is told, in any pieces."""
         start, query = record(SIGN_ON), record(bytes.fromhex("04110008 C1C2 0420"))
-        lines = HostLines()
-        found = told(lines, start + query + start, 70000)
-        self.assertEqual(found[:-4], shown(start))
-        place = len(start) + 17
-        self.assertEqual(
-            found[-4:],
-            [
-                "unfinished record flags 0000 opcode 3",
-                "  WRITE 00 08",
-                "  PUT C1C2",
-                f"refused at {place}: reason 31 AlternateSize: the screen of 27 by 132 isn't part of the profile",
-            ],
-        )
-        self.assertEqual(lines.push(start), [])
+        whole, place = shown(start), len(start) + 17
+        refused = [
+            "unfinished record flags 0000 opcode 3",
+            "  WRITE 00 08",
+            "  PUT C1C2",
+            f"refused at {place}: reason 31 AlternateSize: the screen of 27 by 132 isn't part of the profile",
+        ]
+        last = f"at {2 * len(start) + len(query) - 1} record flags 0000 opcode 3"
+        for size in 1, 7, 70000:
+            found = told(HostLines(), start + query + start, size)
+            self.assertEqual(found, [*whole, *refused, last, *whole[1:]])
         self.assertIn(f"refused at {place}: reason 31 AlternateSize", shown(start + query))
+
+    def test_passed_over(self) -> None:
+        """Of a refused record its commands are told, as `trace` tells them; FF FF EF is no end of it."""
+        bodies = "0420 FFEF 11", "04F3 FFFF EF", "0411 0008 11 00 00"
+        sharp = b"".join(record(bytes.fromhex(body)).replace(b"\xff\xef", b"\xff\xf1\xff\xef", 1) for body in bodies)
+        early = bytes.fromhex("000E 12A0 0000 04 0000 03 FFEF")
+        stream = ASKED + sharp + early + early + record(SIGN_ON) + record(bytes.fromhex("0420"))[:-2]
+        for size in 1, 5, 70000:
+            found = told(HostLines(), stream, size)
+            self.assertEqual(found.pop(), f"truncated at {len(stream)}")
+            heads = [re.sub(r"(reason .*): .*", r"\1", line) for line in found if line.startswith(("at ", "refused "))]
+            self.assertEqual(heads, traced(stream))
+
+    def test_no_telnet(self) -> None:
+        """After it nothing is told."""
+        lines = HostLines()
+        found = told(lines, b"\xff\xf1\xff\x00" + record(SIGN_ON), 70000)
+        wanted = "refused at 3: reason 1 BadCommand: no Telnet command has the byte that stands after FF"
+        self.assertEqual(found, ["at 1 telnet NOP", wanted])
+        self.assertEqual((lines.push(record(SIGN_ON)), lines.finish()), ([], []))
 
     def test_truncated(self) -> None:
         data = record(SIGN_ON) + record(SIGN_ON)[:30]

@@ -176,7 +176,7 @@ class TapTest(unittest.TestCase):
         self.assertEqual((recording.sent_by("host"), recording.sent_by("station")), (down, up))
 
     def test_refused(self) -> None:
-        """Bytes pass also after one that is refused, in the middle of a session."""
+        """Bytes pass also after one that is refused, in the middle of a session, and the next record is told."""
         roll = record(bytes.fromhex("0423 61 0105"))
 
         def play(side: Side) -> None:
@@ -197,10 +197,14 @@ class TapTest(unittest.TestCase):
         told = tap.told()
         at = told.index("host unfinished record flags 0000 opcode 3")
         place = len(ASKED) + 12
+        after = told.index("host closed")
         self.assertEqual(
-            told[at + 1 :],
+            [*told[at + 1 : at + 4], told[after - 1], *told[after:]],
             [
                 f"host refused at {place}: reason 33 Roll: rolling of the screen isn't part of the profile",
+                f"host at {len(ASKED + roll + record(SIGN_ON)) - 1} record flags 0000 opcode 3",
+                "  CLEAR-UNIT",
+                "  READ-MDT 00 00",
                 "host closed",
                 f"station truncated at {len(Recording.read(self.file).sent_by('station'))}",
                 "station closed",
