@@ -15,11 +15,8 @@ tried by then is told, and counts neither as passed nor as failed. The last line
 """
 
 import argparse
-import contextlib
-import heapq
 import sys
 import time
-from collections.abc import Iterator
 from concurrent.futures import ThreadPoolExecutor
 from dataclasses import dataclass
 from pathlib import Path
@@ -137,18 +134,16 @@ class Trial:
             means, why = verdict(edit, self.check([edit], set()))
         self.settle(edit, means, why)
 
-    def steps(self) -> Iterator[None]:
-        """Tries the edits and then the twins, a check or some at a time."""
+    def try_all(self) -> None:
+        """Tries the edits and then the twins, many in a check."""
         laid = rounds(self.edits, self.texts)
         if laid:
             self.report.say(f"{len(self.edits)} wrong bodies in rounds of {', '.join(str(len(it)) for it in laid)}")
         for members in laid:
             self.try_round(members)
-            yield
         # All twins together, as far as their texts can be applied together.
         for members in rounds(self.twins, self.texts, clashing=lambda one, other: False):
             self.try_twins(members)
-            yield
 
     def try_round(self, members: list[Edit]) -> None:
         found = self.check(members, set().union(*map(reach, members)))
@@ -177,30 +172,14 @@ class Trial:
             self.report.fail(f"the twins aren't proved together: {', '.join(unproved or found.unread or found.text.splitlines()[-3:])[:300]}")
 
 
-def try_crates(trials: list[Trial], jobs: int) -> None:
-    """Tries the edits of all crates: the first round of each, in this order, then the second of each, and so on. A first
-    round judges the most, so that what there is no time for in the end is little."""
-    waiting = [(0, place, trial, trial.steps()) for place, trial in enumerate(trials)]
-
-    def work() -> None:
-        while waiting:
-            try:
-                done, place, trial, steps = heapq.heappop(waiting)
-            except IndexError:
-                return
-            try:
-                next(steps)
-                heapq.heappush(waiting, (done + 1, place, trial, steps))
-            except StopIteration:
-                # What its checks kept may be a gigabyte.
-                trial.crate.kept.cleanup()
-            except NoTime:
-                left = len(trial.edits) + len(trial.twins) - trial.report.told
-                tell(f"left out: {left} wrong bodies and twins of {trial.crate.name}, for want of time")
-
-    with ThreadPoolExecutor(jobs) as pool:
-        for ended in [pool.submit(work) for _ in range(jobs)]:
-            ended.result()
+def try_crate(trial: Trial) -> None:
+    """Tries the edits of a crate, and gives back the room of what its checks kept: a gigabyte for some."""
+    with trial.crate.kept:
+        try:
+            trial.try_all()
+        except NoTime:
+            left = len(trial.edits) + len(trial.twins) - trial.report.told
+            tell(f"left out: {left} wrong bodies and twins of {trial.crate.name}, for want of time")
 
 
 def amount(folder: Path) -> int:
@@ -223,11 +202,10 @@ def main(words: list[str]) -> int:
     names = given.crates or sorted({it.parent.parent.name for it in given.root.glob("crates/*/wrong-bodies/*") if it.suffix in (".edit", ".twin")})
     # The longest first, so that none is left alone at the end.
     names.sort(key=lambda it: -amount(given.root / "crates" / it))
-    with contextlib.ExitStack() as kept:
-        trials = [Trial(given, name) for name in names]
-        for trial in trials:
-            kept.enter_context(trial.crate.kept)
-        try_crates(trials, given.jobs)
+    trials = [Trial(given, name) for name in names]
+    with ThreadPoolExecutor(given.jobs) as pool:
+        for ended in [pool.submit(try_crate, trial) for trial in trials]:
+            ended.result()
     passed, failed = (sum(getattr(it.report, part) for it in trials) for part in ("passed", "failed"))
     print(f"{passed} passed, {failed} failed")
     return 1 if failed else 0
