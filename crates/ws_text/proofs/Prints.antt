@@ -4,16 +4,14 @@ use Rattle.ws_text.proofs.Common.{◌∙◌, ap, ◌≡◌, arith, refl, sym, []
 use Rattle.ws_text.proofs.Common.{codes, false, true, get_or, ◌≤◌, append_assoc, decimal, append-nil, ◌==◌, ◌^◌, ◌/◌}
 use Rattle.ws_text.proofs.Common.{slice_index, ◌%◌, length-append, false≢true, take_more, encode_upper}
 use Rattle.ws_text.proofs.Common.{hex_behind_blank, Prints, Output, Failed, Open}
-use Rattle.std.proofs.lemmas.Fmt.{decimal_digit, decimal_step}
 use Rattle.std.proofs.lemmas.List.{take-append-le}
 use Rattle.hex.specs.Hex.{encode_with}
 use Rattle.ws_code.specs.Device.{Writer, WentOut, FailedAfter, FailedWithin}
-use Rattle.ws_code.proofs.DeviceLaws.{went_out_none, went_out_both}
-use Rattle.ws_code.proofs.Parts.{fails_last}
+use Rattle.ws_code.proofs.DeviceLaws.{went_out_none}
 use Rattle.ws_text.specs.Printing.{IsOut}
 use Rattle.ws_text.proofs.LineEnds.{filled}
 
-fails_on : {S : Type 0} (writer : Writer S) (from to : S) (text more : List ℕ)
+pub fails_on : {S : Type 0} (writer : Writer S) (from to : S) (text more : List ℕ)
     → FailedWithin writer from to text → FailedWithin writer from to (text ++ more)
 fails_on writer from to text more f =
     record {
@@ -22,17 +20,6 @@ fails_on writer from to text more f =
       failed = subst (FailedAfter writer from to)
           (sym (take-append-le f.count text more (omega (arith, f.within)))) f.failed;
     }
-
-pub put_out : {S : Type 0} (writer : Writer S) (old new : S) (bytes : List ℕ)
-    → WentOut writer old new bytes → Prints writer old new Open Open bytes
-put_out writer old new bytes w = record { on = λ from text h. went_out_both writer from old new text bytes h w }
-
-pub put_fails : {S : Type 0} (writer : Writer S) (old new : S) (bytes : List ℕ)
-    → FailedWithin writer old new bytes → Prints writer old new Open Failed bytes
-put_fails writer old new bytes f = record { on = λ from text h. fails_last writer from old new text bytes h f }
-
-pub put_failed : {S : Type 0} (writer : Writer S) (s : S) (bytes : List ℕ) → Prints writer s s Failed Failed bytes
-put_failed writer s bytes = record { on = λ from text h. fails_on writer from s text bytes h }
 
 pub prints_none : {S : Type 0} (writer : Writer S) (s : S) (o : Output) → Prints writer s s o o []
 prints_none writer s o = record { on = λ from text h. subst (IsOut writer from s o) (sym (append-nil text)) h }
@@ -56,12 +43,6 @@ prints_same {S} {writer} {old} {new} {before} {after} {xs} {ys} e p = subst (Pri
 pub whole_out : {S : Type 0} {writer : Writer S} {old new : S} {after : Output} {xs : List ℕ}
     → Prints writer old new Open after xs → IsOut writer old new after xs
 whole_out {S} {writer} {old} {new} {after} {xs} p = p.on old [] (went_out_none writer old)
-
-pub one_digit : (n : ℕ) → n < 10 → (48 + n) ∷ [] ≡ decimal n
-one_digit n h = sym (decimal_digit n h)
-
-pub more_digits : (n : ℕ) → 10 ≤ n → n < 2 ^ 64 → decimal (n / 10) ++ (48 + n % 10) ∷ [] ≡ decimal n
-more_digits n h k = sym (decimal_step n h k)
 
 pub encode_append : (t xs ys : List ℕ) → encode_with t (xs ++ ys) ≡ encode_with t xs ++ encode_with t ys
 unfolding encode_with

@@ -3,16 +3,13 @@ pub mod AnswerWords
 pub mod ElementWords
 pub mod ExtendedAnswerLines
 pub mod ExtendedAnswerWords
-pub mod ExtendedAnswerWordLaws
 pub mod ExtendedLines
 pub mod ExtendedWords
 pub mod ExtendedWordLaws
-pub mod FieldLaws
 pub mod FirstLine
 pub mod ItemLines
 pub mod Items
 pub mod BodyLines
-pub mod Reading
 pub mod Lined
 pub mod Names
 pub mod WordLaws
@@ -22,5 +19,4 @@ pub mod TextLines
 pub mod Shown
 pub mod Printing
 pub mod Printed
-pub mod Parts
 pub mod Found

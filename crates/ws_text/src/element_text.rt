@@ -1,16 +1,44 @@
-//! The lines of a host's elements.
+//! The lines of a host's elements, and of the parts of a station's answer.
 ghost use Rattle.std.specs.Prelude.{◌≡◌, ◌++◌, codes};
+ghost use Rattle.ws_text.specs.AnswerLines as Answer;
 ghost use Rattle.ws_text.specs.ItemLines as Shown;
 ghost use Rattle.ws_text.specs.Printing.{Prints};
 
+use crate::lined::{Lined, Listed, RunName, put_units};
 use crate::output::{
     Output, put_cell, put_hex, put_hex_behind_blank, put_number, put_text, put_words,
 };
 use ws_code::{Address, Sink};
-use ws_stream::{Element, FieldStart};
+use ws_stream::{AnswerPart, Element, FieldStart};
 
-/// Writes the text of an element, without blanks before it and a line's end.
-pub(crate) fn put_element<S: Sink>(sink: &mut S, output: Output, element: &Element) -> Output
+impl Lined for Element {
+    ghost byte_of = { Shown.put_byte };
+
+    ghost line_of = { Shown.element_line };
+
+    fn byte(&self) -> Option<(RunName, u8)> {
+        match self {
+            Element::Put(byte) => Some((RunName::Cells, byte.value())),
+            _ => None,
+        }
+    }
+
+    fn put_line<S: Sink>(&self, sink: &mut S, output: Output) -> Output {
+        let output = put_text(sink, output, "\n  ");
+        put_element(sink, output, self)
+    }
+}
+
+impl Listed for Element {
+    ghost lines_of = { Shown.element_lines };
+
+    fn put_body<S: Sink>(sink: &mut S, output: Output, elements: &[Element]) -> Output {
+        put_units(sink, output, elements)
+    }
+}
+
+// Writes the text of an element, without blanks before it and a line's end.
+fn put_element<S: Sink>(sink: &mut S, output: Output, element: &Element) -> Output
     ensures { Prints S.writer sink.old sink.new output result
         (Shown.element_text element.now) }
 {
@@ -60,14 +88,8 @@ pub(crate) fn put_place<S: Sink>(sink: &mut S, output: Output, name: &str, to: A
     put_cell(sink, output, to)
 }
 
-/// Writes a name, the cell behind it, and bytes.
-pub(crate) fn put_fill<S: Sink>(
-    sink: &mut S,
-    output: Output,
-    name: &str,
-    to: Address,
-    bytes: &[u8],
-) -> Output
+// Writes a name, the cell behind it, and bytes.
+fn put_fill<S: Sink>(sink: &mut S, output: Output, name: &str, to: Address, bytes: &[u8]) -> Output
     ensures { Prints S.writer sink.old sink.new output result
         (name.now ++ Shown.fill_text to bytes.now) }
 {
@@ -97,5 +119,45 @@ fn put_format<S: Sink>(sink: &mut S, output: Output, field: &FieldStart) -> Outp
     match field.format() {
         Some(format) => put_words(sink, output, &[format.value()]),
         None => put_text(sink, output, ""),
+    }
+}
+
+impl Lined for AnswerPart {
+    ghost byte_of = { Answer.part_byte };
+
+    ghost line_of = { Answer.part_line };
+
+    fn byte(&self) -> Option<(RunName, u8)> {
+        match self {
+            AnswerPart::Byte(byte) => Some((RunName::Fields, byte.value())),
+            _ => None,
+        }
+    }
+
+    fn put_line<S: Sink>(&self, sink: &mut S, output: Output) -> Output {
+        let output = put_text(sink, output, "\n  ");
+        put_part(sink, output, *self)
+    }
+}
+
+impl Listed for AnswerPart {
+    ghost lines_of = { Answer.part_lines };
+
+    fn put_body<S: Sink>(sink: &mut S, output: Output, parts: &[AnswerPart]) -> Output {
+        put_units(sink, output, parts)
+    }
+}
+
+// Writes the text of a part, without blanks before it and a line's end.
+fn put_part<S: Sink>(sink: &mut S, output: Output, part: AnswerPart) -> Output
+    ensures { Prints S.writer sink.old sink.new output result (Answer.part_text part) }
+{
+    match part {
+        AnswerPart::Head { cursor, aid } => put_fill(sink, output, "HEAD ", cursor, &[aid.byte()]),
+        AnswerPart::At(place) => put_place(sink, output, "AT ", place),
+        AnswerPart::Byte(byte) => {
+            let output = put_text(sink, output, "BYTES ");
+            put_hex(sink, output, &[byte.value()])
+        }
     }
 }

@@ -1,0 +1,286 @@
+-- Bytes and numbers by their words, and bytes as units.
+
+use Rattle.ws_text.proofs.Common.{◌∙◌, ap, ◌≡◌, arith, refl, sym, [], length, ◌∷◌, List, ℕ, ◌<◌, inl, ◌≤◌, inr, ◌/◌}
+use Rattle.ws_text.proofs.Common.{Err, Ok, Result, slice_index, MatchResult, ◌⊎◌, decode_of, FromHexError, IsHexByte}
+use Rattle.ws_text.proofs.Common.{IsHexPair, IsHex, AllByRecursion, ◌++◌, subst, take, Some, get_or, drop, Option, map}
+use Rattle.ws_text.proofs.Common.{suc, map-append, AreTyped, AreEach, Wording, RunName, ◌+◌, append-nil, None}
+use Rattle.ws_text.proofs.Common.{MatchOption, ◌*◌, AreHex, ◌^◌, cond, eqb_tells, IsNumber}
+use Rattle.std.specs.Char.{digit_value}
+use Rattle.std.specs.Str.{chars}
+use Rattle.std.specs.Str.Parse.{IsNumeral, digits_value, without_leading_plus}
+use Rattle.std.proofs.Math.Nat.{pow-le-pow_right}
+use Rattle.std.proofs.lemmas.List.{nil_from_length}
+use Rattle.std.proofs.Math.Seq.{split_at}
+use Rattle.std.proofs.lemmas.Int.Digits.{digits_value-lt}
+use Rattle.hex.proofs.HexLemmas.{decode_of-ok, decode_sized-ok, decode_sized-twice, decode_of-even, decode_pairs-ok}
+use Rattle.hex.proofs.Pairs.{prepend, prepend-cons_byte, decode_start, decode_pairs-ok_pair, decode_pairs-err_pair}
+use Rattle.hex.specs.Hex.{decode_sized, decode_pairs, pair_value, ◌>>=◌}
+use Rattle.ws_code.proofs.Lists.{AllByRecursion-append}
+use Rattle.ws_code.specs.Ebcdic.{byte_of}
+use Rattle.ws_text.specs.WordLaws.{byte_same}
+
+-- WORDS OF SO MANY HEX DIGITS
+
+-- what a decoder into a slice answers
+abbrev pub Written : Result (List ℕ) FromHexError → Result Unit FromHexError → List ℕ → Type 0
+Written d r out = MatchResult d (λ bytes. (r ≡ Ok tt) × (out ≡ bytes)) (λ e. r ≡ Err e)
+
+written : (d : Result (List ℕ) FromHexError) (r : Result Unit FromHexError) (out : List ℕ) → Written d r out → r ≡ Ok tt
+    → d ≡ Ok out
+written (Ok bytes) r out h e = ap Ok (sym h.1)
+written (Err f) r out h e = cc (sym e ∙ h)
+
+refused : (d : Result (List ℕ) FromHexError) (r : Result Unit FromHexError) (out bytes : List ℕ) (f : FromHexError)
+    → Written d r out → r ≡ Err f → d ≡ Ok bytes → ⊥
+refused (Ok b) r out bytes f h e k = cc (sym e ∙ h.0)
+refused (Err g) r out bytes f h e k = cc k
+
+of_sized : (word bytes : List ℕ) (n : ℕ) → decode_sized word n ≡ Ok bytes → decode_of word ≡ Ok bytes
+of_sized word bytes n e = sym (decode_sized-twice word n (decode_sized-ok word n bytes e)) ∙ e
+
+sized_of : (word bytes : List ℕ) → decode_of word ≡ Ok bytes → decode_sized word (length bytes) ≡ Ok bytes
+sized_of word bytes e = decode_sized-twice word (length bytes) (decode_of-ok word bytes e).2 ∙ e
+
+one_of : (out : List ℕ) → length out ≡ 1 → out ≡ slice_index out 0 ∷ []
+one_of (x ∷ []) e = refl
+one_of out e = absurd (omega (arith, e))
+
+two_of : (out : List ℕ) → length out ≡ 2 → out ≡ slice_index out 0 ∷ slice_index out 1 ∷ []
+two_of (x ∷ y ∷ []) e = refl
+two_of out e = absurd (omega (arith, e))
+
+pub one_byte : (word out : List ℕ) (r : Result Unit FromHexError) → Written (decode_sized word 1) r out → r ≡ Ok tt
+    → IsHexByte word (slice_index out 0) × (slice_index out 0 < 256)
+one_byte word out r h e =
+    let d = written (decode_sized word 1) r out h e in
+    let o = of_sized word out 1 d in
+    let ok = decode_of-ok word out o in
+    let n : length out ≡ 1 = omega (arith, ok.2, decode_sized-ok word 1 out d) in
+    (o ∙ ap Ok (one_of out n), ok.3 0)
+
+pub two_bytes : (word out : List ℕ) (r : Result Unit FromHexError) → Written (decode_sized word 2) r out → r ≡ Ok tt
+    → (decode_of word ≡ Ok (slice_index out 0 ∷ slice_index out 1 ∷ [])) × (slice_index out 0 < 256)
+    × (slice_index out 1 < 256)
+two_bytes word out r h e =
+    let d = written (decode_sized word 2) r out h e in
+    let o = of_sized word out 2 d in
+    let ok = decode_of-ok word out o in
+    let n : length out ≡ 2 = omega (arith, ok.2, decode_sized-ok word 2 out d) in
+    (o ∙ ap Ok (two_of out n), ok.3 0, ok.3 1)
+
+pub no_byte : (word out : List ℕ) (r : Result Unit FromHexError) (f : FromHexError)
+    → Written (decode_sized word 1) r out → r ≡ Err f → (byte : ℕ) → IsHexByte word byte → ⊥
+no_byte word out r f h e byte is = refused (decode_sized word 1) r out (byte ∷ []) f h e (sized_of word (byte ∷ []) is)
+
+pub no_pair : (word out : List ℕ) (r : Result Unit FromHexError) (f : FromHexError)
+    → Written (decode_sized word 2) r out → r ≡ Err f → (n : ℕ) → IsHexPair word n → ⊥
+no_pair word out r f h e n is =
+    refused (decode_sized word 2) r out (is.0 ∷ is.1 ∷ []) f h e (sized_of word (is.0 ∷ is.1 ∷ []) is.2)
+
+-- a word of no digits, or of more than 128, isn't hex of 1 to 64 bytes
+pub not_short : (word : List ℕ) → (length word / 2 ≡ 0) ⊎ (64 < length word / 2) → (bytes : List ℕ) → IsHex word bytes
+    → length bytes ≤ 64 → ⊥
+not_short word (inl none) bytes is few = is.0 (nil_from_length word (omega (arith, none, (decode_of-ok word bytes is.1).2)))
+not_short word (inr many) bytes is few = omega (arith, many, few, (decode_of-ok word bytes is.1).2)
+
+-- BYTES AS UNITS
+
+pub run_more : {U : Type 0} (w : Wording U) (n : RunName) (bytes : List ℕ) (b : ℕ) (units : List U)
+    → AreEach w n bytes units → w.IsByte n b → AreEach w n (bytes ++ b ∷ []) (units ++ w.byte n b ∷ [])
+run_more w n bytes b units h is =
+    let units_are = ap (λ z. z ++ w.byte n b ∷ []) h.1 ∙ sym (map-append (w.byte n) bytes (b ∷ [])) in
+    (AllByRecursion-append (w.IsByte n) bytes (b ∷ []) h.0 (is, tt), units_are)
+
+-- the units of bytes begin with those of the first bytes
+pub next_unit : {U : Type 0} (w : Wording U) (n : RunName) (bytes front more : List ℕ) (b : ℕ) (all units : List U)
+    → AreEach w n bytes all → AreEach w n front units → bytes ≡ front ++ b ∷ more
+    → all ≡ units ++ w.byte n b ∷ map (w.byte n) more
+next_unit w n bytes front more b all units h f e =
+    h.1 ∙ ap (λ z. map (w.byte n) z) e ∙ map-append (w.byte n) front (b ∷ more)
+    ∙ ap (λ z. z ++ w.byte n b ∷ map (w.byte n) more) (sym f.1)
+
+-- characters so far, and their units
+pub record TypedSoFar {U : Type 0} (w : Wording U) (n : RunName) (characters : List ℕ) (units : List U) : Type 0 where
+  pub bytes : List ℕ
+  pub typed : map byte_of characters ≡ map (λ b. Some b) bytes
+  pub run : AreEach w n bytes units
+
+pub typed_more : {U : Type 0} {w : Wording U} {n : RunName} (characters : List ℕ) (x b : ℕ) {units : List U}
+    → TypedSoFar w n characters units → byte_of x ≡ Some b → w.IsByte n b
+    → TypedSoFar w n (characters ++ x ∷ []) (units ++ w.byte n b ∷ [])
+typed_more {w = w} {n = n} characters x b {units = units} h is good = record {
+  bytes = h.bytes ++ b ∷ [];
+  typed = map-append byte_of characters (x ∷ []) ∙ ap (λ z. z ++ byte_of x ∷ []) h.typed
+      ∙ ap (λ o. map (λ y. Some y) h.bytes ++ o ∷ []) is ∙ sym (map-append (λ y. Some y) h.bytes (b ∷ []));
+  run = run_more w n h.bytes b units h.run good;
+}
+
+pub typed_all : {U : Type 0} {w : Wording U} {n : RunName} {text characters : List ℕ} {units : List U} → n ≡ w.typed
+    → characters ≡ chars text → TypedSoFar w n characters units → AreTyped w text units
+typed_all {w = w} {units = units} is e h = record {
+  bytes = h.bytes;
+  typed = ap (λ z. map byte_of z) (sym e) ∙ h.typed;
+  run = subst (λ (z : RunName). AreEach w z h.bytes units) is h.run;
+}
+
+-- the byte of the next character
+byte_at : (Is : ℕ → Type 0) (front rest bytes done : List ℕ) (x : ℕ)
+    → map byte_of (front ++ x ∷ rest) ≡ map (λ b. Some b) bytes
+    → map byte_of front ≡ map (λ b. Some b) done → AllByRecursion Is bytes
+    → (b : ℕ) × (more : List ℕ) × (byte_of x ≡ Some b) × Is b × (bytes ≡ done ++ b ∷ more)
+byte_at Is [] rest (b ∷ bytes) [] x e f h =
+    let first : byte_of x ≡ Some b = cc in
+    (b, bytes, first, h.0, refl)
+byte_at Is (c ∷ front) rest (b ∷ bytes) (d ∷ done) x e f h =
+    let tails : map byte_of (front ++ x ∷ rest) ≡ map (λ b. Some b) bytes = cc in
+    let fronts : map byte_of front ≡ map (λ b. Some b) done = cc in
+    let found = byte_at Is front rest bytes done x tails fronts h.1 in
+    let same : b ≡ d = cc in
+    let more : bytes ≡ done ++ found.0 ∷ found.1 = found.4 in
+    (found.0, found.1, found.2, found.3, cc)
+byte_at Is front rest bytes done x e f h = cc
+
+-- what the characters are begins with the units so far and that of the next character
+pub next_typed : {U : Type 0} {w : Wording U} {n : RunName} (text characters : List ℕ) (x : ℕ) (byte : Option ℕ)
+    {units all : List U} → n ≡ w.typed → characters ≡ take (length characters) (chars text)
+    → (length characters < length (chars text)) × (x ≡ get_or (chars text) (length characters) x) → byte ≡ byte_of x
+    → TypedSoFar w n characters units → AreTyped w text all
+    → (b : ℕ) × (more : List U) × (byte ≡ Some b) × w.IsByte n b × (all ≡ units ++ w.byte n b ∷ more)
+next_typed {w = w} {n = n} text characters x byte {all = all} named front at is h are =
+    let run = subst (λ (z : RunName). AreEach w z are.bytes all) (sym named) are.run in
+    let rest = drop (suc (length characters)) (chars text) in
+    let cut : chars text ≡ characters ++ x ∷ rest = split_at (chars text) (length characters) x at.0
+    ∙ ap (λ z. take (length characters) (chars text) ++ z ∷ rest) (sym at.1) ∙ ap (λ z. z ++ x ∷ rest) (sym front) in
+    let found = byte_at (w.IsByte n) characters rest are.bytes h.bytes x
+    (ap (λ z. map byte_of z) (sym cut) ∙ are.typed) h.typed run.0 in (
+      found.0,
+      map (w.byte n) found.1,
+      is ∙ found.2,
+      found.3,
+      next_unit w n _ _ _ _ _ _ run h.run found.4,
+    )
+
+-- RUNS OF BYTES IN HEX, PAIR BY PAIR
+
+-- what a result holds
+abbrev bytes_of : Result (List ℕ) FromHexError → List ℕ
+bytes_of (Ok bytes) = bytes
+bytes_of (Err e) = []
+
+-- a pair reads as the same byte wherever it stands
+pair_moves : (a b i j v : ℕ) → pair_value a b i ≡ Ok v → pair_value a b j ≡ Ok v
+pair_moves a b i j v e = grind (arith)
+
+one_pair : (a b v : ℕ) → pair_value a b 0 ≡ Ok v → IsHexByte (a ∷ b ∷ []) v
+unfolding decode_pairs
+one_pair a b v e = decode_pairs-ok_pair 0 a b v [] e
+
+two_digits : (a b v : ℕ) (r : Result ℕ FromHexError) → pair_value a b 0 ≡ r → IsHexByte (a ∷ b ∷ []) v → r ≡ Ok v
+two_digits a b v (Ok x) e h = ap Ok (byte_same (a ∷ b ∷ []) x v (one_pair a b x e) h)
+two_digits a b v (Err x) e h = cc (sym (decode_pairs-err_pair 0 a b x [] e) ∙ h)
+
+-- the digits so far are those of good bytes, these are their units, and the rest is to be decoded
+pub record RunSoFar {U : Type 0} (w : Wording U) (n : RunName) (word rest : List ℕ) (units : List U) : Type 0 where
+  pub bytes : List ℕ
+  pub at : ℕ
+  pub decoded : decode_pairs 0 word ≡ prepend bytes (decode_pairs at rest)
+  pub run : AreEach w n bytes units
+
+-- what the first two digits are
+abbrev IsFirst : List ℕ → Option ℕ → Type 0
+IsFirst digits first = MatchOption first ((byte : ℕ) → IsHexByte digits byte → ⊥) (IsHexByte digits)
+
+first_is : (digits : List ℕ) (first : Option ℕ) (b : ℕ) → IsFirst digits first → IsHexByte digits b → first ≡ Some b
+first_is digits (Some x) b h is = ap (λ z. Some z) (byte_same digits x b h is)
+first_is digits None b h is = absurd (h b is)
+
+module _ {U : Type 0} (w : Wording U) (n : RunName) where
+  pub run_begun : (word rest : List ℕ) → rest ≡ word → RunSoFar w n word rest []
+  run_begun word rest e = rw e (record { bytes = []; at = 0; decoded = decode_start word []; run = (tt, refl) })
+
+  run_goes_on : (word rest behind : List ℕ) (b : ℕ) (units : List U) → RunSoFar w n word rest units
+      → IsHexByte (take 2 rest) b → behind ≡ drop 2 rest → w.IsByte n b
+      → RunSoFar w n word behind (units ++ w.byte n b ∷ [])
+  run_goes_on word (x ∷ y ∷ rest) behind b units h is e good =
+      let pair = pair_moves x y 0 h.at b (two_digits x y b (pair_value x y 0) refl is) in
+      record {
+        bytes = h.bytes ++ b ∷ [];
+        at = h.at + 2;
+        decoded = h.decoded ∙ ap (prepend h.bytes) (decode_pairs-ok_pair h.at x y b rest pair)
+            ∙ prepend-cons_byte h.bytes b (decode_pairs (h.at + 2) rest)
+            ∙ ap (λ z. prepend (h.bytes ++ b ∷ []) (decode_pairs (h.at + 2) z)) (sym e);
+        run = run_more w n h.bytes b units h.run good;
+      }
+  run_goes_on word rest behind b units h is e good = absurd (omega (arith, (decode_of-ok (take 2 rest) (b ∷ []) is).2))
+
+  -- and the byte that was read
+  pub run_more_by : {word rest behind : List ℕ} {units : List U} (first : Option ℕ) (b : ℕ)
+      → RunSoFar w n word rest units → IsFirst (take 2 rest) first → first ≡ Some b → behind ≡ drop 2 rest
+      → w.IsByte n b → RunSoFar w n word behind (units ++ w.byte n b ∷ [])
+  run_more_by {word} {rest} {behind} {units} first b h is e =
+      run_goes_on word rest behind b units h (subst (λ (z : Option ℕ). IsFirst (take 2 rest) z) e is)
+
+  -- what is decoded as a whole is so in pairs
+  in_pairs : (word bytes : List ℕ) → decode_of word ≡ Ok bytes → decode_pairs 0 word ≡ Ok bytes
+  in_pairs word bytes e = sym (decode_of-even word (decode_of-ok word bytes e).0) ∙ e
+
+  data_within : (front more : List ℕ) (b : ℕ) → AllByRecursion (w.IsByte n) (front ++ b ∷ more) → w.IsByte n b
+  data_within [] more b h = h.0
+  data_within (x ∷ front) more b h = data_within front more b h.1
+
+  next_pair : (front bytes : List ℕ) (x y at : ℕ) (r : Result ℕ FromHexError) (more : Result (List ℕ) FromHexError)
+      → pair_value x y at ≡ r → Ok bytes ≡ prepend front (r >>= (λ byte. more >>= (λ rest. Ok (byte ∷ rest))))
+      → AllByRecursion (w.IsByte n) bytes
+      → (b : ℕ) × (rest : List ℕ) × IsHexByte (x ∷ y ∷ []) b × w.IsByte n b × (bytes ≡ front ++ b ∷ rest)
+  next_pair front bytes x y at (Err e) more is f good = cc f
+  next_pair front bytes x y at (Ok b) (Err e) is f good = cc f
+  next_pair front bytes x y at (Ok b) (Ok rest) is f good =
+      let cut = ap bytes_of f in
+      let data_ = data_within front rest b (subst (λ (z : List ℕ). AllByRecursion (w.IsByte n) z) cut good) in
+      (b, rest, one_pair x y b (pair_moves x y at 0 b is), data_, cut)
+
+  -- what the digits are begins with the units so far and that of the next two digits
+  pub next_of_run : (word rest : List ℕ) (first : Option ℕ) {units all : List U} → (rest ≡ [] → ⊥)
+      → IsFirst (take 2 rest) first → RunSoFar w n word rest units → AreHex w n word all
+      → (b : ℕ) × (more : List U) × (first ≡ Some b) × w.IsByte n b × (all ≡ units ++ w.byte n b ∷ more)
+  unfolding decode_pairs
+  next_of_run word [] first some is h r = absurd (some refl)
+  next_of_run word (x ∷ []) first some is h r = cc (sym (in_pairs word r.0 r.1.1) ∙ h.decoded)
+  next_of_run word (x ∷ y ∷ rest) first some is h r =
+      let found = next_pair h.bytes r.0 x y h.at (pair_value x y h.at) (decode_pairs (h.at + 2) rest) refl
+      (sym (in_pairs word r.0 r.1.1) ∙ h.decoded) r.2.0 in
+      let read = first_is (x ∷ y ∷ []) first found.0 is found.2 in
+      (found.0, map (w.byte n) found.1, read, found.3, next_unit w n _ _ _ _ _ _ r.2 h.run found.4)
+
+  -- all digits are read
+  pub whole_run : {word rest : List ℕ} {units : List U} → (word ≡ [] → ⊥) → rest ≡ [] → RunSoFar w n word rest units
+      → AreHex w n word units
+  unfolding decode_pairs
+  whole_run {word = word} some e h =
+      let all : decode_pairs 0 word ≡ Ok h.bytes = h.decoded ∙ ap (λ z. prepend h.bytes (decode_pairs h.at z)) e
+      ∙ ap Ok (append-nil h.bytes) in
+      let even : length word ≡ 2 * length h.bytes = (decode_pairs-ok 0 word h.bytes all).1 in
+      (h.bytes, (some, decode_of-even word (omega (arith, even)) ∙ all), h.run)
+
+-- NUMBERS
+
+-- a numeral has no sign
+pub no_plus : (ds : List ℕ) → IsNumeral 10 ds → without_leading_plus ds ≡ ds
+no_plus [] h = refl
+no_plus (c ∷ cs) h = elim (eqb_tells c 43) [
+  | inl p ↦ (let P : ℕ → Type 0 = λ z. digit_value z < 10 in let bad : digit_value 43 < 10 = subst P p.1 h.1.0 in
+      absurd (omega arith))
+  | inr p ↦ ap (λ b. drop (cond b 1 0) (c ∷ cs)) p.0
+]
+
+pub number_fits : (ds : List ℕ) (n : ℕ) → IsNumber ds n → digits_value 10 ds < 2 ^ 32
+number_fits ds n h = omega
+    (arith, digits_value-lt 10 ds h.0.1, pow-le-pow_right {n = 10} (omega arith) {i = length ds} {j = 9} h.1)
+
+-- what isn't parsed is no number
+pub unparsed : (ds : List ℕ)
+    → (IsNumeral 10 (without_leading_plus ds) × (digits_value 10 (without_leading_plus ds) < 2 ^ 32) → ⊥) → (n : ℕ)
+    → IsNumber ds n → ⊥
+unparsed ds none_is n h =
+    let P : List ℕ → Type 0 = λ z. IsNumeral 10 z × (digits_value 10 z < 2 ^ 32) in
+    none_is (subst P (sym (no_plus ds h.0)) (h.0, number_fits ds n h))
