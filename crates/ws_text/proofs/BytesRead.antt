@@ -4,7 +4,7 @@ use Rattle.ws_text.proofs.Common.{◌∙◌, ap, ◌≡◌, arith, refl, sym, []
 use Rattle.ws_text.proofs.Common.{Err, Ok, Result, slice_index, MatchResult, ◌⊎◌, decode_of, FromHexError, IsHexByte}
 use Rattle.ws_text.proofs.Common.{IsHexPair, IsHex, AllByRecursion, ◌++◌, subst, take, Some, get_or, drop, Option, map}
 use Rattle.ws_text.proofs.Common.{suc, map-append, AreTyped, AreEach, Wording, RunName, ◌+◌, append-nil, None}
-use Rattle.ws_text.proofs.Common.{MatchOption, ◌*◌, AreHex, ◌^◌, cond, eqb_tells, IsNumber}
+use Rattle.ws_text.proofs.Common.{MatchOption, ◌*◌, IsByteRun, behind_first, ◌^◌, cond, eqb_tells, IsNumber}
 use Rattle.std.specs.Char.{digit_value}
 use Rattle.std.specs.Str.{chars}
 use Rattle.std.specs.Str.Parse.{IsNumeral, digits_value, without_leading_plus}
@@ -85,25 +85,33 @@ not_short word (inr many) bytes is few = omega (arith, many, few, (decode_of-ok 
 
 -- BYTES AS UNITS
 
-pub run_more : {U : Type 0} (w : Wording U) (n : RunName) (bytes : List ℕ) (b : ℕ) (units : List U)
-    → AreEach w n bytes units → w.IsByte n b → AreEach w n (bytes ++ b ∷ []) (units ++ w.byte n b ∷ [])
-run_more w n bytes b units h is =
-    let units_are = ap (λ z. z ++ w.byte n b ∷ []) h.1 ∙ sym (map-append (w.byte n) bytes (b ∷ [])) in
-    (AllByRecursion-append (w.IsByte n) bytes (b ∷ []) h.0 (is, tt), units_are)
+pub first_more : {U : Type 0} (first : Option U) (us vs : List U) → behind_first first us ++ vs
+    ≡ behind_first first (us ++ vs)
+first_more None us vs = refl
+first_more (Some u) us vs = refl
+
+run_more : {U : Type 0} (w : Wording U) (n : RunName) (first : Option U) (bytes : List ℕ) (b : ℕ) (units : List U)
+    → AreEach w n first bytes units → w.IsByte n b → AreEach w n first (bytes ++ b ∷ []) (units ++ w.byte n b ∷ [])
+run_more w n first bytes b units h is = (
+  AllByRecursion-append (w.IsByte n) bytes (b ∷ []) h.0 (is, tt),
+  ap (λ z. z ++ w.byte n b ∷ []) h.1 ∙ first_more first (map (w.byte n) bytes) (w.byte n b ∷ [])
+      ∙ ap (λ z. behind_first first z) (sym (map-append (w.byte n) bytes (b ∷ []))),
+)
 
 -- the units of bytes begin with those of the first bytes
-pub next_unit : {U : Type 0} (w : Wording U) (n : RunName) (bytes front more : List ℕ) (b : ℕ) (all units : List U)
-    → AreEach w n bytes all → AreEach w n front units → bytes ≡ front ++ b ∷ more
+next_unit : {U : Type 0} (w : Wording U) (n : RunName) (first : Option U) (bytes front more : List ℕ) (b : ℕ)
+    (all units : List U) → AreEach w n first bytes all → AreEach w n first front units → bytes ≡ front ++ b ∷ more
     → all ≡ units ++ w.byte n b ∷ map (w.byte n) more
-next_unit w n bytes front more b all units h f e =
-    h.1 ∙ ap (λ z. map (w.byte n) z) e ∙ map-append (w.byte n) front (b ∷ more)
+next_unit w n first bytes front more b all units h f e =
+    h.1 ∙ ap (λ z. behind_first first z) (ap (λ z. map (w.byte n) z) e ∙ map-append (w.byte n) front (b ∷ more))
+    ∙ sym (first_more first (map (w.byte n) front) (w.byte n b ∷ map (w.byte n) more))
     ∙ ap (λ z. z ++ w.byte n b ∷ map (w.byte n) more) (sym f.1)
 
 -- characters so far, and their units
 pub record TypedSoFar {U : Type 0} (w : Wording U) (n : RunName) (characters : List ℕ) (units : List U) : Type 0 where
   pub bytes : List ℕ
   pub typed : map byte_of characters ≡ map (λ b. Some b) bytes
-  pub run : AreEach w n bytes units
+  pub run : AreEach w n None bytes units
 
 pub typed_more : {U : Type 0} {w : Wording U} {n : RunName} (characters : List ℕ) (x b : ℕ) {units : List U}
     → TypedSoFar w n characters units → byte_of x ≡ Some b → w.IsByte n b
@@ -112,7 +120,7 @@ typed_more {w = w} {n = n} characters x b {units = units} h is good = record {
   bytes = h.bytes ++ b ∷ [];
   typed = map-append byte_of characters (x ∷ []) ∙ ap (λ z. z ++ byte_of x ∷ []) h.typed
       ∙ ap (λ o. map (λ y. Some y) h.bytes ++ o ∷ []) is ∙ sym (map-append (λ y. Some y) h.bytes (b ∷ []));
-  run = run_more w n h.bytes b units h.run good;
+  run = run_more w n None h.bytes b units h.run good;
 }
 
 pub typed_all : {U : Type 0} {w : Wording U} {n : RunName} {text characters : List ℕ} {units : List U} → n ≡ w.typed
@@ -120,7 +128,7 @@ pub typed_all : {U : Type 0} {w : Wording U} {n : RunName} {text characters : Li
 typed_all {w = w} {units = units} is e h = record {
   bytes = h.bytes;
   typed = ap (λ z. map byte_of z) (sym e) ∙ h.typed;
-  run = subst (λ (z : RunName). AreEach w z h.bytes units) is h.run;
+  run = subst (λ (z : RunName). AreEach w z None h.bytes units) is h.run;
 }
 
 -- the byte of the next character
@@ -147,7 +155,7 @@ pub next_typed : {U : Type 0} {w : Wording U} {n : RunName} (text characters : L
     → TypedSoFar w n characters units → AreTyped w text all
     → (b : ℕ) × (more : List U) × (byte ≡ Some b) × w.IsByte n b × (all ≡ units ++ w.byte n b ∷ more)
 next_typed {w = w} {n = n} text characters x byte {all = all} named front at is h are =
-    let run = subst (λ (z : RunName). AreEach w z are.bytes all) (sym named) are.run in
+    let run = subst (λ (z : RunName). AreEach w z None are.bytes all) (sym named) are.run in
     let rest = drop (suc (length characters)) (chars text) in
     let cut : chars text ≡ characters ++ x ∷ rest = split_at (chars text) (length characters) x at.0
     ∙ ap (λ z. take (length characters) (chars text) ++ z ∷ rest) (sym at.1) ∙ ap (λ z. z ++ x ∷ rest) (sym front) in
@@ -157,7 +165,7 @@ next_typed {w = w} {n = n} text characters x byte {all = all} named front at is 
       map (w.byte n) found.1,
       is ∙ found.2,
       found.3,
-      next_unit w n _ _ _ _ _ _ run h.run found.4,
+      next_unit w n None _ _ _ _ _ _ run h.run found.4,
     )
 
 -- RUNS OF BYTES IN HEX, PAIR BY PAIR
@@ -184,7 +192,7 @@ pub record RunSoFar {U : Type 0} (w : Wording U) (n : RunName) (word rest : List
   pub bytes : List ℕ
   pub at : ℕ
   pub decoded : decode_pairs 0 word ≡ prepend bytes (decode_pairs at rest)
-  pub run : AreEach w n bytes units
+  pub run : AreEach w n (w.first n) bytes units
 
 -- what the first two digits are
 abbrev IsFirst : List ℕ → Option ℕ → Type 0
@@ -195,8 +203,10 @@ first_is digits (Some x) b h is = ap (λ z. Some z) (byte_same digits x b h is)
 first_is digits None b h is = absurd (h b is)
 
 module _ {U : Type 0} (w : Wording U) (n : RunName) where
-  pub run_begun : (word rest : List ℕ) → rest ≡ word → RunSoFar w n word rest []
-  run_begun word rest e = rw e (record { bytes = []; at = 0; decoded = decode_start word []; run = (tt, refl) })
+  pub run_begun : (word rest : List ℕ) (units : List U) → rest ≡ word → units ≡ behind_first (w.first n) []
+      → RunSoFar w n word rest units
+  run_begun word rest units e is =
+      rw e (record { bytes = []; at = 0; decoded = decode_start word []; run = (tt, is) })
 
   run_goes_on : (word rest behind : List ℕ) (b : ℕ) (units : List U) → RunSoFar w n word rest units
       → IsHexByte (take 2 rest) b → behind ≡ drop 2 rest → w.IsByte n b
@@ -209,7 +219,7 @@ module _ {U : Type 0} (w : Wording U) (n : RunName) where
         decoded = h.decoded ∙ ap (prepend h.bytes) (decode_pairs-ok_pair h.at x y b rest pair)
             ∙ prepend-cons_byte h.bytes b (decode_pairs (h.at + 2) rest)
             ∙ ap (λ z. prepend (h.bytes ++ b ∷ []) (decode_pairs (h.at + 2) z)) (sym e);
-        run = run_more w n h.bytes b units h.run good;
+        run = run_more w n (w.first n) h.bytes b units h.run good;
       }
   run_goes_on word rest behind b units h is e good = absurd (omega (arith, (decode_of-ok (take 2 rest) (b ∷ []) is).2))
 
@@ -241,7 +251,7 @@ module _ {U : Type 0} (w : Wording U) (n : RunName) where
 
   -- what the digits are begins with the units so far and that of the next two digits
   pub next_of_run : (word rest : List ℕ) (first : Option ℕ) {units all : List U} → (rest ≡ [] → ⊥)
-      → IsFirst (take 2 rest) first → RunSoFar w n word rest units → AreHex w n word all
+      → IsFirst (take 2 rest) first → RunSoFar w n word rest units → IsByteRun w n word all
       → (b : ℕ) × (more : List U) × (first ≡ Some b) × w.IsByte n b × (all ≡ units ++ w.byte n b ∷ more)
   unfolding decode_pairs
   next_of_run word [] first some is h r = absurd (some refl)
@@ -250,11 +260,11 @@ module _ {U : Type 0} (w : Wording U) (n : RunName) where
       let found = next_pair h.bytes r.0 x y h.at (pair_value x y h.at) (decode_pairs (h.at + 2) rest) refl
       (sym (in_pairs word r.0 r.1.1) ∙ h.decoded) r.2.0 in
       let read = first_is (x ∷ y ∷ []) first found.0 is found.2 in
-      (found.0, map (w.byte n) found.1, read, found.3, next_unit w n _ _ _ _ _ _ r.2 h.run found.4)
+      (found.0, map (w.byte n) found.1, read, found.3, next_unit w n (w.first n) _ _ _ _ _ _ r.2 h.run found.4)
 
   -- all digits are read
   pub whole_run : {word rest : List ℕ} {units : List U} → (word ≡ [] → ⊥) → rest ≡ [] → RunSoFar w n word rest units
-      → AreHex w n word units
+      → IsByteRun w n word units
   unfolding decode_pairs
   whole_run {word = word} some e h =
       let all : decode_pairs 0 word ≡ Ok h.bytes = h.decoded ∙ ap (λ z. prepend h.bytes (decode_pairs h.at z)) e

@@ -1,12 +1,12 @@
 -- A text that goes out in parts.
 
 use Rattle.ws_text.proofs.Common.{◌∙◌, ap, ◌≡◌, arith, refl, sym, [], length, ◌∷◌, List, ℕ, ◌++◌, subst, take, ◌+◌, ◌<◌}
-use Rattle.ws_text.proofs.Common.{codes, false, true, get_or, ◌≤◌, append_assoc, decimal, append-nil, ◌==◌, ◌^◌, ◌/◌}
-use Rattle.ws_text.proofs.Common.{slice_index, ◌%◌, length-append, false≢true, take_more, encode_upper}
-use Rattle.ws_text.proofs.Common.{hex_behind_blank, Prints, Output, Failed, Open}
+use Rattle.ws_text.proofs.Common.{codes, false, true, get_or, append_assoc, append-nil, ◌==◌, ◌/◌, slice_index, ◌%◌}
+use Rattle.ws_text.proofs.Common.{length-append, false≢true, take_more, encode_upper, hex_behind_blank, Prints, Output}
+use Rattle.ws_text.proofs.Common.{Open}
 use Rattle.std.proofs.lemmas.List.{take-append-le}
 use Rattle.hex.specs.Hex.{encode_with}
-use Rattle.ws_code.specs.Device.{Writer, WentOut, FailedAfter, FailedWithin}
+use Rattle.ws_code.specs.Device.{Writer, FailedAfter, FailedWithin}
 use Rattle.ws_code.proofs.DeviceLaws.{went_out_none}
 use Rattle.ws_text.specs.Printing.{IsOut}
 use Rattle.ws_text.proofs.LineEnds.{filled}

@@ -6,7 +6,7 @@ use Rattle.ws_text.proofs.Common.{flat_map-append, take_more, encode_upper, uppe
 use Rattle.ws_text.proofs.Common.{RunName}
 use Rattle.std.proofs.lemmas.List.{drop_more}
 use Rattle.ws_record.specs.Grammar.{two_bytes}
-use Rattle.ws_text.specs.Lined.{lead, run_line, run_of, runs_of, unit_text, with_byte, with_unit}
+use Rattle.ws_text.specs.Wording.{lead, run_line, byte_run, runs_of, unit_text, with_byte, with_unit}
 use Rattle.ws_text.specs.declared.lined.RunName.TheVariants.{Cells, Fields, Reply}
 use Rattle.ws_text.proofs.Prints.{encode_append}
 
@@ -54,7 +54,7 @@ module _ {U : Type 0} (line : U → List ℕ) where
   byte_behind before n b runs = append_assoc (lead before n) (encode_upper (b ∷ [])) (lines_of runs)
 
   unit_behind : (before : Option RunName) (o : Option (RunName × ℕ)) (u : U) (runs : List (UnitRun U))
-      → unit_text before o (line u) ++ runs_behind (run_of o) runs ≡ runs_behind before (with_unit o u runs)
+      → unit_text before o (line u) ++ runs_behind (byte_run o) runs ≡ runs_behind before (with_unit o u runs)
   unit_behind before (Some (n, b)) u runs = byte_behind before n b runs
   unit_behind before None u runs = ap (λ z. line u ++ z) (none_behind runs)
 
@@ -62,7 +62,7 @@ pub units_more : {U : Type 0} (byte_of : U → Option (RunName × ℕ)) (line : 
     (before : Option RunName) (u : U) (printed : List ℕ) {all : List ℕ} → i < length us → u ≡ get_or us i u
     → all ≡ printed ++ runs_behind line before (runs_of byte_of (drop i us))
     → all ≡ (printed ++ unit_text before (byte_of u) (line u))
-    ++ runs_behind line (run_of (byte_of u)) (runs_of byte_of (drop (i + 1) us))
+    ++ runs_behind line (byte_run (byte_of u)) (runs_of byte_of (drop (i + 1) us))
 units_more byte_of line us i before u printed h is e =
     let cut : drop i us ≡ u ∷ drop (i + 1) us = drop_more us i u h ∙ ap (λ z. z ∷ drop (i + 1) us) (sym is) in
     e ∙ ap (λ z. printed ++ runs_behind line before (runs_of byte_of z)) cut

@@ -10,7 +10,6 @@ pub mod FirstLine
 pub mod ItemLines
 pub mod Items
 pub mod BodyLines
-pub mod Lined
 pub mod Names
 pub mod WordLaws
 pub mod Wording

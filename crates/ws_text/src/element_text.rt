@@ -1,5 +1,5 @@
 //! The lines of a host's elements, and of the parts of a station's answer.
-ghost use Rattle.std.specs.Prelude.{◌≡◌, ◌++◌, codes};
+ghost use Rattle.std.specs.Prelude.{◌++◌, codes};
 ghost use Rattle.ws_text.specs.AnswerLines as Answer;
 ghost use Rattle.ws_text.specs.ItemLines as Shown;
 ghost use Rattle.ws_text.specs.Printing.{Prints};

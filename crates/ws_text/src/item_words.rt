@@ -1,5 +1,5 @@
 //! A record's header and a Telnet command by their words.
-ghost use Rattle.std.specs.Prelude.{◌≡◌, ℕ, List, map, MatchOption, ◌≤◌, length};
+ghost use Rattle.std.specs.Prelude.{ℕ, List, map, MatchOption, ◌≤◌, length};
 ghost use Rattle.ws_record.specs.declared.opcode.Opcode.{Opcode as AnOpcode};
 ghost use Rattle.ws_telnet.specs.declared.token.Telnet.{Telnet as ATelnet};
 ghost use Rattle.ws_text.specs.ElementWords.{AreBytesInWord};

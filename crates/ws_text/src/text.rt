@@ -1,5 +1,5 @@
 //! A text as a value: what it is in bytes, and how it goes out into a sink; numbers, bytes, cells and characters.
-ghost use Rattle.std.specs.Prelude.{◌≡◌, ◌++◌, [], List, ℕ, OnOk, IfErr, None, Some, encode_utf8};
+ghost use Rattle.std.specs.Prelude.{◌≡◌, ◌++◌, List, ℕ, OnOk, IfErr, None, Some, encode_utf8};
 ghost use Rattle.std.specs.List.{flat_map};
 ghost use Rattle.ws_code.specs.Device.{WentOut, FailedWithin};
 ghost use Rattle.ws_text.specs.Printing.{Prints, text_where};
