@@ -44,6 +44,7 @@ fn read_opcode(name: &str, number: &str) -> Option<Opcode>
 }
 
 /// The Telnet command of a name and the words behind it.
+#[tactic(auto, using(crate::proofs::LineWords::behind_one, crate::proofs::LineWords::unequal_not))]
 pub(crate) fn read_telnet(name: &str, words: &[&str]) -> Option<Telnet>
     ensures { MatchOption result
         ((t : ATelnet) → Spec.IsTelnetText name.now (map (λ w. w.now) words.now) t → ⊥)
