@@ -1,6 +1,5 @@
 pub mod Buffers
 pub mod CheckLemmas
-pub mod ColoredCells
 pub mod LastBlanks
 pub mod LiveDisplays
 pub mod PageChars

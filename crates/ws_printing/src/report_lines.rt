@@ -37,8 +37,13 @@ fn put_status<O: Sink>(out: &mut O, output: Output, station: StationStatus<'_>) 
     ensures { Prints O.writer out.old out.new output result
         (Spec.status_line (Spec.reported_by station.entry)) }
 {
+    let screen = station.screen;
     texts!(
-        Operator(station.screen, station.is_ready),
+        "status ",
+        lock_name(screen.locked()),
+        ready_name(station.is_ready),
+        Cell(screen.cursor()),
+        FieldNumber(screen),
         " records ",
         Number(station.records),
         " bytes ",
@@ -46,26 +51,6 @@ fn put_status<O: Sink>(out: &mut O, output: Output, station: StationStatus<'_>) 
         "\n"
     )
     .put_to(out, output)
-}
-
-// The lock, whether the station is ready, and the cursor with its field.
-#[derive(Clone, Copy)]
-struct Operator<'a>(&'a Screen, bool);
-
-impl Text for Operator<'_> {
-    ghost text = { λ o. Spec.operator_words o.0.now o.1 };
-
-    fn put_to<S: Sink>(&self, sink: &mut S, output: Output) -> Output {
-        let screen = self.0;
-        texts!(
-            "status ",
-            lock_name(screen.locked()),
-            ready_name(self.1),
-            Cell(screen.cursor()),
-            FieldNumber(screen)
-        )
-        .put_to(sink, output)
-    }
 }
 
 fn ready_name(is_ready: bool) -> &'static str
@@ -116,16 +101,14 @@ fn put_cells<O: Sink>(out: &mut O, output: Output, screen: &Screen, cell: Addres
         (Spec.cells_line screen.now.cells cell) }
 {
     let number = cell.row();
-    let held = Hex(row_bytes(screen, number));
     let shown = screen.row(number);
-    let attributes = EachAs(&shown, Attributes);
     texts!(
         "cells ",
         Number(number as u64),
         " ",
-        held,
+        Hex(row_bytes(screen, number)),
         " ",
-        attributes,
+        EachAs(&shown, Attributes),
         "\n"
     )
     .put_to(out, output)

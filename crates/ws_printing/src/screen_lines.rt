@@ -1,6 +1,5 @@
 //! The lines of a screen.
 ghost use Rattle.std.specs.Prelude.{◌≡◌, ◌≤◌, List, ℕ};
-ghost use Rattle.ws_code.specs.declared.address.TheConstants.{ROWS as ALL_ROWS};
 ghost use Rattle.ws_printing.specs.ScreenLines as Spec;
 ghost use Rattle.ws_text.specs.Printing.{Prints};
 
@@ -47,24 +46,23 @@ impl Text for ScreenLines<'_> {
     ghost text = { λ l. Spec.screen_text l.0 l.1.now };
 
     fn put_to<S: Sink>(&self, sink: &mut S, output: Output) -> Output {
-        texts!("screen\n", Rows(self.0, self.1), StateLine(self.1)).put_to(sink, output)
+        let output = "screen\n".put_to(sink, output);
+        let output = put_rows(sink, output, self.0, self.1, ROWS);
+        put_state(sink, output, self.1)
     }
 }
 
-// The lines of all rows.
-#[derive(Clone, Copy)]
-struct Rows<'a>(Look, &'a Screen);
-
-impl Text for Rows<'_> {
-    ghost text = { λ r. Spec.rows_text r.0 r.1.now.cells ALL_ROWS };
-
-    fn put_to<S: Sink>(&self, sink: &mut S, output: Output) -> Output {
-        let mut output = output;
-        for row in 1..=ROWS {
-            output = put_row(sink, output, self.0, self.1, row);
-        }
-        output
+// Writes the lines of the first rows, so many.
+fn put_rows<S: Sink>(sink: &mut S, output: Output, look: Look, screen: &Screen, rows: u8) -> Output
+    requires { rows ≤ ROWS }
+    ensures { Prints S.writer sink.old sink.new output result
+        (Spec.rows_text look screen.now.cells rows) }
+{
+    if rows == 0 {
+        return output;
     }
+    let output = put_rows(sink, output, look, screen, rows - 1);
+    put_row(sink, output, look, screen, rows)
 }
 
 // Writes a row's line, if it isn't all blank.
@@ -111,30 +109,24 @@ impl Text for Painted<'_> {
     }
 }
 
-// The cursor, the keyboard's lock, message light and blinking cursor, and the number of fields.
-#[derive(Clone, Copy)]
-struct StateLine<'a>(&'a Screen);
-
-impl Text for StateLine<'_> {
-    ghost text = { λ s. Spec.state_line s.0.now };
-
-    fn put_to<S: Sink>(&self, sink: &mut S, output: Output) -> Output {
-        let screen = self.0;
-        texts!(
-            "cursor ",
-            Cell(screen.cursor()),
-            ", ",
-            lock_name(screen.locked()),
-            ", message ",
-            on_or_off(screen.message()),
-            ", blink ",
-            on_or_off(screen.blink()),
-            ", fields ",
-            Number(screen.field_count() as u64),
-            "\n"
-        )
-        .put_to(sink, output)
-    }
+// Writes the cursor, the keyboard's lock, message light and blinking cursor, and the number of fields.
+fn put_state<S: Sink>(sink: &mut S, output: Output, screen: &Screen) -> Output
+    ensures { Prints S.writer sink.old sink.new output result (Spec.state_line screen.now) }
+{
+    texts!(
+        "cursor ",
+        Cell(screen.cursor()),
+        ", ",
+        lock_name(screen.locked()),
+        ", message ",
+        on_or_off(screen.message()),
+        ", blink ",
+        on_or_off(screen.blink()),
+        ", fields ",
+        Number(screen.field_count() as u64),
+        "\n"
+    )
+    .put_to(sink, output)
 }
 
 /// How the keyboard is.

@@ -18,6 +18,7 @@ pub fn page_037() -> CodePage
 }
 
 /// On page 037 each cell shows what the screen says that it shows (`Screen::row`).
+#[tactic(auto, using(crate::proofs::PageChars::shows_as_screen))]
 pub fn page_037_shows_as_screen()
     ensures { Spec.ShowsAsScreen }
 {}

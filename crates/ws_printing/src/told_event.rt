@@ -20,7 +20,10 @@ pub fn put_told<S: Sink>(sink: &mut S, output: Output, event: &HostEvent) -> Out
             let fields = EachAs(answer.fields.as_slice(), ToldField);
             texts!(AnswerLine(answer), fields).put_to(sink, output)
         }
-        _ => As(event, Play).put_to(sink, output),
+        HostEvent::Ready(_)
+        | HostEvent::Attention
+        | HostEvent::SystemRequest
+        | HostEvent::Cancelled => As(event, Play).put_to(sink, output),
     }
 }
 

@@ -15,10 +15,7 @@ impl NamedKey for ExtendedKey {
         if name == "Reset" {
             return Some(ExtendedKey::Reset);
         }
-        match key_named(name) {
-            Some(key) => Some(ExtendedKey::Profile(key)),
-            None => None,
-        }
+        key_named(name).map(ExtendedKey::Profile)
     }
 
     fn from_profile(key: Key) -> ExtendedKey {

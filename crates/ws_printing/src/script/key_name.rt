@@ -10,21 +10,16 @@ use ws_keys::Key;
 pub(crate) fn key_named(name: &str) -> Option<Key>
     ensures { result ≡ Spec.key_named name.now }
 {
-    if let Some(key) = plain_key(name) {
-        return Some(key);
-    }
-    if let Some(key) = answering_key(name) {
-        return Some(key);
-    }
-    function_key(name)
+    plain_key(name)
+        .or(answering_key(name))
+        .or(function_key(name))
 }
 
 /// The AID of the key that has this name in a script, where it answers a read.
 pub fn aid_named(name: &str) -> Option<Aid>
     ensures { result ≡ Spec.aid_named name.now }
 {
-    let key = key_named(name)?;
-    match key {
+    match key_named(name)? {
         Key::Aid(aid) => Some(aid),
         _ => None,
     }
@@ -71,10 +66,7 @@ fn answering_key(name: &str) -> Option<Key>
 fn aid_key(byte: u8) -> Option<Key>
     ensures { is_aid byte ≡ true → result ≡ Some (Key.Aid byte) }
 {
-    match Aid::from_byte(byte) {
-        Some(aid) => Some(Key::Aid(aid)),
-        None => None,
-    }
+    Aid::from_byte(byte).map(Key::Aid)
 }
 
 fn function_key(name: &str) -> Option<Key>
@@ -113,8 +105,5 @@ fn function_key(name: &str) -> Option<Key>
 fn numbered_key(number: u8) -> Option<Key>
     ensures { 1 ≤ number → number ≤ 24 → result ≡ Some (Spec.function_key number) }
 {
-    match Aid::function(number) {
-        Some(aid) => Some(Key::Aid(aid)),
-        None => None,
-    }
+    Aid::function(number).map(Key::Aid)
 }

@@ -1,5 +1,5 @@
 //! A line that is one move: a send, a key, or bytes that arrive.
-ghost use Rattle.std.specs.Prelude.{◌≡◌, ◌++◌, true, codes, IfOk, IfErr, MatchOption};
+ghost use Rattle.std.specs.Prelude.{◌≡◌, ◌++◌, true, codes, ℕ, IfOk, IfErr, MatchOption};
 ghost use Rattle.ws_record.specs.Body.{IsBody};
 ghost use Rattle.ws_stream.specs.Elements.{element_rules};
 ghost use Rattle.ws_printing.specs.script.Script as Spec;
@@ -41,8 +41,14 @@ pub fn read_move(alloc: Global, command: &str, words: &str) -> Result<Move, Scri
 {
     match command {
         "send" => read_send(alloc, words),
-        "down" => Ok(Move::ToStation(read_count(words)?)),
-        "up" => Ok(Move::ToHost(read_count(words)?)),
+        "down" => match read_count(words) {
+            Some(count) => Ok(Move::ToStation(count)),
+            None => Err(ScriptFault::Line(1)),
+        },
+        "up" => match read_count(words) {
+            Some(count) => Ok(Move::ToHost(count)),
+            None => Err(ScriptFault::Line(1)),
+        },
         "key" => match key_named(words) {
             Some(key) => Ok(Move::Key(key)),
             None => Err(ScriptFault::Line(1)),
@@ -115,15 +121,15 @@ fn read_elements(alloc: Global, bytes: &[u8]) -> Result<Vec<Element>, ScriptFaul
 }
 
 // How many bytes arrive.
-fn read_count(word: &str) -> Result<usize, ScriptFault>
-    ensures ok { IfOk result (Spec.IsCount word.now) }
-    ensures fault { IfErr result (IsLineFault (Spec.IsCount word.now) ⊥) }
+fn read_count(word: &str) -> Option<usize>
+    ensures { MatchOption result ((n : ℕ) → Spec.IsCount word.now n → ⊥)
+        (Spec.IsCount word.now) }
 {
     if word == "all" {
-        return Ok(usize::MAX);
+        return Some(usize::MAX);
     }
     match read_number(word) {
-        Some(number) => Ok(number as usize),
-        None => Err(ScriptFault::Line(1)),
+        Some(number) => Some(number as usize),
+        None => None,
     }
 }

@@ -1,29 +1,25 @@
 use Rattle.std.specs.Prelude.{codes}
 use Rattle.std.proofs.Common.{◌++◌, ℕ, List, ap, subst, refl}
-use Rattle.std.proofs.lemmas.Result.{err_from_is_err_and, IfErr-weaker}
-use Rattle.ws_printing.specs.script.Script.{IsMove, IsCount}
+use Rattle.std.proofs.lemmas.Result.{IfErr-weaker}
+use Rattle.ws_printing.specs.script.Script.{IsMove}
 use Rattle.ws_printing.specs.script.ScriptFaults.{IsLineFault, IsSendBegun, IsSendLine}
 use Rattle.ws_printing.proofs.Scripts.{no_move, not_both, fault_on}
 use Rattle.ws_printing.proofs.script.script_move.read_move.Goals as goal
 
-pub returns-in_err-read_count-in-down-clause-fault : goal.returns-in_err-read_count-in-down-clause-fault
-returns-in_err-read_count-in-down-clause-fault c =
-    let p = err_from_is_err_and c.from_residual.result c.from_residual.ensures.1 in
-    rw (p.1, p.2) (fault_on (IsCount c.args.words.now) (IsMove ((c.args.command.now ++ codes " ") ++ c.args.words.now)) _
-    (λ none. no_move _ _ c.requires (not_both (codes "down") (codes "send") refl c.in-down.is) (λ e. none)
-    (not_both (codes "down") (codes "up") refl c.in-down.is) (not_both (codes "down") (codes "key") refl c.in-down.is))
-    (λ (h : ⊥). absurd h)
-    c.in_err-read_count-in-down.ensures.fault)
+pub returns-in-None-clause-fault : goal.returns-in-None-clause-fault
+returns-in-None-clause-fault c = (
+  refl,
+  no_move _ _ c.requires (not_both (codes "down") (codes "send") refl c.in-down.is) (λ e. c.in-None.ensures)
+      (not_both (codes "down") (codes "up") refl c.in-down.is) (not_both (codes "down") (codes "key") refl c.in-down.is),
+)
 
-pub returns-in_err-read_count-in-up-clause-fault : goal.returns-in_err-read_count-in-up-clause-fault
-returns-in_err-read_count-in-up-clause-fault c =
-    let p = err_from_is_err_and c.from_residual-in_err-read_count-in-up.result
-    c.from_residual-in_err-read_count-in-up.ensures.1 in
-    rw (p.1, p.2) (fault_on (IsCount c.args.words.now) (IsMove ((c.args.command.now ++ codes " ") ++ c.args.words.now)) _
-    (λ none. no_move _ _ c.requires (not_both (codes "up") (codes "send") refl c.in-up.is)
-    (not_both (codes "up") (codes "down") refl c.in-up.is) (λ e. none)
-    (not_both (codes "up") (codes "key") refl c.in-up.is)) (λ (h : ⊥). absurd h)
-    c.in_err-read_count-in-up.ensures.fault)
+pub returns-in-None-read_count-clause-fault : goal.returns-in-None-read_count-clause-fault
+returns-in-None-read_count-clause-fault c = (
+  refl,
+  no_move _ _ c.requires (not_both (codes "up") (codes "send") refl c.in-up.is)
+      (not_both (codes "up") (codes "down") refl c.in-up.is) (λ e. c.in-None-read_count.ensures)
+      (not_both (codes "up") (codes "key") refl c.in-up.is),
+)
 
 pub returns-in_default-clause-fault : goal.returns-in_default-clause-fault
 returns-in_default-clause-fault c = (
