@@ -105,6 +105,7 @@ impl<B: Body> Checker<B> {
 /// # Errors
 ///
 /// `Write` where the sink failed; no other comes.
+#[tactic(auto, using(crate::proofs::CheckLemmas::line_printed))]
 pub fn check_to<B: Body, S: Sink>(
     _alloc: Global,
     bytes: &[u8],

@@ -35,6 +35,7 @@ pub fn show_cells_on(page: CodePage, screen: &Screen, first: Address, shown: &mu
 }
 
 /// What the 80 cells of a row from 1 to 24 show on a page.
+#[tactic(auto, unfolding(crate::specs::ShownOnPage::row_on_page))]
 pub fn row_on(page: CodePage, screen: &Screen, row: u8) -> [Shown; COLUMNS as usize]
     requires low { 1 ≤ row }
     requires high { row ≤ ROWS }

@@ -5,9 +5,6 @@ use Rattle.ws_printing.specs.ShownOnPage.{row_on_page}
 use Rattle.ws_printing.specs.ShownTexts.{text_of_shown}
 use Rattle.ws_printing.proofs.shown_text.shows.Goals as goal
 
-pub loop-row-init : goal.loop-row-init
-loop-row-init c = λ row high low found. absurd (omega arith)
-
 pub returns-then-row_shows-clause-shown : goal.returns-then-row_shows-clause-shown
 returns-then-row_shows-clause-shown c = λ yes.
     let at = c.row_shows.ensures.shown c.if-row_shows.true in

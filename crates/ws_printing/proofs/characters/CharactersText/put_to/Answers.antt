@@ -6,9 +6,6 @@ use Rattle.ws_text.proofs.Texts.{flat_map_more}
 use Rattle.ws_printing.specs.Characters.{characters_text}
 use Rattle.ws_printing.proofs.characters.CharactersText.put_to.Goals as goal
 
-pub loop-one-init : goal.loop-one-init
-loop-one-init g c = prints_none g.S.Sink.writer c.args.sink.now c.args.output
-
 pub loop-one-preserved : goal.loop-one-preserved
 loop-one-preserved g c =
     let shows = g.T.ShowsCharacter.shows in
