@@ -14,7 +14,7 @@ use Rattle.ws_record.specs.Grammar.{Holds, IsStretch, commands}
 use Rattle.ws_record.specs.declared.record.Item.{Item}
 use Rattle.ws_record.specs.declared.record.Item.TheVariants.{Record as RecordItem, Telnet as TelnetItem}
 use Rattle.ws_record.specs.declared.record.Record.{Record}
-use Rattle.ws_trace.specs.Ends.{Tracing, EndAt, AreHeard, IsHeardByte, IsWholeItem, carry_fault, made_of, told_with}
+use Rattle.ws_trace.specs.Ends.{Tracing, EndAt, AreSteps, IsHeard, IsWholeItem, carry_fault, made_of, told_with}
 use Rattle.ws_trace.specs.Reading.{StreamStanding, IsNextByte, told_of_passed}
 use Rattle.ws_trace.specs.Reading.StreamStanding.{Reads, Passes}
 use Rattle.ws_trace.specs.Readers.{ReaderParts, IsNextOf}
@@ -66,6 +66,25 @@ pub on_ok : {X E : Type 0} {P Q : Type 0} (r : Result X E) → OnOk r P → (P �
 on_ok (Ok v) p f = f p
 on_ok (Err e) p f = tt
 
+-- Steps one after another.
+
+module _ {At X T : Type 0} (IsStep : At → X → List T → At → Type 0) where
+  pub one_step : (at : At) (x : X) (entries : List T) (next : At) → IsStep at x entries next
+      → AreSteps IsStep at (x ∷ []) entries next
+  one_step at x entries next s = (next, entries, [], s, (refl, refl), sym (append-nil entries))
+
+  pub steps_both : (at mid next : At) (xs ys : List X) (entries more : List T) → AreSteps IsStep at xs entries mid
+      → AreSteps IsStep mid ys more next → AreSteps IsStep at (xs ++ ys) (entries ++ more) next
+  steps_both at mid next [] ys entries more h k = rw (h.0, ← h.1) k
+  steps_both at mid next (x ∷ xs) ys entries more h k = (
+    h.0,
+    h.1,
+    h.2 ++ more,
+    h.3,
+    steps_both h.0 mid next xs ys h.2 more h.4 k,
+    ap (λ z. z ++ more) h.5 ∙ append_assoc h.1 h.2 more,
+  )
+
 -- What bytes add.
 
 module _ {Place U State T : Type 0} (rules : Rules Place U) (end : Tracing U State) (put : ℕ → Told U → T) where
@@ -73,42 +92,17 @@ module _ {Place U State T : Type 0} (rules : Rules Place U) (end : Tracing U Sta
   abbrev pub EntriesOf : EndAt U State → Option (Told U) → List T
   EntriesOf at came = map (put at.taken) (told_with came (carry_fault end at.state came))
 
-  -- a byte more
-  heard_more : (at mid next : EndAt U State) (bytes : List ℕ) (entries : List T) (byte : ℕ)
-      (came : Option (Told U)) → AreHeard rules end put at bytes entries mid → IsHeardByte rules end mid byte came next
-      → AreHeard rules end put at (bytes ++ byte ∷ []) (entries ++ EntriesOf mid came) next
-  heard_more at mid next [] entries byte came h one = (
-    came,
-    next,
-    [],
-    subst (λ (z : EndAt U State). IsHeardByte rules end z byte came next) h.1 one,
-    (refl, refl),
-    ap (λ z. z ++ EntriesOf mid came) h.0 ∙ ap (λ (z : EndAt U State). EntriesOf z came) h.1
-        ∙ sym (append-nil (EntriesOf at came)),
-  )
-  heard_more at mid next (b ∷ bytes) entries byte came h one = (
-    h.0,
-    h.1,
-    h.2 ++ EntriesOf mid came,
-    h.3,
-    heard_more h.1 mid next bytes h.2 byte came h.4 one,
-    ap (λ z. z ++ EntriesOf mid came) h.5 ∙ append_assoc (EntriesOf at h.0) h.2 (EntriesOf mid came),
-  )
-
-  -- what a byte adds after others
+  -- what bytes add after others
   pub added_more : {at : EndAt U State} {bytes : List ℕ} {before mid after : List T} {byte : ℕ}
       {IsThere IsNext : EndAt U State → Type 0} → (a : IsAdded rules end put at bytes before mid IsThere)
       → IsAdded rules end put a.next (byte ∷ []) mid after IsNext
       → IsAdded rules end put at (bytes ++ byte ∷ []) before after IsNext
-  added_more {at} {bytes} {before} {mid} {after} {byte} {IsThere} {IsNext} a b = record {
+  added_more {at} {bytes} {before} {mid} {after} {byte} a b = record {
     next = b.next;
-    added = a.added ++ EntriesOf a.next b.heard.0;
-    heard = heard_more at a.next b.next bytes a.added byte b.heard.0 a.heard
-        (subst (λ (z : EndAt U State). IsHeardByte rules end a.next byte b.heard.0 z) (sym b.heard.4.1) b.heard.3);
+    added = a.added ++ b.added;
+    heard = steps_both (IsHeard rules end put) at a.next b.next bytes (byte ∷ []) a.added b.added a.heard b.heard;
     there = b.there;
-    entries = b.entries ∙ ap (λ z. mid ++ z) (b.heard.5 ∙ ap (λ z. EntriesOf a.next b.heard.0 ++ z) b.heard.4.0
-        ∙ append-nil (EntriesOf a.next b.heard.0)) ∙ ap (λ z. z ++ EntriesOf a.next b.heard.0) a.entries
-        ∙ append_assoc before a.added (EntriesOf a.next b.heard.0);
+    entries = b.entries ∙ ap (λ z. z ++ b.added) a.entries ∙ append_assoc before a.added b.added;
   }
 
   -- none adds nothing
@@ -148,14 +142,8 @@ module _ {Place U State T : Type 0} (rules : Rules Place U) (end : Tracing U Sta
         } in record {
           next = next;
           added = EntriesOf at came;
-          heard = (
-            came,
-            next,
-            [],
-            record { read = stood.1; made = refl; counted = refl },
-            (refl, refl),
-            sym (append-nil (EntriesOf at came)),
-          );
+          heard = one_step (IsHeard rules end put) at byte (EntriesOf at came) next
+              (came, record { read = stood.1; made = refl; counted = refl }, refl);
           there = record { stands = stood.2; made = makes at.state t.made; counted = one ∙ ap (λ n. n + 1) t.counted };
           entries = is;
         }

@@ -1,6 +1,6 @@
 -- The dialogue of both ends: what their streams tell, in the order in which the pieces came that end it.
 
-use Rattle.std.specs.Prelude.{◌≡◌, ℕ, List, [], ◌∷◌, ◌++◌}
+use Rattle.std.specs.Prelude.{◌≡◌, ℕ, List}
 use Rattle.ws_extended.specs.ExtendedAnswers.{extended_answer_rules}
 use Rattle.ws_extended.specs.ExtendedElements.{extended_rules}
 use Rattle.ws_extended.specs.ExtendedStates.{ExtendedState}
@@ -8,7 +8,7 @@ use Rattle.ws_extended.specs.declared.extended_answer_part.ExtendedAnswerPart.{E
 use Rattle.ws_extended.specs.declared.extended_element.ExtendedElement.{ExtendedElement}
 use Rattle.ws_trace.specs.BothEnds.{host_end, station_end}
 use Rattle.ws_trace.specs.Counts.{IsEndCount}
-use Rattle.ws_trace.specs.Ends.{EndAt, AreHeard, end_begins, entry_at}
+use Rattle.ws_trace.specs.Ends.{EndAt, AreHeard, AreSteps, end_begins, entry_at}
 use Rattle.ws_trace.specs.declared.entry.EndTold.TheVariants as told_of
 use Rattle.ws_trace.specs.declared.dialogue.Dialogue.{Dialogue}
 use Rattle.ws_trace.specs.declared.entry.Entry.{Entry}
@@ -32,12 +32,14 @@ IsHeardOf Host time bytes at entries next = AreHeard extended_rules host_end (en
 IsHeardOf Station time bytes at entries next = AreHeard extended_answer_rules station_end
     (entry_at told_of.Station time) at.station bytes entries next.station × (next.host ≡ at.host)
 
+-- a piece came: its entries, and where both streams are then
+abbrev pub IsHeardPiece : BothAt → Piece → List Entry → BothAt → Type 0
+IsHeardPiece at piece entries next =
+    IsHeardOf piece.sender piece.milliseconds piece.bytes.items at entries next
+
 -- pieces came one after another: the entries of all, and where both streams are then
 abbrev pub AreAllHeard : BothAt → List Piece → List Entry → BothAt → Type 0
-AreAllHeard at [] entries next = (entries ≡ []) × (next ≡ at)
-AreAllHeard at (piece ∷ pieces) entries next = (mid : BothAt) × (now rest : List Entry)
-    × IsHeardOf piece.sender piece.milliseconds piece.bytes.items at now mid
-    × AreAllHeard mid pieces rest next × (entries ≡ now ++ rest)
+AreAllHeard = AreSteps IsHeardPiece
 
 -- the dialogue of the pieces
 pub record IsDialogue (pieces : List Piece) (dialogue : Dialogue) : Type 0 where

@@ -42,6 +42,12 @@ abbrev pub made_unless : {State : Type 0} → State → State → Option Reason 
 made_unless before after None = after
 made_unless before after (Some reason) = before
 
+-- steps one after another: what each adds, and where it leads
+abbrev pub AreSteps : {At X T : Type 0} → (At → X → List T → At → Type 0) → At → List X → List T → At → Type 0
+AreSteps IsStep at [] entries next = (entries ≡ []) × (next ≡ at)
+AreSteps {At} {X} {T} IsStep at (x ∷ xs) entries next = (mid : At) × (now rest : List T) × IsStep at x now mid
+    × AreSteps IsStep mid xs rest next × (entries ≡ now ++ rest)
+
 -- the entry of what is told of a byte at a time and a place
 abbrev pub entry_at : {U : Type 0} → (Told U → EndTold) → ℕ → ℕ → Told U → Entry
 entry_at as_told time place told = record { milliseconds = time; place = place; told = as_told told }
@@ -67,10 +73,11 @@ module _ {Place U State : Type 0} (rules : Rules Place U) (end : Tracing U State
     pub made : next.state ≡ made_of end at.state came
     pub counted : next.taken ≡ at.taken + 1
 
-  -- bytes that came one after another: what is told of each, put as this says by its place, and where the stream is
-  -- after them
+  -- the same, and what is told of it, put as this says by its place
+  abbrev pub IsHeard : {T : Type 0} → (ℕ → Told U → T) → EndAt U State → ℕ → List T → EndAt U State → Type 0
+  IsHeard put at byte entries next = (came : Option (Told U)) × IsHeardByte at byte came next
+      × (entries ≡ map (put at.taken) (told_with came (carry_fault end at.state came)))
+
+  -- bytes that came one after another: what is told of them, and where the stream is after them
   abbrev pub AreHeard : {T : Type 0} → (ℕ → Told U → T) → EndAt U State → List ℕ → List T → EndAt U State → Type 0
-  AreHeard put at [] entries next = (entries ≡ []) × (next ≡ at)
-  AreHeard {T} put at (byte ∷ bytes) entries next = (came : Option (Told U)) × (mid : EndAt U State) × (rest : List T)
-      × IsHeardByte at byte came mid × AreHeard put mid bytes rest next
-      × (entries ≡ map (put at.taken) (told_with came (carry_fault end at.state came)) ++ rest)
+  AreHeard put at bytes entries next = AreSteps (IsHeard put) at bytes entries next

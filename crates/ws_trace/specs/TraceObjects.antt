@@ -1,17 +1,12 @@
 -- Entries of a dialogue as objects of JSON (RFC 8259), whose first members are the time, if it is told, and the sender;
 -- and an object for each end.
 
-use Rattle.std.specs.Prelude.{Bool, ℕ, ◌-◌, List, ◌++◌, codes, if◌then◌else◌}
+use Rattle.std.specs.Prelude.{Bool, ℕ, List, ◌++◌, codes, if◌then◌else◌}
 use Rattle.std.specs.Fmt.{decimal}
 use Rattle.hex.specs.Hex.{encode_upper}
 use Rattle.ws_json.specs.JsonTexts.{json_item, json_refusal}
-use Rattle.ws_text.specs.ExtendedAnswerLines.{told_lines}
-use Rattle.ws_text.specs.ExtendedLines.{extended_lines}
-use Rattle.ws_trace.specs.TraceText.{BothSent, eight_before, eight_from, end_name, end_records, end_refusals, seconds_text}
-use Rattle.ws_trace.specs.TraceText.{sender_of}
+use Rattle.ws_trace.specs.TraceText.{eight_before, eight_from, end_name, end_records, end_refusals, seconds_text}
 use Rattle.ws_trace.specs.declared.dialogue.EndCount.{EndCount}
-use Rattle.ws_trace.specs.declared.entry.EndTold.{EndTold}
-use Rattle.ws_trace.specs.declared.entry.EndTold.TheVariants as told_of
 use Rattle.ws_trace.specs.declared.entry.Entry.{Entry}
 use Rattle.ws_trace.specs.declared.piece.TracedEnd.{TracedEnd}
 use Rattle.ws_trace.specs.declared.told.Told.{Told}
@@ -38,17 +33,6 @@ abbrev pub told_object : {U : Type 0} → List ℕ → (List U → List ℕ) →
 told_object members lines place (Whole item) stream = json_item members lines place item
 told_object members lines place (Refused reason) stream =
     json_refusal (members ++ bytes_members place stream) place reason
-
--- the same of an end's
-abbrev pub end_told_object : List ℕ → BothSent → ℕ → EndTold → List ℕ
-end_told_object members sent place (told_of.Host told) = told_object members extended_lines place told sent.host
-end_told_object members sent place (told_of.Station told) = told_object members told_lines place told sent.station
-
--- the object of an entry
-abbrev pub entry_object : Heads → BothSent → Entry → List ℕ
-entry_object heads sent entry =
-    end_told_object (entry_members heads (entry.milliseconds - sent.begun) (sender_of entry.told)) sent entry.place
-    entry.told
 
 -- a truth as JSON has it
 abbrev pub truth_word : Bool → List ℕ

@@ -7,8 +7,6 @@ use Rattle.ws_code.specs.Reason.{text_of}
 use Rattle.ws_code.specs.declared.reason.Reason.{Reason}
 use Rattle.ws_record.specs.declared.record.Item.{Item}
 use Rattle.ws_record.specs.declared.record.Item.TheVariants.{Record as RecordItem}
-use Rattle.ws_text.specs.ExtendedAnswerLines.{told_item_text}
-use Rattle.ws_text.specs.ExtendedLines.{extended_item_text}
 use Rattle.ws_text.specs.ItemLines.{hex_behind_blank}
 use Rattle.ws_printing.specs.PlaceAndReason.{place_and_reason}
 use Rattle.ws_trace.specs.declared.dialogue.Dialogue.{Dialogue}
@@ -57,13 +55,9 @@ abbrev pub seconds_text : ℕ → List ℕ
 seconds_text time = decimal (time / 1000) ++ codes "." ++ decimal (time / 100 % 10) ++ decimal (time / 10 % 10)
     ++ decimal (time % 10)
 
--- so many seconds, and the end that sends then
-abbrev pub moment_text : ℕ → TracedEnd → List ℕ
-moment_text time end = codes "+" ++ seconds_text time ++ codes " " ++ end_name end ++ codes " "
-
 -- what stands before an item: its time and its sender, or its sender alone
 abbrev pub entry_head : Heads → ℕ → TracedEnd → List ℕ
-entry_head Timed time end = moment_text time end
+entry_head Timed time end = codes "+" ++ seconds_text time ++ codes " " ++ end_name end ++ codes " "
 entry_head Untimed time end = end_name end ++ codes " "
 
 -- eight bytes before a place of a stream, and eight from it on, or as many as there are
@@ -96,16 +90,6 @@ both_sent pieces = record {
   host = sent_by_end Host pieces;
   station = sent_by_end Station pieces;
 }
-
--- the same of an end's
-abbrev pub end_told_text : BothSent → ℕ → EndTold → List ℕ
-end_told_text sent place (told_of.Host told) = told_at_text extended_item_text place told sent.host
-end_told_text sent place (told_of.Station told) = told_at_text told_item_text place told sent.station
-
--- the lines of an entry
-abbrev pub entry_text : Heads → BothSent → Entry → List ℕ
-entry_text heads sent entry = entry_head heads (entry.milliseconds - sent.begun) (sender_of entry.told)
-    ++ end_told_text sent entry.place entry.told
 
 -- a record is whole
 abbrev pub is_whole_record : {U : Type 0} → Told U → Bool

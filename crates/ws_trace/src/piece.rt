@@ -2,7 +2,7 @@
 ghost use Rattle.std.specs.Prelude.{◌≡◌, IfOk, IfErr};
 ghost use Rattle.ws_trace.specs.TraceText as Spec;
 
-use std::alloc::{AllocError, Global};
+use std::alloc::Global;
 use ws_code::Fault;
 
 /// Who sent a piece.
@@ -22,16 +22,6 @@ impl TracedEnd {
             TracedEnd::Station => "station",
         }
     }
-
-    // Whether it is this one.
-    fn is(self, other: TracedEnd) -> bool
-        ensures { result ≡ Spec.same_end self other }
-    {
-        matches!(
-            (self, other),
-            (TracedEnd::Host, TracedEnd::Host) | (TracedEnd::Station, TracedEnd::Station)
-        )
-    }
 }
 
 /// A piece that crossed a connection: when it came, who sent it, and its bytes.
@@ -47,10 +37,11 @@ impl Piece {
     fn bytes_of(&self, end: TracedEnd) -> &[u8]
         ensures { result.now ≡ Spec.bytes_of_end end self.now }
     {
-        if self.sender.is(end) {
-            self.bytes.as_slice()
-        } else {
-            &[]
+        match (self.sender, end) {
+            (TracedEnd::Host, TracedEnd::Host) | (TracedEnd::Station, TracedEnd::Station) => {
+                self.bytes.as_slice()
+            }
+            _ => &[],
         }
     }
 }
@@ -64,19 +55,12 @@ pub(crate) fn stream_of(alloc: Global, pieces: &[Piece], end: TracedEnd) -> Resu
     ensures ok { IfOk result (λ stream. stream.items ≡ Spec.sent_by_end end pieces.now) }
     ensures fault { IfErr result (λ fault. fault ≡ Fault.Memory) }
 {
-    match joined(alloc, pieces, end) {
-        Ok(stream) => Ok(stream),
-        Err(_) => Err(Fault::Memory),
-    }
-}
-
-// The pieces of an end, one after another.
-fn joined(alloc: Global, pieces: &[Piece], end: TracedEnd) -> Result<Vec<u8>, AllocError>
-    ensures ok { IfOk result (λ stream. stream.items ≡ Spec.sent_by_end end pieces.now) }
-{
     let mut stream = Vec::new(alloc);
     for piece in pieces {
-        stream.extend_from_slice(piece.bytes_of(end))?;
+        match stream.extend_from_slice(piece.bytes_of(end)) {
+            Ok(()) => {}
+            Err(_) => return Err(Fault::Memory),
+        }
     }
     Ok(stream)
 }

@@ -1,42 +1,17 @@
 //! A dialogue's entries as objects of JSON (RFC 8259), and an object for each end.
 ghost use Rattle.std.specs.Prelude.{◌≡◌};
 ghost use Rattle.ws_text.specs.Printing.{Prints};
-ghost use Rattle.ws_trace.specs.StreamsSent.{sent_in};
 ghost use Rattle.ws_trace.specs.TraceObjects as Spec;
 
 use crate::dialogue::tally_of;
-use crate::trace_text::{Seconds, Streams, eight_before, eight_from};
-use crate::{EndCount, EndTold, Entry, Heads, Told, TracedEnd};
+use crate::trace_text::{Seconds, eight_before, eight_from};
+use crate::{EndCount, Entry, Heads, Told, TracedEnd};
 use ws_code::Sink;
 use ws_json::{put_json_item, put_json_refusal};
 use ws_text::{Hex, Listed, Number, Output, Text, texts};
 
-/// Writes the object of an entry.
-pub(crate) fn put_object<S: Sink>(
-    sink: &mut S,
-    output: Output,
-    heads: Heads,
-    entry: &Entry,
-    streams: &Streams<'_>,
-) -> Output
-    ensures { Prints S.writer sink.old sink.new output result
-        (Spec.entry_object heads (sent_in streams.now) entry.now) }
-{
-    let time = entry.milliseconds.saturating_sub(streams.begun);
-    match &entry.told {
-        EndTold::Host(told) => {
-            let members = Members(heads, time, TracedEnd::Host);
-            put_told_object(sink, output, members, entry.place, told, streams.host)
-        }
-        EndTold::Station(told) => {
-            let members = Members(heads, time, TracedEnd::Station);
-            put_told_object(sink, output, members, entry.place, told, streams.station)
-        }
-    }
-}
-
-// Writes the object of what is told at a place of a stream, after these members.
-fn put_told_object<S: Sink, U: Listed>(
+/// Writes the object of what is told at a place of a stream, after these members.
+pub(crate) fn put_told_object<S: Sink, U: Listed>(
     sink: &mut S,
     output: Output,
     members: Members,
@@ -103,9 +78,9 @@ impl Text for EndMember {
     }
 }
 
-// The members that stand first: the time in milliseconds, if it is told, and the sender.
+/// The members that stand first: the time in milliseconds, if it is told, and the sender.
 #[derive(Clone, Copy)]
-struct Members(Heads, u64, TracedEnd);
+pub(crate) struct Members(pub(crate) Heads, pub(crate) u64, pub(crate) TracedEnd);
 
 impl Text for Members {
     ghost text = { λ m. Spec.entry_members m.0 m.1 m.2 };

@@ -1,6 +1,6 @@
 //! A dialogue as text: each item and each refusal with its sender, and with its time or without it, and at the end
 //! what there was of each end.
-ghost use Rattle.std.specs.Prelude.{◌≡◌, ◌++◌};
+ghost use Rattle.std.specs.Prelude.{◌≡◌, ◌-◌};
 ghost use Rattle.ws_text.specs.ItemLines.{item_lines};
 ghost use Rattle.ws_text.specs.Printing.{Prints};
 ghost use Rattle.ws_trace.specs.DialogueText as Forms;
@@ -8,7 +8,7 @@ ghost use Rattle.ws_trace.specs.StreamsSent.{sent_in};
 ghost use Rattle.ws_trace.specs.TraceText as Spec;
 
 use crate::dialogue::tally_of;
-use crate::trace_objects::{put_end_object, put_object};
+use crate::trace_objects::{Members, put_end_object, put_told_object};
 use crate::{Dialogue, EndCount, EndTold, Entry, Told, TracedEnd};
 use ws_code::{Reason, Sink};
 use ws_printing::PlaceAndReason;
@@ -113,33 +113,38 @@ impl TextAs<Streams<'_>> for Entry {
     ghost text_as = { λ streams entry. Forms.entry_in streams.form (sent_in streams) entry };
 
     fn put_as<S: Sink>(&self, streams: &Streams<'_>, sink: &mut S, output: Output) -> Output {
-        match streams.form {
-            TraceForm::Lines(heads) => put_lines(sink, output, heads, self, streams),
-            TraceForm::Objects(heads) => put_object(sink, output, heads, self, streams),
+        match &self.told {
+            EndTold::Host(told) => put_told_in(sink, output, streams, self, told, streams.host),
+            EndTold::Station(told) => {
+                put_told_in(sink, output, streams, self, told, streams.station)
+            }
         }
     }
 }
 
-// Writes the lines of an entry.
-fn put_lines<S: Sink>(
+// Writes what an entry tells, by a byte of this stream.
+fn put_told_in<S: Sink, U: Listed>(
     sink: &mut S,
     output: Output,
-    heads: Heads,
-    entry: &Entry,
     streams: &Streams<'_>,
+    entry: &Entry,
+    told: &Told<U>,
+    stream: &[u8],
 ) -> Output
-    ensures { Prints S.writer sink.old sink.new output result
-        (Spec.entry_text heads (sent_in streams.now) entry.now) }
+    ensures { Prints S.writer sink.old sink.new output result (Forms.told_in streams.now.form
+        (entry.now.milliseconds - streams.now.begun) (Spec.sender_of entry.now.told) U.lines_of
+        entry.now.place told.now stream.now) }
 {
     let time = entry.milliseconds.saturating_sub(streams.begun);
-    match &entry.told {
-        EndTold::Host(told) => {
-            let head = Head(heads, time, TracedEnd::Host);
-            put_entry(sink, output, head, entry.place, told, streams.host)
+    let end = entry.told.sender();
+    match streams.form {
+        TraceForm::Lines(heads) => {
+            let output = Head(heads, time, end).put_to(sink, output);
+            put_told(sink, output, entry.place, told, stream)
         }
-        EndTold::Station(told) => {
-            let head = Head(heads, time, TracedEnd::Station);
-            put_entry(sink, output, head, entry.place, told, streams.station)
+        TraceForm::Objects(heads) => {
+            let members = Members(heads, time, end);
+            put_told_object(sink, output, members, entry.place, told, stream)
         }
     }
 }
@@ -153,21 +158,11 @@ impl Text for Head {
 
     fn put_to<S: Sink>(&self, sink: &mut S, output: Output) -> Output {
         match self.0 {
-            Heads::Timed => Moment(self.1, self.2).put_to(sink, output),
+            Heads::Timed => {
+                texts!("+", Seconds(self.1), " ", self.2.name(), " ").put_to(sink, output)
+            }
             Heads::Untimed => texts!(self.2.name(), " ").put_to(sink, output),
         }
-    }
-}
-
-// So many milliseconds as seconds, and who sends.
-#[derive(Clone, Copy)]
-struct Moment(u64, TracedEnd);
-
-impl Text for Moment {
-    ghost text = { λ m. Spec.moment_text m.0 m.1 };
-
-    fn put_to<S: Sink>(&self, sink: &mut S, output: Output) -> Output {
-        texts!("+", Seconds(self.0), " ", self.1.name(), " ").put_to(sink, output)
     }
 }
 
@@ -188,23 +183,6 @@ impl Text for Seconds {
         )
         .put_to(sink, output)
     }
-}
-
-// Writes what is told after this head, of the byte at the place of the stream.
-fn put_entry<S: Sink, U: Listed>(
-    sink: &mut S,
-    output: Output,
-    head: Head,
-    place: u64,
-    told: &Told<U>,
-    stream: &[u8],
-) -> Output
-    ensures { Prints S.writer sink.old sink.new output result
-        (Spec.entry_head head.0 head.1 head.2
-        ++ Spec.told_at_text (item_lines U.lines_of) place told.now stream.now) }
-{
-    let output = head.put_to(sink, output);
-    put_told(sink, output, place, told, stream)
 }
 
 // Writes the lines of an item, or those of a refusal, whose byte is at the place of the stream.

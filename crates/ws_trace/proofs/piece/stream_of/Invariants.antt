@@ -1,6 +1,6 @@
 use Rattle.std.proofs.Common.{◌≡◌, take}
 use Rattle.ws_trace.specs.TraceText.{sent_by_end}
-use Rattle.ws_trace.proofs.piece.joined.Given as goal
+use Rattle.ws_trace.proofs.piece.stream_of.Given as goal
 
 -- what the end sent by the pieces so far
 abbrev pub invariant-loop-piece : goal.invariant-loop-piece
