@@ -2,7 +2,7 @@
 
 use Rattle.std.specs.Prelude.{◌==◌, ◌||◌, if◌then◌else◌, unwrap_or, is_some}
 use Rattle.std.proofs.Common.{◌≡◌, ℕ, ◌≤◌, Bool, true, false, Option, Some, None, slice_index}
-use Rattle.std.proofs.Common.{refl, ap, ◌∙◌, arith}
+use Rattle.std.proofs.Common.{refl, ap, ◌∙◌, ◌<◌, arith}
 use Rattle.std.proofs.lemmas.Bool.Decides.{nat_tests}
 use borrow.Author.Tests.{ne_eqb}
 use Rattle.ws_code.specs.CodePage.{changes_of, char_on, national_char}
@@ -74,38 +74,28 @@ none_of_037 page b none = go (char_of b) refl
         clash : {o : Option ℕ} → o ≡ None → is_some o ≡ true → ⊥
         clash e some = cc
 
+-- a byte whose character on a page is above the full stop and isn't hidden has it there, if it has none that 037 lacks
+seen_as : (unseen hidden blank dup : Bool) (own old : Option ℕ) (c : ℕ) → 0x2E < c → (own ≡ None → old ≡ None)
+    → (unseen ≡ true → hidden ≡ true)
+    → (let here = if hidden then 0x20 else (if blank then 0x20 else (if dup then 0x2A else unwrap_or old 0x2E)) in
+    (if unseen then here else unwrap_or own here) ≡ c) → own ≡ Some c
+seen_as true true blank dup own old c high none under e = absurd (omega (arith, high, e))
+seen_as true false blank dup own old c high none under e = (let no : false ≡ true = under refl in cc)
+seen_as false hidden blank dup (Some x) old c high none under e = ap (λ z. Some z) e
+seen_as false true blank dup None old c high none under e = absurd (omega (arith, high, e))
+seen_as false false true dup None old c high none under e = absurd (omega (arith, high, e))
+seen_as false false false true None old c high none under e = absurd (omega (arith, high, e))
+seen_as false false false false None None c high none under e = absurd (omega (arith, high, e))
+seen_as false false false false None (Some x) c high none under e = (let no : Some x ≡ None = none refl in cc)
+
 -- a byte that shows such a character on the page is the only one that does
 pub shown_byte : (page : CodePage) (a v c byte : ℕ) → IsOnlyFor page c byte
     → (on_page page v (shown_under a v)).character ≡ c → v ≡ byte
-shown_byte page a v c byte only e = go (is_attribute v) e
+shown_byte page a v c byte only e = only.2 v (seen_as (is_hidden (if is_attribute v then 0x20 else a)) (is_hidden a)
+    ((v == 0) || is_attribute v) (v == DUP) (char_on page v) (char_of v) c only.0 (none_of_037 page v)
+    (under (is_attribute v)) e)
   where
-    clash : {o : Option ℕ} {x : ℕ} → o ≡ None → o ≡ Some x → ⊥
-    clash none some = cc
-
-    -- where nothing hides it
-    seen_as : (hidden blank dup : Bool) (own old : Option ℕ) → char_on page v ≡ own → char_of v ≡ old
-        → unwrap_or own (if hidden then 0x20 else (if blank then 0x20 else (if dup then 0x2A else unwrap_or old 0x2E)))
-        ≡ c → v ≡ byte
-    seen_as hidden blank dup (Some x) old p q e = only.2 v (p ∙ ap (λ z. Some z) e)
-    seen_as true blank dup None old p q e = absurd (omega (arith, only.0, e))
-    seen_as false true dup None old p q e = absurd (omega (arith, only.0, e))
-    seen_as false false true None old p q e = absurd (omega (arith, only.0, e))
-    seen_as false false false None None p q e = absurd (omega (arith, only.0, e))
-    seen_as false false false None (Some x) p q e = absurd (clash (none_of_037 page v p) q)
-
-    other : (hidden : Bool) → (if hidden then (if hidden then 0x20
-        else (if (v == 0) || false then 0x20 else (if v == DUP then 0x2A else unwrap_or (char_of v) 0x2E)))
-        else unwrap_or (char_on page v) (if hidden then 0x20
-        else (if (v == 0) || false then 0x20 else (if v == DUP then 0x2A else unwrap_or (char_of v) 0x2E)))) ≡ c
-        → v ≡ byte
-    other true e = absurd (omega (arith, only.0, e))
-    other false e = seen_as false ((v == 0) || false) (v == DUP) (char_on page v) (char_of v) refl refl e
-
     -- an attribute's own cell isn't hidden
-    go : (attribute : Bool) → (if is_hidden (if attribute then 0x20 else a) then (if is_hidden a then 0x20
-        else (if (v == 0) || attribute then 0x20 else (if v == DUP then 0x2A else unwrap_or (char_of v) 0x2E)))
-        else unwrap_or (char_on page v) (if is_hidden a then 0x20
-        else (if (v == 0) || attribute then 0x20 else (if v == DUP then 0x2A else unwrap_or (char_of v) 0x2E)))) ≡ c
-        → v ≡ byte
-    go true e = seen_as (is_hidden a) ((v == 0) || true) (v == DUP) (char_on page v) (char_of v) refl refl e
-    go false e = other (is_hidden a) e
+    under : (attribute : Bool) → is_hidden (if attribute then 0x20 else a) ≡ true → is_hidden a ≡ true
+    under true h = (let no : false ≡ true = h in cc)
+    under false h = h

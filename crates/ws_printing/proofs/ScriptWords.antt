@@ -2,13 +2,13 @@
 
 use Rattle.std.specs.Char.{digit_value}
 use Rattle.std.specs.Option.{is_some}
-use Rattle.std.specs.Prelude.{codes, Option, Some, None, MatchOption}
+use Rattle.std.specs.Prelude.{codes, Option, Some, None, MatchOption, ◌==◌}
 use Rattle.std.specs.Str.{bytes_eq}
 use Rattle.std.specs.Str.Parse.{AllDigits}
 use Rattle.std.specs.Str.Pattern.{FindsCharPrefix}
 use Rattle.std.proofs.Common.{◌≡◌, ◌≢◌, ℕ, suc, ◌+◌, ◌<◌, List, [], ◌∷◌, ◌++◌, true, false, not, ◌&&◌, length, get_or}
 use Rattle.std.proofs.Common.{drop, inl, inr, refl, sym, ap, ◌∙◌, subst, arith, append_assoc, lit<, Bor}
-use Rattle.std.proofs.lemmas.Bool.{false≢true}
+use Rattle.std.proofs.lemmas.Bool.{false≢true, and_parts}
 use Rattle.std.proofs.lemmas.Bool.Decides.{eqb_tells}
 use Rattle.std.proofs.lemmas.Slice.Eq.{bytes_eq-Decides}
 use Rattle.std.proofs.lemmas.Str.Pattern.{IsSplitOnceResult, split_parts, strip_prefix_char}
@@ -26,10 +26,7 @@ no_blank_from (x ∷ w) h = elim (eqb_tells x 32) [
 ]
 
 pub no_blank_tail : (x : ℕ) (w : List ℕ) → has_no_blank (x ∷ w) ≡ true → has_no_blank w ≡ true
-no_blank_tail x w h = elim (eqb_tells x 32) [
-  | inl p ↦ absurd (false≢true (sym (ap (λ b. not b && has_no_blank w) p.0) ∙ h))
-  | inr p ↦ sym (ap (λ b. not b && has_no_blank w) p.0) ∙ h
-]
+no_blank_tail x w h = (and_parts (not (x == 32)) (has_no_blank w) h).1
 
 blank_head : (x : ℕ) (w : List ℕ) → x ≡ 32 → has_no_blank (x ∷ w) ≡ true → ⊥
 blank_head x w e h = false≢true (ap (λ z. has_no_blank (z ∷ w)) (sym e) ∙ h)

@@ -1,10 +1,10 @@
-use Rattle.std.proofs.Common.{◌≡◌, ℕ, ◌*◌, ◌≤◌, List, ◌∷◌, ◌++◌, [], length, sym, ◌∙◌, subst, append_assoc}
+use Rattle.std.proofs.Common.{◌≡◌, ℕ, ◌*◌, ◌≤◌, List, [], length, ap, arith, length-append}
 use Rattle.ws_code.specs.Code.{Rules}
 use Rattle.ws_code.specs.Device.{Reader, Gave}
-use Rattle.ws_telnet.specs.Streams.{IsStream}
 use Rattle.ws_record.specs.Live.{Watching}
-use Rattle.ws_record.specs.Refusal.{Layer, IsOpen, IsRight, IsFirstClosed}
-use Rattle.ws_record.specs.Refusal.Layer.{Tokens, Header, Body}
+use Rattle.ws_record.specs.Refusal.{Layer, IsOpen}
+use Rattle.ws_record.proofs.Faults.{open_before}
+use Rattle.ws_record.proofs.Receivers.{refused_append}
 use Rattle.ws_printing.specs.Checking.{Counts}
 use Rattle.ws_printing.specs.SourceChecks.{HasRefusal}
 use Rattle.ws_printing.specs.declared.check.Tally.{Tally}
@@ -20,25 +20,10 @@ pub record Taking {Place U S : Type 0} (rules : Rules Place U) (reader : Reader 
   pub sized : size ≡ length bytes
   pub few : length bytes ≤ 65536 * reads
 
-module _ {Place U : Type 0} (rules : Rules Place U) where
-  -- a front of bytes that are open is
-  open_front : (layer : Layer) (xs ys : List ℕ) → IsOpen rules layer (xs ++ ys) → IsOpen rules layer xs
-  open_front layer xs ys o = record {
-    more = ys ++ o.more;
-    stream = subst (λ (z : List ℕ). IsStream (IsRight rules layer) z) (append_assoc xs ys o.more) o.stream;
-  }
-
-  closed_open : (layer : Layer) (bytes : List ℕ) → ((l : Layer) → IsOpen rules l bytes)
-      → IsFirstClosed rules layer bytes → ⊥
-  closed_open Tokens bytes o c = c (o Tokens)
-  closed_open Header bytes o c = c.1 (o Header)
-  closed_open Body bytes o c = c.1 (o Body)
-
-  -- no byte is refused of such as lead to a decoder
-  pub unrefused : (bytes : List ℕ) → ((layer : Layer) → IsOpen rules layer bytes) → HasRefusal rules bytes → ⊥
-  unrefused bytes opened h =
-      let r = h.2 in
-      let split : bytes ≡ (r.before ++ r.byte ∷ []) ++ r.after = r.split
-      ∙ sym (append_assoc r.before (r.byte ∷ []) r.after) in
-      closed_open r.layer (r.before ++ r.byte ∷ []) (λ layer. open_front layer (r.before ++ r.byte ∷ []) r.after
-      (subst (λ (z : List ℕ). IsOpen rules layer z) split (opened layer))) r.closed
+-- no byte is refused of such as lead to a decoder
+pub unrefused : {Place U : Type 0} (rules : Rules Place U) (bytes : List ℕ)
+    → ((layer : Layer) → IsOpen rules layer bytes) → HasRefusal rules bytes → ⊥
+unrefused rules bytes opened h =
+    let behind = open_before rules bytes [] h.0 h.1 opened (refused_append rules bytes [] h.0 h.1 h.2) in
+    let split = ap length h.2.split in
+    omega (arith, behind, h.2.at_place, simp length-append at split)

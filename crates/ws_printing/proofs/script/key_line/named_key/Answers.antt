@@ -1,12 +1,11 @@
 use Rattle.std.proofs.Common.{◌∷◌, [], refl, sym, ◌∙◌}
-use Rattle.std.proofs.lemmas.Result.{err_from_is_err_and}
+use Rattle.ws_record.proofs.Common.{handed_on}
 use Rattle.ws_printing.specs.script.KeyWords.{AreNamed}
 use Rattle.ws_printing.proofs.Scripts.{only_memory}
 use Rattle.ws_printing.proofs.script.key_line.named_key.Goals as goal
 
 pub returns-in_err-add-clause-fault : goal.returns-in_err-add-clause-fault
 returns-in_err-add-clause-fault g c =
-    let p = err_from_is_err_and c.from_residual.result c.from_residual.ensures.1 in
     let key = c.in-Some.key in
-    rw (p.1, p.2) (only_memory (AreNamed g.Q.NamedKey.words c.args.name.now) _ c.in_err-add.ensures.fault
+    rw (handed_on c.from_residual.result c.from_residual.ensures.1) (only_memory (AreNamed g.Q.NamedKey.words c.args.name.now) _ c.in_err-add.ensures.fault
     (key ∷ [], (key, sym c.named.ensures ∙ c.in-Some.is, refl)))

@@ -1,6 +1,7 @@
 use Rattle.std.specs.Prelude.{codes, true, false}
 use Rattle.std.proofs.Common.{List, ℕ, [], ◌∷◌, ◌++◌, refl, ap, inl, inr}
-use Rattle.std.proofs.lemmas.Result.{on_ok_weaker, err_from_is_err_and}
+use Rattle.std.proofs.lemmas.Result.{on_ok_weaker}
+use Rattle.ws_record.proofs.Common.{handed_on}
 use Rattle.ws_printing.specs.script.Script.{IsMove, MeansMoves}
 use Rattle.ws_printing.specs.script.Script.MeansMoves.{one, typed, inserted}
 use Rattle.ws_printing.proofs.Scripts.{no_command, fault_on, good_before, typed_any}
@@ -18,9 +19,8 @@ returns-in-insert-clause-ok c = on_ok_weaker c.type_text-in-insert.result
 
 pub returns-in_err-step-in_default-clause-fault : goal.returns-in_err-step-in_default-clause-fault
 returns-in_err-step-in_default-clause-fault c =
-    let p = err_from_is_err_and c.from_residual.result c.from_residual.ensures.1 in
     let line : List ℕ = (c.args.command.now ++ codes " ") ++ c.args.words.now in
-    rw (p.1, p.2) (fault_on (IsMove line) (MeansMoves line) _
+    rw (handed_on c.from_residual.result c.from_residual.ensures.1) (fault_on (IsMove line) (MeansMoves line) _
     (no_command c.args.command.now c.args.words.now c.requires.no_blank c.requires.no_comment c.in_default.not-type
     c.in_default.not-insert) inr c.in_err-step-in_default.ensures.fault)
 

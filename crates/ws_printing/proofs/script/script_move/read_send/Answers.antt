@@ -1,6 +1,6 @@
 use Rattle.std.specs.Prelude.{codes}
 use Rattle.std.proofs.Common.{◌++◌, sym, ◌∙◌, refl}
-use Rattle.std.proofs.lemmas.Result.{err_from_is_err_and}
+use Rattle.ws_record.proofs.Common.{handed_on}
 use Rattle.ws_text.proofs.LineEnds.{is_none}
 use Rattle.ws_printing.specs.script.Script.{IsMove, IsSendOpcode, IsBodyText}
 use Rattle.ws_printing.proofs.Scripts.{no_send, fault_on}
@@ -8,10 +8,9 @@ use Rattle.ws_printing.proofs.script.script_move.read_send.Goals as goal
 
 pub returns-in_err-opcode-2-clause-fault : goal.returns-in_err-opcode-2-clause-fault
 returns-in_err-opcode-2-clause-fault c =
-    let p = err_from_is_err_and c.from_residual-in_err-opcode-2.result c.from_residual-in_err-opcode-2.ensures.1 in
     let words = c.args.words.now in
     let number = c.in-Some.number.now in
-    rw (p.1, p.2) (fault_on (IsSendOpcode number) (IsMove (codes "send " ++ words)) _
+    rw (handed_on c.from_residual-in_err-opcode-2.result c.from_residual-in_err-opcode-2.ensures.1) (fault_on (IsSendOpcode number) (IsMove (codes "send " ++ words)) _
     (λ refused. no_send words number c.in-Some.hex.now c.in-Some.ensures.0 c.in-Some.ensures.1
     (λ opcode body sent some text. refused opcode sent)) (λ (h : ⊥). absurd h) c.in_err-opcode-2.ensures.fault)
 
@@ -25,10 +24,9 @@ returns-then-is_empty-clause-fault c =
 
 pub returns-in_err-body-clause-fault : goal.returns-in_err-body-clause-fault
 returns-in_err-body-clause-fault c =
-    let p = err_from_is_err_and c.from_residual-in_err-body.result c.from_residual-in_err-body.ensures.1 in
     let words = c.args.words.now in
     let hex = c.in-Some.hex.now in
-    rw (p.1, p.2) (fault_on (IsBodyText hex) (IsMove (codes "send " ++ words)) _
+    rw (handed_on c.from_residual-in_err-body.result c.from_residual-in_err-body.ensures.1) (fault_on (IsBodyText hex) (IsMove (codes "send " ++ words)) _
     (λ refused. no_send words c.in-Some.number.now hex c.in-Some.ensures.0 c.in-Some.ensures.1
     (λ opcode body sent some text. refused body text))
     (λ (h : Unit {0}). (
