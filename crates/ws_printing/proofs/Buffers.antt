@@ -14,8 +14,7 @@ module _ {S : Type 0} (writer : Writer S) where
       → (out : List ℕ) × WentOut writer from.sink to.sink out × (from.held ++ bytes_taken ws ≡ out ++ to.held)
   buffered_writes from to [] p = (
     [],
-    subst (λ (b : Buffering S). WentOut writer from.sink b.sink []) p
-        (went_out_none writer from.sink),
+    rw (← p) (went_out_none writer from.sink),
     append-nil from.held ∙ ap (λ (b : Buffering S). b.held) p,
   )
   buffered_writes from to (w ∷ ws) p =
@@ -40,8 +39,7 @@ module _ {S : Type 0} (writer : Writer S) where
         → WentOut writer from.sink to text
     flushed_out mid to text w rest =
         let out = held_back mid text w in
-        subst (WentOut writer from.sink to) (sym out.2)
-        (went_out_both writer from.sink mid.sink to out.0 mid.held out.1 rest)
+        rw out.2 (went_out_both writer from.sink mid.sink to out.0 mid.held out.1 rest)
 
     -- or doesn't
     pub flush_fails : (mid : Buffering S) (to : S) (text : List ℕ)
@@ -49,8 +47,8 @@ module _ {S : Type 0} (writer : Writer S) where
         → FailedWithin writer mid.sink to mid.held → FailedWithin writer from.sink to text
     flush_fails mid to text w rest =
         let out = held_back mid text w in
-        subst (FailedWithin writer from.sink to) (ap (λ z. out.0 ++ z) (append-nil mid.held) ∙ sym out.2)
-        (failed_within_both writer from.sink mid.sink to out.0 mid.held [] out.1 rest)
+        rw out.2 (rw (append-nil mid.held) at
+        (failed_within_both writer from.sink mid.sink to out.0 mid.held [] out.1 rest))
 
     -- a write into the buffer failed
     failed_behind : (to : Buffering S) (text : List ℕ) (before : Buffering S) (offered : List ℕ) (answer : Option ℕ)
@@ -67,8 +65,7 @@ module _ {S : Type 0} (writer : Writer S) where
         let part : List ℕ = take f.count text in
         let front = failed_behind to part a.before a.offered a.answer from.failures to.failures a.went_out a.last a.failed in
         let whole : [] ++ (part ++ drop f.count text) ≡ text = take-append-drop f.count text in (
-          subst (FailedWithin writer from.sink to.sink) whole
-              (failed_within_both writer from.sink from.sink to.sink [] part (drop f.count text)
+          rw (← whole) (failed_within_both writer from.sink from.sink to.sink [] part (drop f.count text)
               (went_out_none writer from.sink) front.0),
           front.1,
         )

@@ -43,8 +43,7 @@ good_before {X} {T} {A} P result good =
 pub line_read : {T : Type 0} {text line : List ℕ} (result : Result T ScriptFault) (old new : List Move) → text ≡ line
     → IsUtf8 line → OnOk result ((given : List Move) × MeansMoves text given × (new ≡ old ++ given))
     → OnOk result ((given : List Move) × IsScriptLine line given × (new ≡ old ++ given))
-line_read result old new same is =
-    on_ok_weaker result (λ p. (p.0, (is, subst (λ (z : List ℕ). MeansMoves z p.0) same p.1), p.2))
+line_read result old new same is = on_ok_weaker result (λ p. (p.0, (is, rw same at p.1), p.2))
 
 -- and isn't read for what the text isn't
 pub line_unread : {T A : Type 0} {text line : List ℕ} (result : Result T ScriptFault) → text ≡ line → IsUtf8 line
@@ -54,8 +53,7 @@ line_unread {T} {A} {text} {line} result same is good =
     IfErr-weaker result (IsLineFault (MeansMoves text) A)
     (IsLineFault (IsScriptLine line) (IsUtf8 line × IsGoodSoFar line))
     (λ fault. fault_on (MeansMoves text) (IsScriptLine line) fault
-    (λ refused moves l. refused moves (subst (λ (z : List ℕ). MeansMoves z moves) (sym same) l.1))
-    (λ a. (is, subst IsGoodSoFar same (good a))))
+    (λ refused moves l. refused moves (rw same l.1)) (λ a. (is, rw same at (good a))))
 
 -- a line more, and its moves
 are_lines_more : (before : List (List ℕ)) (moves : List Move) (line : List ℕ) (given : List Move)
@@ -84,7 +82,7 @@ pub reads_more : (text rest behind line : List ℕ) (moves given next : List Mov
 reads_more text rest behind line moves given next number r e shorter l is = record {
   before = r.before ++ line ∷ [];
   split = r.split ∙ ap (λ z. r.before ++ z) e ∙ sym (append_assoc r.before (line ∷ []) (lines behind));
-  good = subst (AreLines (r.before ++ line ∷ [])) (sym is) (are_lines_more r.before moves line given r.good l);
+  good = rw is (are_lines_more r.before moves line given r.good l);
   counted = omega (arith, r.counted, length-append r.before (line ∷ []));
   few = omega (arith, r.few, length-append r.before (line ∷ []));
 }
@@ -100,11 +98,8 @@ typed_any inserts text is = (
 
 no_word_moves : (word : List ℕ) → has_no_blank word ≡ true → (word ≡ codes "cancel" → ⊥) → (step : Move)
     → IsMove word step → ⊥
-no_word_moves word free other (Send opcode body) m = false≢true (ap has_no_blank (sym m.1) ∙ free)
 no_word_moves word free other Cancel m = other m
-no_word_moves word free other (ToStation n) m = false≢true (ap has_no_blank (sym m.1) ∙ free)
-no_word_moves word free other (ToHost n) m = false≢true (ap has_no_blank (sym m.1) ∙ free)
-no_word_moves word free other (Press key) m = false≢true (ap has_no_blank (sym m.1) ∙ free)
+no_word_moves word free other step m = false≢true (ap has_no_blank (sym m.1) ∙ free)
 
 -- a word is `cancel` or `settle`
 pub no_word : (word : List ℕ) → 0 < length word → has_no_blank word ≡ true → IsNoComment word
@@ -142,21 +137,15 @@ pub no_move : (command words : List ℕ) → has_no_blank command ≡ true
     → (command ≡ codes "down" → (n : ℕ) → IsCount words n → ⊥) → (command ≡ codes "up" → (n : ℕ) → IsCount words n → ⊥)
     → (command ≡ codes "key" → (name : Key) → key_named words ≡ Some name → ⊥) → (step : Move)
     → IsMove ((command ++ codes " ") ++ words) step → ⊥
-no_move command words free send down up key step m = go step m
-  where
-    said : (other after : List ℕ) (P : List ℕ → Type 0) → has_no_blank other ≡ true
-        → (command ++ codes " ") ++ words ≡ (other ++ codes " ") ++ after → P after → (command ≡ other) × P words
-    said other after P clear e p =
-        let u = split_unique command other words after free clear e in
-        (u.0, subst P (sym u.1) p)
-
-    go : (step : Move) → IsMove ((command ++ codes " ") ++ words) step → ⊥
-    go (Send opcode body) m =
-        let s = said (codes "send") m.0 (λ z. IsRecordText z opcode body) refl m.1 m.2 in send s.0 opcode body s.1
-    go Cancel m = blank_inside command words (ap has_no_blank m)
-    go (ToStation n) m = let s = said (codes "down") m.0 (λ z. IsCount z n) refl m.1 m.2 in down s.0 n s.1
-    go (ToHost n) m = let s = said (codes "up") m.0 (λ z. IsCount z n) refl m.1 m.2 in up s.0 n s.1
-    go (Press k) m = let s = said (codes "key") m.0 (λ z. key_named z ≡ Some k) refl m.1 m.2 in key s.0 k s.1
+no_move command words free send down up key (Send opcode body) m =
+    let u = split_unique command (codes "send") words m.0 free refl m.1 in send u.0 opcode body (rw u.1 m.2)
+no_move command words free send down up key Cancel m = blank_inside command words (ap has_no_blank m)
+no_move command words free send down up key (ToStation n) m =
+    let u = split_unique command (codes "down") words m.0 free refl m.1 in down u.0 n (rw u.1 m.2)
+no_move command words free send down up key (ToHost n) m =
+    let u = split_unique command (codes "up") words m.0 free refl m.1 in up u.0 n (rw u.1 m.2)
+no_move command words free send down up key (Press name) m =
+    let u = split_unique command (codes "key") words m.0 free refl m.1 in key u.0 name (rw u.1 m.2)
 
 -- two are an opcode and a body
 pub record_parts : (number hex : List ℕ) → has_no_blank number ≡ true → (opcode : Opcode) (body : List Element)
@@ -166,17 +155,13 @@ record_parts number hex free opcode body r = elim r.rest [
   | inl p ↦ absurd (blank_inside number hex (ap has_no_blank p.0 ∙ digits_have_no_blank r.number r.sent.0.0.1))
   | inr p ↦ (
       let u = split_unique number r.number hex p.0 free (digits_have_no_blank r.number r.sent.0.0.1) p.1 in
-      let P : List ℕ → Type 0 = λ z. z ≢ [] in (
-        subst (λ (z : List ℕ). IsSendOpcode z opcode) (sym u.0) r.sent,
-        subst P (sym u.1) p.2,
-        subst (λ (z : List ℕ). IsBodyText z body) (sym u.1) p.3,
-      ))
+      (rw u.0 r.sent, rw u.1 p.2, rw u.1 p.3))
 ]
 
 pub no_send : (words number hex : List ℕ) → words ≡ (number ++ codes " ") ++ hex → has_no_blank number ≡ true
     → ((opcode : Opcode) (body : List Element) → IsSendOpcode number opcode → hex ≢ [] → IsBodyText hex body → ⊥)
     → (step : Move) → IsMove (codes "send " ++ words) step → ⊥
 no_send words number hex e free none_is = no_move (codes "send") words refl (λ same opcode body r.
-    let parts = record_parts number hex free opcode body (subst (λ (z : List ℕ). IsRecordText z opcode body) e r) in
+    let parts = record_parts number hex free opcode body (rw e at r) in
     none_is opcode body parts.0 parts.1 parts.2) (not_both (codes "send") (codes "down") refl refl)
     (not_both (codes "send") (codes "up") refl refl) (not_both (codes "send") (codes "key") refl refl)

@@ -64,8 +64,7 @@ needed_there page cells text row byte low high whole needed found =
     let c = needed.0 in
     let only = needed.2 in
     let shown = row_on_page page cells row in
-    let there : Contains (text_of_shown shown) c = subst (λ z. Contains z c) (sym found.2)
-    (Contains-append_right found.0 (text ++ found.1) c (Contains-append_left text found.1 c needed.1)) in
+    let there : Contains (text_of_shown shown) c = rw found.2 (Contains-append_right found.0 (text ++ found.1) c (Contains-append_left text found.1 c needed.1)) in
     let at = cell_of page cells row c (in_text (map (λ s. s.character) shown) c only.1 there) in
     let first = (row - 1) * 80 in
     let is : slice_index cells (first + at.0) ≡ byte = shown_byte page (attribute_at cells (first + at.0))

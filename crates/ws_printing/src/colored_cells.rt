@@ -1,23 +1,26 @@
 //! Cells in colour: their characters, with sequences that tell a terminal how to show them (ECMA-48, SGR).
 ghost use Rattle.std.specs.Prelude.{◌≡◌, encode_utf8, if◌then◌else◌, []};
 ghost use Rattle.ws_printing.specs.ColoredRows as Spec;
+ghost use Rattle.ws_printing.specs.ScreenLines.{painted};
 ghost use Rattle.ws_text.specs.Printing.{Prints};
 
+use crate::characters::Characters;
+use crate::paint::Paint;
 use ws_code::Sink;
 use ws_screen::{Attribute, Color, Shown};
 use ws_text::{Character, Output, Text, texts};
 
-/// The characters of cells, and before each whose attribute isn't that of the cell before it the attribute's sequence;
-/// after the last the reset.
-#[derive(Clone, Copy)]
-pub struct ColoredCells<'a>(pub &'a [Shown]);
-
-impl Text for ColoredCells<'_> {
-    ghost text = { λ c. Spec.colored_text c.0.now };
-
-    fn put_to<S: Sink>(&self, sink: &mut S, output: Output) -> Output {
-        let output = put_cells(sink, output, None, self.0);
-        "\x1b[0m".put_to(sink, output)
+/// Writes the characters of cells, in colour before each whose attribute isn't that of the cell before it the
+/// attribute's sequence, and after the last the reset.
+pub fn put_painted<S: Sink>(sink: &mut S, output: Output, paint: Paint, cells: &[Shown]) -> Output
+    ensures { Prints S.writer sink.old sink.new output result (painted paint cells.now) }
+{
+    match paint {
+        Paint::Plain => Characters(cells).put_to(sink, output),
+        Paint::Color => {
+            let output = put_cells(sink, output, None, cells);
+            "\x1b[0m".put_to(sink, output)
+        }
     }
 }
 

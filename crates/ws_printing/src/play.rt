@@ -1,11 +1,13 @@
-//! The lines of a session's report.
+//! The lines of a session's report, and of what a live host's end tells.
 ghost use Rattle.std.specs.Prelude.{◌≡◌, ◌++◌, List, ℕ, IfOk, IfErr};
 ghost use Rattle.ws_code.specs.Device.{WentOut, FailedWithin};
 ghost use Rattle.ws_text.specs.Printing.{Prints, text_where};
 ghost use Rattle.ws_printing.specs.PlaceAndReason.{place_and_reason};
 ghost use Rattle.ws_printing.specs.PlayLines as Spec;
 ghost use Rattle.ws_printing.specs.ScreenLines.{screen_text};
+ghost use Rattle.ws_printing.specs.ToldLines as Told;
 
+use crate::characters::AfterBlank;
 use crate::look::Look;
 use crate::paint::Paint;
 use crate::place_and_reason::PlaceAndReason;
@@ -149,9 +151,9 @@ impl TextAs<Play> for HostEvent {
     }
 }
 
-/// An answer's cursor and AID.
+// An answer's cursor and AID.
 #[derive(Clone, Copy)]
-pub struct AnswerLine<'a>(pub &'a HostAnswer);
+struct AnswerLine<'a>(&'a HostAnswer);
 
 impl Text for AnswerLine<'_> {
     ghost text = { λ a. Spec.answer_line a.0.now };
@@ -232,4 +234,42 @@ fn refused(place: u64, reason: Reason) -> (&'static str, PlaceAndReason)
         ≡ Spec.refused_text place reason }
 {
     (" refused at ", PlaceAndReason(place, reason))
+}
+
+/// Writes what a host end tells; after each field of an answer stands what its bytes show, where they show anything,
+/// without the blanks at its end.
+pub fn put_told<S: Sink>(sink: &mut S, output: Output, event: &HostEvent) -> Output
+    ensures { Prints S.writer sink.old sink.new output result
+        (Told.told_text event.now) }
+{
+    match event {
+        HostEvent::Answer(answer) => {
+            let fields = EachAs(answer.fields.as_slice(), ToldField);
+            texts!(AnswerLine(answer), fields).put_to(sink, output)
+        }
+        HostEvent::Ready(_)
+        | HostEvent::Attention
+        | HostEvent::SystemRequest
+        | HostEvent::Cancelled => As(event, Play).put_to(sink, output),
+    }
+}
+
+// The sense of a field as a live host tells it.
+#[derive(Clone, Copy)]
+struct ToldField;
+
+impl TextAs<ToldField> for ReadField {
+    ghost text_as = { λ _. Told.told_field };
+
+    fn put_as<S: Sink>(&self, _sense: &ToldField, sink: &mut S, output: Output) -> Output {
+        let content = self.content.as_slice();
+        texts!(
+            "  field ",
+            Cell(self.address),
+            HexBehindBlank(content),
+            AfterBlank(content),
+            "\n"
+        )
+        .put_to(sink, output)
+    }
 }

@@ -3,14 +3,13 @@ ghost use Rattle.std.specs.Prelude.{◌≡◌, ◌≤◌, List, ℕ};
 ghost use Rattle.ws_printing.specs.ScreenLines as Spec;
 ghost use Rattle.ws_text.specs.Printing.{Prints};
 
-use crate::characters::{Characters, without_last_blanks};
-use crate::colored_cells::ColoredCells;
+use crate::characters::without_last_blanks;
+use crate::colored_cells::put_painted;
 use crate::look::Look;
 use crate::operated_display::OperatedDisplay;
-use crate::paint::Paint;
 use crate::shown_on_page::row_on;
 use ws_code::{ROWS, Sink};
-use ws_screen::{Screen, Shown};
+use ws_screen::Screen;
 use ws_text::{Cell, Number, Output, Text, texts};
 
 /// Writes the lines of a screen.
@@ -77,14 +76,9 @@ fn put_row<S: Sink>(sink: &mut S, output: Output, look: Look, screen: &Screen, r
     if shown.is_empty() {
         return output;
     }
-    texts!(
-        indent(row),
-        Number(row as u64),
-        " ",
-        Painted(look.paint, shown),
-        "\n"
-    )
-    .put_to(sink, output)
+    let output = texts!(indent(row), Number(row as u64), " ").put_to(sink, output);
+    let output = put_painted(sink, output, look.paint, shown);
+    "\n".put_to(sink, output)
 }
 
 // What stands before a row's number.
@@ -92,21 +86,6 @@ fn indent(row: u8) -> &'static str
     ensures { result.now ≡ Spec.indent row }
 {
     if row < 10 { " " } else { "" }
-}
-
-// What is printed of cells.
-#[derive(Clone, Copy)]
-struct Painted<'a>(Paint, &'a [Shown]);
-
-impl Text for Painted<'_> {
-    ghost text = { λ p. Spec.painted p.0 p.1.now };
-
-    fn put_to<S: Sink>(&self, sink: &mut S, output: Output) -> Output {
-        match self.0 {
-            Paint::Plain => Characters(self.1).put_to(sink, output),
-            Paint::Color => ColoredCells(self.1).put_to(sink, output),
-        }
-    }
 }
 
 // Writes the cursor, the keyboard's lock, message light and blinking cursor, and the number of fields.

@@ -3,7 +3,6 @@ ghost use Rattle.std.specs.Prelude.{IfOk, IfErr};
 ghost use Rattle.ws_printing.specs.script.Script.{IsScript};
 ghost use Rattle.ws_printing.specs.script.ScriptFaults.{IsScriptFault};
 
-pub(crate) mod extended_key_names;
 pub(crate) mod key_line;
 pub(crate) mod key_name;
 pub(crate) mod named_key;

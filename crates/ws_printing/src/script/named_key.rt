@@ -1,8 +1,10 @@
 //! The keys of a display, by the names that a script has for them.
 ghost use Rattle.std.specs.Prelude.{◌≡◌};
+ghost use Rattle.ws_printing.specs.script.ExtendedKeyNames.{extended_words};
 ghost use Rattle.ws_printing.specs.script.KeyWords.{KeyWords, profile_words};
 
 use crate::script::key_name::key_named;
+use ws_extended_station::ExtendedKey;
 use ws_keys::Key;
 
 /// A key of a display, as a script names it.
@@ -38,6 +40,29 @@ impl NamedKey for Key {
         match self {
             Key::Char(character) | Key::Insert(character) => Some(character),
             _ => None,
+        }
+    }
+}
+
+// Reset has a name beside the keys of the profile.
+impl NamedKey for ExtendedKey {
+    ghost words = { extended_words };
+
+    fn named(name: &str) -> Option<ExtendedKey> {
+        if name == "Reset" {
+            return Some(ExtendedKey::Reset);
+        }
+        key_named(name).map(ExtendedKey::Profile)
+    }
+
+    fn from_profile(key: Key) -> ExtendedKey {
+        ExtendedKey::Profile(key)
+    }
+
+    fn entered(self) -> Option<char> {
+        match self {
+            ExtendedKey::Profile(key) => key.entered(),
+            ExtendedKey::Reset => None,
         }
     }
 }

@@ -1,7 +1,5 @@
 //! A line that is one move: a send, a key, or bytes that arrive.
 ghost use Rattle.std.specs.Prelude.{◌≡◌, ◌++◌, true, codes, ℕ, IfOk, IfErr, MatchOption};
-ghost use Rattle.ws_record.specs.Body.{IsBody};
-ghost use Rattle.ws_stream.specs.Elements.{element_rules};
 ghost use Rattle.ws_printing.specs.script.Script as Spec;
 ghost use Rattle.ws_printing.specs.script.ScriptFaults.{IsLineFault, IsSendBegun, IsSendLine, has_no_blank};
 
@@ -102,19 +100,12 @@ fn read_body_text(alloc: Global, hex: &str) -> Result<Vec<Element>, ScriptFault>
     ensures ok { IfOk result (λ body. Spec.IsBodyText hex.now body.items) }
     ensures fault { IfErr result (IsLineFault (Spec.IsBodyText hex.now) (Unit {0})) }
 {
-    match hex::decode(alloc, hex) {
-        Ok(bytes) => read_elements(alloc, bytes.as_slice()),
-        Err(FromHexError::OutOfMemory) => Err(ScriptFault::Memory),
-        Err(_) => Err(ScriptFault::Line(1)),
-    }
-}
-
-// The elements that the bytes spell.
-fn read_elements(alloc: Global, bytes: &[u8]) -> Result<Vec<Element>, ScriptFault>
-    ensures ok { IfOk result (λ body. IsBody element_rules bytes.now body.items) }
-    ensures fault { IfErr result (IsLineFault (IsBody element_rules bytes.now) (Unit {0})) }
-{
-    read_body::<Commands>(alloc, bytes).map_err(|fault| match fault {
+    let bytes = match hex::decode(alloc, hex) {
+        Ok(bytes) => bytes,
+        Err(FromHexError::OutOfMemory) => return Err(ScriptFault::Memory),
+        Err(_) => return Err(ScriptFault::Line(1)),
+    };
+    read_body::<Commands>(alloc, bytes.as_slice()).map_err(|fault| match fault {
         BodyFault::Bad => ScriptFault::Line(1),
         BodyFault::Memory => ScriptFault::Memory,
     })

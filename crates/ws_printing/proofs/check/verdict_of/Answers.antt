@@ -20,8 +20,7 @@ returns-in-Some-take g c =
     let before = c.loop-piece.invariant.3 in
     let piece = c.in-Some.piece.now in
     let all = parts bytes before _ piece _ c.loop-piece.invariant.5 c.in-Some.ensures.steps.1.0 in
-    subst (λ (l : List ℕ). IsRefused g.B.Code.rules l c.in-Some-take.place c.in-Some-take.reason) all
-    (refused_append g.B.Code.rules (before ++ piece) _ _ _
+    rw (← all) (refused_append g.B.Code.rules (before ++ piece) _ _ _
     (c.in-Some-take.ensures before c.loop-piece.invariant.4 (omega (arith, simp length-append at (ap length all)))))
 
 pub loop-piece-preserved : goal.loop-piece-preserved
@@ -40,10 +39,6 @@ loop-piece-preserved g c =
 
 pub returns : goal.returns
 returns g c =
-    let bytes = c.args.bytes.now in
-    let before = c.loop-piece.invariant.3 in
-    let none = nil_from_length _ c.in-None.ensures.steps.1.0 in
-    let all : before ≡ bytes = sym (append-nil before) ∙ ap (λ (l : List ℕ). before ++ l) (sym none)
-    ∙ c.loop-piece.invariant.5 in
-    c.finish.ensures bytes (subst (λ (l : List ℕ). Counts g.B.Code.rules c.loop-piece.checker.live
-    c.loop-piece.checker.tally l) all c.loop-piece.invariant.4) (omega arith)
+    let i = c.loop-piece.invariant in
+    rw (← i.5, nil_from_length _ c.in-None.ensures.steps.1.0, append-nil i.3)
+    (c.finish.ensures i.3 i.4 (omega (arith, simp length-append at (ap length i.5))))

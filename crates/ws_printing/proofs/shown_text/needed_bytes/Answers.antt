@@ -14,8 +14,7 @@ loop-character-preserved c =
     let there = subst (λ (z : List ℕ). Contains z character) c.as_bytes-character-items.ensures.value
     (Contains-get_or bytes i 0 c.loop-character-test.true) in
     elim c.match-only_byte.branch [
-      | in-Some w ↦ subst (All (IsNeededBy c.args.page text)) (sym (ap (λ z. z.items) w.needed-is ∙ w.push.ensures.items))
-          (All-push (IsNeededBy c.args.page text) c.loop-character.needed.items w.in-Some.byte c.loop-character.invariant
-          (character, there, w.in-Some.ensures))
-      | in_default w ↦ subst (All (IsNeededBy c.args.page text)) (sym (ap (λ z. z.items) w.needed-is)) c.loop-character.invariant
+      | in-Some w ↦ rw (w.needed-is, w.push.ensures.items) (All-push (IsNeededBy c.args.page text)
+          c.loop-character.needed.items w.in-Some.byte c.loop-character.invariant (character, there, w.in-Some.ensures))
+      | in_default w ↦ rw w.needed-is c.loop-character.invariant
     ]

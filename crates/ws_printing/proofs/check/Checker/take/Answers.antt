@@ -18,18 +18,10 @@ returns-in-Refused g c = λ bytes counts fits.
     let r = rw c.in-Refused.is at (c.advance-used.ensures.advance k.0 k.1.items k.1.so_far k.1.leads even) in
     let long : length (take used rest) ≡ used = length-take-le used rest c.advance-used.ensures.within in
     let counted = c.advance-used.ensures.counted (omega (arith, k.1.leads.count, even, c.advance-used.ensures.within)) in
-    let place : r.0 ≡ c.taken-place.result - 1 = omega (
-      arith,
-      c.taken-place.ensures,
-      counted,
-      r.1,
-      k.1.leads.count,
-      long,
-      length-append k.0 (take used rest),
-    ) in
-    subst (λ (p : ℕ). IsRefused g.B.Code.rules (bytes ++ c.args.piece.now) p c.in-Refused.reason) place
-    (subst (λ (x : List ℕ). IsRefused g.B.Code.rules x r.0 c.in-Refused.reason) (goes_on k.0 rest _ used k.2)
-    (refused_append g.B.Code.rules (k.0 ++ take used rest) _ r.0 c.in-Refused.reason r.2))
+    let place : r.0 ≡ c.taken-place.result - 1 =
+    omega (arith, c.taken-place.ensures, counted, r.1, k.1.leads.count, long, length-append k.0 (take used rest)) in
+    rw (← place, ← goes_on k.0 rest _ used k.2)
+    (refused_append g.B.Code.rules (k.0 ++ take used rest) _ r.0 c.in-Refused.reason r.2)
 
 pub loop-rest-preserved : goal.loop-rest-preserved
 loop-rest-preserved g c = λ bytes counts fits.
@@ -41,8 +33,7 @@ loop-rest-preserved g c = λ bytes counts fits.
     let some = c.advance-used.ensures.used (λ e. rw e at a) in
     let long : length (take used rest) ≡ used = length-take-le used rest c.advance-used.ensures.within in (
       k.0 ++ take used rest,
-      subst (λ (t : Tally). Counts g.B.Code.rules c.advance-used.new.self t (k.0 ++ take used rest)) (sym c.count.ensures)
-          (counts_front g.B.Code.rules c.loop-rest.self.live c.advance-used.new.self c.loop-rest.self.tally k.0
+      rw c.count.ensures (counts_front g.B.Code.rules c.loop-rest.self.live c.advance-used.new.self c.loop-rest.self.tally k.0
           (take used rest) _ c.advance-used.new.keep k.1 (omega (arith, long, some))
           (omega (arith, even, long, c.advance-used.ensures.within, length-append k.0 (take used rest)))
           c.advance-used.result.news a c.in_default.not-Refused),
@@ -76,5 +67,4 @@ pub returns : goal.returns
 returns g c = λ bytes counts fits.
     let k = c.loop-rest.invariant bytes counts fits in
     let none = is_none c.loop-rest.rest.now (sym c.is_empty.ensures ∙ c.loop-rest-test.false) in
-    subst (λ (x : List ℕ). Counts g.B.Code.rules c.loop-rest.self.live c.loop-rest.self.tally x)
-    (sym (append-nil k.0) ∙ ap (λ x. k.0 ++ x) (sym none) ∙ k.2) k.1
+    rw (← k.2, none, append-nil k.0) k.1
