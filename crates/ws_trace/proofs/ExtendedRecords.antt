@@ -52,14 +52,13 @@ pub all_carried : (from now : ExtendedParts) (es : List ExtendedElement) (i : �
     → CarriedUpTo from now es (drop i es) → (state : ExtendedState) → Shows state from
     → (None ≡ elements_fault state es) × Shows (state_after_all state es) now
 all_carried from now es i over so_far state shows =
-    let all = subst (CarriedUpTo from now es) (drop_all i es over) so_far in
-    let given = all.gives state shows in
-    (sym given.2, subst (λ (s : ExtendedState). Shows s now) (sym given.3) given.1)
+    let given = (rw (drop_all i es over) at so_far).gives state shows in
+    (sym given.2, rw given.3 given.1)
 
 module _ (from now : ExtendedParts) (es : List ExtendedElement) (i : ℕ) (e : ExtendedElement) (inside : i < length es)
     (is : e ≡ get_or es i e) (so_far : CarriedUpTo from now es (drop i es)) where
   here : CarriedUpTo from now es (e ∷ drop (i + 1) es)
-  here = subst (CarriedUpTo from now es) (rest_at es i e inside is) so_far
+  here = rw (rest_at es i e inside is) at so_far
 
   pub finds_open : NeedsOpenWrite e now.screen
   finds_open = finds_write e here.place now.screen here.chain.0.may_follow here.open_

@@ -52,7 +52,7 @@ module _ {Place U : Type 0} (rules : Rules Place U) where
         → IsNextOf rules old new byte None
     read_none reads still more (Reads bytes items) s =
         let on = more bytes items s.2 s.1 in
-        let got = subst (HasReceived rules new.receiver (bytes ++ byte ∷ [])) (append-nil items) on.1 in (
+        let got = rw (append-nil items) at on.1 in (
           Reads (bytes ++ byte ∷ []) items,
           (refl, received_holds got),
           (still, omega (arith, on.0, length-append bytes (byte ∷ [])), got),
@@ -92,12 +92,8 @@ module _ {Place U : Type 0} (rules : Rules Place U) where
     passed_more passes still same begun inside (Reads bytes items) s = absurd (not_both s.0 passes)
     passed_more passes still same begun inside (Passes from) s = (
       Passes (from ++ byte ∷ []),
-      inl (refl, refl, subst (λ z. IsUnfinished token_rules tt (z ++ byte ∷ [])) s.1 inside),
-      (
-        still,
-        begun ∙ ap (λ z. z ++ byte ∷ []) s.1,
-        subst (λ (z : Receiving Place U). HasReceived rules z [] []) (sym same) s.2,
-      ),
+      inl (refl, refl, rw s.1 at inside),
+      (still, begun ∙ ap (λ z. z ++ byte ∷ []) s.1, rw same s.2),
     )
 
     pub passed_token : (token : Token) → old.is_passing ≡ true → new.is_passing ≡ not (is_eor token)
@@ -106,8 +102,8 @@ module _ {Place U : Type 0} (rules : Rules Place U) where
     passed_token token passes on same begun spelled (Reads bytes items) s = absurd (not_both s.0 passes)
     passed_token token passes on same begun spelled (Passes from) s = (
       after_passed token,
-      inr (inl (token, refl, refl, subst (λ z. IsSpelled token_rules tt (z ++ byte ∷ []) token) s.1 spelled)),
-      stands_behind new token on begun (subst (λ (z : Receiving Place U). HasReceived rules z [] []) (sym same) s.2),
+      inr (inl (token, refl, refl, rw s.1 at spelled)),
+      stands_behind new token on begun (rw same s.2),
     )
 
     pub passed_refused : (reason : Reason) → old.is_passing ≡ true → new.is_passing ≡ true
@@ -120,9 +116,9 @@ module _ {Place U : Type 0} (rules : Rules Place U) where
       inr (inr (
         ap (λ (r : Reason). Some (Refused r)) (bad.1 ∙ ap (λ z. token_rules.reason tt z byte) s.1),
         refl,
-        subst (λ z. IsPrefix token_rules tt (z ++ byte ∷ []) → ⊥) s.1 bad.0,
+        rw s.1 at bad.0,
       )),
-      (still, begun, subst (λ (z : Receiving Place U). HasReceived rules z [] []) (sym same) s.2),
+      (still, begun, rw same s.2),
     )
 
   -- whether a stream may end where a reader stands

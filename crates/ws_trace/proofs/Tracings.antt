@@ -1,6 +1,5 @@
 use Rattle.std.proofs.Common.{◌≡◌, ℕ, ◌+◌, List, [], ◌∷◌, ◌++◌, inl, inr, Option, None, Some, map}
 use Rattle.std.proofs.Common.{refl, sym, ap, ◌∙◌, subst, append_assoc}
-use Rattle.std.specs.Prelude.{Result, Ok, Err, OnOk}
 use Rattle.std.specs.List.{flat_map, AllByRecursion}
 use Rattle.std.proofs.lemmas.List.{append-nil}
 use Rattle.ws_code.specs.Code.{Rules}
@@ -41,8 +40,7 @@ module _ {Place U : Type 0} where
   pub last_whole : (rules : Rules Place U) (bytes : List ℕ) (items : List (Item U)) (item : Item U)
       → (so_far begun : List ℕ) × Holds rules bytes (items ++ item ∷ []) so_far begun → IsWholeItem rules item
   last_whole rules bytes items item h =
-      AllByRecursion-last (IsWholeItem rules) items item (subst (AllByRecursion (IsWholeItem rules)) (sym h.2.are_items)
-      (AllByRecursion-append (IsWholeItem rules) _ (commands h.2.rest) (stretches_whole rules h.2.stretches h.2.each)
+      AllByRecursion-last (IsWholeItem rules) items item (rw h.2.are_items (AllByRecursion-append (IsWholeItem rules) _ (commands h.2.rest) (stretches_whole rules h.2.stretches h.2.each)
       (telnets_whole rules (flat_map command_of h.2.rest))))
 
   passed_whole : (rules : Rules Place U) (token : Token) → IsWholeCame rules (told_of_passed token)
@@ -56,15 +54,9 @@ module _ {Place U : Type 0} where
   came_whole rules (Reads bytes items) byte (Some (Whole item)) next h =
       last_whole rules (bytes ++ byte ∷ []) items item h.1.0
   came_whole rules (Reads bytes items) byte (Some (Refused reason)) next h = tt
-  came_whole rules (Passes begun) byte came next (inl h) = subst (IsWholeCame rules) (sym h.0) tt
-  came_whole rules (Passes begun) byte came next (inr (inl h)) =
-      subst (IsWholeCame rules) (sym h.1) (passed_whole rules h.0)
-  came_whole rules (Passes begun) byte came next (inr (inr h)) = subst (IsWholeCame rules) (sym h.0) tt
-
--- a fact where something was done, from another
-pub on_ok : {X E : Type 0} {P Q : Type 0} (r : Result X E) → OnOk r P → (P → Q) → OnOk r Q
-on_ok (Ok v) p f = f p
-on_ok (Err e) p f = tt
+  came_whole rules (Passes begun) byte came next (inl h) = rw h.0 tt
+  came_whole rules (Passes begun) byte came next (inr (inl h)) = rw h.1 (passed_whole rules h.0)
+  came_whole rules (Passes begun) byte came next (inr (inr h)) = rw h.0 tt
 
 -- Steps one after another.
 

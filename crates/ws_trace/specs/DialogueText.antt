@@ -15,8 +15,13 @@ use Rattle.ws_trace.specs.declared.piece.Piece.{Piece}
 use Rattle.ws_trace.specs.declared.piece.TracedEnd.{TracedEnd}
 use Rattle.ws_trace.specs.declared.piece.TracedEnd.TheVariants.{Host, Station}
 use Rattle.ws_trace.specs.declared.told.Told.{Told}
+use Rattle.ws_trace.specs.declared.trace_text.Streams.{Streams}
 use Rattle.ws_trace.specs.declared.trace_text.TraceForm.{TraceForm}
 use Rattle.ws_trace.specs.declared.trace_text.TraceForm.TheVariants.{Lines, Objects}
+
+-- the streams of both ends that the code holds, as lists
+abbrev pub sent_in : Streams → BothSent
+sent_in streams = record { begun = streams.begun; host = streams.host.now; station = streams.station.now }
 
 -- what is told of an end at a time, by a byte at a place of its stream, in a form
 abbrev pub told_in : {U : Type 0} → TraceForm → ℕ → TracedEnd → (List U → List ℕ) → ℕ → Told U → List ℕ → List ℕ

@@ -1,20 +1,26 @@
 -- The dialogue of both ends: what their streams tell, in the order in which the pieces came that end it.
 
-use Rattle.std.specs.Prelude.{◌≡◌, ℕ, List}
+use Rattle.std.specs.Prelude.{◌≡◌, ◌↔◌, ℕ, List, IsTrue}
+use Rattle.ws_code.specs.Code.{Rules}
 use Rattle.ws_extended.specs.ExtendedAnswers.{extended_answer_rules}
 use Rattle.ws_extended.specs.ExtendedElements.{extended_rules}
 use Rattle.ws_extended.specs.ExtendedStates.{ExtendedState}
 use Rattle.ws_extended.specs.declared.extended_answer_part.ExtendedAnswerPart.{ExtendedAnswerPart}
 use Rattle.ws_extended.specs.declared.extended_element.ExtendedElement.{ExtendedElement}
 use Rattle.ws_trace.specs.BothEnds.{host_end, station_end}
-use Rattle.ws_trace.specs.Counts.{IsEndCount}
 use Rattle.ws_trace.specs.Ends.{EndAt, AreHeard, AreSteps, end_begins, entry_at}
+use Rattle.ws_trace.specs.Reading.{MayEndAt}
 use Rattle.ws_trace.specs.declared.entry.EndTold.TheVariants as told_of
 use Rattle.ws_trace.specs.declared.dialogue.Dialogue.{Dialogue}
+use Rattle.ws_trace.specs.declared.dialogue.EndCount.{EndCount}
 use Rattle.ws_trace.specs.declared.entry.Entry.{Entry}
 use Rattle.ws_trace.specs.declared.piece.Piece.{Piece}
 use Rattle.ws_trace.specs.declared.piece.TracedEnd.{TracedEnd}
 use Rattle.ws_trace.specs.declared.piece.TracedEnd.TheVariants.{Host, Station}
+
+-- how many bytes an end sent, and whether its stream may end with them
+abbrev pub IsEndCount : {Place U State : Type 0} → Rules Place U → EndAt U State → EndCount → Type 0
+IsEndCount rules at count = (count.bytes ≡ at.taken) × (IsTrue count.is_whole ↔ MayEndAt rules at.standing)
 
 -- where both streams are
 pub record BothAt : Type 0 where

@@ -1,11 +1,9 @@
 pub mod BothEnds
-pub mod Counts
 pub mod DialogueText
 pub mod Dialogues
 pub mod Ends
 pub mod Readers
 pub mod Reading
-pub mod StreamsSent
 pub mod TraceObjects
 pub mod TraceText
 pub mod Tracers

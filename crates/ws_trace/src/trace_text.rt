@@ -4,13 +4,12 @@ ghost use Rattle.std.specs.Prelude.{◌≡◌, ◌-◌};
 ghost use Rattle.ws_text.specs.ItemLines.{item_lines};
 ghost use Rattle.ws_text.specs.Printing.{Prints};
 ghost use Rattle.ws_trace.specs.DialogueText as Forms;
-ghost use Rattle.ws_trace.specs.StreamsSent.{sent_in};
 ghost use Rattle.ws_trace.specs.TraceText as Spec;
 
 use crate::dialogue::tally_of;
 use crate::trace_objects::{Members, put_end_object, put_told_object};
 use crate::{Dialogue, EndCount, EndTold, Entry, Told, TracedEnd};
-use ws_code::{Reason, Sink};
+use ws_code::Sink;
 use ws_printing::PlaceAndReason;
 use ws_text::{EachAs, HexBehindBlank, Listed, Number, Output, Text, TextAs, put_item, texts};
 
@@ -45,7 +44,7 @@ pub(crate) fn put_dialogue<S: Sink>(
     streams: Streams<'_>,
 ) -> Output
     ensures { Prints S.writer sink.old sink.new output result
-        (Forms.dialogue_of_streams streams.entry.form (sent_in streams.entry) dialogue.now) }
+        (Forms.dialogue_of_streams streams.entry.form (Forms.sent_in streams.entry) dialogue.now) }
 {
     let entries = dialogue.entries.as_slice();
     let output = EachAs(entries, streams).put_to(sink, output);
@@ -74,43 +73,31 @@ fn put_end<S: Sink>(
         (Forms.end_in form end count entries.now) }
 {
     match form {
-        TraceForm::Lines(_) => put_end_line(sink, output, end, count, entries),
+        TraceForm::Lines(_) => {
+            let tally = tally_of(entries, end);
+            texts!(
+                end.name(),
+                ": ",
+                Number(count.bytes),
+                " bytes, ",
+                Number(tally.records as u64),
+                " records, ",
+                Number(tally.refusals as u64),
+                " refused",
+                if count.is_whole {
+                    "\n"
+                } else {
+                    ", truncated\n"
+                }
+            )
+            .put_to(sink, output)
+        }
         TraceForm::Objects(_) => put_end_object(sink, output, end, count, entries),
     }
 }
 
-// Writes the line of an end.
-fn put_end_line<S: Sink>(
-    sink: &mut S,
-    output: Output,
-    end: TracedEnd,
-    count: EndCount,
-    entries: &[Entry],
-) -> Output
-    ensures { Prints S.writer sink.old sink.new output result
-        (Spec.end_line end count entries.now) }
-{
-    let tally = tally_of(entries, end);
-    texts!(
-        end.name(),
-        ": ",
-        Number(count.bytes),
-        " bytes, ",
-        Number(tally.records as u64),
-        " records, ",
-        Number(tally.refusals as u64),
-        " refused",
-        if count.is_whole {
-            "\n"
-        } else {
-            ", truncated\n"
-        }
-    )
-    .put_to(sink, output)
-}
-
 impl TextAs<Streams<'_>> for Entry {
-    ghost text_as = { λ streams entry. Forms.entry_in streams.form (sent_in streams) entry };
+    ghost text_as = { λ streams entry. Forms.entry_in streams.form (Forms.sent_in streams) entry };
 
     fn put_as<S: Sink>(&self, streams: &Streams<'_>, sink: &mut S, output: Output) -> Output {
         match &self.told {
@@ -198,32 +185,20 @@ fn put_told<S: Sink, U: Listed>(
 {
     match told {
         Told::Whole(item) => put_item(sink, output, place, item),
-        Told::Refused(reason) => put_refusal(sink, output, place, *reason, stream),
+        Told::Refused(reason) => {
+            texts!(
+                "refused at ",
+                PlaceAndReason(place, *reason),
+                "  ",
+                reason.text(),
+                "\n  bytes",
+                HexBehindBlank(eight_before(place, stream)),
+                HexBehindBlank(eight_from(place, stream)),
+                "\n"
+            )
+            .put_to(sink, output)
+        }
     }
-}
-
-// Writes where a byte is refused and why, and the bytes round it.
-fn put_refusal<S: Sink>(
-    sink: &mut S,
-    output: Output,
-    place: u64,
-    reason: Reason,
-    stream: &[u8],
-) -> Output
-    ensures { Prints S.writer sink.old sink.new output result
-        (Spec.refusal_lines place reason stream.now) }
-{
-    texts!(
-        "refused at ",
-        PlaceAndReason(place, reason),
-        "  ",
-        reason.text(),
-        "\n  bytes",
-        HexBehindBlank(eight_before(place, stream)),
-        HexBehindBlank(eight_from(place, stream)),
-        "\n"
-    )
-    .put_to(sink, output)
 }
 
 /// The eight bytes before a place of a stream, or as many as there are.

@@ -1,6 +1,6 @@
 //! An end's stream as it is traced: its items are read and carried out, and entries made of them.
 ghost use Rattle.std.specs.Prelude.{◌≡◌, ◌++◌, ◌∷◌, ◌⊎◌, [], IfErr, OnOk, map};
-ghost use Rattle.ws_trace.specs.Counts.{IsEndCount};
+ghost use Rattle.ws_trace.specs.Dialogues.{IsEndCount};
 ghost use Rattle.ws_trace.specs.Ends.{EndAt, end_begins, entry_at, carry_fault, made_of, told_with};
 ghost use Rattle.ws_trace.specs.Tracers.{IsAdded, IsWholeCame, Tracks};
 

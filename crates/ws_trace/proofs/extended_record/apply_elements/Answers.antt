@@ -1,4 +1,4 @@
-use Rattle.std.proofs.lemmas.Result.{err_from_is_err_and}
+use Rattle.ws_record.proofs.Common.{handed_on}
 use Rattle.ws_trace.proofs.ExtendedRecords.{all_carried, carried_none, carried_one, finds_open, refused_first}
 use Rattle.ws_trace.proofs.extended_record.apply_elements.Goals as goal
 
@@ -13,9 +13,8 @@ apply-requires c =
 
 pub returns-in_err-apply-clause-fault : goal.returns-in_err-apply-clause-fault
 returns-in_err-apply-clause-fault c =
-    let p = err_from_is_err_and c.from_residual.result c.from_residual.ensures.1 in
     let l = c.loop-element in
-    rw (p.1, p.2) (refused_first c.args.display.now l.display c.args.elements.now l.element-index c.element-item.result
+    rw (handed_on c.from_residual.result c.from_residual.ensures.1) (refused_first c.args.display.now l.display c.args.elements.now l.element-index c.element-item.result
     c.loop-element-test.true c.element-item.is l.invariant c.in_err-apply.field-0.0 c.in_err-apply.ensures.fault)
 
 pub loop-element-preserved : goal.loop-element-preserved

@@ -8,5 +8,4 @@ pub returns-clause-after : goal.returns-clause-after
 returns-clause-after c = λ state shows.
     let after = state_after_all state c.args.record_.now.body in
     c.act.ensures.after (state_after_end after) (c.end_write.ensures.ended after
-    (subst (λ (es : List ExtendedElement). Shows (state_after_all state es) c.apply_elements.new.display)
-    c.as_slice-2.ensures (c.in_default-apply_elements.ensures.after state shows)))
+    (rw c.as_slice-2.ensures at (c.in_default-apply_elements.ensures.after state shows)))

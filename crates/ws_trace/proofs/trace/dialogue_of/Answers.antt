@@ -30,8 +30,7 @@ loop-piece-preserved c =
 pub returns-clause-dialogue : goal.returns-clause-dialogue
 returns-clause-dialogue c = let t = c.loop-piece.invariant in record {
   at = t.at;
-  heard = subst (λ (z : List Piece). AreAllHeard both_begin z c.loop-piece.entries.items t.at)
-      (take_all c.loop-piece.piece-index c.args.pieces.now c.loop-piece-test.false) t.heard;
+  heard = rw (take_all c.loop-piece.piece-index c.args.pieces.now c.loop-piece-test.false) at t.heard;
   host = c.finish-host.ensures t.at.host t.host_is;
   station = c.finish-station.ensures t.at.station t.station_is;
 }

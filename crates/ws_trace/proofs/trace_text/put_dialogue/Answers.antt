@@ -1,8 +1,7 @@
 use Rattle.std.proofs.Common.{◌++◌, ap}
 use Rattle.std.specs.List.{flat_map}
 use Rattle.ws_text.proofs.Prints.{prints_both, prints_same}
-use Rattle.ws_trace.specs.StreamsSent.{sent_in}
-use Rattle.ws_trace.specs.DialogueText.{end_in, entry_in}
+use Rattle.ws_trace.specs.DialogueText.{end_in, entry_in, sent_in}
 use Rattle.ws_trace.specs.declared.piece.TracedEnd.TheVariants.{Host, Station}
 use Rattle.ws_trace.proofs.trace_text.put_dialogue.Goals as goal
 

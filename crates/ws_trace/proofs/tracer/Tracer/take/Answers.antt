@@ -1,6 +1,7 @@
 use Rattle.std.proofs.Common.{◌∙◌}
+use Rattle.std.proofs.lemmas.Result.{on_ok_weaker}
 use Rattle.ws_trace.specs.Ends.{entry_at}
-use Rattle.ws_trace.proofs.Tracings.{added_one, came_whole, entries_there, on_ok}
+use Rattle.ws_trace.proofs.Tracings.{added_one, came_whole, entries_there}
 use Rattle.ws_trace.proofs.tracer.Tracer.take.Goals as goal
 
 pub carry_out-refused-requires-clause-whole : goal.carry_out-refused-requires-clause-whole
@@ -12,9 +13,9 @@ carry_out-refused-requires-clause-whole g c =
 pub returns-clause-heard : goal.returns-clause-heard
 returns-clause-heard g c =
     let put = entry_at g.B.Traced.told_as c.args.milliseconds in
-    rw (← c.self.view_is) (on_ok c.add_all.result c.add_all.ensures.added (λ is at t.
+    rw (← c.self.view_is) (on_ok_weaker c.add_all.result (λ is at t.
     added_one g.B.Code.rules g.B.Traced.tracing put g.B.Traced.is_made _ c.take.new.self c.carry_out-refused.new.made at
     c.args.byte c.in_ok-came.came c.args.entries.now.items c.add_all.new.entries.items t c.in_ok-came.ensures.next
     c.carry_out-refused.ensures.after (is ∙ entries_there g.B.Code.rules g.B.Traced.tracing put _ at c.in_ok-came.came
     c.carry_out-refused.result c.args.entries.now.items t.counted (c.carry_out-refused.ensures.fault at.state t.made))
-    c.in-Some.taken c.in-Some.ensures.1))
+    c.in-Some.taken c.in-Some.ensures.1) c.add_all.ensures.added)
