@@ -1,11 +1,9 @@
 -- What goes out after a buffer.
 
-use Rattle.std.specs.Prelude.{Option, Some, None}
-use Rattle.std.proofs.Common.{◌≡◌, ℕ, List, [], ◌∷◌, ◌++◌, take, drop, sym, ap, ◌∙◌, subst, append_assoc}
-use Rattle.std.proofs.Common.{take-append-drop}
-use Rattle.std.proofs.lemmas.List.{append-nil}
-use Rattle.ws_code.specs.Device.{Writer, Taken, bytes_taken, Writes, WentOut, FailedWithin, IsWriteFailure}
-use Rattle.ws_code.proofs.DeviceLaws.{went_out_none, went_out_both, failed_within_both}
+use Rattle.ws_code.specs.Device.{IsWriteFailure}
+use Rattle.ws_printing.proofs.Common.{Option, Some, None, ◌≡◌, ℕ, List, [], ◌∷◌, ◌++◌, take, drop, sym, ap, ◌∙◌}
+use Rattle.ws_printing.proofs.Common.{append_assoc, take-append-drop, append-nil, Writer, Taken, bytes_taken, Writes}
+use Rattle.ws_printing.proofs.Common.{WentOut, FailedWithin, went_out_none, went_out_both, failed_within_both}
 use Rattle.ws_printing.specs.Buffering.{Buffering, buffered_takes, buffered_writer}
 
 module _ {S : Type 0} (writer : Writer S) where

@@ -1,29 +1,19 @@
-use Rattle.std.specs.Prelude.{Bool, Result, Ok, Err, IfOk, IfErr}
-use Rattle.std.proofs.Common.{◌≡◌, ℕ, ◌+◌, ◌-◌, ◌<◌, ◌^◌, List, [], ◌∷◌, ◌++◌, Some, length, take, drop, refl}
-use Rattle.std.proofs.Common.{inr, ap, ◌∙◌, arith, length-append, length-drop, append_assoc}
-use Rattle.std.proofs.lemmas.List.{take_all, take-append-drop}
-use Rattle.ws_code.specs.Code.{Rules}
-use Rattle.ws_code.specs.Device.{Writer, WentOut, FailedWithin}
-use Rattle.ws_code.specs.Keep.{nothing_keeper}
-use Rattle.ws_code.specs.Run.{intake, with_keep}
 use Rattle.ws_code.specs.declared.fault.Fault.{Fault}
-use Rattle.ws_code.specs.declared.fault.Fault.TheVariants as device
-use Rattle.ws_code.specs.declared.keep.Kept.TheVariants as answer
-use Rattle.ws_code.specs.declared.reason.Reason.{Reason}
 use Rattle.ws_telnet.specs.Words.{telnet_of}
-use Rattle.ws_record.specs.Advance.{IsAdvance}
 use Rattle.ws_record.specs.DataStep.{record_of}
-use Rattle.ws_record.specs.Live.{Watching, Leads, stream}
 use Rattle.ws_record.specs.OpenRecord.{RecordSoFar, no_record}
 use Rattle.ws_record.specs.declared.news.News.{News}
-use Rattle.ws_record.specs.declared.news.News.TheVariants as told
-use Rattle.ws_record.specs.declared.record.Item.{Item}
 use Rattle.ws_record.specs.declared.record.Item.TheVariants.{Record as RecordItem, Telnet as TelnetItem}
-use Rattle.ws_text.specs.Printed.{IsPrinted}
+use Rattle.ws_printing.proofs.Common.{nothing_keeper, Reason, IsAdvance, Item, Bool, Result, Ok, Err, IfOk, IfErr, ◌≡◌}
+use Rattle.ws_printing.proofs.Common.{ℕ, ◌+◌, ◌-◌, ◌<◌, ◌^◌, List, [], ◌∷◌, ◌++◌, Some, length, take, drop, refl, inr}
+use Rattle.ws_printing.proofs.Common.{ap, ◌∙◌, arith, length-append, length-drop, append_assoc, take_all}
+use Rattle.ws_printing.proofs.Common.{take-append-drop, Rules, Writer, WentOut, FailedWithin, intake, with_keep}
+use Rattle.ws_printing.proofs.Common.{Watching, Leads, stream, IsPrinted, Counts, check_printing, tally_after, Tally}
 use Rattle.ws_printing.specs.CheckLine.{IsVerdict, is_accepted, line_of, record_count, command_count}
-use Rattle.ws_printing.specs.Checking.{Counts, check_printing, tally_after}
-use Rattle.ws_printing.specs.declared.check.Tally.{Tally}
 use Rattle.ws_printing.specs.declared.verdict.Verdict.{Verdict}
+use Rattle.ws_code.specs.declared.fault.Fault.TheVariants as device
+use Rattle.ws_code.specs.declared.keep.Kept.TheVariants as answer
+use Rattle.ws_record.specs.declared.news.News.TheVariants as told
 
 record_count-append : {U : Type 0} (xs ys : List (Item U)) → record_count (xs ++ ys) ≡ record_count xs + record_count ys
 record_count-append [] ys = omega arith

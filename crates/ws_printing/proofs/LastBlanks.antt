@@ -1,9 +1,7 @@
 -- The last of some that show characters: left out where it shows a blank, else all stay.
 
-use Rattle.std.specs.Prelude.{◌==◌, if◌then◌else◌}
-use Rattle.std.proofs.Common.{◌≡◌, ◌≢◌, ℕ, List, [], ◌∷◌, ◌++◌, Bool, inl, inr, refl, ap, ◌∙◌}
-use Rattle.std.proofs.lemmas.Bool.Decides.{eqb_tells}
-use Rattle.ws_printing.specs.Characters.{with_first, without_last_blanks}
+use Rattle.ws_printing.proofs.Common.{◌==◌, if◌then◌else◌, ◌≡◌, ◌≢◌, ℕ, List, [], ◌∷◌, ◌++◌, Bool, inl, inr, refl, ap}
+use Rattle.ws_printing.proofs.Common.{◌∙◌, eqb_tells, with_first, without_last_blanks}
 
 module _ {A : Type 0} (character : A → ℕ) where
   pub blank_last : (front : List A) (last : A) → character last ≡ 0x20

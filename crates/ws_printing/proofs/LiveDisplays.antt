@@ -1,9 +1,7 @@
 -- What is printed after the lines of a screen.
 
-use Rattle.std.proofs.Common.{ℕ, List, ◌++◌, ap}
 use Rattle.ws_screen.specs.ScreenParts.{ScreenParts}
-use Rattle.ws_printing.specs.declared.look.Look.{Look}
-use Rattle.ws_printing.specs.ScreenLines.{IsScreenText, IsDisplayText}
+use Rattle.ws_printing.proofs.Common.{ℕ, List, ◌++◌, ap, Look, IsScreenText, IsDisplayText}
 
 -- the lines of a display are those of its screen, and these
 pub display_text : (look : Look) (s : ScreenParts) (behind lines : List ℕ) → IsScreenText look s lines

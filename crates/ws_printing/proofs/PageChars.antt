@@ -1,22 +1,12 @@
 -- What bytes show on a code page, and on page 037.
 
-use Rattle.std.specs.Prelude.{◌==◌, ◌||◌, if◌then◌else◌, unwrap_or, is_some}
-use Rattle.std.proofs.Common.{◌≡◌, ℕ, ◌≤◌, Bool, true, false, Option, Some, None, slice_index}
-use Rattle.std.proofs.Common.{refl, ap, ◌∙◌, ◌<◌, arith}
-use Rattle.std.proofs.lemmas.Bool.Decides.{nat_tests}
-use borrow.Author.Tests.{ne_eqb}
+use Rattle.ws_code.proofs.OneToOne.{char_bounds}
 use Rattle.ws_code.specs.CodePage.{changes_of, char_on, national_char}
 use Rattle.ws_code.specs.Ebcdic.{char_of}
-use Rattle.ws_code.specs.declared.code_page.CodePage.{CodePage}
-use Rattle.ws_code.proofs.OneToOne.{char_bounds}
-use Rattle.ws_code.proofs.PageLaws.{one_to_one}
-use Rattle.ws_stream.specs.FieldOrder.{is_attribute}
-use Rattle.ws_screen.specs.Attributes.{is_hidden}
-use Rattle.ws_screen.specs.Lines.{attribute_at, shown_under}
-use Rattle.ws_screen.specs.declared.lines.TheConstants.{DUP}
-use Rattle.ws_screen.specs.declared.shown.Shown.{Shown}
-use Rattle.ws_printing.specs.ShownOnPage.{on_page, page_037, ShowsAsScreen}
-use Rattle.ws_printing.specs.ShownTexts.{IsOnlyFor}
+use Rattle.ws_printing.proofs.Common.{DUP, ◌==◌, ◌||◌, if◌then◌else◌, unwrap_or, is_some, ◌≡◌, ℕ, ◌≤◌, Bool, true}
+use Rattle.ws_printing.proofs.Common.{false, Option, Some, None, slice_index, refl, ap, ◌<◌, arith, nat_tests, ne_eqb}
+use Rattle.ws_printing.proofs.Common.{CodePage, one_to_one, is_attribute, is_hidden, attribute_at, shown_under, Shown}
+use Rattle.ws_printing.proofs.Common.{on_page, page_037, ShowsAsScreen, IsOnlyFor}
 
 -- page 037 has the characters that it has
 char_on_037 : (b : ℕ) → char_on page_037 b ≡ char_of b

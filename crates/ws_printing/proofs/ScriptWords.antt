@@ -1,17 +1,12 @@
 -- Words: blanks and digits.
 
 use Rattle.std.specs.Char.{digit_value}
-use Rattle.std.specs.Option.{is_some}
-use Rattle.std.specs.Prelude.{codes, Option, Some, None, MatchOption, ◌==◌}
-use Rattle.std.specs.Str.{bytes_eq}
 use Rattle.std.specs.Str.Parse.{AllDigits}
-use Rattle.std.specs.Str.Pattern.{FindsCharPrefix}
-use Rattle.std.proofs.Common.{◌≡◌, ◌≢◌, ℕ, suc, ◌+◌, ◌<◌, List, [], ◌∷◌, ◌++◌, true, false, not, ◌&&◌, length, get_or}
-use Rattle.std.proofs.Common.{drop, inl, inr, refl, sym, ap, ◌∙◌, subst, arith, append_assoc, lit<, Bor}
-use Rattle.std.proofs.lemmas.Bool.{false≢true, and_parts}
-use Rattle.std.proofs.lemmas.Bool.Decides.{eqb_tells}
 use Rattle.std.proofs.lemmas.Slice.Eq.{bytes_eq-Decides}
-use Rattle.std.proofs.lemmas.Str.Pattern.{IsSplitOnceResult, split_parts, strip_prefix_char}
+use Rattle.ws_printing.proofs.Common as C
+use C.{FindsCharPrefix, is_some, codes, Option, Some, None, MatchOption, ◌==◌, bytes_eq, ◌≡◌, ◌≢◌, ℕ, suc, ◌+◌, ◌<◌}
+use C.{List, [], ◌∷◌, ◌++◌, true, false, not, ◌&&◌, length, get_or, drop, inl, inr, refl, sym, ap, ◌∙◌, subst, arith}
+use C.{append_assoc, lit<, Bor, false≢true, and_parts, eqb_tells, IsSplitOnceResult, split_parts, strip_prefix_char}
 use Rattle.ws_printing.specs.script.ScriptFaults.{IsNoComment, has_no_blank}
 
 -- texts that a test tells apart

@@ -1,25 +1,13 @@
 -- The lines of a script, and their moves.
 
-use Rattle.std.specs.Prelude.{codes, map, Some, Result, OnOk, IfErr}
-use Rattle.std.specs.Str.{IsUtf8, bytes_eq, chars}
-use Rattle.std.specs.Str.Lines.{lines}
-use Rattle.std.proofs.Common.{◌≡◌, ◌≢◌, ℕ, ◌+◌, ◌<◌, ◌≤◌, List, [], ◌∷◌, ◌++◌, Bool, true, false, length, inl, inr, refl, sym}
-use Rattle.std.proofs.Common.{ap, ◌∙◌, subst, arith, append_assoc, length-append}
-use Rattle.std.proofs.lemmas.Bool.{false≢true}
-use Rattle.std.proofs.lemmas.List.{append-nil}
-use Rattle.std.proofs.lemmas.Result.{on_ok_weaker, IfErr-weaker}
-use Rattle.std.proofs.lemmas.Str.{scalars-chars, encodes-chars}
 use Rattle.ws_record.specs.declared.opcode.Opcode.{Opcode}
-use Rattle.ws_stream.specs.declared.element.Element.{Element}
-use Rattle.ws_keys.specs.declared.key.Key.{Key}
 use Rattle.ws_session.specs.declared.world.Move.{Move}
-use Rattle.ws_session.specs.declared.world.Move.TheVariants.{Send, Cancel, ToStation, ToHost, Key as Press}
-use Rattle.ws_printing.specs.declared.script.ScriptFault.{ScriptFault}
-use Rattle.ws_printing.specs.declared.script.ScriptFault.TheVariants.{Line, Memory}
-use Rattle.ws_printing.specs.script.KeyNames.{key_named}
-use Rattle.ws_printing.specs.script.Script.{AreTypedMoves, typed_key, IsCount, IsSendOpcode, IsBodyText, IsRecordText}
-use Rattle.ws_printing.specs.script.Script.{IsMove, MeansMoves, IsScriptLine, AreLines}
-use Rattle.ws_printing.specs.script.Script.MeansMoves.{empty, comment, one, settle, typed, inserted}
+use Rattle.ws_printing.proofs.Common as C
+use C.{length-append, scalars-chars, encodes-chars, AreTypedMoves, append_assoc, on_ok_weaker, IfErr-weaker}
+use C.{IsSendOpcode, IsRecordText, IsScriptLine, ScriptFault, false≢true, append-nil, IsBodyText, MeansMoves, ToStation}
+use C.{typed_key, key_named, bytes_eq, AreLines, inserted, Element, IsCount, comment, Result, IsUtf8, length, Cancel}
+use C.{ToHost, Memory, IsMove, settle, codes, IfErr, chars, lines, false, arith, Press, empty, typed, Some, OnOk, List}
+use C.{◌++◌, Bool, true, refl, Send, Line, Key, map, ◌≡◌, ◌≢◌, ◌+◌, ◌<◌, ◌≤◌, ◌∷◌, inl, inr, sym, ◌∙◌, one, [], ap, ℕ}
 use Rattle.ws_printing.specs.script.ScriptFaults.{IsNoComment, IsLineFault, IsGoodSoFar, has_no_blank}
 use Rattle.ws_printing.proofs.ScriptWords.{differ, blank_inside, split_unique, digits_have_no_blank}
 

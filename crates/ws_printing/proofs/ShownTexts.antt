@@ -1,22 +1,14 @@
 -- The bytes that a row has which shows a text.
 
-use Rattle.std.specs.Char.{encode_utf8}
-use Rattle.std.specs.List.{Contains, range_with_len}
-use Rattle.std.specs.Str.{encode_utf8_all}
-use Rattle.std.specs.Str.Iter.{HasSubslice}
-use Rattle.std.proofs.Common.{◌≡◌, ℕ, ◌+◌, ◌-◌, ◌*◌, ◌<◌, ◌≤◌, List, [], ◌∷◌, ◌++◌}
-use Rattle.std.proofs.Common.{length, map, slice_index, get_or, inl, inr, refl, sym, ap, ◌∙◌, subst, arith}
-use Rattle.std.proofs.lemmas.List.{append-nil, get_or-map, get_or_default, length-map}
 use Rattle.std.proofs.lemmas.List.Edits.{get_or-between, length-between}
-use Rattle.std.proofs.lemmas.List.Elements.{Contains-get_or, Contains-append_left, Contains-append_right}
-use Rattle.std.proofs.lemmas.List.Elements.{Contains-append_cases}
 use Rattle.std.proofs.lemmas.List.FromFn.{get_or-map-range_with_len, length-map-range_with_len}
-use Rattle.std.proofs.lemmas.Str.{inside_one}
-use Rattle.ws_code.specs.declared.code_page.CodePage.{CodePage}
-use Rattle.ws_screen.specs.Lines.{attribute_at}
+use Rattle.ws_printing.proofs.Common as C
+use C.{Contains-append_left, Contains-append_right, encode_utf8, Contains, range_with_len, encode_utf8_all, HasSubslice}
+use C.{◌≡◌, ℕ, ◌+◌, ◌-◌, ◌*◌, ◌<◌, ◌≤◌, List, [], ◌∷◌, ◌++◌, length, map, slice_index, get_or, inl, inr, refl, sym, ap}
+use C.{◌∙◌, subst, arith, append-nil, get_or-map, get_or_default, length-map, Contains-get_or, Contains-append_cases}
+use C.{inside_one, CodePage, attribute_at, shown_on, IsNeededBy, text_of_shown}
 use Rattle.ws_printing.specs.ReportLines.{row_bytes}
-use Rattle.ws_printing.specs.ShownOnPage.{row_on_page, shown_on}
-use Rattle.ws_printing.specs.ShownTexts.{IsNeededBy, text_of_shown}
+use Rattle.ws_printing.specs.ShownOnPage.{row_on_page}
 use Rattle.ws_printing.proofs.PageChars.{shown_byte}
 
 -- among the bytes of a character is one below 80 only if it is the character

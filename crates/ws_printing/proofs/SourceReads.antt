@@ -1,13 +1,5 @@
-use Rattle.std.proofs.Common.{◌≡◌, ℕ, ◌*◌, ◌≤◌, List, [], length, ap, arith, length-append}
-use Rattle.ws_code.specs.Code.{Rules}
-use Rattle.ws_code.specs.Device.{Reader, Gave}
-use Rattle.ws_record.specs.Live.{Watching}
-use Rattle.ws_record.specs.Refusal.{Layer, IsOpen}
-use Rattle.ws_record.proofs.Faults.{open_before}
-use Rattle.ws_record.proofs.Receivers.{refused_append}
-use Rattle.ws_printing.specs.Checking.{Counts}
-use Rattle.ws_printing.specs.SourceChecks.{HasRefusal}
-use Rattle.ws_printing.specs.declared.check.Tally.{Tally}
+use Rattle.ws_printing.proofs.Common.{open_before, ◌≡◌, ℕ, ◌*◌, ◌≤◌, List, [], length, ap, arith, length-append, Rules}
+use Rattle.ws_printing.proofs.Common.{Reader, Gave, Watching, Layer, IsOpen, refused_append, Counts, HasRefusal, Tally}
 
 -- What is read of a source.
 

@@ -1,5 +1,4 @@
-use Rattle.std.proofs.Common.{sym, ap, ◌∙◌}
-use Rattle.ws_printing.specs.Characters.{without_last_blanks}
+use Rattle.ws_printing.proofs.Common.{sym, ◌∙◌}
 use Rattle.ws_printing.proofs.LastBlanks.{blank_last, shown_last}
 use Rattle.ws_printing.proofs.characters.without_last_blanks.Goals as goal
 

@@ -1,5 +1,4 @@
-use Rattle.std.proofs.Common.{◌≡◌, length}
-use Rattle.ws_printing.specs.Characters.{without_last_blanks}
+use Rattle.ws_printing.proofs.Common.{◌≡◌, length, without_last_blanks}
 use Rattle.ws_printing.proofs.characters.without_last_blanks.Given as goal
 
 -- after these only blanks are shown

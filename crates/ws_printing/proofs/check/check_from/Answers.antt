@@ -1,4 +1,4 @@
-use Rattle.std.proofs.Common.{inr}
+use Rattle.ws_printing.proofs.Common.{inr}
 use Rattle.ws_printing.proofs.CheckLemmas.{line_printed}
 use Rattle.ws_printing.proofs.check.check_from.Goals as goal
 

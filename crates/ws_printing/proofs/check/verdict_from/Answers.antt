@@ -1,7 +1,5 @@
-use Rattle.std.proofs.Common.{◌≡◌, ◌++◌, ◌+◌, length, take, inl, inr, refl, ap, ◌∙◌, arith, length-append}
-use Rattle.std.proofs.lemmas.List.{length-take-le}
-use Rattle.ws_code.specs.Device.{one_more}
-use Rattle.ws_code.proofs.DeviceLaws.{gave_more, take_some}
+use Rattle.ws_printing.proofs.Common.{◌≡◌, ◌++◌, ◌+◌, length, take, inl, inr, refl, ap, ◌∙◌, arith, length-append}
+use Rattle.ws_printing.proofs.Common.{length-take-le, one_more, gave_more, take_some}
 use Rattle.ws_printing.proofs.SourceReads.{unrefused}
 use Rattle.ws_printing.proofs.check.verdict_from.Goals as goal
 

@@ -1,9 +1,5 @@
-use Rattle.std.proofs.Common.{◌≡◌, ◌++◌, ℕ, List, [], length, ap, sym, ◌∙◌, subst, arith, rules, append_assoc}
-use Rattle.std.proofs.Common.{append-nil, length-append}
-use Rattle.std.proofs.lemmas.List.{nil_from_length}
-use Rattle.ws_record.specs.Refusal.{IsRefused}
-use Rattle.ws_record.proofs.Receivers.{refused_append}
-use Rattle.ws_printing.specs.Checking.{Counts}
+use Rattle.ws_printing.proofs.Common.{◌≡◌, ◌++◌, ℕ, List, [], length, ap, sym, ◌∙◌, arith, rules, append_assoc}
+use Rattle.ws_printing.proofs.Common.{append-nil, length-append, nil_from_length, refused_append}
 use Rattle.ws_printing.proofs.check.verdict_of.Goals as goal
 
 -- a piece of what is left goes on after what was before

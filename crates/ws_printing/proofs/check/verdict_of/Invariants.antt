@@ -1,6 +1,5 @@
 use Rattle.std.specs.Slice.Iter.{chunks_rest, chunks_size}
-use Rattle.std.proofs.Common.{◌≡◌, ◌++◌, ℕ, List}
-use Rattle.ws_printing.specs.Checking.{Counts}
+use Rattle.ws_printing.proofs.Common.{◌≡◌, ◌++◌, ℕ, List, Counts}
 use Rattle.ws_printing.proofs.check.verdict_of.Given as goal
 
 -- the bytes so far lead to the decoder and the tally, and the others are left

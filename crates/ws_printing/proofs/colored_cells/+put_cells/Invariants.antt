@@ -1,4 +1,4 @@
-use Rattle.std.proofs.Common.{length}
+use Rattle.ws_printing.proofs.Common.{length}
 use Rattle.ws_printing.proofs.colored_cells.+put_cells.Given as goal
 
 abbrev pub decreases-put_cells : goal.decreases-put_cells

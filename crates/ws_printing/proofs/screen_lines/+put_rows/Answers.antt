@@ -1,7 +1,6 @@
-use Rattle.std.proofs.Common.{◌≡◌, ℕ, zero, suc, ◌-◌, ◌<◌, List, ◌++◌, ap, arith}
-use Rattle.ws_text.proofs.Prints.{prints_none, prints_both, prints_same}
-use Rattle.ws_printing.specs.ScreenLines.{line_of_row, rows_text}
-use Rattle.ws_printing.specs.declared.look.Look.{Look}
+use Rattle.ws_printing.proofs.Common.{◌≡◌, ℕ, zero, suc, ◌-◌, ◌<◌, List, ◌++◌, ap, arith, prints_none, prints_both}
+use Rattle.ws_printing.proofs.Common.{prints_same, line_of_row, Look}
+use Rattle.ws_printing.specs.ScreenLines.{rows_text}
 use Rattle.ws_printing.proofs.screen_lines.+put_rows.Goals as goal
 
 one_more : (look : Look) (cells : List ℕ) (n : ℕ) → 0 < n

@@ -1,4 +1,4 @@
-use Rattle.std.proofs.Common.{length}
+use Rattle.ws_printing.proofs.Common.{length}
 use Rattle.ws_printing.proofs.Scripts.{Reads}
 use Rattle.ws_printing.proofs.script.read_script.Given as goal
 

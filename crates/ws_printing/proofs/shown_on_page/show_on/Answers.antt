@@ -1,14 +1,7 @@
-use Rattle.std.specs.List.{range_with_len}
-use Rattle.std.proofs.Common.{◌≡◌, ◌+◌, ◌<◌, [], ◌∷◌, ◌++◌, length, map, slice_index, if◌then◌else◌, arith}
-use Rattle.std.proofs.Common.{sym, ◌∙◌, ap, refl}
-use Rattle.std.proofs.lemmas.Grind.{common_steps}
-use Rattle.std.proofs.lemmas.List.{take_more_set}
 use Rattle.std.proofs.lemmas.List.FromFn.{map-range_with_len_more}
-use Rattle.ws_stream.specs.FieldOrder.{is_attribute}
-use Rattle.ws_screen.specs.Lines.{attribute_at, shown_at, shown_under}
-use Rattle.ws_screen.specs.declared.shown.Shown.{Shown}
-use Rattle.ws_screen.proofs.LineLemmas.{attribute_at-more}
-use Rattle.ws_printing.specs.ShownOnPage.{on_page, shown_on}
+use Rattle.ws_printing.proofs.Common.{attribute_at-more, range_with_len, if◌then◌else◌, take_more_set, common_steps}
+use Rattle.ws_printing.proofs.Common.{is_attribute, attribute_at, slice_index, shown_under, shown_at, shown_on, on_page}
+use Rattle.ws_printing.proofs.Common.{length, arith, Shown, ◌++◌, refl, ◌≡◌, ◌+◌, ◌<◌, ◌∷◌, map, sym, ◌∙◌, [], ap}
 use Rattle.ws_printing.proofs.shown_on_page.show_on.Goals as goal
 
 pub loop-index-preserved : goal.loop-index-preserved

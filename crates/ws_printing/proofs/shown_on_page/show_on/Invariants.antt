@@ -1,6 +1,4 @@
-use Rattle.std.proofs.Common.{◌≡◌, ◌+◌, take}
-use Rattle.ws_screen.specs.Lines.{attribute_at}
-use Rattle.ws_printing.specs.ShownOnPage.{cells_on_page}
+use Rattle.ws_printing.proofs.Common.{◌≡◌, ◌+◌, take, attribute_at, cells_on_page}
 use Rattle.ws_printing.proofs.shown_on_page.show_on.Given as goal
 
 -- the cells so far, and the attribute in force

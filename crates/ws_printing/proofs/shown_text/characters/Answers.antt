@@ -1,11 +1,6 @@
-use Rattle.std.specs.Prelude.{encode_utf8}
-use Rattle.std.specs.Str.{encode_utf8_all}
-use Rattle.std.proofs.Common.{◌≡◌, ◌+◌, ◌<◌, ◌≤◌, [], ◌∷◌, ◌++◌, ℕ, length, map, take, arith, lit<, sym, ◌∙◌, ap}
-use Rattle.std.proofs.Common.{length-append}
-use Rattle.std.proofs.lemmas.List.{map_more}
-use Rattle.std.proofs.lemmas.Str.{length-encode, len_utf8_bounds}
-use Rattle.ws_screen.specs.declared.shown.Shown.{Shown}
-use Rattle.ws_screen.proofs.LineLemmas.{text-more}
+use Rattle.ws_printing.proofs.Common.{encode_utf8, encode_utf8_all, ◌≡◌, ◌+◌, ◌<◌, ◌≤◌, [], ◌∷◌, ◌++◌, ℕ, length, map}
+use Rattle.ws_printing.proofs.Common.{take, arith, lit<, sym, ◌∙◌, ap, length-append, map_more, length-encode}
+use Rattle.ws_printing.proofs.Common.{len_utf8_bounds, Shown, text-more}
 use Rattle.ws_printing.proofs.shown_text.characters.Goals as goal
 
 pub push-requires : goal.push-requires

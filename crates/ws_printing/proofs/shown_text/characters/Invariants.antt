@@ -1,5 +1,4 @@
-use Rattle.std.specs.Str.{encode_utf8_all}
-use Rattle.std.proofs.Common.{◌≡◌, ◌*◌, ◌≤◌, length, take, map}
+use Rattle.ws_printing.proofs.Common.{encode_utf8_all, ◌≡◌, ◌*◌, ◌≤◌, length, take, map}
 use Rattle.ws_printing.proofs.shown_text.characters.Given as goal
 
 -- the cells so far

@@ -1,7 +1,5 @@
-use Rattle.std.proofs.Common.{eqb, get_or, sym, ◌∙◌}
-use Rattle.std.proofs.lemmas.Bool.{false≢true}
-use Rattle.std.proofs.lemmas.Bool.Decides.{Decides-eqb}
-use Rattle.std.proofs.lemmas.List.Elements.{Contains-get_or, contains_decides, Decides-contains}
+use Rattle.std.proofs.lemmas.List.Elements.{Decides-contains}
+use Rattle.ws_printing.proofs.Common.{contains_decides, eqb, get_or, sym, ◌∙◌, false≢true, Decides-eqb, Contains-get_or}
 use Rattle.ws_printing.proofs.shown_text.has_all.Goals as goal
 
 pub returns-then-not-contains : goal.returns-then-not-contains

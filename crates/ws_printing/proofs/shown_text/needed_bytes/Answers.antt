@@ -1,9 +1,6 @@
-use Rattle.std.specs.List.{Contains}
-use Rattle.std.proofs.Common.{ℕ, List, All, get_or, sym, ap, ◌∙◌, subst}
-use Rattle.std.proofs.lemmas.List.Elements.{All-push, Contains-get_or}
-use Rattle.ws_printing.specs.ShownTexts.{IsNeededBy}
-use Rattle.ws_printing.proofs.shown_text.needed_bytes.Goals as goal
+use Rattle.ws_printing.proofs.Common.{Contains, ℕ, List, get_or, subst, All-push, Contains-get_or, IsNeededBy}
 use Rattle.ws_printing.proofs.shown_text.needed_bytes.Goals.{in-Some, in_default}
+use Rattle.ws_printing.proofs.shown_text.needed_bytes.Goals as goal
 
 pub loop-character-preserved : goal.loop-character-preserved
 loop-character-preserved c =

@@ -1,5 +1,4 @@
-use Rattle.std.proofs.Common.{All}
-use Rattle.ws_printing.specs.ShownTexts.{IsNeededBy}
+use Rattle.ws_printing.proofs.Common.{All, IsNeededBy}
 use Rattle.ws_printing.proofs.shown_text.needed_bytes.Given as goal
 
 -- the bytes so far

@@ -1,10 +1,4 @@
-use Rattle.std.specs.List.{Contains}
-use Rattle.std.specs.Str.Iter.{HasSubslice}
-use Rattle.std.proofs.Common.{ℕ, List, sym, ap, ◌∙◌, subst}
-use Rattle.std.proofs.lemmas.Bool.{false≢true}
-use Rattle.std.proofs.lemmas.List.Elements.{All-contains}
-use Rattle.std.proofs.lemmas.Str.Pattern.{contains_text}
-use Rattle.ws_printing.specs.ShownTexts.{IsNeededBy, text_of_shown}
+use Rattle.ws_printing.proofs.Common.{sym, ◌∙◌, false≢true, All-contains, contains_text, IsNeededBy}
 use Rattle.ws_printing.proofs.ShownTexts.{needed_there}
 use Rattle.ws_printing.proofs.shown_text.row_shows.Goals as goal
 

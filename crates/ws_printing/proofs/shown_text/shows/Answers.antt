@@ -1,8 +1,5 @@
-use Rattle.std.specs.Str.Iter.{HasSubslice}
-use Rattle.std.proofs.Common.{◌≤◌, sym, ◌∙◌, arith, append_assoc}
 use borrow.Author.Count.{below_more}
-use Rattle.ws_printing.specs.ShownOnPage.{row_on_page}
-use Rattle.ws_printing.specs.ShownTexts.{text_of_shown}
+use Rattle.ws_printing.proofs.Common.{HasSubslice, ◌≤◌, sym, ◌∙◌, arith, append_assoc, row_on_page, text_of_shown}
 use Rattle.ws_printing.proofs.shown_text.shows.Goals as goal
 
 pub returns-then-row_shows-clause-shown : goal.returns-then-row_shows-clause-shown

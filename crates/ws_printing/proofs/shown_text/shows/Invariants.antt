@@ -1,7 +1,4 @@
-use Rattle.std.specs.Str.Iter.{HasSubslice}
-use Rattle.std.proofs.Common.{◌≤◌, ◌<◌, ℕ}
-use Rattle.ws_printing.specs.ShownOnPage.{row_on_page}
-use Rattle.ws_printing.specs.ShownTexts.{text_of_shown}
+use Rattle.ws_printing.proofs.Common.{HasSubslice, ◌≤◌, ◌<◌, ℕ, row_on_page, text_of_shown}
 use Rattle.ws_printing.proofs.shown_text.shows.Given as goal
 
 -- no row so far has the text

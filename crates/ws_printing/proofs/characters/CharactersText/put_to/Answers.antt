@@ -1,9 +1,5 @@
-use Rattle.std.specs.Prelude.{encode_utf8}
-use Rattle.std.proofs.Common.{◌++◌, ◌∙◌, ap, sym, take}
-use Rattle.std.proofs.lemmas.List.{take_all}
-use Rattle.ws_text.proofs.Prints.{prints_none, prints_both, prints_same}
-use Rattle.ws_text.proofs.Texts.{flat_map_more}
-use Rattle.ws_printing.specs.Characters.{characters_text}
+use Rattle.ws_printing.proofs.Common.{encode_utf8, ◌++◌, ◌∙◌, ap, sym, take, take_all, prints_both, prints_same}
+use Rattle.ws_printing.proofs.Common.{flat_map_more, characters_text}
 use Rattle.ws_printing.proofs.characters.CharactersText.put_to.Goals as goal
 
 pub loop-one-preserved : goal.loop-one-preserved

@@ -1,6 +1,4 @@
-use Rattle.std.proofs.Common.{take}
-use Rattle.ws_text.specs.Printing.{Prints}
-use Rattle.ws_printing.specs.Characters.{characters_text}
+use Rattle.ws_printing.proofs.Common.{take, Prints, characters_text}
 use Rattle.ws_printing.proofs.characters.CharactersText.put_to.Given as goal
 
 -- those so far

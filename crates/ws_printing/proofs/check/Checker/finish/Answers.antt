@@ -1,4 +1,4 @@
-use Rattle.std.proofs.Common.{◌∙◌}
+use Rattle.ws_printing.proofs.Common.{◌∙◌}
 use Rattle.ws_printing.proofs.check.Checker.finish.Goals as goal
 
 pub returns-in-Ok : goal.returns-in-Ok

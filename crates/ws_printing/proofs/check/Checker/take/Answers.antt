@@ -1,11 +1,5 @@
-use Rattle.std.proofs.Common.{◌≡◌, ◌++◌, ◌-◌, ℕ, List, length, take, drop, sym, ap, ◌∙◌, subst, arith, length-take}
-use Rattle.std.proofs.Common.{length-drop, length-append}
-use Rattle.std.proofs.lemmas.List.{append-nil, length-take-le}
-use Rattle.ws_record.specs.Refusal.{IsRefused}
-use Rattle.ws_record.proofs.Receivers.{refused_append}
-use Rattle.ws_text.proofs.LineEnds.{is_none}
-use Rattle.ws_printing.specs.Checking.{Counts}
-use Rattle.ws_printing.specs.declared.check.Tally.{Tally}
+use Rattle.ws_printing.proofs.Common.{◌≡◌, ◌++◌, ◌-◌, length, take, drop, sym, ◌∙◌, arith, length-take, length-drop}
+use Rattle.ws_printing.proofs.Common.{length-append, append-nil, length-take-le, refused_append, is_none}
 use Rattle.ws_printing.proofs.CheckLemmas.{counts_front, goes_on, fits_on}
 use Rattle.ws_printing.proofs.check.Checker.take.Goals as goal
 

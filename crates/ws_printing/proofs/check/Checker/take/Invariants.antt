@@ -1,5 +1,4 @@
-use Rattle.std.proofs.Common.{◌≡◌, ◌+◌, ◌<◌, ◌^◌, ◌++◌, ℕ, List, length}
-use Rattle.ws_printing.specs.Checking.{Counts}
+use Rattle.ws_printing.proofs.Common.{◌≡◌, ◌+◌, ◌<◌, ◌^◌, ◌++◌, ℕ, List, length, Counts}
 use Rattle.ws_printing.proofs.check.Checker.take.Given as goal
 
 -- the bytes before, and those of the piece so far, lead to the decoder and the tally

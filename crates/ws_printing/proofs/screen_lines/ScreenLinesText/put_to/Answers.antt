@@ -1,4 +1,4 @@
-use Rattle.ws_text.proofs.Prints.{prints_both}
+use Rattle.ws_printing.proofs.Common.{prints_both}
 use Rattle.ws_printing.proofs.screen_lines.ScreenLinesText.put_to.Goals as goal
 
 pub returns : goal.returns

@@ -1,6 +1,4 @@
-use Rattle.std.proofs.Common.{◌∷◌, [], refl, sym, ◌∙◌}
-use Rattle.ws_record.proofs.Common.{handed_on}
-use Rattle.ws_printing.specs.script.KeyWords.{AreNamed}
+use Rattle.ws_printing.proofs.Common.{◌∷◌, [], refl, sym, ◌∙◌, handed_on, AreNamed}
 use Rattle.ws_printing.proofs.Scripts.{only_memory}
 use Rattle.ws_printing.proofs.script.key_line.named_key.Goals as goal
 

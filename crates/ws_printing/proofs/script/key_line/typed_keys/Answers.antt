@@ -1,8 +1,5 @@
-use Rattle.std.specs.Str.{all_scalars, encode_utf8_all}
-use Rattle.std.proofs.Common.{sym, ap, ◌∙◌, map-id}
-use Rattle.std.proofs.lemmas.Iterator.{YieldsList-from_chars}
-use Rattle.std.proofs.lemmas.Iterator.Consumers.{YieldsList-end}
-use Rattle.std.proofs.lemmas.Str.{scalars-chars, encodes-chars}
+use Rattle.ws_printing.proofs.Common.{all_scalars, encode_utf8_all, sym, ap, ◌∙◌, map-id, YieldsList-from_chars}
+use Rattle.ws_printing.proofs.Common.{YieldsList-end, scalars-chars, encodes-chars}
 use Rattle.ws_printing.proofs.script.key_line.typed_keys.Goals as goal
 
 pub returns-clause-keys : goal.returns-clause-keys

@@ -1,5 +1,4 @@
-use Rattle.std.proofs.Common.{◌≡◌, map}
-use Rattle.ws_printing.specs.script.Script.{typed_key}
+use Rattle.ws_printing.proofs.Common.{◌≡◌, map, typed_key}
 use Rattle.ws_printing.proofs.script.key_line.typed_keys.Given as goal
 
 -- a key for each character so far

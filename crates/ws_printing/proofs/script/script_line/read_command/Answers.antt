@@ -1,9 +1,5 @@
-use Rattle.std.specs.Prelude.{codes, true, false}
-use Rattle.std.proofs.Common.{List, ℕ, [], ◌∷◌, ◌++◌, refl, ap, inl, inr}
-use Rattle.std.proofs.lemmas.Result.{on_ok_weaker}
-use Rattle.ws_record.proofs.Common.{handed_on}
-use Rattle.ws_printing.specs.script.Script.{IsMove, MeansMoves}
-use Rattle.ws_printing.specs.script.Script.MeansMoves.{one, typed, inserted}
+use Rattle.ws_printing.proofs.Common.{codes, true, false, List, ℕ, [], ◌∷◌, ◌++◌, refl, ap, inl, inr, on_ok_weaker}
+use Rattle.ws_printing.proofs.Common.{handed_on, IsMove, MeansMoves, one, typed, inserted}
 use Rattle.ws_printing.proofs.Scripts.{no_command, fault_on, good_before, typed_any}
 use Rattle.ws_printing.proofs.script.script_line.read_command.Goals as goal
 

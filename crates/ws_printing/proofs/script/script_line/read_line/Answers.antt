@@ -1,7 +1,4 @@
-use Rattle.std.proofs.Common.{[], refl, sym, ◌∙◌, inl, arith}
-use Rattle.std.proofs.lemmas.Grind.{common_steps}
-use Rattle.std.proofs.lemmas.List.{append-nil}
-use Rattle.ws_printing.specs.script.Script.MeansMoves.{comment}
+use Rattle.ws_printing.proofs.Common.{[], refl, sym, ◌∙◌, inl, arith, common_steps, append-nil, comment}
 use Rattle.ws_printing.proofs.ScriptWords.{comment_text, is_no_comment}
 use Rattle.ws_printing.proofs.Scripts.{line_read, line_unread}
 use Rattle.ws_printing.proofs.script.script_line.read_line.Goals as goal

@@ -1,9 +1,5 @@
-use Rattle.std.proofs.Common.{[], ◌∷◌, refl, arith}
-use Rattle.std.proofs.lemmas.Grind.{common_steps}
-use Rattle.std.proofs.lemmas.Result.{on_ok_weaker}
-use Rattle.ws_session.specs.declared.world.Move.TheVariants.{Cancel}
-use Rattle.ws_printing.specs.script.Script.{MeansMoves, settling}
-use Rattle.ws_printing.specs.script.Script.MeansMoves.{one, settle}
+use Rattle.ws_printing.proofs.Common.{[], ◌∷◌, refl, arith, common_steps, on_ok_weaker, Cancel, MeansMoves, settling}
+use Rattle.ws_printing.proofs.Common.{one, settle}
 use Rattle.ws_printing.proofs.Scripts.{good_before}
 use Rattle.ws_printing.proofs.script.script_line.read_word.Goals as goal
 

@@ -1,10 +1,5 @@
-use Rattle.std.specs.Str.{all_scalars, encode_utf8_all}
-use Rattle.std.proofs.Common.{map, refl, sym, ap, ◌∙◌, map-id}
-use Rattle.std.proofs.lemmas.Iterator.{YieldsList-from_chars}
-use Rattle.std.proofs.lemmas.Iterator.Consumers.{YieldsList-end}
-use Rattle.std.proofs.lemmas.Str.{scalars-chars, encodes-chars}
-use Rattle.ws_session.specs.declared.world.Move.TheVariants.{Key as Press}
-use Rattle.ws_printing.specs.script.Script.{typed_key}
+use Rattle.ws_printing.proofs.Common.{YieldsList-from_chars, encode_utf8_all, YieldsList-end, scalars-chars}
+use Rattle.ws_printing.proofs.Common.{encodes-chars, all_scalars, typed_key, map-id, Press, refl, map, sym, ◌∙◌, ap}
 use Rattle.ws_printing.proofs.script.script_line.type_text.Goals as goal
 
 pub returns-clause-ok : goal.returns-clause-ok

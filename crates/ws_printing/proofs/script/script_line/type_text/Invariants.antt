@@ -1,6 +1,4 @@
-use Rattle.std.proofs.Common.{◌≡◌, ◌++◌, map}
-use Rattle.ws_session.specs.declared.world.Move.TheVariants.{Key as Press}
-use Rattle.ws_printing.specs.script.Script.{typed_key}
+use Rattle.ws_printing.proofs.Common.{◌≡◌, ◌++◌, map, Press, typed_key}
 use Rattle.ws_printing.proofs.script.script_line.type_text.Given as goal
 
 -- a key for each character so far

@@ -1,7 +1,4 @@
-use Rattle.std.specs.Prelude.{codes}
-use Rattle.std.proofs.Common.{◌++◌, ℕ, List, ap, subst, refl}
-use Rattle.std.proofs.lemmas.Result.{IfErr-weaker}
-use Rattle.ws_printing.specs.script.Script.{IsMove}
+use Rattle.ws_printing.proofs.Common.{codes, ◌++◌, ℕ, List, ap, subst, refl, IfErr-weaker, IsMove}
 use Rattle.ws_printing.specs.script.ScriptFaults.{IsLineFault, IsSendBegun, IsSendLine}
 use Rattle.ws_printing.proofs.Scripts.{no_move, not_both, fault_on}
 use Rattle.ws_printing.proofs.script.script_move.read_move.Goals as goal

@@ -1,8 +1,4 @@
-use Rattle.std.specs.Prelude.{codes}
-use Rattle.std.proofs.Common.{◌++◌, sym, ◌∙◌, refl}
-use Rattle.ws_record.proofs.Common.{handed_on}
-use Rattle.ws_text.proofs.LineEnds.{is_none}
-use Rattle.ws_printing.specs.script.Script.{IsMove, IsSendOpcode, IsBodyText}
+use Rattle.ws_printing.proofs.Common.{codes, ◌++◌, sym, ◌∙◌, refl, handed_on, is_none, IsMove, IsSendOpcode, IsBodyText}
 use Rattle.ws_printing.proofs.Scripts.{no_send, fault_on}
 use Rattle.ws_printing.proofs.script.script_move.read_send.Goals as goal
 
