@@ -1,22 +1,11 @@
-use Rattle.std.proofs.Common.{◌≡◌, List, [], ◌∷◌, ◌++◌, refl, sym, ap, ◌∙◌, subst, append_assoc}
-use Rattle.std.proofs.lemmas.List.{append-nil}
-use Rattle.ws_extended.specs.ExtendedAnswers.{extended_answer_rules}
-use Rattle.ws_extended.specs.ExtendedElements.{extended_rules}
 use Rattle.ws_extended.specs.ExtendedStates.{ExtendedState}
-use Rattle.ws_extended.specs.ExtendedViews.{ExtendedParts}
 use Rattle.ws_extended.specs.declared.extended_answer_part.ExtendedAnswerPart.{ExtendedAnswerPart}
 use Rattle.ws_extended.specs.declared.extended_answer_place.ExtendedAnswerPlace.{ExtendedAnswerPlace}
-use Rattle.ws_extended.specs.declared.extended_element.ExtendedElement.{ExtendedElement}
-use Rattle.ws_extended.specs.declared.extended_place.ExtendedPlace.{ExtendedPlace}
-use Rattle.ws_trace.specs.BothEnds.{IsMadeDisplay, IsMadeNothing, host_end, station_end}
+use Rattle.ws_trace.proofs.Common.{extended_answer_rules, extended_rules, ◌≡◌, List, [], ◌∷◌, ◌++◌, ExtendedParts}
+use Rattle.ws_trace.proofs.Common.{ExtendedElement, ExtendedPlace, EndAt, Tracks, TracerParts, Piece}
+use Rattle.ws_trace.specs.BothEnds.{IsMadeDisplay, IsMadeNothing}
 use Rattle.ws_trace.specs.Dialogues.{AreAllHeard, BothAt, IsHeardPiece, both_begin}
-use Rattle.ws_trace.specs.Ends.{EndAt, entry_at}
-use Rattle.ws_trace.specs.Tracers.{IsAdded, Tracks, TracerParts}
-use Rattle.ws_trace.specs.declared.entry.EndTold.TheVariants as told_of
 use Rattle.ws_trace.specs.declared.entry.Entry.{Entry}
-use Rattle.ws_trace.specs.declared.piece.Piece.{Piece}
-use Rattle.ws_trace.specs.declared.piece.TracedEnd.{TracedEnd}
-use Rattle.ws_trace.specs.declared.piece.TracedEnd.TheVariants.{Host, Station}
 use Rattle.ws_trace.proofs.Tracings.{one_step, steps_both}
 
 -- Pieces of both ends, one after another.

@@ -1,18 +1,9 @@
-use Rattle.std.specs.Option.{is_some, option_or}
-use Rattle.std.proofs.Common.{◌≡◌, ℕ, ◌+◌, ◌<◌, ◌≤◌, Bool, true, false, List, ◌∷◌, Option, Some, None, length, drop}
-use Rattle.std.proofs.Common.{get_or, refl, sym, ap, ◌∙◌, subst}
-use Rattle.std.proofs.lemmas.List.{drop_all, drop_more}
-use Rattle.ws_code.specs.Code.{IsChain}
-use Rattle.ws_code.specs.declared.reason.Reason.{Reason}
-use Rattle.ws_extended.specs.Asking.{asks_in, second_reason}
-use Rattle.ws_extended.specs.ExtendedElements.{extended_rules, place_behind}
-use Rattle.ws_extended.specs.ExtendedStates.{ExtendedState, state_after, state_after_all, state_fault}
-use Rattle.ws_extended.specs.ExtendedViews.{ExtendedParts, NeedsOpenWrite, Shows, leaves_write_open}
-use Rattle.ws_extended.specs.declared.ask.Ask.{Ask}
-use Rattle.ws_extended.specs.declared.extended_element.ExtendedElement.{ExtendedElement}
-use Rattle.ws_extended.specs.declared.extended_place.ExtendedPlace.{ExtendedPlace}
 use Rattle.ws_extended.proofs.OpenWrites.{finds_write, is_open_at, open_behind}
-use Rattle.ws_extended_station.specs.ExtendedRecords.{elements_fault}
+use Rattle.ws_extended.specs.ExtendedStates.{ExtendedState, state_after, state_after_all, state_fault}
+use Rattle.ws_trace.proofs.Common as C
+use C.{leaves_write_open, ExtendedElement, extended_rules, elements_fault, NeedsOpenWrite, second_reason, ExtendedParts}
+use C.{ExtendedPlace, place_behind, option_or, drop_more, drop_all, is_some, asks_in, IsChain, Option, length, get_or}
+use C.{Reason, false, Shows, Bool, true, List, Some, None, drop, refl, ◌≡◌, ◌+◌, ◌<◌, ◌≤◌, ◌∷◌, sym, ◌∙◌, Ask, ap, ℕ}
 
 -- The elements of a live host's record, one after another.
 

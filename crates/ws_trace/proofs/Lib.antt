@@ -1,4 +1,5 @@
+pub mod BothTraced
+pub mod Common
 pub mod ExtendedRecords
 pub mod ReadSteps
 pub mod Tracings
-pub mod BothTraced

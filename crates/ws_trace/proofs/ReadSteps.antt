@@ -1,24 +1,15 @@
 use Rattle.std.specs.Prelude.{if◌then◌else◌, Result, Ok, Err, IfErr, OnOk, IsTrue, ◌↔◌, is_ok}
-use Rattle.std.proofs.Common.{◌≡◌, ℕ, ◌+◌, ◌<◌, ◌^◌, List, [], ◌∷◌, ◌++◌, inl, inr, Bool, true, false, not, None, Some}
-use Rattle.std.proofs.Common.{length, refl, sym, ap, ◌∙◌, subst, arith, length-append}
-use Rattle.std.proofs.lemmas.List.{append-nil}
 use mathlib.Core.Bool.{true≢false}
-use Rattle.ws_code.specs.Code.{Rules, IsPrefix, IsSpelled, IsUnfinished}
-use Rattle.ws_code.specs.declared.reason.Reason.{Reason}
+use Rattle.ws_code.specs.declared.fault.Fault.TheVariants.{Truncated}
 use Rattle.ws_telnet.specs.Token.{token_rules}
-use Rattle.ws_telnet.specs.declared.token.Token.{Token}
-use Rattle.ws_telnet.specs.declared.token.Token.TheVariants.{Data, Eor, Telnet as TelnetToken}
 use Rattle.ws_record.specs.Receiver.{HasReceived, Receiving}
 use Rattle.ws_record.specs.Refusal.{IsRefused, IsTruncated}
-use Rattle.ws_record.specs.Grammar.{IsInGrammar}
-use Rattle.ws_code.specs.declared.fault.Fault.{Fault}
-use Rattle.ws_code.specs.declared.fault.Fault.TheVariants.{Truncated}
-use Rattle.ws_record.specs.declared.record.Item.{Item}
-use Rattle.ws_trace.specs.Reading.{StreamStanding, HoldsUnrefused, after_passed, after_refusal, ends_record, told_of_passed}
-use Rattle.ws_trace.specs.Reading.{MayEndAt}
-use Rattle.ws_trace.specs.Reading.StreamStanding.{Reads, Passes}
-use Rattle.ws_trace.specs.Readers.{ReaderParts, StandsThere, IsNextOf, is_eor}
-use Rattle.ws_trace.specs.declared.told.Told.TheVariants.{Whole, Refused}
+use Rattle.ws_trace.proofs.Common.{length-append, IsUnfinished, TelnetToken, IsInGrammar, ReaderParts, StandsThere}
+use Rattle.ws_trace.proofs.Common.{append-nil, IsSpelled, IsPrefix, IsNextOf, Refused, length, Reason, Passes, is_eor}
+use Rattle.ws_trace.proofs.Common.{Fault, false, arith, Rules, Token, Reads, Whole, List, ◌++◌, Bool, true, None, Some}
+use Rattle.ws_trace.proofs.Common.{refl, Data, Item, ◌≡◌, ◌+◌, ◌<◌, ◌^◌, ◌∷◌, inl, inr, not, sym, ◌∙◌, Eor, [], ap, ℕ}
+use Rattle.ws_trace.specs.Reading.{StreamStanding, HoldsUnrefused, after_passed, after_refusal, ends_record}
+use Rattle.ws_trace.specs.Reading.{told_of_passed, MayEndAt}
 
 -- What a byte makes of a reader.
 

@@ -1,25 +1,14 @@
-use Rattle.std.proofs.Common.{◌≡◌, ℕ, ◌+◌, List, [], ◌∷◌, ◌++◌, inl, inr, Option, None, Some, map}
-use Rattle.std.proofs.Common.{refl, sym, ap, ◌∙◌, subst, append_assoc}
-use Rattle.std.specs.List.{flat_map, AllByRecursion}
-use Rattle.std.proofs.lemmas.List.{append-nil}
-use Rattle.ws_code.specs.Code.{Rules}
-use Rattle.ws_code.specs.declared.reason.Reason.{Reason}
 use Rattle.ws_code.proofs.Lists.{AllByRecursion-append, AllByRecursion-last}
 use Rattle.ws_telnet.specs.Streams.{command_of}
 use Rattle.ws_telnet.specs.declared.token.Telnet.{Telnet}
-use Rattle.ws_telnet.specs.declared.token.Token.{Token}
-use Rattle.ws_telnet.specs.declared.token.Token.TheVariants.{Data, Eor, Telnet as TelnetToken}
-use Rattle.ws_record.specs.Grammar.{Holds, IsStretch, commands}
-use Rattle.ws_record.specs.declared.record.Item.{Item}
-use Rattle.ws_record.specs.declared.record.Item.TheVariants.{Record as RecordItem, Telnet as TelnetItem}
-use Rattle.ws_record.specs.declared.record.Record.{Record}
-use Rattle.ws_trace.specs.Ends.{Tracing, EndAt, AreSteps, IsHeard, IsWholeItem, carry_fault, made_of, told_with}
+use Rattle.ws_trace.proofs.Common.{RecordItem, TelnetItem, Record, ◌≡◌, ℕ, ◌+◌, List, [], ◌∷◌, ◌++◌, inl, inr, Option}
+use Rattle.ws_trace.proofs.Common.{None, Some, map, refl, sym, ap, ◌∙◌, append_assoc, flat_map, AllByRecursion}
+use Rattle.ws_trace.proofs.Common.{append-nil, Rules, Reason, Token, Data, Eor, TelnetToken, Holds, IsStretch, commands}
+use Rattle.ws_trace.proofs.Common.{Item, Tracing, EndAt, IsWholeItem, told_with, Reads, Passes, ReaderParts, IsNextOf}
+use Rattle.ws_trace.proofs.Common.{TracerParts, IsAdded, IsWholeCame, Tracks, Whole, Refused, AreSteps, made_of}
+use Rattle.ws_trace.specs.Ends.{IsHeard, carry_fault}
 use Rattle.ws_trace.specs.Reading.{StreamStanding, IsNextByte, told_of_passed}
-use Rattle.ws_trace.specs.Reading.StreamStanding.{Reads, Passes}
-use Rattle.ws_trace.specs.Readers.{ReaderParts, IsNextOf}
-use Rattle.ws_trace.specs.Tracers.{TracerParts, IsAdded, IsWholeCame, Tracks}
 use Rattle.ws_trace.specs.declared.told.Told.{Told}
-use Rattle.ws_trace.specs.declared.told.Told.TheVariants.{Whole, Refused}
 
 -- The records that bytes hold have whole bodies.
 

@@ -1,5 +1,4 @@
-use Rattle.std.proofs.Common.{◌≡◌, ◌≤◌, take}
-use Rattle.ws_trace.specs.TraceText.{end_records, end_refusals}
+use Rattle.ws_trace.proofs.Common.{◌≡◌, ◌≤◌, take, end_records, end_refusals}
 use Rattle.ws_trace.proofs.dialogue.tally_of.Given as goal
 
 -- what is counted of the entries so far

@@ -1,4 +1,4 @@
-use Rattle.std.proofs.Common.{drop}
+use Rattle.ws_trace.proofs.Common.{drop}
 use Rattle.ws_trace.proofs.ExtendedRecords.{CarriedUpTo}
 use Rattle.ws_trace.proofs.extended_record.apply_elements.Given as goal
 

@@ -1,7 +1,4 @@
-use Rattle.std.proofs.Common.{List, subst}
 use Rattle.ws_extended.specs.ExtendedStates.{state_after_all, state_after_end}
-use Rattle.ws_extended.specs.ExtendedViews.{Shows}
-use Rattle.ws_extended.specs.declared.extended_element.ExtendedElement.{ExtendedElement}
 use Rattle.ws_trace.proofs.extended_record.apply_extended_record.Goals as goal
 
 pub returns-clause-after : goal.returns-clause-after

@@ -1,5 +1,4 @@
-use Rattle.std.proofs.Common.{◌≡◌, take}
-use Rattle.ws_trace.specs.TraceText.{sent_by_end}
+use Rattle.ws_trace.proofs.Common.{◌≡◌, take, sent_by_end}
 use Rattle.ws_trace.proofs.piece.stream_of.Given as goal
 
 -- what the end sent by the pieces so far

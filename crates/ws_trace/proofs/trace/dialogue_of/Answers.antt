@@ -1,9 +1,7 @@
-use Rattle.std.proofs.Common.{◌++◌, ◌∷◌, [], List, take, refl, sym, ap, ◌∙◌, subst}
-use Rattle.std.proofs.lemmas.List.{take_all, take_more}
-use Rattle.ws_trace.specs.declared.piece.Piece.{Piece}
-use Rattle.ws_trace.specs.Dialogues.{AreAllHeard, both_begin}
+use Rattle.ws_trace.proofs.Common.{◌++◌, ◌∷◌, [], take, refl, sym, ap, ◌∙◌, take_all, take_more, Piece}
 use Rattle.ws_trace.proofs.BothTraced.{traced_more}
-use Rattle.ws_trace.proofs.trace.dialogue_of.Goals.{in-Host+in_ok-take_all-in-Host, in-Station+in_ok-take_all-in-Station}
+use Rattle.ws_trace.proofs.trace.dialogue_of.Goals.{in-Host+in_ok-take_all-in-Host}
+use Rattle.ws_trace.proofs.trace.dialogue_of.Goals.{in-Station+in_ok-take_all-in-Station}
 use Rattle.ws_trace.proofs.trace.dialogue_of.Goals as goal
 
 pub loop-piece-preserved : goal.loop-piece-preserved

@@ -1,4 +1,4 @@
-use Rattle.std.proofs.Common.{take}
+use Rattle.ws_trace.proofs.Common.{take}
 use Rattle.ws_trace.proofs.BothTraced.{AreTraced}
 use Rattle.ws_trace.proofs.trace.dialogue_of.Given as goal
 

@@ -1,5 +1,4 @@
-use Rattle.std.proofs.Common.{inl, refl}
-use Rattle.ws_text.proofs.Prints.{whole_out}
+use Rattle.ws_trace.proofs.Common.{inl, refl, whole_out}
 use Rattle.ws_trace.proofs.trace.trace_to.Goals as goal
 
 pub returns-in-Open-clause-traced : goal.returns-in-Open-clause-traced

@@ -1,8 +1,5 @@
-use Rattle.std.proofs.Common.{◌++◌, ap}
-use Rattle.std.specs.List.{flat_map}
-use Rattle.ws_text.proofs.Prints.{prints_both, prints_same}
+use Rattle.ws_trace.proofs.Common.{◌++◌, ap, flat_map, prints_both, prints_same, Host, Station}
 use Rattle.ws_trace.specs.DialogueText.{end_in, entry_in, sent_in}
-use Rattle.ws_trace.specs.declared.piece.TracedEnd.TheVariants.{Host, Station}
 use Rattle.ws_trace.proofs.trace_text.put_dialogue.Goals as goal
 
 pub returns : goal.returns

@@ -1,4 +1,4 @@
-use Rattle.ws_text.proofs.Prints.{prints_both}
+use Rattle.ws_trace.proofs.Common.{prints_both}
 use Rattle.ws_trace.proofs.trace_text.put_told_in.Goals as goal
 
 pub returns-in-Lines : goal.returns-in-Lines

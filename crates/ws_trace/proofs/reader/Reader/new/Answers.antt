@@ -1,4 +1,4 @@
-use Rattle.ws_telnet.proofs.OneToken.{fresh_begins}
+use Rattle.ws_trace.proofs.Common.{fresh_begins}
 use Rattle.ws_trace.proofs.reader.Reader.new.Goals as goal
 
 pub invariant_of-result : goal.invariant_of-result

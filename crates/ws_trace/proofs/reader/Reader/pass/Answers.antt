@@ -1,5 +1,4 @@
-use Rattle.std.proofs.Common.{not, refl, ap}
-use Rattle.ws_telnet.proofs.OneToken.{fresh_begins}
+use Rattle.ws_trace.proofs.Common.{not, refl, ap, fresh_begins}
 use Rattle.ws_trace.proofs.ReadSteps.{passed_more, passed_refused, passed_token}
 use Rattle.ws_trace.proofs.reader.Reader.pass.Goals as goal
 

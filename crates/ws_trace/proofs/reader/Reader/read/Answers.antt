@@ -1,5 +1,4 @@
-use Rattle.std.proofs.Common.{arith, ap, not}
-use Rattle.ws_telnet.proofs.OneToken.{fresh_begins}
+use Rattle.ws_trace.proofs.Common.{arith, ap, not, fresh_begins}
 use Rattle.ws_trace.proofs.ReadSteps.{read_none, read_item, read_refused}
 use Rattle.ws_trace.proofs.reader.Reader.read.Goals as goal
 

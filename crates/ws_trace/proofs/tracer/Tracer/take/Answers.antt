@@ -1,6 +1,5 @@
-use Rattle.std.proofs.Common.{◌∙◌}
 use Rattle.std.proofs.lemmas.Result.{on_ok_weaker}
-use Rattle.ws_trace.specs.Ends.{entry_at}
+use Rattle.ws_trace.proofs.Common.{◌∙◌, entry_at}
 use Rattle.ws_trace.proofs.Tracings.{added_one, came_whole, entries_there}
 use Rattle.ws_trace.proofs.tracer.Tracer.take.Goals as goal
 

@@ -1,5 +1,4 @@
-use Rattle.std.proofs.lemmas.List.{take_all, take_more}
-use Rattle.ws_trace.specs.Ends.{entry_at}
+use Rattle.ws_trace.proofs.Common.{take_all, take_more, entry_at}
 use Rattle.ws_trace.proofs.Tracings.{added_more, added_none}
 use Rattle.ws_trace.proofs.tracer.Tracer.take_all.Goals as goal
 

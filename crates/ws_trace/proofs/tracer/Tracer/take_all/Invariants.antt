@@ -1,6 +1,4 @@
-use Rattle.std.proofs.Common.{take}
-use Rattle.ws_trace.specs.Ends.{EndAt, entry_at}
-use Rattle.ws_trace.specs.Tracers.{IsAdded, Tracks}
+use Rattle.ws_trace.proofs.Common.{take, EndAt, entry_at, IsAdded, Tracks}
 use Rattle.ws_trace.proofs.tracer.Tracer.take_all.Given as goal
 
 -- the bytes so far are added
