@@ -15,16 +15,11 @@ use Rattle.ws_code.specs.declared.fault.Fault.TheVariants as device
 use Rattle.ws_code.specs.declared.keep.Kept.TheVariants as answer
 use Rattle.ws_record.specs.declared.news.News.TheVariants as told
 
-record_count-append : {U : Type 0} (xs ys : List (Item U)) → record_count (xs ++ ys) ≡ record_count xs + record_count ys
-record_count-append [] ys = omega arith
-record_count-append (RecordItem r ∷ xs) ys = omega (arith, record_count-append xs ys)
-record_count-append (TelnetItem t ∷ xs) ys = record_count-append xs ys
-
-command_count-append : {U : Type 0} (xs ys : List (Item U)) → command_count (xs ++ ys)
-    ≡ command_count xs + command_count ys
-command_count-append [] ys = omega arith
-command_count-append (RecordItem r ∷ xs) ys = command_count-append xs ys
-command_count-append (TelnetItem t ∷ xs) ys = omega (arith, command_count-append xs ys)
+counts-append : {U : Type 0} (xs ys : List (Item U)) → (record_count (xs ++ ys) ≡ record_count xs + record_count ys)
+    × (command_count (xs ++ ys) ≡ command_count xs + command_count ys)
+counts-append [] ys = (omega arith, omega arith)
+counts-append (RecordItem r ∷ xs) ys = let more = counts-append xs ys in (omega (arith, more.0), more.1)
+counts-append (TelnetItem t ∷ xs) ys = let more = counts-append xs ys in (more.0, omega (arith, more.1))
 
 module _ {Place U : Type 0} (rules : Rules Place U) where
   -- what a front makes of a decoder that keeps nothing
@@ -68,8 +63,8 @@ module _ {Place U : Type 0} (rules : Rules Place U) where
           items = k.items ++ item ∷ [];
           so_far = no_record;
           leads = a.1;
-          records = omega (arith, length-append bytes front, record_count-append k.items (item ∷ []), k.few, k.records);
-          commands = omega (arith, command_count-append k.items (item ∷ []), k.commands);
+          records = omega (arith, length-append bytes front, (counts-append k.items (item ∷ [])).0, k.few, k.records);
+          commands = omega (arith, (counts-append k.items (item ∷ [])).1, k.commands);
           few = omega (arith, length-append bytes front, k.few);
         }
     counts_front (told.Telnet word) a good =
@@ -77,8 +72,8 @@ module _ {Place U : Type 0} (rules : Rules Place U) where
           items = k.items ++ item ∷ [];
           so_far = k.so_far;
           leads = a.0;
-          records = omega (arith, record_count-append k.items (item ∷ []), k.records);
-          commands = omega (arith, length-append bytes front, command_count-append k.items (item ∷ []), k.few, k.commands);
+          records = omega (arith, (counts-append k.items (item ∷ [])).0, k.records);
+          commands = omega (arith, length-append bytes front, (counts-append k.items (item ∷ [])).1, k.few, k.commands);
           few = omega (arith, length-append bytes front, k.few);
         }
     counts_front (told.Refused reason) a good = absurd (good reason refl)

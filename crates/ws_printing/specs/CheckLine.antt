@@ -35,8 +35,7 @@ IsVerdict rules bytes (Truncated n) = (n ≡ length bytes) × IsTruncated rules 
 -- the verdict is that the whole stream was accepted
 abbrev pub is_accepted : Verdict → Bool
 is_accepted (Accepted records commands) = true
-is_accepted (Refused place reason) = false
-is_accepted (Truncated n) = false
+is_accepted verdict = false
 
 -- the line that `check` prints: the verdict, of so many bytes
 abbrev pub line_of : Verdict → ℕ → List ℕ
@@ -49,7 +48,4 @@ line_of (Truncated n) size = codes "truncated at " ++ decimal n ++ 10 ∷ []
 abbrev pub verdict_by : Fault → Result Verdict Fault
 verdict_by (faults.Refused place reason) = Ok (Refused place reason)
 verdict_by (faults.Truncated at) = Ok (Truncated at)
-verdict_by faults.Memory = Err faults.Memory
-verdict_by faults.Read = Err faults.Read
-verdict_by faults.Write = Err faults.Write
-verdict_by faults.Failed = Err faults.Failed
+verdict_by fault = Err fault

@@ -14,18 +14,11 @@ use Rattle.ws_printing.specs.declared.verdict.Verdict.{Verdict}
 use Rattle.ws_printing.specs.CheckLine.{IsVerdict, is_accepted, line_of, record_count, command_count}
 use Rattle.ws_text.specs.Printed.{Printing, in_whole}
 
--- the tally with one record more; a count stays at the highest number that it can hold
-abbrev pub one_record : Tally → Tally
-one_record tally = record tally { records = min (tally.records + 1) (2 ^ 64 - 1) }
-
--- the tally with one Telnet command more; a count stays at the highest number that it can hold
-abbrev pub one_command : Tally → Tally
-one_command tally = record tally { commands = min (tally.commands + 1) (2 ^ 64 - 1) }
-
--- the tally after the news of a front
+-- the tally after the news of a front: a record or a Telnet command more; a count stays at the highest number that it
+-- can hold
 abbrev pub tally_after : Tally → News → Tally
-tally_after tally (Close head) = one_record tally
-tally_after tally (Telnet word) = one_command tally
+tally_after tally (Close head) = record tally { records = min (tally.records + 1) (2 ^ 64 - 1) }
+tally_after tally (Telnet word) = record tally { commands = min (tally.commands + 1) (2 ^ 64 - 1) }
 tally_after tally news = tally
 
 -- the bytes lead to the decoder, and the tally is of their items

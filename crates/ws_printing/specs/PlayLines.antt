@@ -108,11 +108,9 @@ IsPlayText = IsPaintedPlayText Plain
 
 -- the event is that an end has refused a byte
 abbrev pub is_end_refusal : Event → Bool
-is_end_refusal (Host event) = false
-is_end_refusal (KeyRefused fault) = false
-is_end_refusal (SendRefused fault) = false
 is_end_refusal (StationRefused place reason) = true
 is_end_refusal (HostRefused place reason) = true
+is_end_refusal event = false
 
 -- no end has refused a byte
 abbrev pub no_end_refuses : List Event → Bool

@@ -10,7 +10,6 @@ use Rattle.ws_code.specs.declared.address.TheConstants.{COLUMNS}
 use Rattle.ws_code.specs.declared.code_page.CodePage.{CodePage}
 use Rattle.ws_screen.specs.Lines.{shown_row}
 use Rattle.ws_screen.specs.ScreenParts.{ScreenParts, holds}
-use Rattle.ws_screen.specs.declared.shown.Shown.{Shown}
 use Rattle.ws_text.specs.ItemLines.{cell_text}
 use Rattle.ws_printing.specs.Characters.{characters_text, without_last_blanks}
 use Rattle.ws_printing.specs.FieldLines.{shown_from}
@@ -29,11 +28,6 @@ abbrev pub field_name : Option ℕ → List ℕ
 field_name None = []
 field_name (Some index) = codes " field " ++ decimal (index + 1)
 
--- how the keyboard is, whether the station is ready, the cursor, and the field that holds it, where one does
-abbrev pub operator_words : ScreenParts → Bool → List ℕ
-operator_words s ready = codes "status " ++ lock_name s.locked ++ ready_name ready ++ cell_text s.cursor
-    ++ field_name (position (λ f. holds f s.cursor) s.fields)
-
 -- what a report can tell of a station: its screen, whether it is ready, how many records it has applied, and how many
 -- bytes it has taken
 pub record ReportedStation : Type 0 where
@@ -51,23 +45,22 @@ reported_by status = record {
   taken = status.taken;
 }
 
--- the same with the number of the records that were applied, and of the bytes that were taken
+-- how the keyboard is, whether the station is ready, the cursor, the field that holds it, where one does, and how many
+-- records were applied, and bytes taken
 abbrev pub status_line : ReportedStation → List ℕ
-status_line station = operator_words station.screen station.is_ready ++ codes " records " ++ decimal station.records
-    ++ codes " bytes " ++ decimal station.taken ++ codes "\n"
+status_line station = let s = station.screen in codes "status " ++ lock_name s.locked ++ ready_name station.is_ready
+    ++ cell_text s.cursor ++ field_name (position (λ f. holds f s.cursor) s.fields)
+    ++ codes " records " ++ decimal station.records ++ codes " bytes " ++ decimal station.taken ++ codes "\n"
 
 -- what the cells of a row hold, which counts from 1
 abbrev pub row_bytes : List ℕ → ℕ → List ℕ
 row_bytes cells row = slice_range cells ((row - 1) * COLUMNS) ((row - 1) * COLUMNS + COLUMNS)
 
--- the attributes under which cells show
-abbrev pub attributes_text : List Shown → List ℕ
-attributes_text shown = flat_map (λ s. encode_upper (s.attribute ∷ [])) shown
-
 -- what the cells of a row hold, and the attributes under which they show: of the row in which a cell stands
 abbrev pub cells_line : List ℕ → ℕ → List ℕ
 cells_line cells cell = let row = cell / COLUMNS + 1 in codes "cells " ++ decimal row ++ codes " "
-    ++ encode_upper (row_bytes cells row) ++ codes " " ++ attributes_text (shown_row cells row) ++ codes "\n"
+    ++ encode_upper (row_bytes cells row) ++ codes " "
+    ++ flat_map (λ s. encode_upper (s.attribute ∷ [])) (shown_row cells row) ++ codes "\n"
 
 -- what cells show on a page, without the blanks at its end
 abbrev pub span_line : CodePage → List ℕ → Span → List ℕ

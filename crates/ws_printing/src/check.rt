@@ -1,9 +1,9 @@
 //! Whether a stream is accepted, and the line that says so.
 ghost use Rattle.std.specs.Prelude.{◌≡◌, ◌≢◌, ◌+◌, ◌<◌, ◌≤◌, ◌^◌, ◌++◌, ◌⊎◌, [], List, ℕ, length, IfOk, IfErr};
 ghost use Rattle.ws_printing.specs.CheckLine.{IsVerdict};
-ghost use Rattle.ws_printing.specs.Checking.{check_printing};
+ghost use Rattle.ws_printing.specs.Checking.{Counts, check_printing, tally_after};
 ghost use Rattle.ws_text.specs.Printed.{IsPrinted};
-ghost use Rattle.ws_printing.specs.SourceChecks.{HasRefusal, GaveEnough, FailedBefore};
+ghost use Rattle.ws_printing.specs.SourceChecks.{HasRefusal, GaveEnough, FailedBefore, IsPieceTaken};
 
 use crate::verdict::Verdict;
 use std::alloc::Global;
@@ -18,8 +18,6 @@ struct Tally {
 }
 
 impl Tally {
-    ghost use Rattle.ws_printing.specs.Checking.{tally_after};
-
     // Counts the item that is complete with a front, if one is. The count stops at its greatest value.
     fn count(&mut self, news: News)
         ensures { self.new ≡ tally_after self.old news }
@@ -41,9 +39,6 @@ struct Checker<B: Body> {
 }
 
 impl<B: Body> Checker<B> {
-    ghost use Rattle.ws_printing.specs.Checking.{Counts};
-    ghost use Rattle.ws_printing.specs.SourceChecks.{IsPieceTaken};
-
     // One that has taken no byte.
     fn new() -> Self
         ensures { Counts B.rules result.live result.tally [] }

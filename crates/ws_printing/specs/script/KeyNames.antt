@@ -1,6 +1,7 @@
 -- The names of keys in a script.
 
 use Rattle.std.specs.Prelude.{ℕ, List, [], ◌∷◌, Option, Some, None, codes}
+use Rattle.std.specs.Option.{option_or}
 use Rattle.ws_code.specs.Aid.{function_aid}
 pub use Rattle.ws_text.specs.Names.{look_up}
 use Rattle.ws_keys.specs.declared.key.Key.{Key}
@@ -36,15 +37,10 @@ function_keys = (codes "F1", function_key 1) ∷ (codes "F2", function_key 2) �
     ∷ (codes "F19", function_key 19) ∷ (codes "F20", function_key 20) ∷ (codes "F21", function_key 21)
     ∷ (codes "F22", function_key 22) ∷ (codes "F23", function_key 23) ∷ (codes "F24", function_key 24) ∷ []
 
--- the first of two, where there is one
-abbrev pub first_of_two : Option Key → Option Key → Option Key
-first_of_two None other = other
-first_of_two (Some key) other = Some key
-
 -- the key of a name
 abbrev pub key_named : List ℕ → Option Key
-key_named name = first_of_two (look_up name plain_keys)
-    (first_of_two (look_up name answering_keys) (look_up name function_keys))
+key_named name = option_or (option_or (look_up name plain_keys) (look_up name answering_keys))
+    (look_up name function_keys)
 
 -- the AID of a key, where it answers a read
 abbrev pub aid_of : Option Key → Option ℕ

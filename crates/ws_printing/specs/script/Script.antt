@@ -81,10 +81,6 @@ pub data MeansMoves (line : List ℕ) (moves : List Move) : Type 0 where
 abbrev pub IsScriptLine : List ℕ → List Move → Type 0
 IsScriptLine line moves = IsUtf8 line × MeansMoves line moves
 
--- a line that gives no moves: it is none of these
-abbrev pub IsBad : List ℕ → Type 0
-IsBad line = (moves : List Move) → IsScriptLine line moves → ⊥
-
 -- lines and their moves, in order
 abbrev pub AreLines : List (List ℕ) → List Move → Type 0
 AreLines [] moves = moves ≡ []
@@ -104,5 +100,5 @@ pub record IsFirstBad (text : List ℕ) (number : ℕ) : Type 0 where
   pub split : lines text ≡ before ++ line ∷ after
   pub moves : List Move
   pub good : AreLines before moves
-  pub bad : IsBad line
+  pub bad : (other : List Move) → IsScriptLine line other → ⊥
   pub counted : number ≡ length before + 1
