@@ -6,9 +6,9 @@ use Rattle.ws_printing.proofs.Common as C
 use C.{length-append, scalars-chars, encodes-chars, AreTypedMoves, append_assoc, on_ok_weaker, IfErr-weaker}
 use C.{IsSendOpcode, IsRecordText, IsScriptLine, ScriptFault, false≢true, append-nil, IsBodyText, MeansMoves, ToStation}
 use C.{typed_key, key_named, bytes_eq, AreLines, inserted, Element, IsCount, comment, Result, IsUtf8, length, Cancel}
-use C.{ToHost, Memory, IsMove, settle, codes, IfErr, chars, lines, false, arith, Press, empty, typed, Some, OnOk, List}
+use C.{ToHost, Memory, IsMove, settle, codes, IfErr, chars, lines, false, arith, Press, empty, typed, Some, OnOk, List, Ok, Err}
 use C.{◌++◌, Bool, true, refl, Send, Line, Key, map, ◌≡◌, ◌≢◌, ◌+◌, ◌<◌, ◌≤◌, ◌∷◌, inl, inr, sym, ◌∙◌, one, [], ap, ℕ}
-use Rattle.ws_printing.specs.script.ScriptFaults.{IsNoComment, IsLineFault, IsGoodSoFar, has_no_blank}
+use Rattle.ws_printing.specs.script.ScriptFaults.{AreAdded, IsNoComment, IsLineFault, IsGoodSoFar, has_no_blank}
 use Rattle.ws_printing.proofs.ScriptWords.{differ, blank_inside, split_unique, digits_have_no_blank}
 
 -- a fault of a part, as one of what holds the part
@@ -21,27 +21,20 @@ fault_on P Q Memory f good h = good h
 pub only_memory : {X A : Type 0} (P : X → Type 0) (fault : ScriptFault) → fault ≡ Memory → A → IsLineFault P A fault
 only_memory P fault e good = rw e good
 
--- and of several that may fault
-pub good_before : {X T A : Type 0} (P : X → Type 0) (result : Result T ScriptFault) → A
-    → IfErr result (λ fault. fault ≡ Memory) → IfErr result (IsLineFault P A)
-good_before {X} {T} {A} P result good =
-    IfErr-weaker result (λ fault. fault ≡ Memory) (IsLineFault P A) (λ fault e. only_memory P fault e good)
+-- moves are added, or a growth was refused
+pub adds : {A : Type 0} (old new : List Move) (P : List Move → Type 0) (result : Result (Unit {0}) ScriptFault)
+    (given : List Move) → P given → A → OnOk result (new ≡ old ++ given) → IfErr result (λ fault. fault ≡ Memory)
+    → AreAdded P A old new result
+adds old new P (Ok done) given is good ok err = (given, is, ok)
+adds old new P (Err fault) given is good ok err = only_memory P fault err good
 
 -- a line that is a text in UTF-8 means what the text means
-pub line_read : {T : Type 0} {text line : List ℕ} (result : Result T ScriptFault) (old new : List Move) → text ≡ line
-    → IsUtf8 line → OnOk result ((given : List Move) × MeansMoves text given × (new ≡ old ++ given))
-    → OnOk result ((given : List Move) × IsScriptLine line given × (new ≡ old ++ given))
-line_read result old new same is = on_ok_weaker result (λ p. (p.0, (is, rw same at p.1), p.2))
-
--- and isn't read for what the text isn't
-pub line_unread : {T A : Type 0} {text line : List ℕ} (result : Result T ScriptFault) → text ≡ line → IsUtf8 line
-    → (A → IsGoodSoFar text) → IfErr result (IsLineFault (MeansMoves text) A)
-    → IfErr result (IsLineFault (IsScriptLine line) (IsUtf8 line × IsGoodSoFar line))
-line_unread {T} {A} {text} {line} result same is good =
-    IfErr-weaker result (IsLineFault (MeansMoves text) A)
-    (IsLineFault (IsScriptLine line) (IsUtf8 line × IsGoodSoFar line))
-    (λ fault. fault_on (MeansMoves text) (IsScriptLine line) fault
-    (λ refused moves l. refused moves (rw same l.1)) (λ a. (is, rw same at (good a))))
+pub line_added : {text line : List ℕ} (old new : List Move) (result : Result (Unit {0}) ScriptFault) → text ≡ line
+    → IsUtf8 line → AreAdded (MeansMoves text) (IsGoodSoFar text) old new result
+    → AreAdded (IsScriptLine line) (IsUtf8 line × IsGoodSoFar line) old new result
+line_added old new (Ok done) same is h = (h.0, (is, rw same at h.1), h.2)
+line_added {text} {line} old new (Err fault) same is h = fault_on (MeansMoves text) (IsScriptLine line) fault
+    (λ refused moves l. refused moves (rw same l.1)) (λ (good : IsGoodSoFar text). (is, rw same at good)) h
 
 -- a line more, and its moves
 are_lines_more : (before : List (List ℕ)) (moves : List Move) (line : List ℕ) (given : List Move)
@@ -76,11 +69,20 @@ reads_more text rest behind line moves given next number r e shorter l is = reco
 }
 
 -- keys for any text
-pub typed_any : (inserts : Bool) (text : List ℕ) → IsUtf8 text → (moves : List Move) × AreTypedMoves inserts text moves
+typed_any : (inserts : Bool) (text : List ℕ) → IsUtf8 text → (moves : List Move) × AreTypedMoves inserts text moves
 typed_any inserts text is = (
   map (λ x. Press (typed_key inserts x)) (chars text),
   record { characters = chars text; are = scalars-chars text is; spelled = encodes-chars text is; typed = refl },
 )
+
+-- keys for a text are added as what this line means
+pub adds_keys : (old new : List Move) (inserts : Bool) (text line : List ℕ) (result : Result (Unit {0}) ScriptFault)
+    → IsUtf8 text → ((moves : List Move) → AreTypedMoves inserts text moves → MeansMoves line moves)
+    → OnOk result ((given : List Move) × AreTypedMoves inserts text given × (new ≡ old ++ given))
+    → IfErr result (λ fault. fault ≡ Memory) → AreAdded (MeansMoves line) (IsGoodSoFar line) old new result
+adds_keys old new inserts text line (Ok done) is means ok err = (ok.0, means ok.0 ok.1, ok.2)
+adds_keys old new inserts text line (Err fault) is means ok err =
+    let any = typed_any inserts text is in only_memory (MeansMoves line) fault err (inl (any.0, means any.0 any.1))
 
 -- WHAT NO LINE MEANS
 

@@ -1,6 +1,6 @@
 -- What a script that gives no moves is refused for.
 
-use Rattle.std.specs.Prelude.{◌≡◌, ℕ, List, ◌∷◌, ◌++◌, ◌⊎◌, Bool, ◌==◌, not, codes}
+use Rattle.std.specs.Prelude.{◌≡◌, ℕ, List, ◌∷◌, ◌++◌, ◌⊎◌, Bool, ◌==◌, not, codes, Result, Ok, Err}
 use Rattle.std.specs.List.{list_all}
 use Rattle.std.specs.Str.{IsUtf8}
 use Rattle.std.specs.Str.Lines.{lines}
@@ -44,6 +44,11 @@ IsScriptFault text Memory = IsReadSoFar text
 abbrev pub IsLineFault : {X : Type 0} → (X → Type 0) → Type 0 → ScriptFault → Type 0
 IsLineFault {X} IsRead IsGood (Line at) = (at ≡ 1) × ((x : X) → IsRead x → ⊥)
 IsLineFault IsRead IsGood Memory = IsGood
+
+-- a line's moves are added to those before it; or it isn't read
+abbrev pub AreAdded : (List Move → Type 0) → Type 0 → List Move → List Move → Result (Unit {0}) ScriptFault → Type 0
+AreAdded IsRead IsGood old new (Ok done) = (given : List Move) × IsRead given × (new ≡ old ++ given)
+AreAdded IsRead IsGood old new (Err fault) = IsLineFault IsRead IsGood fault
 
 -- no byte of a word is a blank
 abbrev pub has_no_blank : List ℕ → Bool

@@ -3,7 +3,7 @@ ghost use Rattle.std.specs.Prelude.{◌≡◌, ◌++◌, ◌∷◌, ◌<◌, [],
 ghost use Rattle.std.specs.Str.{IsUtf8};
 ghost use Rattle.ws_session.specs.declared.world.Move.{Move as AMove};
 ghost use Rattle.ws_printing.specs.script.Script as Spec;
-ghost use Rattle.ws_printing.specs.script.ScriptFaults.{IsLineFault, IsGoodSoFar, IsNoComment, has_no_blank};
+ghost use Rattle.ws_printing.specs.script.ScriptFaults.{AreAdded, IsGoodSoFar, IsNoComment, has_no_blank};
 
 use crate::script::ScriptFault;
 use crate::script::script_move::{read_move, split_word};
@@ -19,10 +19,8 @@ use ws_session::Move;
 /// `Line(1)` where the line isn't UTF-8, or is no line of a script of both ends. `Memory` where a growth was refused:
 /// it is one, or a `send` that is good up to the blank before its body.
 pub fn read_line(alloc: Global, line: &[u8], moves: &mut Vec<Move>) -> Result<(), ScriptFault>
-    ensures ok { OnOk result ((given : Seq AMove) × Spec.IsScriptLine line.now given
-        × (moves.new.items ≡ moves.old.items ++ given)) }
-    ensures fault { IfErr result (IsLineFault (Spec.IsScriptLine line.now)
-        (IsUtf8 line.now × IsGoodSoFar line.now)) }
+    ensures { AreAdded (Spec.IsScriptLine line.now) (IsUtf8 line.now × IsGoodSoFar line.now)
+        moves.old.items moves.new.items result }
 {
     let Ok(text) = str::from_utf8(line) else {
         return Err(ScriptFault::Line(1));
@@ -46,10 +44,8 @@ fn read_word(word: &str, moves: &mut Vec<Move>) -> Result<(), ScriptFault>
     requires no_blank { has_no_blank word.now ≡ true }
     requires no_comment { IsNoComment word.now }
     // What it means, or that it means nothing.
-    ensures ok { OnOk result ((given : Seq AMove) × Spec.MeansMoves word.now given
-        × (moves.new.items ≡ moves.old.items ++ given)) }
-    ensures fault { IfErr result (IsLineFault (Spec.MeansMoves word.now)
-        ((given : Seq AMove) × Spec.MeansMoves word.now given)) }
+    ensures { AreAdded (Spec.MeansMoves word.now) (IsGoodSoFar word.now)
+        moves.old.items moves.new.items result }
 {
     match word {
         "cancel" => add(moves, Move::Cancel),
@@ -67,12 +63,9 @@ fn read_command(
 ) -> Result<(), ScriptFault>
     requires no_blank { has_no_blank command.now ≡ true }
     requires no_comment { IsNoComment (command.now ++ codes " " ++ words.now) }
-    ensures ok { OnOk result ((given : Seq AMove)
-        × Spec.MeansMoves (command.now ++ codes " " ++ words.now) given
-        × (moves.new.items ≡ moves.old.items ++ given)) }
-    ensures fault { IfErr result
-        (IsLineFault (Spec.MeansMoves (command.now ++ codes " " ++ words.now))
-        (IsGoodSoFar (command.now ++ codes " " ++ words.now))) }
+    ensures { AreAdded (Spec.MeansMoves (command.now ++ codes " " ++ words.now))
+        (IsGoodSoFar (command.now ++ codes " " ++ words.now))
+        moves.old.items moves.new.items result }
 {
     match command {
         "type" => type_text(words, false, moves),
