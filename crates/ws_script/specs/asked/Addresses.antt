@@ -3,7 +3,9 @@
 -- brackets, 58 is the colon, 37 the percent sign.
 
 use Rattle.std.specs.Prelude.{◌≡◌, ◌≢◌, ℕ, ◌<◌, ◌^◌, List, [], ◌∷◌, ◌++◌, ◌⊎◌, Option, None, Some}
-use Rattle.std.specs.Prelude.{length, slice_index}
+use Rattle.std.specs.Prelude.{length, slice_index, MatchOption}
+use Rattle.std.specs.Borrow.{Bor}
+use Rattle.std.specs.Option.{option_map}
 use Rattle.std.specs.Net.Grammar.{IsIpv6Text, IsNumber}
 use Rattle.std.specs.declared.net.ipv6_addr.Ipv6Addr.{Ipv6Addr}
 
@@ -36,10 +38,10 @@ pub record IsZonedV6 (text : List ℕ) : Type 0 where
 abbrev pub IsV6 : List ℕ → Type 0
 IsV6 text = IsPlainV6 text ⊎ IsZonedV6 text
 
--- what stands after a host: nothing, or a colon and a port's text
-abbrev pub IsBehindHost : List ℕ → Option (List ℕ) → Type 0
-IsBehindHost behind None = behind ≡ []
-IsBehindHost behind (Some port) = behind ≡ 58 ∷ port
+-- nothing, or a byte and a text after it
+abbrev pub behind_byte : ℕ → Option (List ℕ) → List ℕ
+behind_byte byte None = []
+behind_byte byte (Some text) = byte ∷ text
 
 -- an address of IPv6 in brackets, and what stands after it
 pub record IsBracketed (text host behind : List ℕ) : Type 0 where
@@ -57,10 +59,8 @@ pub record IsNamed (text host behind : List ℕ) : Type 0 where
 -- the host that a text names, and its port's text where there is one: a text that is an address of IPv6 names this
 pub data IsHostText (text host : List ℕ) (port : Option (List ℕ)) : Type 0 where
   bare : IsV6 text → host ≡ text → port ≡ None → IsHostText text host port
-  bracketed : (IsV6 text → ⊥) → (behind : List ℕ) → IsBracketed text host behind → IsBehindHost behind port
-      → IsHostText text host port
-  named : (IsV6 text → ⊥) → (behind : List ℕ) → IsNamed text host behind → IsBehindHost behind port
-      → IsHostText text host port
+  bracketed : (IsV6 text → ⊥) → IsBracketed text host (behind_byte 58 port) → IsHostText text host port
+  named : (IsV6 text → ⊥) → IsNamed text host (behind_byte 58 port) → IsHostText text host port
 
 -- a port to connect to, by its text: where there is none, that of Telnet (RFC 854)
 abbrev pub IsPortOr : Option (List ℕ) → ℕ → Type 0
@@ -74,3 +74,8 @@ IsHostPort text host port = (digits : Option (List ℕ)) × IsHostText text host
 -- the host and the port that a word names, to listen at; the port has to stand there
 abbrev pub IsListening : List ℕ → List ℕ → ℕ → Type 0
 IsListening text host port = (digits : List ℕ) × IsHostText text host (Some digits) × IsPort digits port
+
+-- what is found of a host and its port's text, with those that there are
+abbrev pub IsSplit : (List ℕ → Option (List ℕ) → Type 0) → Option (Bor (List ℕ) × Option (Bor (List ℕ))) → Type 0
+IsSplit IsHost found = MatchOption found ((host : List ℕ) (port : Option (List ℕ)) → IsHost host port → ⊥)
+    (λ parts. IsHost parts.0.now (option_map (λ port. port.now) parts.1))

@@ -1,7 +1,7 @@
 //! The host and port that a word names.
-ghost use Rattle.std.specs.Prelude.{◌≡◌, ◌≢◌, ◌∷◌, ℕ, List, Option, None, Some, true, false, MatchOption};
+ghost use Rattle.std.specs.Prelude.{◌≡◌, ◌≢◌, ◌∷◌, ◌++◌, ◌<◌, ℕ, List, Option, None, Some, MatchBool, MatchOption};
 ghost use Rattle.std.specs.Option.{option_map};
-ghost use Rattle.ws_script.specs.asked.Addresses.{IsPlainV6, IsV6, IsZone, IsPort, IsBehindHost, IsBracketed, IsNamed, IsHostText, IsHostPort, IsListening};
+ghost use Rattle.ws_script.specs.asked.Addresses.{HasNo, IsPlainV6, IsV6, IsZone, IsPort, IsSplit, behind_byte, IsBracketed, IsNamed, IsHostText, IsHostPort, IsListening};
 
 use std::net::Ipv6Addr;
 
@@ -26,16 +26,11 @@ pub fn host_and_port(text: &str) -> Option<HostPort<'_>>
     let Some((host, digits)) = split_port(text) else {
         return None;
     };
-    let Some(digits) = digits else {
-        return Some(HostPort {
-            host,
-            port: TELNET_PORT,
-        });
+    let port = match digits {
+        None => TELNET_PORT,
+        Some(digits) => read_port(digits)?,
     };
-    match read_port(digits) {
-        Some(port) => Some(HostPort { host, port }),
-        None => None,
-    }
+    Some(HostPort { host, port })
 }
 
 /// The host and the port of `HOST:PORT` or `[V6]:PORT`. `None` of any other text.
@@ -50,22 +45,36 @@ pub fn listening_address(text: &str) -> Option<HostPort<'_>>
     let Some(digits) = digits else {
         return None;
     };
-    match read_port(digits) {
-        Some(port) => Some(HostPort { host, port }),
-        None => None,
-    }
+    let port = read_port(digits)?;
+    Some(HostPort { host, port })
+}
+
+// The text before the first byte of this kind, and the text after it.
+fn cut(text: &str, at: char) -> Option<(&str, &str)>
+    requires { at < 128 }
+    ensures { MatchOption result (HasNo at text.now) (λ parts.
+        (text.now ≡ parts.0.now ++ at ∷ parts.1.now) × HasNo at parts.0.now) }
+{
+    text.split_once(at)
+}
+
+// The text after this byte, with which it begins.
+fn behind(text: &str, at: char) -> Option<&str>
+    requires { at < 128 }
+    ensures { MatchOption result ((more : List ℕ) → text.now ≢ at ∷ more)
+        (λ more. text.now ≡ at ∷ more.now) }
+{
+    text.strip_prefix(at)
 }
 
 // The text of the host, and that of the port where there is one.
 fn split_port(text: &str) -> Option<(&str, Option<&str>)>
-    ensures { MatchOption result
-        ((host : List ℕ) (port : Option (List ℕ)) → IsHostText text.now host port → ⊥)
-        (λ parts. IsHostText text.now parts.0.now (option_map (λ port. port.now) parts.1)) }
+    ensures { IsSplit (IsHostText text.now) result }
 {
     if is_ipv6(text) {
         return Some((text, None));
     }
-    match text.strip_prefix('[') {
+    match behind(text, '[') {
         Some(inner) => split_bracketed(inner),
         None => split_named(text),
     }
@@ -73,22 +82,19 @@ fn split_port(text: &str) -> Option<(&str, Option<&str>)>
 
 // The same of what stands after a bracket.
 fn split_bracketed(inner: &str) -> Option<(&str, Option<&str>)>
-    ensures { MatchOption result
-        ((host behind : List ℕ) (port : Option (List ℕ))
-        → IsBracketed (91 ∷ inner.now) host behind → IsBehindHost behind port → ⊥)
-        (λ parts. (behind : List ℕ) × IsBracketed (91 ∷ inner.now) parts.0.now behind
-        × IsBehindHost behind (option_map (λ port. port.now) parts.1)) }
+    ensures { IsSplit (λ host port. IsBracketed (91 ∷ inner.now) host (behind_byte 58 port))
+        result }
 {
-    let Some((host, behind)) = inner.split_once(']') else {
+    let Some((host, more)) = cut(inner, ']') else {
         return None;
     };
     if !is_ipv6(host) {
         return None;
     }
-    if behind.is_empty() {
+    if more.is_empty() {
         return Some((host, None));
     }
-    match behind.strip_prefix(':') {
+    match behind(more, ':') {
         Some(port) => Some((host, Some(port))),
         None => None,
     }
@@ -97,45 +103,31 @@ fn split_bracketed(inner: &str) -> Option<(&str, Option<&str>)>
 // The same of a name, which doesn't begin with a bracket.
 fn split_named(text: &str) -> Option<(&str, Option<&str>)>
     requires unbracketed { (more : List ℕ) → text.now ≢ 91 ∷ more }
-    ensures { MatchOption result
-        ((host behind : List ℕ) (port : Option (List ℕ))
-        → IsNamed text.now host behind → IsBehindHost behind port → ⊥)
-        (λ parts. (behind : List ℕ) × IsNamed text.now parts.0.now behind
-        × IsBehindHost behind (option_map (λ port. port.now) parts.1)) }
+    ensures { IsSplit (λ host port. IsNamed text.now host (behind_byte 58 port)) result }
 {
-    match text.split_once(':') {
-        Some((host, port)) => {
-            if host.is_empty() {
-                return None;
-            }
-            Some((host, Some(port)))
-        }
-        None => {
-            if text.is_empty() {
-                return None;
-            }
-            Some((text, None))
-        }
+    match cut(text, ':') {
+        Some(("", _)) => None,
+        Some((host, port)) => Some((host, Some(port))),
+        None if text.is_empty() => None,
+        None => Some((text, None)),
     }
 }
 
 // Whether a text is an address of IPv6, with a zone or without.
 fn is_ipv6(text: &str) -> bool
-    ensures is { result ≡ true → IsV6 text.now }
-    ensures isnt { result ≡ false → IsV6 text.now → ⊥ }
+    ensures { MatchBool result (IsV6 text.now) (IsV6 text.now → ⊥) }
 {
     if is_plain_ipv6(text) {
         return true;
     }
-    match text.split_once('%') {
+    match cut(text, '%') {
         Some((address, zone)) => is_plain_ipv6(address) && is_zone(zone),
         None => false,
     }
 }
 
 fn is_plain_ipv6(text: &str) -> bool
-    ensures is { result ≡ true → IsPlainV6 text.now }
-    ensures isnt { result ≡ false → IsPlainV6 text.now → ⊥ }
+    ensures { MatchBool result (IsPlainV6 text.now) (IsPlainV6 text.now → ⊥) }
 {
     match text.parse::<Ipv6Addr>() {
         Ok(_) => true,
@@ -144,13 +136,12 @@ fn is_plain_ipv6(text: &str) -> bool
 }
 
 fn is_zone(text: &str) -> bool
-    ensures is { result ≡ true → IsZone text.now }
-    ensures isnt { result ≡ false → IsZone text.now → ⊥ }
+    ensures { MatchBool result (IsZone text.now) (IsZone text.now → ⊥) }
 {
     if text.is_empty() {
         return false;
     }
-    match text.split_once(':') {
+    match cut(text, ':') {
         Some(_) => false,
         None => true,
     }

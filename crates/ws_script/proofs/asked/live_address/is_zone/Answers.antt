@@ -1,11 +1,7 @@
-use Rattle.std.specs.Prelude.{None}
-use Rattle.std.proofs.Common.{lit<}
-use Rattle.std.proofs.lemmas.Str.Pattern.{split_parts}
-use Rattle.ws_script.proofs.AddressTexts.{some_text}
+use Rattle.std.proofs.Common.{subst}
+use Rattle.ws_script.specs.asked.Addresses.{HasNo}
+use Rattle.ws_script.proofs.AddressTexts.{uncut}
 use Rattle.ws_script.proofs.asked.live_address.is_zone.Goals as goal
 
-pub returns-in-None-clause-is : goal.returns-in-None-clause-is
-returns-in-None-clause-is c is = (
-  some_text c.args.text.now c.if-is_empty.ensures,
-  split_parts 58 c.args.text.now None c.in-None.ensures.cases (lit< tt),
-)
+pub returns-in-Some : goal.returns-in-Some
+returns-in-Some c zone = uncut 58 _ _ (subst (HasNo 58) c.in-Some.ensures.0 zone.1)

@@ -6,9 +6,8 @@ pub returns-in_default : goal.returns-in_default
 returns-in_default c host port named = c.in_default.ensures host (Some named.0) named.1
 
 pub returns-in_default-digits : goal.returns-in_default-digits
-returns-in_default-digits c = no_digits c.args.text.now c.in-Some.host.now
-    (rw c.in_default-digits.is at c.in-Some.ensures)
+returns-in_default-digits c = no_digits c.args.text.now _ (rw c.in_default-digits.is at c.in-Some.ensures)
 
-pub returns-in-None : goal.returns-in-None
-returns-in-None c = bad_listening c.args.text.now c.in-Some.host.now c.in-Some-digits.digits.now
-    (rw c.in-Some-digits.is at c.in-Some.ensures) c.in-None.ensures
+pub returns-in_err-port : goal.returns-in_err-port
+returns-in_err-port c = rw c.from_residual.ensures (bad_listening c.args.text.now c.in-Some.host.now _
+    (rw c.in-Some-digits.is at c.in-Some.ensures) c.in_err-port.ensures)

@@ -1,0 +1,5 @@
+use Rattle.std.proofs.lemmas.Str.Pattern.{strip_prefix_char}
+use Rattle.ws_script.proofs.asked.live_address.behind.Goals as goal
+
+pub returns : goal.returns
+returns c = strip_prefix_char c.args.at c.args.text.now c.strip_prefix.result c.strip_prefix.ensures.cases c.requires
