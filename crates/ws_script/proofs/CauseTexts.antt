@@ -6,7 +6,7 @@ use Rattle.std.proofs.lemmas.Bool.Decides.{eqb_tells}
 use Rattle.std.proofs.lemmas.List.{append-nil}
 use Rattle.std.proofs.lemmas.Str.Pattern.{IsSplitOnceResult, split_parts}
 use Rattle.ws_text.specs.Words.{IsNumber}
-use Rattle.ws_script.specs.cause.Causes.{BeginsWith, StandsIn, EndsWith, IsLeft, IsTrueOf, IsCause}
+use Rattle.ws_script.specs.cause.Causes.{behind_word, BeginsWith, StandsIn, EndsWith, IsLeft, IsTrueOf, IsCause}
 use Rattle.ws_script.specs.declared.cause.Cause.{Cause}
 use Rattle.ws_script.specs.declared.cause.Cause.TheVariants as a_cause
 use Rattle.ws_script.specs.declared.cause.vocabulary.Vocabulary.{Vocabulary}
@@ -15,62 +15,24 @@ use Rattle.ws_printing.proofs.ScriptWords.{no_blank_from}
 
 -- Where words stand in a line.
 
--- what stands after a blank at a line's end, with what is before it
-pub word_in : (line words word behind : List ℕ) → EndsWith line (32 ∷ words) → words ≡ word ++ behind
-    → StandsIn line word
-word_in line words word behind e is = (
-  e.0 ++ (32 ∷ []),
-  behind,
-  e.1 ∙ (ap (λ z. e.0 ++ (32 ∷ z)) is ∙ sym (append_assoc e.0 (32 ∷ []) (word ++ behind))),
-)
+-- what stands after a blank at a line's end stands at its end
+pub behind_blank : (line words : List ℕ) → EndsWith line (32 ∷ words) → EndsWith line words
+behind_blank line words e = (e.0 ++ (32 ∷ []), e.1 ∙ sym (append_assoc e.0 (32 ∷ []) words))
 
-pub first_in : (line words word : List ℕ) (behind : Option (Bor (List ℕ))) → EndsWith line (32 ∷ words)
-    → MatchOption behind (words ≡ word) (λ b. words ≡ word ++ (32 ∷ b.now)) → StandsIn line word
-first_in line words word None e is = word_in line words word [] e (is ∙ sym (append-nil word))
-first_in line words word (Some b) e is = word_in line words word (32 ∷ b.now) e is
+-- a word in a text at a line's end, and what is left after it
+pub stands_at : (line text word behind : List ℕ) → EndsWith line text → text ≡ word ++ behind → StandsIn line word
+stands_at line text word behind e is = (e.0, behind, e.1 ∙ ap (λ z. e.0 ++ z) is)
 
-pub left_by : (line words word : List ℕ) (behind : Option (Bor (List ℕ))) → EndsWith line (32 ∷ words)
-    → MatchOption behind (words ≡ word) (λ b. words ≡ word ++ (32 ∷ b.now)) → IsLeft line word behind
-left_by line words word None e is = (
-  e.0 ++ (32 ∷ []),
-  e.1 ∙ (ap (λ z. e.0 ++ (32 ∷ z)) is ∙ sym (append_assoc e.0 (32 ∷ []) word)),
-)
-left_by line words word (Some b) e is = (
-  (e.0 ++ (32 ∷ [])) ++ word,
-  e.1 ∙ (ap (λ z. e.0 ++ (32 ∷ z)) is ∙ (sym (append_assoc e.0 (32 ∷ []) (word ++ (32 ∷ b.now)))
-      ∙ sym (append_assoc (e.0 ++ (32 ∷ [])) word (32 ∷ b.now)))),
-)
-
-pub words_left : (line last : List ℕ) (rest : Option (Bor (List ℕ))) → IsLeft line last rest
-    → IfSome rest (λ words. EndsWith line (32 ∷ words.now))
-words_left line last None left = tt
-words_left line last (Some words) left = left
-
--- of a line's text, the words after the first
-pub left_at_first : (line front text word : List ℕ) (behind : Option (Bor (List ℕ))) → line ≡ front ++ text
-    → MatchOption behind (text ≡ word) (λ b. text ≡ word ++ (32 ∷ b.now)) → IsLeft line word behind
-left_at_first line front text word None at is = (front, at ∙ ap (λ z. front ++ z) is)
-left_at_first line front text word (Some b) at is =
-    (front ++ word, at ∙ (ap (λ z. front ++ z) is ∙ sym (append_assoc front word (32 ∷ b.now))))
-
--- and the first
-pub first_stands : (line front text word : List ℕ) (behind : Option (Bor (List ℕ))) → line ≡ front ++ text
-    → MatchOption behind (text ≡ word) (λ b. text ≡ word ++ (32 ∷ b.now)) → StandsIn line word
-first_stands line front text word None at is =
-    (front, [], at ∙ ap (λ z. front ++ z) (is ∙ sym (append-nil word)))
-first_stands line front text word (Some b) at is = (front, 32 ∷ b.now, at ∙ ap (λ z. front ++ z) is)
+pub left_by : (line text word : List ℕ) (behind : Option (Bor (List ℕ))) → EndsWith line text
+    → text ≡ word ++ behind_word behind → IsLeft line word behind
+left_by line text word None e is = (e.0, e.1 ∙ ap (λ z. e.0 ++ z) (is ∙ append-nil word))
+left_by line text word (Some b) e is =
+    (e.0 ++ word, e.1 ∙ ap (λ z. e.0 ++ z) is ∙ sym (append_assoc e.0 word (32 ∷ b.now)))
 
 pub begins_with : (text word : List ℕ) (behind : Option (Bor (List ℕ))) → has_no_blank word ≡ true
-    → MatchOption behind (text ≡ word) (λ b. text ≡ word ++ (32 ∷ b.now)) → BeginsWith text word
-begins_with text word None free is = (free, inl is)
+    → text ≡ word ++ behind_word behind → BeginsWith text word
+begins_with text word None free is = (free, inl (is ∙ append-nil word))
 begins_with text word (Some b) free is = (free, inr (b.now, is))
-
--- what `split_once` gives at a blank
-pub split_at_blank : (text : List ℕ) (r : Option (Bor (List ℕ) × Bor (List ℕ))) → IsSplitOnceResult 32 text r
-    → MatchOption r (has_no_blank text ≡ true)
-    (λ x. (text ≡ x.0.now ++ (32 ∷ x.1.now)) × (has_no_blank x.0.now ≡ true))
-split_at_blank text None h = no_blank_from text (split_parts 32 text None h (lit< tt))
-split_at_blank text (Some x) h = let p = split_parts 32 text (Some x) h (lit< tt) in (p.0, no_blank_from x.0.now p.1)
 
 -- a number that is written by a word that writes one out of a range is out of it
 pub outside : (word : List ℕ) (least most number : ℕ) → IsNumber word number → (least ≤ number → number ≤ most → ⊥)
@@ -81,16 +43,8 @@ outside word least most number is out n written =
 
 -- a word of a line's word stands in the line
 pub stands_both : (line word part : List ℕ) → StandsIn line word → StandsIn word part → StandsIn line part
-stands_both line word part outer inner =
-    let f = outer.0 in
-    let g = inner.0 in
-    let back = part ++ inner.1 in (
-      f ++ g,
-      inner.1 ++ outer.1,
-      outer.2 ∙ (ap (λ z. f ++ (z ++ outer.1)) inner.2 ∙ (ap (λ z. f ++ z) (append_assoc g back outer.1)
-          ∙ (ap (λ z. f ++ (g ++ z)) (append_assoc part inner.1 outer.1)
-          ∙ sym (append_assoc f g (part ++ (inner.1 ++ outer.1)))))),
-    )
+stands_both line word part o i =
+    (o.0 ++ i.0, i.1 ++ o.1, o.2 ∙ (ap (λ z. o.0 ++ (z ++ o.1)) i.2 ∙ simp append_assoc))
 
 -- what is true of a word of a line is true of the line
 pub of_line : (v : Vocabulary) (line : List ℕ) (cause : Cause) → IsTrueOf v line cause → IsCause v line cause
@@ -106,16 +60,6 @@ pub tab_in : (word : List ℕ) (r : Option (Bor (List ℕ) × Bor (List ℕ))) �
     → MatchOption r (Unit {0}) (λ x. StandsIn word (9 ∷ []))
 tab_in word None h = tt
 tab_in word (Some x) h = let p = split_parts 9 word (Some x) h (lit< tt) in (x.0.now, x.1.now, p.0)
-
--- where the first word of a text is none
-pub empty_split : (text word : List ℕ) (behind : Option (Bor (List ℕ))) → (length word == 0) ≡ true
-    → MatchOption behind (text ≡ word) (λ b. text ≡ word ++ (32 ∷ b.now))
-    → MatchOption behind (text ≡ []) (λ b. text ≡ 32 ∷ b.now)
-empty_split text [] behind none is = is
-empty_split text (x ∷ word) behind none is = elim (eqb_tells (length (x ∷ word)) 0) [
-  | inl p ↦ absurd (omega (arith, p.1))
-  | inr p ↦ absurd (false≢true (sym p.0 ∙ none))
-]
 
 -- the lines after so many, and one more
 pub drop_next : (i : ℕ) (lines : List (List ℕ)) (line : List ℕ) (behind : List (List ℕ))

@@ -1,5 +1,5 @@
 //! The causes of bad lines.
-ghost use Rattle.std.specs.Prelude.{◌≡◌, ◌++◌, List, ℕ, IfOk, string_bytes};
+ghost use Rattle.std.specs.Prelude.{◌≡◌, IfOk, string_bytes};
 ghost use Rattle.ws_script.specs.cause.CauseTexts as Spec;
 
 pub(crate) mod body_refusal;
@@ -92,15 +92,12 @@ pub enum Cause<'a> {
 pub fn cause_text(alloc: Global, cause: Cause<'_>) -> Result<String, AllocError>
     ensures { IfOk result (λ text. Spec.IsCauseText cause.entry (string_bytes text)) }
 {
-    let text = told(alloc, cause)?;
-    match known_word(cause) {
-        None => Ok(text),
-        Some(Known::Near(word)) => {
-            let question = format!(in alloc; ", did you mean `{word}`?")?;
-            joined(alloc, text.as_str(), question.as_str())
-        }
-        Some(Known::With(switch)) => joined(alloc, text.as_str(), read_with(switch)),
-    }
+    let shown = shown(alloc, cause)?;
+    let known = told(alloc, known_word(cause))?;
+    let mut text = String::from_str(alloc, saying(cause))?;
+    text.push_str(shown.as_str())?;
+    text.push_str(known.as_str())?;
+    Ok(text)
 }
 
 // What a cause tells of the word at fault.
@@ -113,22 +110,22 @@ fn known_word<'a>(cause: Cause<'a>) -> Option<Known>
     }
 }
 
-// What is said of a word that is read with a switch.
-fn read_with(switch: Switch) -> &'static str
-    ensures { result.now ≡ Spec.read_with switch }
+// What is said of what is known.
+fn told(alloc: Global, known: Option<Known>) -> Result<String, AllocError>
+    ensures { IfOk result (λ text. string_bytes text ≡ Spec.saying_known known) }
 {
-    match switch {
-        Switch::Extended => ", it is read with --extended",
-        Switch::Any => ", it is read with --any",
+    match known {
+        None => String::from_str(alloc, ""),
+        Some(Known::Near(word)) => format!(in alloc; ", did you mean `{word}`?"),
+        Some(Known::With(Switch::Extended)) => {
+            String::from_str(alloc, ", it is read with --extended")
+        }
+        Some(Known::With(Switch::Any)) => String::from_str(alloc, ", it is read with --any"),
     }
 }
 
-// A cause in words, without what is known.
-fn told(alloc: Global, cause: Cause<'_>) -> Result<String, AllocError>
-    ensures { IfOk result (λ text. (shown : List ℕ)
-        × (string_bytes text ≡ Spec.saying cause.entry ++ shown)) }
-{
-    let said = saying(cause);
+// The first characters of the word at fault, with what it should be before them.
+fn shown(alloc: Global, cause: Cause<'_>) -> Result<String, AllocError> {
     match cause {
         Cause::UnknownWord(word, _)
         | Cause::Unexpected(word)
@@ -138,111 +135,47 @@ fn told(alloc: Global, cause: Cause<'_>) -> Result<String, AllocError>
         | Cause::Missing(word)
         | Cause::TooMany(word)
         | Cause::Illegal { word, .. }
-        | Cause::Misplaced(word) => with_word(alloc, said, word),
-        Cause::OutOfRange { word, least, most } => with_range(alloc, said, word, least, most),
-        Cause::OtherLength { word, digits } => with_length(alloc, said, word, digits),
-        Cause::NoByte(character) => with_character(alloc, said, character),
-        Cause::NoBody(hex) => with_refusal(alloc, said, hex),
-        _ => alone(alloc, said),
+        | Cause::Misplaced(word) => quoted(alloc, word),
+        Cause::OutOfRange { word, least, most } => {
+            let word = quoted(alloc, word)?;
+            format!(in alloc; "{least} to {most}:{word}")
+        }
+        Cause::OtherLength { word, digits } => {
+            let word = quoted(alloc, word)?;
+            format!(in alloc; "{digits} hex digits:{word}")
+        }
+        Cause::NoByte(character) => {
+            let mut word = String::new(alloc);
+            word.push(character)?;
+            quoted(alloc, word.as_str())
+        }
+        Cause::NoBody(hex) => refused(alloc, hex),
+        _ => String::from_str(alloc, ""),
     }
 }
 
-// What is said, where no word is at fault.
-fn alone(alloc: Global, said: &str) -> Result<String, AllocError>
-    ensures { IfOk result (λ text. (shown : List ℕ) × (string_bytes text ≡ said.now ++ shown)) }
-{
-    joined(alloc, said, "")
-}
-
-// What is said of a word that is in no range.
-fn with_range(
-    alloc: Global,
-    said: &str,
-    word: &str,
-    least: u32,
-    most: u32,
-) -> Result<String, AllocError>
-    ensures { IfOk result (λ text. (shown : List ℕ) × (string_bytes text ≡ said.now ++ shown)) }
-{
-    let range = format!(in alloc; "{least} to {most}:")?;
-    let told = with_word(alloc, range.as_str(), word)?;
-    joined(alloc, said, told.as_str())
-}
-
-// What is said of a word that hasn't so many digits.
-fn with_length(alloc: Global, said: &str, word: &str, digits: u32) -> Result<String, AllocError>
-    ensures { IfOk result (λ text. (shown : List ℕ) × (string_bytes text ≡ said.now ++ shown)) }
-{
-    let length = format!(in alloc; "{digits} hex digits:")?;
-    let told = with_word(alloc, length.as_str(), word)?;
-    joined(alloc, said, told.as_str())
-}
-
-// What is said of a word, and its first characters.
-fn with_word(alloc: Global, said: &str, word: &str) -> Result<String, AllocError>
-    ensures { IfOk result (λ text. (shown : List ℕ) × (string_bytes text ≡ said.now ++ shown)) }
-{
-    let shown = quoted(alloc, word)?;
-    joined(alloc, said, shown.as_str())
-}
-
-// The same of a character.
-fn with_character(alloc: Global, said: &str, character: char) -> Result<String, AllocError>
-    ensures { IfOk result (λ text. (shown : List ℕ) × (string_bytes text ≡ said.now ++ shown)) }
-{
-    let mut shown = String::from_str(alloc, " `")?;
-    put_character(&mut shown, character)?;
-    shown.push('`')?;
-    joined(alloc, said, shown.as_str())
-}
-
-// What is said of a body, the byte at which it is refused, and the reason's sentence.
-fn with_refusal(alloc: Global, said: &str, hex: &str) -> Result<String, AllocError>
-    ensures { IfOk result (λ text. (shown : List ℕ) × (string_bytes text ≡ said.now ++ shown)) }
-{
+// The byte at which a body is refused, and the reason's sentence.
+fn refused(alloc: Global, hex: &str) -> Result<String, AllocError> {
     let Some((place, reason)) = body_refusal(alloc, hex)? else {
-        return alone(alloc, said);
+        return String::from_str(alloc, "");
     };
     let sentence = reason.text();
-    let shown = format!(in alloc; ", refused at {place}, {sentence}")?;
-    joined(alloc, said, shown.as_str())
+    format!(in alloc; ", refused at {place}, {sentence}")
 }
 
-// A text and what stands after it.
-fn joined(alloc: Global, said: &str, behind: &str) -> Result<String, AllocError>
-    ensures { IfOk result (λ text. string_bytes text ≡ said.now ++ behind.now) }
-{
-    let mut text = String::from_str(alloc, said)?;
-    text.push_str(behind)?;
-    Ok(text)
-}
-
-// The first characters of a word, after a blank.
+// The first characters of a word, after a blank; a control character and `\` by two hex digits after a `\`.
 fn quoted(alloc: Global, word: &str) -> Result<String, AllocError> {
     let mut shown = String::from_str(alloc, " `")?;
     for character in word.chars().take(SHOWN) {
-        put_character(&mut shown, character)?;
+        if !character.is_control() && character != '\\' {
+            shown.push(character)?;
+        } else {
+            let code = u32::from(character);
+            shown.push_str(format!(in alloc; "\\{code:02X}")?.as_str())?;
+        }
     }
     shown.push('`')?;
     Ok(shown)
-}
-
-// Adds a character; a control character and `\` by two hex digits after a `\`.
-fn put_character(shown: &mut String, character: char) -> Result<(), AllocError> {
-    if !character.is_control() && character != '\\' {
-        return shown.push(character);
-    }
-    let code = u32::from(character);
-    shown.push('\\')?;
-    shown.push(hex_digit(code / 16))?;
-    shown.push(hex_digit(code))
-}
-
-fn hex_digit(number: u32) -> char {
-    match char::from_digit(number % 16, 16) {
-        Some(digit) => digit.to_ascii_uppercase(),
-        None => '0',
-    }
 }
 
 // What is said, before the word at fault and numbers.
@@ -260,7 +193,18 @@ fn saying(cause: Cause<'_>) -> &'static str
         Cause::UnknownKey(_) => "unknown key",
         Cause::NoNumber(_) => "no number:",
         Cause::NoHex(_) => "no hex:",
-        Cause::Illegal { asked, .. } => saying_asked(asked),
+        Cause::Illegal {
+            asked: AskedByte::CellByte,
+            ..
+        } => "an order's code:",
+        Cause::Illegal {
+            asked: AskedByte::Attribute,
+            ..
+        } => "no attribute, 20 to 3F:",
+        Cause::Illegal {
+            asked: AskedByte::Key,
+            ..
+        } => "no key:",
         Cause::NoByte(_) => "no byte in code page 037 for",
         Cause::NoBody(_) => "no body",
         Cause::Missing(_) => "a word is missing after",
@@ -270,16 +214,5 @@ fn saying(cause: Cause<'_>) -> &'static str
         Cause::OutOfRange { .. } => "not from ",
         Cause::OtherLength { .. } => "not ",
         Cause::Other => "it isn't a line of this script",
-    }
-}
-
-// What is said of a byte that isn't what is asked.
-fn saying_asked(asked: AskedByte) -> &'static str
-    ensures { result.now ≡ Spec.saying_asked asked }
-{
-    match asked {
-        AskedByte::CellByte => "an order's code:",
-        AskedByte::Attribute => "no attribute, 20 to 3F:",
-        AskedByte::Key => "no key:",
     }
 }

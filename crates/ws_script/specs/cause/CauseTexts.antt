@@ -6,18 +6,10 @@ use Rattle.ws_script.specs.declared.cause.Cause.TheVariants.{NotUtf8, Tab, TwoBl
 use Rattle.ws_script.specs.declared.cause.Cause.TheVariants.{Unexpected, UnknownKey, NoNumber, OutOfRange, NoHex}
 use Rattle.ws_script.specs.declared.cause.Cause.TheVariants.{OtherLength, NoByte, Missing, TooMany, Misplaced, Apart, Other}
 use Rattle.ws_script.specs.declared.cause.Cause.TheVariants.{Illegal, NoBody}
-use Rattle.ws_script.specs.declared.cause.AskedByte.{AskedByte}
 use Rattle.ws_script.specs.declared.cause.AskedByte.TheVariants.{CellByte, Attribute, Key}
 use Rattle.ws_script.specs.declared.cause.Known.{Known}
 use Rattle.ws_script.specs.declared.cause.Known.TheVariants.{Near, With}
-use Rattle.ws_script.specs.declared.cause.vocabulary.Switch.{Switch}
 use Rattle.ws_script.specs.declared.cause.vocabulary.Switch.TheVariants.{Extended, Any}
-
--- what is said of a byte that isn't what is asked
-abbrev pub saying_asked : AskedByte → List ℕ
-saying_asked CellByte = codes "an order's code:"
-saying_asked Attribute = codes "no attribute, 20 to 3F:"
-saying_asked Key = codes "no key:"
 
 -- what is said, before the word at fault and numbers
 abbrev pub saying : Cause → List ℕ
@@ -31,7 +23,9 @@ saying (Unexpected word) = codes "unexpected word"
 saying (UnknownKey word) = codes "unknown key"
 saying (NoNumber word) = codes "no number:"
 saying (NoHex word) = codes "no hex:"
-saying (Illegal word asked) = saying_asked asked
+saying (Illegal word CellByte) = codes "an order's code:"
+saying (Illegal word Attribute) = codes "no attribute, 20 to 3F:"
+saying (Illegal word Key) = codes "no key:"
 saying (NoByte character) = codes "no byte in code page 037 for"
 saying (NoBody hex) = codes "no body"
 saying (Missing word) = codes "a word is missing after"
@@ -47,16 +41,12 @@ abbrev pub known_word : Cause → Option Known
 known_word (UnknownWord word told) = told
 known_word cause = None
 
--- what is said of a word that is read with a switch
-abbrev pub read_with : Switch → List ℕ
-read_with Extended = codes ", it is read with --extended"
-read_with Any = codes ", it is read with --any"
-
 -- what is said of what is known
 abbrev pub saying_known : Option Known → List ℕ
 saying_known None = []
 saying_known (Some (Near word)) = codes ", did you mean `" ++ word.now ++ codes "`?"
-saying_known (Some (With switch)) = read_with switch
+saying_known (Some (With Extended)) = codes ", it is read with --extended"
+saying_known (Some (With Any)) = codes ", it is read with --any"
 
 -- a cause in words, with what it shows of the word at fault
 abbrev pub IsCauseText : Cause → List ℕ → Type 0

@@ -14,7 +14,7 @@ use Rattle.ws_stream.specs.FieldOrder.{is_attribute}
 use Rattle.ws_printing.specs.script.ExtendedKeyNames.{extended_key_named}
 use Rattle.ws_printing.specs.script.KeyNames.{key_named, aid_named}
 use Rattle.ws_printing.specs.script.ScriptFaults.{has_no_blank}
-use Rattle.ws_script.specs.cause.Vocabularies.{vocabulary_words, wider}
+use Rattle.ws_script.specs.cause.Vocabularies.{is_first, wider}
 use Rattle.ws_script.specs.declared.cause.Cause.{Cause}
 use Rattle.ws_script.specs.declared.cause.Cause.TheVariants.{NotUtf8, Tab, TwoBlanks, BlankInFront, BlankAtEnd, UnknownWord}
 use Rattle.ws_script.specs.declared.cause.Cause.TheVariants.{Unexpected, UnknownKey, NoNumber, OutOfRange, NoHex}
@@ -36,7 +36,6 @@ use Rattle.ws_text.specs.ElementWords.{element_wording}
 use Rattle.ws_text.specs.ExtendedAnswerWords.{told_wording}
 use Rattle.ws_text.specs.ExtendedWords.{extended_wording}
 use Rattle.ws_text.specs.Found.{FindsUnits}
-use Rattle.ws_text.specs.Names.{look_up}
 use Rattle.ws_text.specs.Words.{IsHexByte, IsNumber}
 
 -- a word stands in a line
@@ -46,6 +45,11 @@ StandsIn line word = (front : List ℕ) × (back : List ℕ) × (line ≡ front 
 -- a line ends with a text
 abbrev pub EndsWith : List ℕ → List ℕ → Type 0
 EndsWith line text = (front : List ℕ) × (line ≡ front ++ text)
+
+-- what stands after a word: nothing, or a blank and the words after it
+abbrev pub behind_word : Option (Bor (List ℕ)) → List ℕ
+behind_word None = []
+behind_word (Some words) = 32 ∷ words.now
 
 -- a line whose words up to this one were looked at: it ends with that word, or with a blank and the words after it
 abbrev pub IsLeft : List ℕ → List ℕ → Option (Bor (List ℕ)) → Type 0
@@ -120,12 +124,12 @@ IsTrueOf vocabulary line cause = ⊥
 -- lines of this kind are units, and with their switch one begins with a word
 abbrev pub IsReadWith : Vocabulary → Switch → List ℕ → Type 0
 IsReadWith (Elements sent switch) told word = (told ≡ switch)
-    × (look_up word (vocabulary_words (wider (Elements sent switch))) ≢ None)
+    × (is_first (wider (Elements sent switch)) word ≡ true)
 IsReadWith vocabulary told word = ⊥
 
 -- what is known of a word that no line of this kind begins with is true
 abbrev pub IsKnown : Vocabulary → List ℕ → Known → Type 0
-IsKnown vocabulary word (Near name) = look_up name.now (vocabulary_words vocabulary) ≢ None
+IsKnown vocabulary word (Near name) = is_first vocabulary name.now ≡ true
 IsKnown vocabulary word (With switch) = IsReadWith vocabulary switch word
 
 -- the units of a record in lines of this kind, and the switch with which their command reads more
@@ -140,7 +144,7 @@ abbrev pub IsCause : Vocabulary → List ℕ → Cause → Type 0
 IsCause vocabulary line NotUtf8 = IsUtf8 line → ⊥
 IsCause vocabulary line BlankInFront = (rest : List ℕ) × IsTextOf vocabulary line (32 ∷ rest)
 IsCause vocabulary line (UnknownWord word known) = HasFirst vocabulary line word.now
-    × (look_up word.now (vocabulary_words vocabulary) ≡ None)
+    × (is_first vocabulary word.now ≡ false)
     × IfSome known (IsKnown vocabulary word.now)
 IsCause vocabulary line (Misplaced word) = HasFirst vocabulary line word.now × IsUnitLine vocabulary line
 IsCause vocabulary line Apart = (units_of vocabulary ≡ None) × ((rest : List ℕ) × (line ≡ 32 ∷ (32 ∷ rest)))

@@ -1,83 +1,59 @@
--- The words that lines of a script and of items as text begin with, and of what kind the words after each are.
+-- The words that lines of a script and of items as text begin with.
 
-use Rattle.std.specs.Prelude.{ℕ, List, [], ◌∷◌, ◌++◌, codes}
-use Rattle.ws_script.specs.declared.cause.vocabulary.Shape.{Shape}
-use Rattle.ws_script.specs.declared.cause.vocabulary.Shape.TheVariants.{Alone, AnyText, AKey, Cell, Filling, Row, Shown, Awaited}
-use Rattle.ws_script.specs.declared.cause.vocabulary.Shape.TheVariants.{Sent, SentAny, AnswerAwaited, KeyAwaited, Bytes, Command}
-use Rattle.ws_script.specs.declared.cause.vocabulary.Shape.TheVariants.{Pause, Controls, Header, Repeat, Erased, Field, Coded}
-use Rattle.ws_script.specs.declared.cause.vocabulary.Shape.TheVariants.{Head, Placed, CellBytes, KeyAt, Rows}
+use Rattle.std.specs.Prelude.{ℕ, List, [], ◌∷◌, ◌++◌, Bool, codes}
+use Rattle.std.specs.List.{list_any}
+use Rattle.std.specs.Str.{bytes_eq}
 use Rattle.ws_script.specs.declared.cause.vocabulary.Vocabulary.{Vocabulary}
 use Rattle.ws_script.specs.declared.cause.vocabulary.Vocabulary.TheVariants.{Station, ExtendedStation, Host, AnyHost}
 use Rattle.ws_script.specs.declared.cause.vocabulary.Vocabulary.TheVariants.{Items, Elements}
 use Rattle.ws_script.specs.declared.asked.sender.Sender.{Sender}
 use Rattle.ws_script.specs.declared.asked.sender.Sender.TheVariants as sender
 
--- first words, with the kind of the words after each
-abbrev pub Words : Type 0
-Words = List (List ℕ × Shape)
-
 -- the words that a line of `connect` begins with
-abbrev pub station_words : Words
-station_words = (codes "type", AnyText) ∷ (codes "insert", AnyText) ∷ (codes "key", AKey) ∷ (codes "cursor", Cell)
-    ∷ (codes "field", Filling) ∷ (codes "erase", Alone) ∷ (codes "newline", Alone) ∷ (codes "await", Awaited)
-    ∷ (codes "show", Shown) ∷ (codes "fields", Alone) ∷ (codes "cells", Row) ∷ (codes "status", Alone)
-    ∷ (codes "note", AnyText) ∷ []
+abbrev pub station_words : List (List ℕ)
+station_words = codes "type" ∷ codes "insert" ∷ codes "key" ∷ codes "cursor" ∷ codes "field" ∷ codes "erase"
+    ∷ codes "newline" ∷ codes "await" ∷ codes "show" ∷ codes "fields" ∷ codes "cells" ∷ codes "status" ∷ codes "note"
+    ∷ []
 
 -- the words that lines of both hosts begin with
-abbrev pub both_hosts : Words
-both_hosts = (codes "raw", Bytes) ∷ (codes "telnet", Command) ∷ (codes "pause", Pause) ∷ (codes "close", Alone)
-    ∷ (codes "end", Alone) ∷ []
-
--- the words that a line of `serve` begins with
-abbrev pub host_words : Words
-host_words = (codes "send", Sent) ∷ (codes "cancel", Alone) ∷ (codes "await", AnswerAwaited) ∷ (codes "show", Alone)
-    ∷ both_hosts
-
--- the words that a line of `serve --any` begins with
-abbrev pub any_words : Words
-any_words = both_hosts ++ (codes "send", SentAny) ∷ (codes "await", KeyAwaited) ∷ []
-
--- the words that items as text begin with, where they are no elements
-abbrev pub item_words : Words
-item_words = (codes "record", Head) ∷ (codes "telnet", Command) ∷ (codes "at", Placed) ∷ []
+abbrev pub both_hosts : List (List ℕ)
+both_hosts = codes "raw" ∷ codes "telnet" ∷ codes "pause" ∷ codes "close" ∷ codes "end" ∷ []
 
 -- the elements of the profile
-abbrev pub elements : Words
-elements = (codes "TEXT", Coded) ∷ (codes "CLEAR-UNIT", Alone) ∷ (codes "CLEAR-FORMAT", Alone)
-    ∷ (codes "WRITE", Controls) ∷ (codes "READ-INPUT", Controls) ∷ (codes "READ-MDT", Controls)
-    ∷ (codes "READ-MDT-ALTERNATE", Controls) ∷ (codes "SOH", Header) ∷ (codes "RA", Repeat) ∷ (codes "EA", Erased)
-    ∷ (codes "SBA", Cell) ∷ (codes "IC", Cell) ∷ (codes "MC", Cell) ∷ (codes "SF", Field) ∷ (codes "PUT", CellBytes) ∷ []
+abbrev pub elements : List (List ℕ)
+elements = codes "TEXT" ∷ codes "CLEAR-UNIT" ∷ codes "CLEAR-FORMAT" ∷ codes "WRITE" ∷ codes "READ-INPUT"
+    ∷ codes "READ-MDT" ∷ codes "READ-MDT-ALTERNATE" ∷ codes "SOH" ∷ codes "RA" ∷ codes "EA" ∷ codes "SBA" ∷ codes "IC"
+    ∷ codes "MC" ∷ codes "SF" ∷ codes "PUT" ∷ []
 
 -- the commands that live hosts send beside the profile
-abbrev pub live_commands : Words
-live_commands = (codes "QUERY", Alone) ∷ (codes "SAVE-SCREEN", Alone) ∷ (codes "RESTORE-SCREEN", Alone)
-    ∷ (codes "WRITE-ERROR", Alone) ∷ (codes "READ-SCREEN", Alone) ∷ (codes "READ-IMMEDIATE", Alone)
-    ∷ (codes "READ-IMMEDIATE-ALTERNATE", Alone) ∷ (codes "ROLL", Rows) ∷ []
+abbrev pub live_commands : List (List ℕ)
+live_commands = codes "QUERY" ∷ codes "SAVE-SCREEN" ∷ codes "RESTORE-SCREEN" ∷ codes "WRITE-ERROR"
+    ∷ codes "READ-SCREEN" ∷ codes "READ-IMMEDIATE" ∷ codes "READ-IMMEDIATE-ALTERNATE" ∷ codes "ROLL" ∷ []
 
 -- the parts of an answer, but for its text
-abbrev pub parts : Words
-parts = (codes "HEAD", KeyAt) ∷ (codes "AT", Cell) ∷ (codes "BYTES", CellBytes) ∷ []
-
--- what is told at once beside a live host's answers
-abbrev pub told_words : Words
-told_words = (codes "SAVED", Alone) ∷ (codes "SCREEN", Cell) ∷ (codes "IMMEDIATE", Cell)
-    ∷ (codes "QUERY-REPLY", Bytes) ∷ []
+abbrev pub parts : List (List ℕ)
+parts = codes "HEAD" ∷ codes "AT" ∷ codes "BYTES" ∷ []
 
 -- the names of a sender's units
-abbrev pub unit_words : Sender → Words
+abbrev pub unit_words : Sender → List (List ℕ)
 unit_words sender.Host = elements
 unit_words sender.ExtendedHost = elements ++ live_commands
-unit_words sender.Station = parts ++ (codes "TEXT", Coded) ∷ []
-unit_words sender.ExtendedStation = parts ++ elements ++ live_commands ++ told_words
+unit_words sender.Station = parts ++ codes "TEXT" ∷ []
+unit_words sender.ExtendedStation = parts ++ elements ++ live_commands
+    ++ codes "SAVED" ∷ codes "SCREEN" ∷ codes "IMMEDIATE" ∷ codes "QUERY-REPLY" ∷ []
 
 -- the words that a line of this kind begins with; those of elements stand after two blanks
-abbrev pub vocabulary_words : Vocabulary → Words
+abbrev pub vocabulary_words : Vocabulary → List (List ℕ)
 vocabulary_words Station = station_words
 vocabulary_words ExtendedStation = station_words
-vocabulary_words Host = host_words
-vocabulary_words AnyHost = any_words
-vocabulary_words (Items sent) = item_words
+vocabulary_words Host = codes "send" ∷ codes "cancel" ∷ codes "await" ∷ codes "show" ∷ both_hosts
+vocabulary_words AnyHost = both_hosts ++ codes "send" ∷ codes "await" ∷ []
+vocabulary_words (Items sent) = codes "record" ∷ codes "telnet" ∷ codes "at" ∷ []
 vocabulary_words (Elements sent switch) = unit_words sent
+
+-- a line of this kind begins with a word
+abbrev pub is_first : Vocabulary → List ℕ → Bool
+is_first vocabulary word = list_any (bytes_eq word) (vocabulary_words vocabulary)
 
 -- units with those that the switch adds; the same lines where it adds none
 abbrev pub wider : Vocabulary → Vocabulary

@@ -1,11 +1,11 @@
 //! What is wrong with the words of a line.
 ghost use Rattle.std.specs.Prelude.{◌≡◌, ◌++◌, ◌∷◌, [], List, ℕ, true, false, None};
-ghost use Rattle.std.specs.Prelude.{IfSome, MatchOption, MatchResult};
+ghost use Rattle.std.specs.Prelude.{IfSome, MatchResult};
 ghost use Rattle.std.specs.List.{list_all};
 ghost use Rattle.std.specs.Char.{is_ascii_hexdigit};
 ghost use Rattle.ws_code.specs.Ebcdic.{byte_of};
 ghost use Rattle.ws_printing.specs.script.ScriptFaults.{has_no_blank};
-ghost use Rattle.ws_script.specs.cause.Causes.{EndsWith, IsAsked, IsLeft, IsTrueOf, StandsIn, has_key, is_hex_text};
+ghost use Rattle.ws_script.specs.cause.Causes.{EndsWith, IsAsked, IsLeft, IsTrueOf, StandsIn, behind_word, has_key, is_hex_text};
 ghost use Rattle.ws_script.specs.declared.cause.vocabulary.Vocabulary.{Vocabulary as AVocabulary};
 
 use crate::cause::vocabulary::Vocabulary;
@@ -14,28 +14,19 @@ use crate::cause::{AskedByte, Cause};
 use ws_code::{Aid, DataByte, ebcdic};
 use ws_extended_station::ExtendedKey;
 use ws_keys::Key;
-use ws_printing::{NamedKey, aid_named};
+use ws_printing::{NamedKey, aid_named, split_word};
 use ws_record::Opcode;
 use ws_text::{read_byte, read_number};
 
 /// The word before the first blank, and what stands after it, where there is one.
 pub fn first_word(text: &str) -> (&str, Option<&str>)
     ensures no_blank { has_no_blank result.0.now ≡ true }
-    ensures split { MatchOption result.1 (text.now ≡ result.0.now)
-        (λ behind. text.now ≡ result.0.now ++ (32 ∷ behind.now)) }
+    ensures split { text.now ≡ result.0.now ++ behind_word result.1 }
 {
     match split_word(text) {
         Some((word, behind)) => (word, Some(behind)),
         None => (text, None),
     }
-}
-
-fn split_word(text: &str) -> Option<(&str, &str)>
-    ensures { MatchOption result (has_no_blank text.now ≡ true)
-        (λ parts. (text.now ≡ parts.0.now ++ (32 ∷ parts.1.now))
-        × (has_no_blank parts.0.now ≡ true)) }
-{
-    text.split_once(' ')
 }
 
 /// What is wrong with the words after this one, where something is: they are to be of these kinds.
@@ -133,13 +124,12 @@ fn word_at<'a>(
         → MatchResult result (λ next. IsLeft line next.0.now next.1)
         (λ found. IfSome found (IsTrueOf vocabulary line)) }
 {
-    let (word, behind) = first_word(words);
-    if word.is_empty() {
-        return Err(Some(no_word(behind)));
-    }
-    match wrong_word(vocabulary, kind, word) {
-        Some(cause) => Err(Some(or_tab(word, cause))),
-        None => Ok((word, behind)),
+    match first_word(words) {
+        ("", behind) => Err(Some(no_word(behind))),
+        (word, behind) => match wrong_word(vocabulary, kind, word) {
+            Some(cause) => Err(Some(or_tab(word, cause))),
+            None => Ok((word, behind)),
+        },
     }
 }
 
@@ -163,9 +153,8 @@ pub fn has_tab(word: &str) -> bool
 
 // What is wrong where no word stands before this.
 fn no_word<'a>(behind: Option<&str>) -> Cause<'a>
-    ensures { (vocabulary : AVocabulary) (line words : List ℕ) → EndsWith line (32 ∷ words)
-        → MatchOption behind.entry (words ≡ []) (λ rest. words ≡ 32 ∷ rest.now)
-        → IsTrueOf vocabulary line result }
+    ensures { (vocabulary : AVocabulary) (line : List ℕ)
+        → EndsWith line (32 ∷ behind_word behind.entry) → IsTrueOf vocabulary line result }
 {
     match behind {
         Some(_) => Cause::TwoBlanks,
@@ -175,18 +164,13 @@ fn no_word<'a>(behind: Option<&str>) -> Cause<'a>
 
 // What is wrong where words are left.
 fn left_over<'a>(rest: Option<&'a str>) -> Option<Cause<'a>>
-    ensures { (vocabulary : AVocabulary) (line : List ℕ)
-        → IfSome rest.entry (λ words. EndsWith line (32 ∷ words.now))
+    ensures { (vocabulary : AVocabulary) (line last : List ℕ) → IsLeft line last rest.entry
         → IfSome result (IsTrueOf vocabulary line) }
 {
-    let Some(words) = rest else {
-        return None;
-    };
-    let (word, behind) = first_word(words);
-    if word.is_empty() {
-        return Some(no_word(behind));
+    match first_word(rest?) {
+        ("", behind) => Some(no_word(behind)),
+        (word, _) => Some(Cause::TooMany(word)),
     }
-    Some(Cause::TooMany(word))
 }
 
 // What is wrong with a word that is to be of this kind.

@@ -1,18 +1,17 @@
 //! Why a line of a script, or of items as text, is bad.
-ghost use Rattle.std.specs.Prelude.{◌≡◌, ◌∷◌, [], List, ℕ, true, None, MatchOption};
+ghost use Rattle.std.specs.Prelude.{◌≡◌, List, ℕ, true, false};
 ghost use Rattle.ws_script.specs.cause.Causes as Spec;
 ghost use Rattle.ws_script.specs.cause.Causes.{HasFirst, IsCause, IsCauseOf, IsTextOf};
-ghost use Rattle.ws_script.specs.cause.Causes.{SaysUnits, StandsIn};
-ghost use Rattle.ws_script.specs.cause.Vocabularies.{vocabulary_words};
+ghost use Rattle.ws_script.specs.cause.Causes.{SaysUnits, StandsIn, behind_word};
+ghost use Rattle.ws_script.specs.cause.Vocabularies.{is_first};
 ghost use Rattle.ws_script.specs.declared.cause.vocabulary.Vocabulary.{Vocabulary as AVocabulary};
-ghost use Rattle.ws_text.specs.Names.{look_up};
 
 use crate::asked::sender::Sender;
 use crate::cause::Cause;
 use crate::cause::cause_words::{first_word, has_tab, wrong_words};
 use crate::cause::nearest::known_of;
-use crate::cause::vocabulary::{Switch, Vocabulary, shape_of};
-use crate::cause::word_kind::kinds_of;
+use crate::cause::vocabulary::{Switch, Vocabulary, kinds_after};
+use crate::cause::word_kind::settled;
 use std::str;
 use ws_extended::{ExtendedAnswers, ExtendedCommands};
 use ws_stream::{Answers, Commands};
@@ -54,24 +53,22 @@ fn cause_in<'a>(line: &[u8], text: &'a str, vocabulary: Vocabulary) -> Cause<'a>
     requires { IsTextOf vocabulary line.now text.now }
     ensures { IsCause vocabulary line.now result }
 {
-    let (first, rest) = first_word(text);
-    if first.is_empty() {
-        return no_first(rest);
-    }
-    let Some(shape) = shape_of(vocabulary, first) else {
-        return unknown(first, vocabulary);
-    };
-    match wrong_words(vocabulary, kinds_of(shape, rest), first, rest) {
-        Some(cause) => cause,
-        None => well_worded(line, vocabulary, first),
+    match first_word(text) {
+        ("", rest) => no_first(rest),
+        (first, rest) => match kinds_after(vocabulary, first) {
+            None => unknown(first, vocabulary),
+            Some(kinds) => match wrong_words(vocabulary, settled(kinds, rest), first, rest) {
+                Some(cause) => cause,
+                None => well_worded(line, vocabulary, first),
+            },
+        },
     }
 }
 
 // Why a line is bad whose text begins with no word.
 fn no_first<'a>(rest: Option<&str>) -> Cause<'a>
-    ensures { (vocabulary : AVocabulary) (line text : List ℕ) → IsTextOf vocabulary line text
-        → MatchOption rest.entry (text ≡ []) (λ behind. text ≡ 32 ∷ behind.now)
-        → IsCause vocabulary line result }
+    ensures { (vocabulary : AVocabulary) (line : List ℕ)
+        → IsTextOf vocabulary line (behind_word rest.entry) → IsCause vocabulary line result }
 {
     match rest {
         Some(_) => Cause::BlankInFront,
@@ -82,7 +79,7 @@ fn no_first<'a>(rest: Option<&str>) -> Cause<'a>
 // Why a line is bad whose first word no such line has.
 fn unknown<'a>(first: &'a str, vocabulary: Vocabulary) -> Cause<'a>
     ensures { (line : List ℕ) → HasFirst vocabulary line first.now → StandsIn line first.now
-        → look_up first.now (vocabulary_words vocabulary) ≡ None → IsCause vocabulary line result }
+        → is_first vocabulary first.now ≡ false → IsCause vocabulary line result }
 {
     if has_tab(first) {
         Cause::Tab

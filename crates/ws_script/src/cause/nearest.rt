@@ -3,14 +3,14 @@ ghost use Rattle.std.specs.Prelude.{IfSome};
 ghost use Rattle.ws_script.specs.cause.Causes.{IsKnown};
 
 use crate::cause::Known;
-use crate::cause::vocabulary::{Vocabulary, shape_of, wider, words_of};
+use crate::cause::vocabulary::{Vocabulary, kinds_after, wider, words_of};
 
 /// With which switch such a line begins with a word that otherwise none begins with, or the nearest to it.
 pub(crate) fn known_of(vocabulary: Vocabulary, word: &str) -> Option<Known>
     ensures { IfSome result (IsKnown vocabulary word.now) }
 {
     match vocabulary {
-        Vocabulary::Elements(_, switch) if shape_of(wider(vocabulary), word).is_some() => {
+        Vocabulary::Elements(_, switch) if kinds_after(wider(vocabulary), word).is_some() => {
             Some(Known::With(switch))
         }
         _ => nearest(vocabulary, word),

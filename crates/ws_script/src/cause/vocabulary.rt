@@ -1,10 +1,12 @@
-//! The words that lines of a script begin with, and of what kind the words after each are.
+//! The words that lines of a script begin with, and those that may stand after each.
 ghost use Rattle.std.specs.Prelude.{◌≡◌, map};
 ghost use Rattle.ws_script.specs.cause.Vocabularies as Spec;
-ghost use Rattle.ws_script.specs.cause.Vocabularies.{vocabulary_words};
-ghost use Rattle.ws_text.specs.Names.{look_up};
+ghost use Rattle.std.specs.Option.{is_some};
+ghost use Rattle.ws_script.specs.cause.Vocabularies.{is_first, vocabulary_words};
 
 use crate::asked::sender::Sender;
+use crate::cause::AskedByte;
+use crate::cause::word_kind::{BYTE, COLUMN, HOUR, ROW, WordKind};
 
 /// The kinds of lines of which some are bad.
 #[derive(Clone, Copy, Debug, PartialEq, Eq)]
@@ -32,137 +34,88 @@ pub enum Switch {
     Any,
 }
 
-/// Of what kind the words after a line's first word are.
-#[derive(Clone, Copy, Debug, PartialEq, Eq)]
-pub enum Shape {
-    /// There are none.
-    Alone,
-    AnyText,
-    AKey,
-    /// A row and a column.
-    Cell,
-    /// The number of a field, and a text.
-    Filling,
-    Row,
-    /// None, or a cell and a length.
-    Shown,
-    /// What a station waits for.
-    Awaited,
-    /// An opcode of the profile, and hex or none.
-    Sent,
-    /// Any opcode, and hex or none.
-    SentAny,
-    /// What a host waits for.
-    AnswerAwaited,
-    /// What a host that takes any record waits for.
-    KeyAwaited,
-    Bytes,
-    /// Bytes that stand for themselves in cells.
-    CellBytes,
-    /// A Telnet command.
-    Command,
-    /// Milliseconds.
-    Pause,
-    /// Two bytes.
-    Controls,
-    /// Hex, or none.
-    Header,
-    /// A cell and its byte.
-    Repeat,
-    /// A cell and the byte of a key.
-    KeyAt,
-    /// A byte and two rows.
-    Rows,
-    /// A cell and hex.
-    Erased,
-    /// Format words, an attribute and a length.
-    Field,
-    /// A text whose characters have bytes.
-    Coded,
-    /// A record's flags and opcode.
-    Head,
-    /// A place in a stream, and an item.
-    Placed,
-}
-
-// A word that lines begin with, and of what kind the words after it are.
-type Word = (&'static str, Shape);
+// A word that lines begin with, and the words that may stand after it.
+type Word = (&'static str, &'static [WordKind]);
 
 static STATION: [Word; 13] = [
-    ("type", Shape::AnyText),
-    ("insert", Shape::AnyText),
-    ("key", Shape::AKey),
-    ("cursor", Shape::Cell),
-    ("field", Shape::Filling),
-    ("erase", Shape::Alone),
-    ("newline", Shape::Alone),
-    ("await", Shape::Awaited),
-    ("show", Shape::Shown),
-    ("fields", Shape::Alone),
-    ("cells", Shape::Row),
-    ("status", Shape::Alone),
-    ("note", Shape::AnyText),
+    ("type", &[WordKind::AnyText]),
+    ("insert", &[WordKind::AnyText]),
+    ("key", &[WordKind::Key]),
+    ("cursor", &[ROW, COLUMN]),
+    ("field", &[WordKind::Number(1, 256), WordKind::AnyText]),
+    ("erase", &[]),
+    ("newline", &[]),
+    ("await", &[WordKind::Awaited]),
+    (
+        "show",
+        &[WordKind::End, ROW, COLUMN, WordKind::Number(1, 1_920)],
+    ),
+    ("fields", &[]),
+    ("cells", &[ROW]),
+    ("status", &[]),
+    ("note", &[WordKind::AnyText]),
 ];
 
 // Those of a host, then those of both, then those of a host that takes any record.
 static HOSTS: [Word; 11] = [
-    ("send", Shape::Sent),
-    ("cancel", Shape::Alone),
-    ("await", Shape::AnswerAwaited),
-    ("show", Shape::Alone),
-    ("raw", Shape::Bytes),
-    ("telnet", Shape::Command),
-    ("pause", Shape::Pause),
-    ("close", Shape::Alone),
-    ("end", Shape::Alone),
-    ("send", Shape::SentAny),
-    ("await", Shape::KeyAwaited),
+    ("send", &[WordKind::Opcode, WordKind::End, WordKind::Body]),
+    ("cancel", &[]),
+    ("await", &[WordKind::AnswerAwaited]),
+    ("show", &[]),
+    ("raw", &[WordKind::Hex]),
+    ("telnet", &[WordKind::Command]),
+    ("pause", &[HOUR]),
+    ("close", &[]),
+    ("end", &[]),
+    ("send", &[WordKind::AnyOpcode, WordKind::End, WordKind::Hex]),
+    ("await", &[WordKind::End, WordKind::Key]),
 ];
 
 static ITEMS: [Word; 3] = [
-    ("record", Shape::Head),
-    ("telnet", Shape::Command),
-    ("at", Shape::Placed),
+    ("record", &[WordKind::Head]),
+    ("telnet", &[WordKind::Command]),
+    ("at", &[WordKind::Any, WordKind::AnyText]),
 ];
 
 // The parts of an answer, the elements of the profile, from TEXT on, which is both, the commands that live hosts send
 // beside it, and what is told at once.
 static UNITS: [Word; 30] = [
-    ("HEAD", Shape::KeyAt),
-    ("AT", Shape::Cell),
-    ("BYTES", Shape::CellBytes),
-    ("TEXT", Shape::Coded),
-    ("CLEAR-UNIT", Shape::Alone),
-    ("CLEAR-FORMAT", Shape::Alone),
-    ("WRITE", Shape::Controls),
-    ("READ-INPUT", Shape::Controls),
-    ("READ-MDT", Shape::Controls),
-    ("READ-MDT-ALTERNATE", Shape::Controls),
-    ("SOH", Shape::Header),
-    ("RA", Shape::Repeat),
-    ("EA", Shape::Erased),
-    ("SBA", Shape::Cell),
-    ("IC", Shape::Cell),
-    ("MC", Shape::Cell),
-    ("SF", Shape::Field),
-    ("PUT", Shape::CellBytes),
-    ("QUERY", Shape::Alone),
-    ("SAVE-SCREEN", Shape::Alone),
-    ("RESTORE-SCREEN", Shape::Alone),
-    ("WRITE-ERROR", Shape::Alone),
-    ("READ-SCREEN", Shape::Alone),
-    ("READ-IMMEDIATE", Shape::Alone),
-    ("READ-IMMEDIATE-ALTERNATE", Shape::Alone),
-    ("ROLL", Shape::Rows),
-    ("SAVED", Shape::Alone),
-    ("SCREEN", Shape::Cell),
-    ("IMMEDIATE", Shape::Cell),
-    ("QUERY-REPLY", Shape::Bytes),
+    ("HEAD", &[ROW, COLUMN, WordKind::Value(AskedByte::Key)]),
+    ("AT", &[ROW, COLUMN]),
+    ("BYTES", &[WordKind::Cells]),
+    ("TEXT", &[WordKind::Coded]),
+    ("CLEAR-UNIT", &[]),
+    ("CLEAR-FORMAT", &[]),
+    ("WRITE", &[BYTE, BYTE]),
+    ("READ-INPUT", &[BYTE, BYTE]),
+    ("READ-MDT", &[BYTE, BYTE]),
+    ("READ-MDT-ALTERNATE", &[BYTE, BYTE]),
+    ("SOH", &[WordKind::End, WordKind::Hex]),
+    ("RA", &[ROW, COLUMN, WordKind::Value(AskedByte::CellByte)]),
+    ("EA", &[ROW, COLUMN, WordKind::Hex]),
+    ("SBA", &[ROW, COLUMN]),
+    ("IC", &[ROW, COLUMN]),
+    ("MC", &[ROW, COLUMN]),
+    ("SF", &[WordKind::Field]),
+    ("PUT", &[WordKind::Cells]),
+    ("QUERY", &[]),
+    ("SAVE-SCREEN", &[]),
+    ("RESTORE-SCREEN", &[]),
+    ("WRITE-ERROR", &[]),
+    ("READ-SCREEN", &[]),
+    ("READ-IMMEDIATE", &[]),
+    ("READ-IMMEDIATE-ALTERNATE", &[]),
+    ("ROLL", &[BYTE, ROW, ROW]),
+    ("SAVED", &[]),
+    ("SCREEN", &[ROW, COLUMN]),
+    ("IMMEDIATE", &[ROW, COLUMN]),
+    ("QUERY-REPLY", &[WordKind::Hex]),
 ];
 
-/// Of what kind the words after this first word are; `None` where no such line begins with it.
-pub fn shape_of(vocabulary: Vocabulary, word: &str) -> Option<Shape>
-    ensures { result ≡ look_up word.now (vocabulary_words vocabulary) }
+/// The words that may stand after this first word; `None` where no such line begins with it.
+#[tactic(auto, using(crate::proofs::WordTables::among_at))]
+pub fn kinds_after(vocabulary: Vocabulary, word: &str) -> Option<&'static [WordKind]>
+    ensures { is_some result ≡ is_first vocabulary word.now }
 {
     for known in words_of(vocabulary) {
         if word == known.0 {
@@ -174,7 +127,7 @@ pub fn shape_of(vocabulary: Vocabulary, word: &str) -> Option<Shape>
 
 // The words that such a line begins with.
 pub(crate) fn words_of(vocabulary: Vocabulary) -> &'static [Word]
-    ensures { map (λ known. (known.0.now, known.1)) result.now ≡ vocabulary_words vocabulary }
+    ensures { map (λ known. known.0.now) result.now ≡ vocabulary_words vocabulary }
 {
     match vocabulary {
         Vocabulary::Station | Vocabulary::ExtendedStation => &STATION,

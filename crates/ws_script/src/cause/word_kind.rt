@@ -1,7 +1,6 @@
 //! Which words may stand after a line's first.
 use crate::cause::AskedByte;
 use crate::cause::cause_words::first_word;
-use crate::cause::vocabulary::Shape;
 
 /// The words that may stand at a place of a line.
 #[derive(Clone, Copy)]
@@ -38,19 +37,29 @@ pub enum WordKind {
     SomeText,
     /// The same, of characters that code page 037 has.
     Coded,
+    /// What a station waits for. Of this one and those after it the words that stand there settle which may.
+    Awaited,
+    /// What a host waits for.
+    AnswerAwaited,
+    /// A Telnet command.
+    Command,
+    /// A record's flags and opcode.
+    Head,
+    /// Format words, an attribute and a length.
+    Field,
 }
 
-const ROW: WordKind = WordKind::Number(1, 24);
+pub const ROW: WordKind = WordKind::Number(1, 24);
 
-const COLUMN: WordKind = WordKind::Number(1, 80);
+pub const COLUMN: WordKind = WordKind::Number(1, 80);
 
-const BYTE: WordKind = WordKind::Digits(2);
+pub const BYTE: WordKind = WordKind::Digits(2);
 
 const PAIR: WordKind = WordKind::Digits(4);
 
 const SMALL: WordKind = WordKind::Number(0, 255);
 
-const HOUR: WordKind = WordKind::Number(1, 3_600_000);
+pub const HOUR: WordKind = WordKind::Number(1, 3_600_000);
 
 // The words of a Start of Field that has most.
 static FIELD: [WordKind; 11] = [
@@ -67,108 +76,40 @@ static FIELD: [WordKind; 11] = [
     WordKind::Number(0, 65_535),
 ];
 
-/// The words that may stand after the first, of which some may settle what stands after them.
-pub fn kinds_of(shape: Shape, rest: Option<&str>) -> &'static [WordKind] {
-    match shape {
-        Shape::Awaited => awaited(next_of(rest)),
-        Shape::AnswerAwaited => answer_awaited(next_of(rest)),
-        Shape::KeyAwaited => &[WordKind::End, WordKind::Key],
-        Shape::Command => command(next_of(rest)),
-        Shape::Head => head(next_of(rest)),
-        Shape::Field => field(rest),
-        _ => plain(shape),
-    }
-}
-
-// The same where none settles anything.
-fn plain(shape: Shape) -> &'static [WordKind] {
-    match shape {
-        Shape::AnyText => &[WordKind::AnyText],
-        Shape::AKey => &[WordKind::Key],
-        Shape::Cell => &[ROW, COLUMN],
-        Shape::Filling => &[WordKind::Number(1, 256), WordKind::AnyText],
-        Shape::Row => &[ROW],
-        Shape::Shown => &[WordKind::End, ROW, COLUMN, WordKind::Number(1, 1_920)],
-        Shape::Sent => &[WordKind::Opcode, WordKind::End, WordKind::Body],
-        Shape::SentAny => &[WordKind::AnyOpcode, WordKind::End, WordKind::Hex],
-        Shape::Bytes => &[WordKind::Hex],
-        Shape::CellBytes => &[WordKind::Cells],
-        Shape::Pause => &[HOUR],
-        Shape::Controls => &[BYTE, BYTE],
-        Shape::Header => &[WordKind::End, WordKind::Hex],
-        Shape::Repeat => &[ROW, COLUMN, WordKind::Value(AskedByte::CellByte)],
-        Shape::KeyAt => &[ROW, COLUMN, WordKind::Value(AskedByte::Key)],
-        Shape::Rows => &[BYTE, ROW, ROW],
-        Shape::Erased => &[ROW, COLUMN, WordKind::Hex],
-        Shape::Coded => &[WordKind::Coded],
-        Shape::Placed => &[WordKind::Any, WordKind::AnyText],
-        _ => &[],
-    }
-}
-
-// The first word of the rest.
-fn next_of<'a>(rest: Option<&'a str>) -> Option<&'a str> {
-    match rest {
-        Some(words) => Some(first_word(words).0),
-        None => None,
-    }
-}
-
-fn awaited(next: Option<&str>) -> &'static [WordKind] {
-    match next {
-        None => &[],
-        Some("record") => &[WordKind::Any],
-        Some("text") => &[WordKind::Any, WordKind::SomeText],
-        Some("at") => &[WordKind::Any, ROW, COLUMN, WordKind::SomeText],
-        Some("quiet") => &[WordKind::Any, HOUR],
-        Some(_) => &[WordKind::Unknown],
-    }
-}
-
-fn answer_awaited(next: Option<&str>) -> &'static [WordKind] {
-    match next {
-        None => &[],
-        Some("answer") => &[WordKind::Any],
-        Some(_) => &[WordKind::Key],
-    }
-}
-
-fn command(next: Option<&str>) -> &'static [WordKind] {
-    match next {
-        Some("WILL") | Some("WONT") | Some("DO") | Some("DONT") => &[WordKind::Any, SMALL],
-        Some("SB") => &[WordKind::Any, SMALL, WordKind::End, WordKind::Hex],
-        Some("NOP")
-        | Some("DM")
-        | Some("BRK")
-        | Some("IP")
-        | Some("AO")
-        | Some("AYT")
-        | Some("EC")
-        | Some("EL")
-        | Some("GA")
-        | None => &[WordKind::Any],
-        Some(_) => &[WordKind::Unknown],
-    }
-}
-
-fn head(next: Option<&str>) -> &'static [WordKind] {
-    match next {
-        Some("opcode") | None => &[WordKind::Any, WordKind::AnyOpcode],
-        Some("flags") => &[
-            WordKind::Any,
-            PAIR,
-            WordKind::OpcodeWord,
-            WordKind::AnyOpcode,
-        ],
-        Some(_) => &[WordKind::Unknown],
+/// The words that may stand after the first, where some of them settle what may.
+pub fn settled(kinds: &'static [WordKind], rest: Option<&str>) -> &'static [WordKind] {
+    match (kinds, rest.map(|words| first_word(words).0)) {
+        ([WordKind::Field], _) => field(rest),
+        ([WordKind::Awaited | WordKind::AnswerAwaited], None) => &[],
+        ([WordKind::Awaited], Some("record")) | ([WordKind::AnswerAwaited], Some("answer")) => {
+            &[WordKind::Any]
+        }
+        ([WordKind::Awaited], Some("text")) => &[WordKind::Any, WordKind::SomeText],
+        ([WordKind::Awaited], Some("at")) => &[WordKind::Any, ROW, COLUMN, WordKind::SomeText],
+        ([WordKind::Awaited], Some("quiet")) => &[WordKind::Any, HOUR],
+        ([WordKind::AnswerAwaited], Some(_)) => &[WordKind::Key],
+        ([WordKind::Command], Some("WILL" | "WONT" | "DO" | "DONT")) => &[WordKind::Any, SMALL],
+        ([WordKind::Command], Some("SB")) => &[WordKind::Any, SMALL, WordKind::End, WordKind::Hex],
+        (
+            [WordKind::Command],
+            Some("NOP" | "DM" | "BRK" | "IP" | "AO" | "AYT" | "EC" | "EL" | "GA") | None,
+        ) => &[WordKind::Any],
+        ([WordKind::Head], Some("opcode") | None) => &[WordKind::Any, WordKind::AnyOpcode],
+        ([WordKind::Head], Some("flags")) => {
+            &[
+                WordKind::Any,
+                PAIR,
+                WordKind::OpcodeWord,
+                WordKind::AnyOpcode,
+            ]
+        }
+        ([WordKind::Awaited | WordKind::Command | WordKind::Head], Some(_)) => &[WordKind::Unknown],
+        _ => kinds,
     }
 }
 
 // A field has as many format words as its line has words beside two.
 fn field(rest: Option<&str>) -> &'static [WordKind] {
-    let words = match rest {
-        Some(words) => words.split(' ').count(),
-        None => 0,
-    };
+    let words = rest.map_or(0, |words| words.split(' ').count());
     &FIELD[FIELD.len() - words.max(2).min(FIELD.len())..]
 }

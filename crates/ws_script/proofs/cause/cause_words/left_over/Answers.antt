@@ -1,15 +1,13 @@
-use Rattle.std.specs.Prelude.{IfSome}
-use Rattle.std.proofs.Common.{◌∷◌, sym, ◌∙◌, subst}
-use Rattle.ws_script.specs.cause.Causes.{EndsWith}
-use Rattle.ws_script.proofs.CauseTexts.{empty_split, first_in}
+use Rattle.std.proofs.Common.{◌∷◌, subst}
+use Rattle.ws_script.specs.cause.Causes.{EndsWith, IsLeft}
+use Rattle.ws_script.proofs.CauseTexts.{behind_blank, stands_at}
 use Rattle.ws_script.proofs.cause.cause_words.left_over.Goals as goal
 
-pub returns-then-is_empty : goal.returns-then-is_empty
-returns-then-is_empty c = λ vocabulary line e. c.no_word.ensures vocabulary line c.in-Some.words.now
-    (subst (λ r. IfSome r (λ words. EndsWith line (32 ∷ words.now))) c.in-Some.is e)
-    (empty_split c.in-Some.words.now c.first_word.result.0.now c.first_word.result.1
-    (sym c.is_empty.ensures ∙ c.if-is_empty.true) c.first_word.ensures.split)
+pub returns-in-empty-default : goal.returns-in-empty-default
+returns-in-empty-default c = λ vocabulary line last left.
+    c.no_word.ensures vocabulary line (subst (λ z. EndsWith line (32 ∷ z))
+    (rw c.in-empty-default.is-empty-0 at c.first_word.ensures.split) (subst (IsLeft line last) c.in_ok-rest.was left))
 
-pub returns : goal.returns
-returns c = λ vocabulary line e. first_in line c.in-Some.words.now c.first_word.result.0.now c.first_word.result.1
-    (subst (λ r. IfSome r (λ words. EndsWith line (32 ∷ words.now))) c.in-Some.is e) c.first_word.ensures.split
+pub returns-in_default : goal.returns-in_default
+returns-in_default c = λ vocabulary line last left. stands_at line _ _ _
+    (behind_blank line _ (subst (IsLeft line last) c.in_ok-rest.was left)) c.first_word.ensures.split

@@ -1,5 +1,0 @@
-use Rattle.ws_script.proofs.CauseTexts.{split_at_blank}
-use Rattle.ws_script.proofs.cause.cause_words.split_word.Goals as goal
-
-pub returns : goal.returns
-returns c = split_at_blank c.args.text.now c.split_once.result c.split_once.ensures.cases
