@@ -1,10 +1,10 @@
 pub mod AddressTexts
 pub mod AwaitedWords
 pub mod CauseTexts
+pub mod FirstWords
 pub mod LineFronts
 pub mod LiveLines
 pub mod LiveScripts
-pub mod ReportWords
 pub mod ServeWords
 pub mod StationLines
 pub mod StrokeWords

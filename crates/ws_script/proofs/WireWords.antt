@@ -1,60 +1,36 @@
 -- The lines that work on a connection itself.
 
-use Rattle.std.specs.Prelude.{codes, ◌==◌}
-use Rattle.std.proofs.Common.{◌≡◌, ℕ, List, [], ◌∷◌, ◌++◌, Bool, false, inl, inr, sym, ap, ◌∙◌, subst}
-use Rattle.std.proofs.lemmas.Bool.{false≢true}
+use Rattle.std.specs.Prelude.{codes, Option, None, Some}
+use Rattle.std.proofs.Common.{◌≡◌, ℕ, List, [], ◌∷◌, ◌++◌, true, inl, inr, refl}
 use Rattle.ws_text.specs.Words.{IsHex}
 use Rattle.ws_text.specs.declared.items.TextFault.TheVariants as items
 use Rattle.ws_script.specs.declared.lines.wire_line.WireLine.{WireLine}
 use Rattle.ws_script.specs.declared.lines.wire_line.WireLine.TheVariants.{Raw, Pause, Close}
 use Rattle.ws_script.specs.lines.ConnectLines.{IsMilliseconds}
-use Rattle.ws_script.specs.lines.WireLines.{IsCommandSaid, IsRaw, MeansWire}
+use Rattle.ws_script.specs.lines.WireLines.{IsCommandSaid, MeansWire}
+use Rattle.ws_printing.specs.script.ScriptFaults.{has_no_blank}
+use Rattle.ws_script.proofs.FirstWords.{Says, Unless, at, of_command, unless}
 
--- The lines that work on a connection itself.
+-- what such a line says
+abbrev pub wire_rows : List ℕ → List ℕ → List (List ℕ × Type 0)
+wire_rows line words = (codes "pause", (time : ℕ) × IsMilliseconds words time)
+    ∷ (codes "raw", (bytes : List ℕ) × IsHex words bytes)
+    ∷ (codes "telnet", (bytes : List ℕ) × IsCommandSaid line bytes) ∷ []
 
-abbrev begins : ℕ → List ℕ → Bool
-begins b [] = false
-begins b (x ∷ words) = x == b
+abbrev pub wires : List ℕ → Option (List ℕ) → List ℕ → Type 0
+wires line None word = Unit {0}
+wires line (Some words) word = at ⊥ word (wire_rows line words)
 
-same_pause : (w word : List ℕ) → codes "pause " ++ w ≡ codes "pause " ++ word → w ≡ word
-same_pause w word e = cc
+pub wire_says : (line : List ℕ) (read : WireLine) → MeansWire line read → Says (wires line) line
+wire_says line (Raw bytes) (inl m) = (codes "raw", Some m.0, refl, m.1, (bytes, m.2))
+wire_says line (Raw bytes) (inr m) = (codes "telnet", Some m.0.0, refl, m.0.1, (bytes, m.1))
+wire_says line (Pause time) m = (codes "pause", Some m.0, refl, m.1, (time, m.2))
+wire_says line Close m = (codes "close", None, refl, m, tt)
 
-same_raw : (h hex : List ℕ) → codes "raw " ++ h ≡ codes "raw " ++ hex → h ≡ hex
-same_raw h hex e = cc
-
--- what stands after `pause ` is no time
-pub no_pause : (line word : List ℕ) → line ≡ codes "pause " ++ word → ((time : ℕ) → IsMilliseconds word time → ⊥)
-    → (read : WireLine) → MeansWire line read → ⊥
-no_pause line word e none_is (Raw bytes) (inl m) = false≢true (ap (begins 114) (sym e ∙ m.1))
-no_pause line word e none_is (Raw bytes) (inr m) = false≢true (ap (begins 116) (sym e ∙ m.0.1))
-no_pause line word e none_is (Pause time) m =
-    none_is time (subst (λ z. IsMilliseconds z time) (same_pause m.0 word (sym m.1 ∙ e)) m.2)
-no_pause line word e none_is Close m = false≢true (ap (begins 99) (sym e ∙ m))
-
--- no other such line, and no bytes
-pub no_wire : (line : List ℕ) → (line ≡ codes "close" → ⊥) → ((word : List ℕ) → line ≡ codes "pause " ++ word → ⊥)
-    → ((bytes : List ℕ) → IsRaw line bytes → ⊥) → (read : WireLine) → MeansWire line read → ⊥
-no_wire line nc np nb (Raw bytes) m = nb bytes m
-no_wire line nc np nb (Pause time) m = np m.0 m.1
-no_wire line nc np nb Close m = nc m
-
--- what stands after `raw ` is no hex
-pub no_hex : (line hex : List ℕ) → line ≡ codes "raw " ++ hex → ((bytes : List ℕ) → IsHex hex bytes → ⊥)
-    → (bytes : List ℕ) → IsRaw line bytes → ⊥
-no_hex line hex e none_is bytes (inl m) =
-    none_is bytes (subst (λ z. IsHex z bytes) (same_raw m.0 hex (sym m.1 ∙ e)) m.2)
-no_hex line hex e none_is bytes (inr m) = false≢true (ap (begins 116) (sym e ∙ m.0.1))
-
--- no hex, and no Telnet command
-pub no_command : (line : List ℕ) → ((hex : List ℕ) → line ≡ codes "raw " ++ hex → ⊥)
-    → ((bytes : List ℕ) → IsCommandSaid line bytes → ⊥) → (bytes : List ℕ) → IsRaw line bytes → ⊥
-no_command line nr nt bytes (inl m) = nr m.0 m.1
-no_command line nr nt bytes (inr m) = nt bytes m.1
-
-pub no_raw : (line : List ℕ) → ((hex : List ℕ) → line ≡ codes "raw " ++ hex → ⊥)
-    → ((words : List ℕ) → line ≡ codes "telnet " ++ words → ⊥) → (bytes : List ℕ) → IsRaw line bytes → ⊥
-no_raw line nr nt bytes (inl m) = nr m.0 m.1
-no_raw line nr nt bytes (inr m) = nt m.0.0 m.0.1
+pub no_wire : (line command words : List ℕ) → line ≡ (command ++ codes " ") ++ words → has_no_blank command ≡ true
+    → Unless ((read : WireLine) → MeansWire line read → ⊥) command (wire_rows line words)
+no_wire line command words is free = unless ⊥ command (wire_rows line words) (λ none read m.
+    none (λ h. h) (of_command (wires line) line command words is free (wire_says line read m)))
 
 -- a bad line is no want of memory
 pub line_no_memory : (at : ℕ) → items.Line at ≡ items.Memory → ⊥

@@ -6,5 +6,6 @@ pub(crate) mod report_words;
 pub(crate) mod script_stroke;
 pub(crate) mod serve_line;
 pub(crate) mod stroke_words;
+pub(crate) mod text_line;
 pub(crate) mod wire_line;
 pub(crate) mod wire_words;

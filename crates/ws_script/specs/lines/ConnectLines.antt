@@ -27,44 +27,18 @@ use Rattle.ws_script.specs.declared.lines.connect_line.Awaited.TheVariants.{Turn
 abbrev pub IsNothing : List ℕ → Type 0
 IsNothing line = (line ≡ []) ⊎ ((text : List ℕ) × (line ≡ codes "#" ++ text))
 
--- after a row its column stands, and something after that
-abbrev pub IsBehindRow : List ℕ → List ℕ → ℕ → List ℕ → Type 0
-IsBehindRow row words cell rest = (column : List ℕ) × (words ≡ column ++ codes " " ++ rest) × IsCell row column cell
-
 -- a cell by its row and its column, and what stands after them
 abbrev pub IsPlaced : List ℕ → ℕ → List ℕ → Type 0
-IsPlaced words cell rest = (row : List ℕ) × (behind : List ℕ) × (words ≡ row ++ codes " " ++ behind)
-    × IsBehindRow row behind cell rest
+IsPlaced words cell rest = (row : List ℕ) × (behind : List ℕ) × (column : List ℕ)
+    × (words ≡ row ++ codes " " ++ behind) × (behind ≡ column ++ codes " " ++ rest) × IsCell row column cell
 
 -- the words are a text of one character at least
 abbrev pub IsSomeText : List ℕ → List ℕ → Type 0
 IsSomeText words text = (text ≡ words) × (text ≢ [])
 
--- a text of one character at least is awaited anywhere, or at a cell
-abbrev pub IsTextAnywhere : List ℕ → Awaited → Type 0
-IsTextAnywhere words (Text text) = IsSomeText words (string_bytes text)
-IsTextAnywhere words awaited = ⊥
-
-abbrev pub IsTextAt : ℕ → List ℕ → Awaited → Type 0
-IsTextAt cell words (At at text) = (at ≡ cell) × IsSomeText words (string_bytes text)
-IsTextAt cell words awaited = ⊥
-
--- what is awaited by the words after `await at`: a text, after the row and the column of its first cell
-abbrev pub IsPlacedText : List ℕ → Awaited → Type 0
-IsPlacedText words (At cell text) = IsPlaced words cell (string_bytes text) × (string_bytes text ≢ [])
-IsPlacedText words awaited = ⊥
-
 -- a time in milliseconds, up to an hour
 abbrev pub IsMilliseconds : List ℕ → ℕ → Type 0
 IsMilliseconds word time = IsNumber word time × (1 ≤ time) × (time ≤ 3600000)
-
--- the words of a wait for quiet
-abbrev pub IsQuietText : List ℕ → ℕ → Type 0
-IsQuietText words time = (word : List ℕ) × (words ≡ codes "quiet " ++ word) × IsMilliseconds word time
-
-abbrev pub IsQuietAwaited : List ℕ → Awaited → Type 0
-IsQuietAwaited words (Quiet time) = IsQuietText words time
-IsQuietAwaited words awaited = ⊥
 
 -- what is awaited by the words after `await`
 abbrev pub IsAwaited : List ℕ → Awaited → Type 0
@@ -72,8 +46,8 @@ IsAwaited words Turn = ⊥
 IsAwaited words Record = words ≡ codes "record"
 IsAwaited words (Text text) = (words ≡ codes "text " ++ string_bytes text) × (string_bytes text ≢ [])
 IsAwaited words (At cell text) = (placed : List ℕ) × (words ≡ codes "at " ++ placed)
-    × IsPlacedText placed (At cell text)
-IsAwaited words (Quiet time) = IsQuietText words time
+    × IsPlaced placed cell (string_bytes text) × (string_bytes text ≢ [])
+IsAwaited words (Quiet time) = (word : List ℕ) × (words ≡ codes "quiet " ++ word) × IsMilliseconds word time
 
 -- the lines that wait
 abbrev pub MeansWait : List ℕ → Awaited → Type 0
@@ -132,14 +106,10 @@ module _ {Q : Type 0} (w : KeyWords Q) where
     inserted : (text : List ℕ) → line ≡ codes "insert " ++ text → AreKeysOf w true text keys → MeansKeys line keys
     named : (name : List ℕ) → line ≡ codes "key " ++ name → AreNamed w name keys → MeansKeys line keys
 
-  -- the field of a number, and keys for the characters of a text
-  abbrev pub IsFieldText : List ℕ → List ℕ → FieldFilling Q → Type 0
-  IsFieldText word text filling = IsFieldNumber word filling.number × AreKeysOf w false text filling.keys
-
-  -- the same, the text after the number
+  -- the field of a number, and keys for the characters of the text after it
   abbrev pub IsFilling : List ℕ → FieldFilling Q → Type 0
   IsFilling words filling = (word : List ℕ) × (text : List ℕ) × (words ≡ word ++ codes " " ++ text)
-      × IsFieldText word text filling
+      × IsFieldNumber word filling.number × AreKeysOf w false text filling.keys
 
   -- the lines that press keys by the screen
   abbrev pub MeansStroke : List ℕ → ScriptStroke Q → Type 0
@@ -163,14 +133,6 @@ module _ {Q : Type 0} (w : KeyWords Q) where
   -- a line of such a script, which is UTF-8
   abbrev pub IsStationLine : List ℕ → StationLine Q → Type 0
   IsStationLine line read = IsUtf8 line × MeansStationLine line read
-
-  -- a command that is good as far as it was read: it is a whole one, or waits for a text
-  abbrev pub IsCommandSoFar : List ℕ → Type 0
-  IsCommandSoFar line = ((read : StationLine Q) × MeansStationLine line read) ⊎ IsTextWait line
-
-  -- as far as it was read, a line is good: it is a whole one, or one that waits for a text
-  abbrev pub IsStationSoFar : List ℕ → Type 0
-  IsStationSoFar line = ((read : StationLine Q) × IsStationLine line read) ⊎ BeginsStationLine line
 
   -- the lines of such scripts: no line belongs to one before it
   abbrev pub station_language : LineLanguage (StationLine Q)

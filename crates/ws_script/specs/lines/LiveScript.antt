@@ -45,6 +45,10 @@ pub record HasInside (text : List ℕ) (cut : TextCut) : Type 0 where
   pub counted : cut.count ≡ length (lines cut.inside)
   pub few : cut.count + length cut.behind ≤ length text
 
+-- as far as it was read, a line is good: it is a whole one, or one up to what takes memory
+abbrev pub IsLineSoFar : {L : Type 0} → (List ℕ → L → Type 0) → (List ℕ → Type 0) → List ℕ → Type 0
+IsLineSoFar {L} Means IsBegun line = ((read : L) × Means line read) ⊎ IsBegun line
+
 -- the lines of a kind of script
 pub record LineLanguage (L : Type 0) : Type 1 where
   -- a line, and those that belong to it, mean this

@@ -51,10 +51,6 @@ IsOneLine line read = IsUtf8 line × MeansHostLine line read
 abbrev pub IsHostBegun : List ℕ → Type 0
 IsHostBegun line = IsSendLine line ⊎ IsWireBegun line
 
--- such a line; or a whole line
-abbrev pub IsOneSoFar : List ℕ → Type 0
-IsOneSoFar line = ((read : HostLine) × IsOneLine line read) ⊎ (IsUtf8 line × IsHostBegun line)
-
 -- a line that sends a record, and says no more of it than its opcode
 abbrev pub SendsAlone : List ℕ → List ℕ → Opcode → Type 0
 SendsAlone line number opcode = IsUtf8 line × (line ≡ codes "send " ++ number) × IsSendOpcode number opcode

@@ -59,7 +59,7 @@ fn cut(text: &str, at: char) -> Option<(&str, &str)>
 }
 
 // The text after this byte, with which it begins.
-fn behind(text: &str, at: char) -> Option<&str>
+pub(crate) fn behind(text: &str, at: char) -> Option<&str>
     requires { at < 128 }
     ensures { MatchOption result ((more : List ℕ) → text.now ≢ at ∷ more)
         (λ more. text.now ≡ at ∷ more.now) }

@@ -1,7 +1,7 @@
 //! The words of a line that prints what it asks for.
-ghost use Rattle.std.specs.Prelude.{◌≡◌, List as Seq, ℕ, IfOk, IfErr};
+ghost use Rattle.std.specs.Prelude.{◌≡◌, List as Seq, ℕ, IfOk, IfErr, MatchOption};
 ghost use Rattle.ws_script.specs.lines.ConnectLines as Spec;
-ghost use Rattle.ws_printing.specs.script.ScriptFaults.{IsLineFault};
+ghost use Rattle.ws_printing.specs.declared.station_report.Span.{Span as ASpan};
 
 use crate::lines::stroke_words::{read_place, read_small};
 use std::alloc::Global;
@@ -9,83 +9,54 @@ use ws_code::{Address, CELLS, List};
 use ws_printing::{ScriptFault, Span, split_word};
 use ws_text::read_number;
 
-/// The first cell of the row of this number.
-///
-/// # Errors
-///
-/// `Line(1)` where the word isn't a row from 1 to 24, in 1 to 9 decimal digits.
-pub fn read_row(word: &str) -> Result<Address, ScriptFault>
-    ensures row { IfOk result (Spec.IsRowText word.now) }
-    ensures fault { IfErr result (IsLineFault (Spec.IsRowText word.now) ⊥) }
+/// The first cell of the row of this number, from 1 to 24, in 1 to 9 decimal digits. `None` of another word.
+pub fn read_row(word: &str) -> Option<Address>
+    ensures { MatchOption result ((cell : ℕ) → Spec.IsRowText word.now cell → ⊥)
+        (Spec.IsRowText word.now) }
 {
     let row = read_small(word)?;
-    match Address::new(row, 1) {
-        Some(cell) => Ok(cell),
-        None => Err(ScriptFault::Line(1)),
-    }
+    Address::new(row, 1)
 }
 
-/// A cell by its row and column, and how many cells from it on.
-///
-/// # Errors
-///
-/// `Line(1)` where the words, with one blank between them, aren't a row from 1 to 24, a column from 1 to 80 and a count
-/// from 1 to 1,920, each in 1 to 9 decimal digits.
-pub fn read_span(words: &str) -> Result<Span, ScriptFault>
-    ensures span { IfOk result (Spec.IsSpanText words.now) }
-    ensures fault { IfErr result (IsLineFault (Spec.IsSpanText words.now) ⊥) }
+/// A cell by its row and column, and how many cells from it on, from 1 to 1,920, with one blank between them and each
+/// in 1 to 9 decimal digits. `None` of other words.
+pub fn read_span(words: &str) -> Option<Span>
+    ensures { MatchOption result ((span : ASpan) → Spec.IsSpanText words.now span → ⊥)
+        (Spec.IsSpanText words.now) }
 {
-    match read_placed(words) {
-        Ok(placed) => read_counted(placed.0, placed.1),
-        Err(fault) => Err(fault),
-    }
+    let Some(placed) = read_placed(words) else {
+        return None;
+    };
+    let Some(count) = read_count(placed.1) else {
+        return None;
+    };
+    Some(Span {
+        at: placed.0,
+        count,
+    })
 }
 
-// The cells from this one on, of this number.
-fn read_counted(at: Address, word: &str) -> Result<Span, ScriptFault>
-    ensures span { IfOk result (λ span. (span.at ≡ at) × Spec.IsCellCount word.now span.count) }
-    ensures fault { IfErr result (IsLineFault (Spec.IsCellCount word.now) ⊥) }
+// A number of cells.
+fn read_count(word: &str) -> Option<u16>
+    ensures { MatchOption result ((n : ℕ) → Spec.IsCellCount word.now n → ⊥)
+        (Spec.IsCellCount word.now) }
 {
     match read_number(word) {
-        Some(number) if number >= 1 && number <= u32::from(CELLS) => Ok(Span {
-            at,
-            count: number as u16,
-        }),
-        _ => Err(ScriptFault::Line(1)),
+        Some(number) if number >= 1 && number <= u32::from(CELLS) => Some(number as u16),
+        _ => None,
     }
 }
 
-/// A cell by its row and column, and what stands after them and a blank.
-///
-/// # Errors
-///
-/// `Line(1)` where the words don't begin with a row from 1 to 24 and a column from 1 to 80, each in 1 to 9 decimal
-/// digits and with one blank after it.
-pub fn read_placed(words: &str) -> Result<(Address, &str), ScriptFault>
-    ensures placed { IfOk result (λ placed. Spec.IsPlaced words.now placed.0 placed.1.now) }
-    ensures fault { IfErr result (λ fault. (fault ≡ ScriptFault.Line 1)
-        × ((cell : ℕ) (rest : Seq ℕ) → Spec.IsPlaced words.now cell rest → ⊥)) }
+/// A cell by its row from 1 to 24 and its column from 1 to 80, each in 1 to 9 decimal digits and with one blank after
+/// it, and what stands after them. `None` of other words.
+pub fn read_placed(words: &str) -> Option<(Address, &str)>
+    ensures { MatchOption result ((cell : ℕ) (rest : Seq ℕ) → Spec.IsPlaced words.now cell rest → ⊥)
+        (λ placed. Spec.IsPlaced words.now placed.0 placed.1.now) }
 {
-    match split_word(words) {
-        Some((row, behind)) => read_behind_row(row, behind),
-        None => Err(ScriptFault::Line(1)),
-    }
-}
-
-// The same of what stands after the row.
-fn read_behind_row<'a>(row: &str, words: &'a str) -> Result<(Address, &'a str), ScriptFault>
-    ensures placed { IfOk result (λ placed.
-        Spec.IsBehindRow row.now words.now placed.0 placed.1.now) }
-    ensures fault { IfErr result (λ fault. (fault ≡ ScriptFault.Line 1)
-        × ((cell : ℕ) (rest : Seq ℕ) → Spec.IsBehindRow row.now words.now cell rest → ⊥)) }
-{
-    match split_word(words) {
-        Some((column, rest)) => match read_place(row, column) {
-            Ok(cell) => Ok((cell, rest)),
-            Err(fault) => Err(fault),
-        },
-        None => Err(ScriptFault::Line(1)),
-    }
+    let (row, behind) = split_word(words)?;
+    let (column, rest) = split_word(behind)?;
+    let cell = read_place(row, column)?;
+    Some((cell, rest))
 }
 
 /// The bytes of a note.

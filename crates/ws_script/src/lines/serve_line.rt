@@ -1,19 +1,17 @@
 //! A line of a script for a host.
-ghost use Rattle.std.specs.Prelude.{◌≡◌, ◌++◌, [], ◌<◌, ℕ, List as Seq, true, length, codes, IfOk, IfErr, MatchOption};
-ghost use Rattle.ws_end.specs.declared.end_step.HostRequest.TheVariants.{Send};
-ghost use Rattle.ws_script.specs.lines.LiveScript.{IsBlockFault};
-ghost use Rattle.ws_script.specs.lines.ServeLines.{IsHostLine, IsOneLine, OpensHostBlock, host_language};
+ghost use Rattle.std.specs.Prelude.{◌≡◌, ◌++◌, ℕ, List as Seq, codes, MatchOption};
+ghost use Rattle.ws_script.specs.declared.lines.serve_line.AnswerAwaited.{AnswerAwaited as AnAnswer};
 ghost use Rattle.ws_script.specs.lines.ServeLines as Spec;
-ghost use Rattle.ws_script.specs.lines.ServeLines.{IsAnswerAwaited};
-ghost use Rattle.ws_printing.specs.script.ScriptFaults.{IsLineFault, IsNoComment, has_no_blank};
+ghost use Rattle.ws_script.specs.lines.ServeLines.{IsAnswerAwaited, OpensHostBlock, host_language};
 
 use crate::lines::live_line::LiveLine;
+use crate::lines::text_line::{TextLine, read_line};
 use crate::lines::wire_line::WireLine;
 use crate::lines::wire_words::read_wire;
 use std::alloc::Global;
 use std::str;
 use ws_code::Aid;
-use ws_printing::{ScriptFault, aid_named, read_move, read_opcode, split_word};
+use ws_printing::{ScriptFault, aid_named, read_move, read_opcode};
 use ws_record::Opcode;
 use ws_session::{HostRequest, Move};
 use ws_stream::Commands;
@@ -56,7 +54,7 @@ impl LiveLine for HostLine {
 
     fn read(alloc: Global, line: &[u8], inside: &[u8]) -> Result<Self, ScriptFault> {
         if inside.is_empty() {
-            return read_alone(alloc, line);
+            return read_line(alloc, line);
         }
         match sent_alone(line) {
             Some(opcode) => match read_elements::<Commands>(alloc, opcode, inside) {
@@ -77,101 +75,61 @@ impl LiveLine for HostLine {
     }
 }
 
-// A line that no other belongs to.
-fn read_alone(alloc: Global, line: &[u8]) -> Result<HostLine, ScriptFault>
-    ensures line { IfOk result (IsHostLine line.now []) }
-    ensures fault { IfErr result (IsBlockFault host_language line.now []) }
-{
-    read_line(alloc, line)
-}
+impl TextLine for HostLine {
+    ghost means = { Spec.MeansHostLine };
 
-// A line by itself.
-fn read_line(alloc: Global, line: &[u8]) -> Result<HostLine, ScriptFault>
-    ensures line { IfOk result (IsOneLine line.now) }
-    ensures fault { IfErr result (IsLineFault (IsOneLine line.now)
-        (Spec.IsOneSoFar line.now)) }
-{
-    let Ok(text) = str::from_utf8(line) else {
-        return Err(ScriptFault::Line(1));
-    };
-    if text.is_empty() {
-        return Ok(HostLine::Nothing);
-    }
-    if text.strip_prefix('#').is_some() {
-        return Ok(HostLine::Nothing);
-    }
-    match split_word(text) {
-        None => read_word(text),
-        Some((command, words)) => read_command(alloc, text, command, words),
-    }
-}
+    ghost begun = { Spec.IsHostBegun };
 
-// A line that is one word.
-fn read_word(word: &str) -> Result<HostLine, ScriptFault>
-    // A word alone on its line.
-    requires some { 0 < length word.now }
-    requires no_blank { has_no_blank word.now ≡ true }
-    requires no_comment { IsNoComment word.now }
-    // What it means, or that it means nothing.
-    ensures line { IfOk result (Spec.MeansHostLine word.now) }
-    ensures fault { IfErr result (IsLineFault (Spec.MeansHostLine word.now) ⊥) }
-{
-    match word {
-        "await" => Ok(HostLine::Await),
-        "cancel" => Ok(HostLine::Give(HostRequest::Cancel)),
-        "close" => Ok(HostLine::Wire(WireLine::Close)),
-        "end" => Ok(HostLine::Nothing),
-        "show" => Ok(HostLine::Show),
-        _ => Err(ScriptFault::Line(1)),
+    fn nothing() -> Self {
+        HostLine::Nothing
     }
-}
 
-// A command with words after its blank: a record to be sent, as in a script of both ends, a wait for an answer, or what
-// is done at the connection.
-fn read_command(
-    alloc: Global,
-    line: &str,
-    command: &str,
-    words: &str,
-) -> Result<HostLine, ScriptFault>
-    // A line of a command and its words.
-    requires is { line.now ≡ command.now ++ codes " " ++ words.now }
-    requires no_blank { has_no_blank command.now ≡ true }
-    requires no_comment { IsNoComment (command.now ++ codes " " ++ words.now) }
-    // What it means, or that it means nothing.
-    ensures line { IfOk result (Spec.MeansHostLine (command.now ++ codes " " ++ words.now)) }
-    ensures fault { IfErr result
-        (IsLineFault (Spec.MeansHostLine (command.now ++ codes " " ++ words.now))
-        (Spec.IsHostBegun (command.now ++ codes " " ++ words.now))) }
-{
-    match command {
-        "send" => match read_move(alloc, command, words) {
-            Ok(Move::Send(opcode, body)) => Ok(HostLine::Give(HostRequest::Send(opcode, body))),
-            Ok(_) => Err(ScriptFault::Line(1)),
-            Err(fault) => Err(fault),
-        },
-        "await" => match read_awaited(words) {
-            Ok(awaited) => Ok(HostLine::AwaitAnswer(awaited)),
-            Err(fault) => Err(fault),
-        },
-        _ => match read_wire(alloc, line) {
-            Ok(wire) => Ok(HostLine::Wire(wire)),
-            Err(fault) => Err(fault),
-        },
+    fn of_word(word: &str) -> Result<Self, ScriptFault> {
+        match word {
+            "await" => Ok(HostLine::Await),
+            "cancel" => Ok(HostLine::Give(HostRequest::Cancel)),
+            "close" => Ok(HostLine::Wire(WireLine::Close)),
+            "end" => Ok(HostLine::Nothing),
+            "show" => Ok(HostLine::Show),
+            _ => Err(ScriptFault::Line(1)),
+        }
+    }
+
+    fn of_command(
+        alloc: Global,
+        line: &str,
+        command: &str,
+        words: &str,
+    ) -> Result<Self, ScriptFault> {
+        match command {
+            "send" => match read_move(alloc, command, words) {
+                Ok(Move::Send(opcode, body)) => Ok(HostLine::Give(HostRequest::Send(opcode, body))),
+                Ok(_) => Err(ScriptFault::Line(1)),
+                Err(fault) => Err(fault),
+            },
+            "await" => match read_awaited(words) {
+                Some(awaited) => Ok(HostLine::AwaitAnswer(awaited)),
+                None => Err(ScriptFault::Line(1)),
+            },
+            _ => match read_wire(alloc, line) {
+                Ok(wire) => Ok(HostLine::Wire(wire)),
+                Err(fault) => Err(fault),
+            },
+        }
     }
 }
 
 // The answer that is awaited.
-fn read_awaited(words: &str) -> Result<AnswerAwaited, ScriptFault>
-    ensures awaited { IfOk result (IsAnswerAwaited words.now) }
-    ensures fault { IfErr result (IsLineFault (IsAnswerAwaited words.now) ⊥) }
+fn read_awaited(words: &str) -> Option<AnswerAwaited>
+    ensures { MatchOption result ((awaited : AnAnswer) → IsAnswerAwaited words.now awaited → ⊥)
+        (IsAnswerAwaited words.now) }
 {
     if words == "answer" {
-        return Ok(AnswerAwaited::Any);
+        return Some(AnswerAwaited::Any);
     }
     match aid_named(words) {
-        Some(aid) => Ok(AnswerAwaited::By(aid)),
-        None => Err(ScriptFault::Line(1)),
+        Some(aid) => Some(AnswerAwaited::By(aid)),
+        None => None,
     }
 }
 

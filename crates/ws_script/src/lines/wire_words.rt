@@ -1,10 +1,10 @@
 //! The words of a line for a host that works on the connection itself.
-ghost use Rattle.std.specs.Prelude.{◌≡◌, ◌++◌, [], ◌∷◌, ℕ, List as Seq, codes, IfOk, IfErr, MatchOption};
+ghost use Rattle.std.specs.Prelude.{◌≡◌, ◌++◌, [], ◌∷◌, ℕ, true, codes, IfOk, IfErr, MatchOption};
 ghost use Rattle.ws_record.specs.declared.record.Item.TheVariants.{Telnet as TelnetItem};
 ghost use Rattle.ws_telnet.specs.Token.{telnet_spelling};
 ghost use Rattle.ws_telnet.specs.declared.token.Telnet.{Telnet as ATelnet};
 ghost use Rattle.ws_script.specs.lines.ConnectLines.{IsMilliseconds};
-ghost use Rattle.ws_printing.specs.script.ScriptFaults.{IsLineFault};
+ghost use Rattle.ws_printing.specs.script.ScriptFaults.{IsLineFault, has_no_blank};
 ghost use Rattle.ws_script.specs.lines.WireLines as Spec;
 ghost use Rattle.ws_text.specs.Words.{IsHex};
 
@@ -13,7 +13,7 @@ use hex::FromHexError;
 use std::alloc::Global;
 use std::slice;
 use ws_code::List;
-use ws_printing::ScriptFault;
+use ws_printing::{ScriptFault, split_word};
 use ws_record::{Item, encode};
 use ws_stream::{Commands, Element};
 use ws_text::{TextFault, read_items, read_number};
@@ -30,71 +30,45 @@ pub fn read_wire(alloc: Global, line: &str) -> Result<WireLine, ScriptFault>
     ensures fault { IfErr result (IsLineFault (Spec.MeansWire line.now)
         (Spec.IsWireBegun line.now)) }
 {
-    if line == "close" {
-        return Ok(WireLine::Close);
-    }
-    match behind_pause(line) {
-        Some(word) => match read_milliseconds(word) {
-            Ok(time) => Ok(WireLine::Pause(time)),
-            Err(fault) => Err(fault),
-        },
-        None => match read_bytes(alloc, line) {
-            Ok(bytes) => Ok(WireLine::Raw(bytes)),
-            Err(fault) => Err(fault),
-        },
+    match split_word(line) {
+        None if line == "close" => Ok(WireLine::Close),
+        None => Err(ScriptFault::Line(1)),
+        Some((command, words)) => read_command(alloc, line, command, words),
     }
 }
 
-// The bytes that are written as they are.
-fn read_bytes(alloc: Global, line: &str) -> Result<List<u8>, ScriptFault>
-    ensures bytes { IfOk result (Spec.IsRaw line.now) }
-    ensures fault { IfErr result (IsLineFault (Spec.IsRaw line.now) (Spec.IsWireBegun line.now)) }
+// The same of a command with words after its blank.
+fn read_command(
+    alloc: Global,
+    line: &str,
+    command: &str,
+    words: &str,
+) -> Result<WireLine, ScriptFault>
+    requires is { line.now ≡ command.now ++ codes " " ++ words.now }
+    requires no_blank { has_no_blank command.now ≡ true }
+    ensures line { IfOk result (Spec.MeansWire line.now) }
+    ensures fault { IfErr result (IsLineFault (Spec.MeansWire line.now)
+        (Spec.IsWireBegun line.now)) }
 {
-    match behind_raw(line) {
-        Some(hex) => read_hex(alloc, hex),
-        None => match behind_telnet(line) {
-            Some(_) => read_telnet(alloc, line),
+    match command {
+        "pause" => match read_milliseconds(words) {
+            Some(time) => Ok(WireLine::Pause(time)),
             None => Err(ScriptFault::Line(1)),
         },
+        "raw" => Ok(WireLine::Raw(read_hex(alloc, words)?)),
+        "telnet" => Ok(WireLine::Raw(read_telnet(alloc, line)?)),
+        _ => Err(ScriptFault::Line(1)),
     }
 }
 
-// What stands after `pause `.
-fn behind_pause(line: &str) -> Option<&str>
-    ensures { MatchOption result ((word : Seq ℕ) → line.now ≡ codes "pause " ++ word → ⊥)
-        (λ word. line.now ≡ codes "pause " ++ word.now) }
-{
-    line.strip_prefix("pause ")
-}
-
-// What stands after `raw `.
-fn behind_raw(line: &str) -> Option<&str>
-    ensures { MatchOption result ((hex : Seq ℕ) → line.now ≡ codes "raw " ++ hex → ⊥)
-        (λ hex. line.now ≡ codes "raw " ++ hex.now) }
-{
-    line.strip_prefix("raw ")
-}
-
-// What stands after `telnet `.
-fn behind_telnet(line: &str) -> Option<&str>
-    ensures { MatchOption result ((words : Seq ℕ) → line.now ≡ codes "telnet " ++ words → ⊥)
-        (λ words. line.now ≡ codes "telnet " ++ words.now) }
-{
-    line.strip_prefix("telnet ")
-}
-
-/// A time in milliseconds, up to an hour.
-///
-/// # Errors
-///
-/// `Line(1)` where the word isn't a number from 1 to 3,600,000, in 1 to 9 decimal digits.
-pub fn read_milliseconds(word: &str) -> Result<u32, ScriptFault>
-    ensures time { IfOk result (IsMilliseconds word.now) }
-    ensures fault { IfErr result (IsLineFault (IsMilliseconds word.now) ⊥) }
+/// A time in milliseconds from 1 to 3,600,000, an hour, in 1 to 9 decimal digits. `None` of another word.
+pub fn read_milliseconds(word: &str) -> Option<u32>
+    ensures { MatchOption result ((time : ℕ) → IsMilliseconds word.now time → ⊥)
+        (IsMilliseconds word.now) }
 {
     match read_number(word) {
-        Some(time) if time >= 1 && time <= 3_600_000 => Ok(time),
-        _ => Err(ScriptFault::Line(1)),
+        Some(time) if time >= 1 && time <= 3_600_000 => Some(time),
+        _ => None,
     }
 }
 

@@ -1,25 +1,25 @@
-use Rattle.std.proofs.lemmas.Result.{IfOk-weaker, IfErr-weaker}
-use Rattle.ws_script.specs.declared.lines.script_stroke.FieldFilling.{FieldFilling}
-use Rattle.ws_script.specs.lines.ConnectLines.{IsFieldText, IsFilling}
-use Rattle.ws_printing.specs.script.ScriptFaults.{IsLineFault}
-use Rattle.ws_printing.proofs.Scripts.{fault_on}
-use Rattle.ws_script.proofs.StrokeWords.{no_field_text}
+use Rattle.std.proofs.Common.{refl}
+use Rattle.ws_script.proofs.FirstWords.{refused}
+use Rattle.ws_script.proofs.StrokeWords.{field_number}
 use Rattle.ws_script.proofs.lines.stroke_words.read_filling.Goals as goal
 
-pub returns-in-Some-clause-filling : goal.returns-in-Some-clause-filling
-returns-in-Some-clause-filling g c =
-    IfOk-weaker c.read_field.result _ _
-    (λ filling m. (c.in-Some.word.now, c.in-Some.text.now, c.in-Some.ensures.0, m)) c.read_field.ensures.filling
+pub returns-in_default-read_field_number-clause-fault : goal.returns-in_default-read_field_number-clause-fault
+returns-in_default-read_field_number-clause-fault g c = (
+  refl,
+  λ f m. c.in_default-read_field_number.ensures f.number (field_number g.Q.NamedKey.words c.args.words.now _ _
+      c.in-Some.ensures.0 c.in-Some.ensures.1 f m),
+)
 
-pub returns-in-Some-clause-fault : goal.returns-in-Some-clause-fault
-returns-in-Some-clause-fault g c =
-    let w = g.Q.NamedKey.words in
-    let words = c.args.words.now in
-    let word = c.in-Some.word.now in
-    let text = c.in-Some.text.now in
-    IfErr-weaker c.read_field.result
-    (IsLineFault (IsFieldText w word text) ((f : FieldFilling g.row.Q.Denot) × IsFieldText w word text f))
-    (IsLineFault (IsFilling w words) ((f : FieldFilling g.row.Q.Denot) × IsFilling w words f))
-    (λ fault h. fault_on (IsFieldText w word text) (IsFilling w words) fault
-    (no_field_text w words word text c.in-Some.ensures.0 c.in-Some.ensures.1)
-    (λ good. (good.0, (word, text, c.in-Some.ensures.0, good.1))) h) c.read_field.ensures.fault
+pub returns-in_err-keys-clause-fault : goal.returns-in_err-keys-clause-fault
+returns-in_err-keys-clause-fault g c =
+    let refusal = c.in_err-keys.ensures.fault in
+    refused _ c.from_residual.result _ c.from_residual.ensures.1 refusal.0 (
+      record { number = c.in-Some-read_field_number.number; keys = refusal.1 },
+      (
+        c.in-Some.word.now,
+        c.in-Some.text.now,
+        c.in-Some.ensures.0,
+        c.in-Some-read_field_number.ensures,
+        refusal.2,
+      ),
+    )
