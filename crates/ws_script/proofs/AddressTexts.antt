@@ -4,8 +4,8 @@ use Rattle.std.specs.Prelude.{Option, None, Some, MatchBool, ◌==◌}
 use Rattle.std.proofs.Common.{◌≡◌, ◌≢◌, ℕ, suc, List, [], ◌∷◌, ◌++◌, length, refl, sym, ◌∙◌, subst, arith, inl, inr}
 use Rattle.std.proofs.Common.{Bool, true, false, ap}
 use Rattle.std.proofs.lemmas.Bool.{false≢true}
-use Rattle.ws_script.specs.asked.Addresses.{IsV6, IsPlainV6, IsZone, IsZonedV6, HasNo, IsPort, IsPortOr, IsBracketed, IsNamed}
-use Rattle.ws_script.specs.asked.Addresses.{IsHostText, IsHostPort, IsListening, behind_byte}
+use Rattle.ws_script.specs.asked.Addresses.{IsV6, IsPlainV6, IsZone, HasNo, IsPort, IsPortOr, IsBracketed}
+use Rattle.ws_script.specs.asked.Addresses.{IsHostText, IsHostPort, IsListening, led_by}
 use Rattle.ws_script.specs.asked.Addresses.IsHostText.{bare, bracketed, named}
 
 no_tail : (c x : ℕ) (xs : List ℕ) → HasNo c (x ∷ xs) → HasNo c xs
@@ -18,7 +18,7 @@ uncut c (x ∷ xs) ys h = uncut c xs ys (no_tail c x (xs ++ c ∷ ys) h)
 
 -- there is one first place of a byte, or none
 pub one_cut : (c : ℕ) (xs us : List ℕ) (p q : Option (List ℕ)) → HasNo c xs → HasNo c us
-    → xs ++ behind_byte c p ≡ us ++ behind_byte c q → (xs ≡ us) × (p ≡ q)
+    → xs ++ led_by c p ≡ us ++ led_by c q → (xs ≡ us) × (p ≡ q)
 one_cut c [] [] None None h k e = (refl, refl)
 one_cut c [] [] None (Some q) h k e = absurd (cc e)
 one_cut c [] [] (Some p) None h k e = absurd (cc e)
@@ -42,7 +42,7 @@ module _ (inner host behind : List ℕ) (b : IsBracketed (91 ∷ inner) host beh
 
 -- what stands after a host is nothing, or begins with a colon
 pub no_behind : (rest : List ℕ) (port : Option (List ℕ)) → (length rest == 0) ≡ false
-    → ((more : List ℕ) → rest ≢ 58 ∷ more) → rest ≡ behind_byte 58 port → ⊥
+    → ((more : List ℕ) → rest ≢ 58 ∷ more) → rest ≡ led_by 58 port → ⊥
 no_behind rest None some other e = false≢true (sym some ∙ ap (λ z. length z == 0) e)
 no_behind rest (Some port) some other e = other port e
 
@@ -54,7 +54,7 @@ one_port text host hosts p q (bare v h e) (bracketed other k) = absurd (other v)
 one_port text host hosts p q (bare v h e) (named other k) = absurd (other v)
 one_port text host hosts p q (bracketed other h) (bare w k f) = absurd (other w)
 one_port text host hosts p q (bracketed other h) (bracketed another k) =
-    let s = one_cut 93 host hosts (Some (behind_byte 58 p)) (Some (behind_byte 58 q)) h.inside k.inside
+    let s = one_cut 93 host hosts (Some (led_by 58 p)) (Some (led_by 58 q)) h.inside k.inside
     (cc (h.spelled, k.spelled)) in
     let none : HasNo 58 [] = λ i low. absurd (omega (arith, low)) in (one_cut 58 [] [] p q none none (cc (s.1))).1
 one_port text host hosts p q (bracketed other h) (named another k) = absurd (k.unbracketed _ h.spelled)

@@ -1,19 +1,13 @@
-use Rattle.std.specs.Prelude.{◌==◌, Option, None, Some, IfSome, MatchOption}
-use Rattle.std.proofs.Common.{◌≡◌, ◌≤◌, ◌++◌, ◌∷◌, [], List, ℕ, true, sym, ap, ◌∙◌, subst, inl, inr, append_assoc, lit<}
-use Rattle.std.proofs.Common.{Bor, arith, zero, suc, drop, length}
-use Rattle.std.proofs.lemmas.Bool.{false≢true}
-use Rattle.std.proofs.lemmas.Bool.Decides.{eqb_tells}
+-- Where words stand in a line.
+
+use Rattle.std.specs.Prelude.{Option, None, Some}
+use Rattle.std.proofs.Common.{◌≡◌, ◌++◌, ◌∷◌, [], List, ℕ, true, sym, ap, ◌∙◌, inl, inr, append_assoc, Bor, zero, suc, drop}
 use Rattle.std.proofs.lemmas.List.{append-nil}
-use Rattle.std.proofs.lemmas.Str.Pattern.{IsSplitOnceResult, split_parts}
-use Rattle.ws_text.specs.Words.{IsNumber}
 use Rattle.ws_script.specs.cause.Causes.{behind_word, BeginsWith, StandsIn, EndsWith, IsLeft, IsTrueOf, IsCause}
 use Rattle.ws_script.specs.declared.cause.Cause.{Cause}
 use Rattle.ws_script.specs.declared.cause.Cause.TheVariants as a_cause
 use Rattle.ws_script.specs.declared.cause.vocabulary.Vocabulary.{Vocabulary}
 use Rattle.ws_printing.specs.script.ScriptFaults.{has_no_blank}
-use Rattle.ws_printing.proofs.ScriptWords.{no_blank_from}
-
--- Where words stand in a line.
 
 -- what stands after a blank at a line's end stands at its end
 pub behind_blank : (line words : List ℕ) → EndsWith line (32 ∷ words) → EndsWith line words
@@ -34,13 +28,6 @@ pub begins_with : (text word : List ℕ) (behind : Option (Bor (List ℕ))) → 
 begins_with text word None free is = (free, inl (is ∙ append-nil word))
 begins_with text word (Some b) free is = (free, inr (b.now, is))
 
--- a number that is written by a word that writes one out of a range is out of it
-pub outside : (word : List ℕ) (least most number : ℕ) → IsNumber word number → (least ≤ number → number ≤ most → ⊥)
-    → (n : ℕ) → IsNumber word n → least ≤ n → n ≤ most → ⊥
-outside word least most number is out n written =
-    let same : n ≡ number = written.2 ∙ sym is.2 in
-    subst (λ z. least ≤ z → z ≤ most → ⊥) (sym same) out
-
 -- a word of a line's word stands in the line
 pub stands_both : (line word part : List ℕ) → StandsIn line word → StandsIn word part → StandsIn line part
 stands_both line word part o i =
@@ -54,12 +41,6 @@ of_line v line (a_cause.UnknownWord word known) h = absurd h
 of_line v line (a_cause.Misplaced word) h = absurd h
 of_line v line a_cause.Apart h = absurd h
 of_line v line cause h = h
-
--- a tab, at which a word is split
-pub tab_in : (word : List ℕ) (r : Option (Bor (List ℕ) × Bor (List ℕ))) → IsSplitOnceResult 9 word r
-    → MatchOption r (Unit {0}) (λ x. StandsIn word (9 ∷ []))
-tab_in word None h = tt
-tab_in word (Some x) h = let p = split_parts 9 word (Some x) h (lit< tt) in (x.0.now, x.1.now, p.0)
 
 -- the lines after so many, and one more
 pub drop_next : (i : ℕ) (lines : List (List ℕ)) (line : List ℕ) (behind : List (List ℕ))

@@ -1,5 +1,4 @@
 pub mod AddressTexts
-pub mod AwaitedWords
 pub mod CauseTexts
 pub mod FirstWords
 pub mod LineFronts
@@ -8,5 +7,4 @@ pub mod LiveScripts
 pub mod ServeWords
 pub mod StationLines
 pub mod StrokeWords
-pub mod WireWords
 pub mod WordTables

@@ -8,8 +8,6 @@ use Rattle.std.proofs.lemmas.List.{append_cancel_right, append-nil}
 use Rattle.ws_text.specs.FirstLine.{IsBehindLines}
 use Rattle.ws_text.proofs.LineEnds.{split_some}
 
--- The lines of a front of a text, and those after it.
-
 split_cut : (a b : List ℕ) → slice_split (λ b. b == 10) (a ++ 10 ∷ b)
     ≡ slice_split (λ b. b == 10) a ++ slice_split (λ b. b == 10) b
 split_cut [] b = refl

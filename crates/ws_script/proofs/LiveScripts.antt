@@ -1,13 +1,12 @@
-use Rattle.std.specs.Prelude.{min, Some}
+use Rattle.std.specs.Prelude.{Some}
 use Rattle.std.specs.Str.Lines.{lines}
-use Rattle.std.proofs.Common.{◌≡◌, ℕ, ◌+◌, ◌-◌, ◌^◌, ◌<◌, ◌≤◌, List, [], ◌∷◌, ◌++◌, length, refl, sym, ap, ◌∙◌, subst}
+use Rattle.std.proofs.Common.{◌≡◌, ℕ, ◌+◌, ◌-◌, ◌<◌, ◌≤◌, List, [], ◌∷◌, ◌++◌, length, refl, sym, ap, ◌∙◌, subst}
 use Rattle.std.proofs.Common.{arith, append_assoc, length-append, take, true, inl}
 use Rattle.std.proofs.Math.Seq.{take-append_seam}
 use Rattle.ws_text.specs.FirstLine.{IsBehindLines}
 use Rattle.ws_script.specs.declared.lines.live_line.NumberedLine.{NumberedLine}
-use Rattle.ws_script.specs.lines.LiveScript.{is_indented, AreIndented, BeginsFlush, HasInside, IsBadBlock, IsBlock}
-use Rattle.ws_script.specs.lines.LiveScript.{HasBlock, LineLanguage, text_cut, MeanThese, AreLiveLines}
-use Rattle.ws_script.specs.lines.LiveScript.{IsFirstBadLiveLine, IsGoodBlockSoFar, IsLiveScriptSoFar}
+use Rattle.ws_script.specs.lines.LiveScript.{is_indented, AreIndented, BeginsFlush, HasInside, IsBlock}
+use Rattle.ws_script.specs.lines.LiveScript.{HasBlock, LineLanguage, text_cut, MeanThese}
 use Rattle.ws_script.proofs.LineFronts.{behind_more, lines_behind}
 
 -- The lines of a live script, one more at a time.
@@ -96,15 +95,6 @@ module _ {L : Type 0} (language : LineLanguage L) where
     pub counted : number ≡ length before
     pub few : length before + length rest ≤ length text
 
-  pub reads_none : (text : List ℕ) → Reads text text [] 0
-  reads_none text = record { before = []; split = refl; good = refl; counted = refl; few = omega arith }
-
-  -- the lines that are next
-  ahead : (rest behind line next inside : List ℕ) (count : ℕ) → lines rest ≡ line ∷ lines next
-      → (b : HasBlock language line next (text_cut inside count behind))
-      → lines rest ≡ line ∷ (lines inside ++ lines behind)
-  ahead rest behind line next inside count e b = e ∙ ap (λ z. line ∷ z) b.split
-
   pub reads_more : (text rest next behind line inside : List ℕ) (read more : List (NumberedLine L))
       (x : NumberedLine L) (number count : ℕ)
       → Reads text rest read number → lines rest ≡ line ∷ lines next → length next < length rest
@@ -112,7 +102,7 @@ module _ {L : Type 0} (language : LineLanguage L) where
       → x.number ≡ Some (number + 1) → more ≡ read ++ x ∷ []
       → Reads text behind more (number + (1 + count))
   reads_more text rest next behind line inside read more x number count r e shorter b m told is =
-      let front = ahead rest behind line next inside count e b in
+      let front : lines rest ≡ line ∷ (lines inside ++ lines behind) = e ∙ ap (λ z. line ∷ z) b.split in
       record {
         before = r.before ++ (line ∷ lines inside);
         split = r.split ∙ ap (λ z. r.before ++ z) front
@@ -123,46 +113,4 @@ module _ {L : Type 0} (language : LineLanguage L) where
             (omega (arith, r.counted, ap length r.split, length-append r.before (lines rest), ap length front)));
         counted = omega (arith, r.counted, b.counted, length-append r.before (line ∷ lines inside));
         few = omega (arith, r.few, b.few, b.counted, length-append r.before (line ∷ lines inside));
-      }
-
-  pub reads_all : (text rest : List ℕ) (read : List (NumberedLine L)) (number : ℕ) → Reads text rest read number
-      → rest ≡ [] → AreLiveLines language text read
-  reads_all text rest read number r e = subst (λ (z : List ℕ). MeanThese language 0 (lines text) read (lines z)) e
-      r.good
-
-  pub reads_bad : (text rest next behind line inside : List ℕ)
-      (read : List (NumberedLine L)) (number count at told : ℕ) → Reads text rest read number
-      → lines rest ≡ line ∷ lines next → HasBlock language line next (text_cut inside count behind) → IsBadBlock language line (lines inside) at
-      → told ≡ min (number + at) (2 ^ 64 - 1) → IsFirstBadLiveLine language text told
-  reads_bad text rest next behind line inside read number count at told r e b bad is =
-      let front = ahead rest behind line next inside count e b in
-      record {
-        before = r.before;
-        line = line;
-        inside = lines inside;
-        after = lines behind;
-        split = r.split ∙ ap (λ z. r.before ++ z) front;
-        read = read;
-        good = subst (MeanThese language 0 (lines text) read) front r.good;
-        block = b.block;
-        at = at;
-        bad = bad;
-        counted = is ∙ ap (λ n. min (n + at) (2 ^ 64 - 1)) r.counted;
-      }
-
-  -- a growth was refused within a line, or after it
-  pub reads_begun : (text rest next behind line inside : List ℕ) (read : List (NumberedLine L))
-      (number count : ℕ) → Reads text rest read number → lines rest ≡ line ∷ lines next
-      → HasBlock language line next (text_cut inside count behind) → IsGoodBlockSoFar language line (lines inside)
-      → IsLiveScriptSoFar language text
-  reads_begun text rest next behind line inside read number count r e b good =
-      let front = ahead rest behind line next inside count e b in
-      record {
-        line = line;
-        inside = lines inside;
-        after = lines behind;
-        read = read;
-        good = subst (MeanThese language 0 (lines text) read) front r.good;
-        block = b.block;
-        so_far = good;
       }

@@ -2,10 +2,9 @@
 
 use Rattle.std.specs.Prelude.{codes, Option, None, Some, MatchOption}
 use Rattle.std.proofs.Common.{◌≡◌, ℕ, List, ◌++◌, true, sym, ap, ◌∙◌, subst}
-use Rattle.ws_code.specs.Address.{IsRowAndColumn}
-use Rattle.ws_text.specs.Words.{IsCell, IsNumber, IsSmall}
+use Rattle.ws_text.specs.Words.{IsCell}
 use Rattle.ws_script.specs.declared.lines.script_stroke.FieldFilling.{FieldFilling}
-use Rattle.ws_script.specs.lines.ConnectLines.{IsCellText, IsFieldNumber, IsFilling, IsPlaced, IsRowText}
+use Rattle.ws_script.specs.lines.ConnectLines.{IsCellText, IsFieldNumber, IsFilling, IsPlaced}
 use Rattle.ws_printing.specs.script.KeyWords.{KeyWords}
 use Rattle.ws_printing.specs.script.ScriptFaults.{has_no_blank}
 use Rattle.ws_printing.proofs.ScriptWords.{blank_inside, digits_have_no_blank, split_unique}
@@ -19,11 +18,6 @@ cell_text words row column e free None none = λ cell m.
     let first : IsCell row m.1 cell = subst (λ (z : List ℕ). IsCell z m.1 cell) (sym u.0) m.3 in
     none cell (subst (λ (z : List ℕ). IsCell row z cell) (sym u.1) first)
 cell_text words row column e free (Some cell) is = (row, column, e, is)
-
-pub no_row_there : (word : List ℕ) (row : ℕ) → IsSmall word row → (IsRowAndColumn row 1 → ⊥) → (cell : ℕ)
-    → IsRowText word cell → ⊥
-no_row_there word row is off cell m =
-    let same : m.0 ≡ row = m.1.0.2 ∙ sym is.0.2 in off (subst (λ z. IsRowAndColumn z 1) same m.2)
 
 -- words with something after a cell
 module _ (words : List ℕ) (cell : ℕ) (rest : List ℕ) (m : IsPlaced words cell rest) where

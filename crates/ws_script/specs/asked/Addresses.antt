@@ -39,9 +39,9 @@ abbrev pub IsV6 : List ℕ → Type 0
 IsV6 text = IsPlainV6 text ⊎ IsZonedV6 text
 
 -- nothing, or a byte and a text after it
-abbrev pub behind_byte : ℕ → Option (List ℕ) → List ℕ
-behind_byte byte None = []
-behind_byte byte (Some text) = byte ∷ text
+abbrev pub led_by : ℕ → Option (List ℕ) → List ℕ
+led_by byte None = []
+led_by byte (Some text) = byte ∷ text
 
 -- an address of IPv6 in brackets, and what stands after it
 pub record IsBracketed (text host behind : List ℕ) : Type 0 where
@@ -59,8 +59,8 @@ pub record IsNamed (text host behind : List ℕ) : Type 0 where
 -- the host that a text names, and its port's text where there is one: a text that is an address of IPv6 names this
 pub data IsHostText (text host : List ℕ) (port : Option (List ℕ)) : Type 0 where
   bare : IsV6 text → host ≡ text → port ≡ None → IsHostText text host port
-  bracketed : (IsV6 text → ⊥) → IsBracketed text host (behind_byte 58 port) → IsHostText text host port
-  named : (IsV6 text → ⊥) → IsNamed text host (behind_byte 58 port) → IsHostText text host port
+  bracketed : (IsV6 text → ⊥) → IsBracketed text host (led_by 58 port) → IsHostText text host port
+  named : (IsV6 text → ⊥) → IsNamed text host (led_by 58 port) → IsHostText text host port
 
 -- a port to connect to, by its text: where there is none, that of Telnet (RFC 854)
 abbrev pub IsPortOr : Option (List ℕ) → ℕ → Type 0
@@ -76,6 +76,6 @@ abbrev pub IsListening : List ℕ → List ℕ → ℕ → Type 0
 IsListening text host port = (digits : List ℕ) × IsHostText text host (Some digits) × IsPort digits port
 
 -- what is found of a host and its port's text, with those that there are
-abbrev pub IsSplit : (List ℕ → Option (List ℕ) → Type 0) → Option (Bor (List ℕ) × Option (Bor (List ℕ))) → Type 0
-IsSplit IsHost found = MatchOption found ((host : List ℕ) (port : Option (List ℕ)) → IsHost host port → ⊥)
+abbrev pub IsHostFound : (List ℕ → Option (List ℕ) → Type 0) → Option (Bor (List ℕ) × Option (Bor (List ℕ))) → Type 0
+IsHostFound IsHost found = MatchOption found ((host : List ℕ) (port : Option (List ℕ)) → IsHost host port → ⊥)
     (λ parts. IsHost parts.0.now (option_map (λ port. port.now) parts.1))

@@ -67,10 +67,6 @@ IsTextAwaited words = ((text : List ℕ) × (words ≡ codes "text " ++ text) ×
 abbrev pub IsTextWait : List ℕ → Type 0
 IsTextWait line = (words : List ℕ) × (line ≡ codes "await " ++ words) × IsTextAwaited words
 
--- a line that waits for a text, which is UTF-8
-abbrev pub BeginsStationLine : List ℕ → Type 0
-BeginsStationLine line = IsUtf8 line × IsTextWait line
-
 -- the cell of a row and a column
 abbrev pub IsCellText : List ℕ → ℕ → Type 0
 IsCellText words cell = (row : List ℕ) × (column : List ℕ) × (words ≡ row ++ codes " " ++ column)
@@ -138,7 +134,7 @@ module _ {Q : Type 0} (w : KeyWords Q) where
   abbrev pub station_language : LineLanguage (StationLine Q)
   station_language = record {
     means = λ line inside read. (inside ≡ []) × IsStationLine line read;
-    begins = BeginsStationLine;
+    begins = λ line. IsUtf8 line × IsTextWait line;
     opener = λ line. ⊥;
     bad_at = λ line inside at. at ≡ 1;
     bad_line = λ cause. Bad cause;

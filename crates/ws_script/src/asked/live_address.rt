@@ -1,7 +1,7 @@
 //! The host and port that a word names.
 ghost use Rattle.std.specs.Prelude.{◌≡◌, ◌≢◌, ◌∷◌, ◌++◌, ◌<◌, ℕ, List, Option, None, Some, MatchBool, MatchOption};
 ghost use Rattle.std.specs.Option.{option_map};
-ghost use Rattle.ws_script.specs.asked.Addresses.{HasNo, IsPlainV6, IsV6, IsZone, IsPort, IsSplit, behind_byte, IsBracketed, IsNamed, IsHostText, IsHostPort, IsListening};
+ghost use Rattle.ws_script.specs.asked.Addresses.{HasNo, IsPlainV6, IsV6, IsZone, IsPort, IsHostFound, led_by, IsBracketed, IsNamed, IsHostText, IsHostPort, IsListening};
 
 use std::net::Ipv6Addr;
 
@@ -50,7 +50,7 @@ pub fn listening_address(text: &str) -> Option<HostPort<'_>>
 }
 
 // The text before the first byte of this kind, and the text after it.
-fn cut(text: &str, at: char) -> Option<(&str, &str)>
+pub(crate) fn cut(text: &str, at: char) -> Option<(&str, &str)>
     requires { at < 128 }
     ensures { MatchOption result (HasNo at text.now) (λ parts.
         (text.now ≡ parts.0.now ++ at ∷ parts.1.now) × HasNo at parts.0.now) }
@@ -69,7 +69,7 @@ pub(crate) fn behind(text: &str, at: char) -> Option<&str>
 
 // The text of the host, and that of the port where there is one.
 fn split_port(text: &str) -> Option<(&str, Option<&str>)>
-    ensures { IsSplit (IsHostText text.now) result }
+    ensures { IsHostFound (IsHostText text.now) result }
 {
     if is_ipv6(text) {
         return Some((text, None));
@@ -82,7 +82,7 @@ fn split_port(text: &str) -> Option<(&str, Option<&str>)>
 
 // The same of what stands after a bracket.
 fn split_bracketed(inner: &str) -> Option<(&str, Option<&str>)>
-    ensures { IsSplit (λ host port. IsBracketed (91 ∷ inner.now) host (behind_byte 58 port))
+    ensures { IsHostFound (λ host port. IsBracketed (91 ∷ inner.now) host (led_by 58 port))
         result }
 {
     let Some((host, more)) = cut(inner, ']') else {
@@ -103,7 +103,7 @@ fn split_bracketed(inner: &str) -> Option<(&str, Option<&str>)>
 // The same of a name, which doesn't begin with a bracket.
 fn split_named(text: &str) -> Option<(&str, Option<&str>)>
     requires unbracketed { (more : List ℕ) → text.now ≢ 91 ∷ more }
-    ensures { IsSplit (λ host port. IsNamed text.now host (behind_byte 58 port)) result }
+    ensures { IsHostFound (λ host port. IsNamed text.now host (led_by 58 port)) result }
 {
     match cut(text, ':') {
         Some(("", _)) => None,

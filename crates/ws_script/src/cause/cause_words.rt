@@ -8,6 +8,7 @@ ghost use Rattle.ws_printing.specs.script.ScriptFaults.{has_no_blank};
 ghost use Rattle.ws_script.specs.cause.Causes.{EndsWith, IsAsked, IsLeft, IsTrueOf, StandsIn, behind_word, has_key, is_hex_text};
 ghost use Rattle.ws_script.specs.declared.cause.vocabulary.Vocabulary.{Vocabulary as AVocabulary};
 
+use crate::asked::live_address::cut;
 use crate::cause::vocabulary::Vocabulary;
 use crate::cause::word_kind::WordKind;
 use crate::cause::{AskedByte, Cause};
@@ -145,7 +146,7 @@ fn or_tab<'a>(word: &str, cause: Cause<'a>) -> Cause<'a>
 pub fn has_tab(word: &str) -> bool
     ensures { result ≡ true → StandsIn word.now (9 ∷ []) }
 {
-    match word.split_once('\t') {
+    match cut(word, '\t') {
         Some(_) => true,
         None => false,
     }

@@ -46,7 +46,8 @@ pub trait TextLine: Drop {
 /// A line without its line end.
 pub fn read_line<L: TextLine>(alloc: Global, line: &[u8]) -> Result<L, ScriptFault>
     ensures line { IfOk result (λ read. IsUtf8 line.now × L.means line.now read) }
-    ensures fault { IfErr result (IsLineFault (λ (read : L). IsUtf8 line.now × L.means line.now read)
+    ensures fault { IfErr result
+        (IsLineFault (λ (read : L). IsUtf8 line.now × L.means line.now read)
         (IsUtf8 line.now × IsLineSoFar L.means L.begun line.now)) }
 {
     let Ok(text) = str::from_utf8(line) else {

@@ -1,7 +1,7 @@
 use Rattle.std.specs.Prelude.{codes}
 use Rattle.std.proofs.Common.{◌≢◌, ◌++◌, [], List, ℕ, inr, ap, ◌∙◌, refl, subst}
 use Rattle.ws_script.specs.lines.ConnectLines.{IsAwaited, IsSomeText, IsTextPlaced}
-use Rattle.ws_script.proofs.AwaitedWords.{awaited_says, awaits, no_wait}
+use Rattle.ws_script.proofs.StationLines.{awaited_says, awaits, no_wait}
 use Rattle.ws_script.proofs.FirstWords.{told_on, unsaid}
 use Rattle.ws_script.proofs.StrokeWords.{one_rest}
 use Rattle.ws_script.proofs.lines.connect_line.read_awaited.Goals as goal

@@ -2,7 +2,7 @@ use Rattle.std.specs.Prelude.{codes}
 use Rattle.std.proofs.Common.{◌++◌, List, ℕ, inr, ap, ◌∙◌, refl}
 use Rattle.ws_script.specs.lines.WireLines.{IsCommandSaid, MeansWire}
 use Rattle.ws_script.proofs.FirstWords.{told_on, unsaid}
-use Rattle.ws_script.proofs.WireWords.{no_wire, wire_says, wires}
+use Rattle.ws_script.proofs.LiveLines.{no_wire, wire_says, wires}
 use Rattle.ws_script.proofs.lines.wire_words.read_command.Goals as goal
 
 pub returns-in_err-read_telnet-in-telnet-clause-fault : goal.returns-in_err-read_telnet-in-telnet-clause-fault

@@ -7,7 +7,7 @@ use Rattle.ws_stream.specs.declared.element.Element.{Element}
 use Rattle.ws_script.specs.lines.WireLines.{AreSaid, IsCommandSaid, SaysItems}
 use Rattle.ws_printing.specs.script.ScriptFaults.{IsLineFault}
 use Rattle.ws_printing.proofs.Scripts.{fault_on}
-use Rattle.ws_script.proofs.WireWords.{line_no_memory}
+use Rattle.ws_script.proofs.LiveLines.{line_no_memory}
 use Rattle.ws_script.proofs.lines.wire_words.read_telnet.Goals as goal
 
 pub returns-in-Ok-clause-fault : goal.returns-in-Ok-clause-fault

@@ -1,5 +1,5 @@
 use Rattle.std.specs.Prelude.{codes}
-use Rattle.std.proofs.Common.{◌++◌, List, ℕ, inl, inr, refl}
+use Rattle.std.proofs.Common.{inl, inr, refl}
 use Rattle.ws_script.specs.declared.lines.connect_line.StationLine.TheVariants.{Press, Stroke, Report}
 use Rattle.ws_printing.specs.declared.station_report.StationReport.TheVariants.{Note}
 use Rattle.ws_script.specs.declared.lines.script_stroke.ScriptStroke.TheVariants.{Fill}
@@ -13,20 +13,21 @@ use Rattle.ws_script.proofs.lines.connect_line.StationLineTextLine.of_command.Go
 pub returns-in_err-read_keys-in-type-clause-fault : goal.returns-in_err-read_keys-in-type-clause-fault
 returns-in_err-read_keys-in-type-clause-fault g c =
     let refusal = c.in_err-read_keys-in-type.ensures.fault in
-    refused _ c.from_residual.result _ c.from_residual.ensures.1 refusal.0
-    (inl (Press refusal.1, typed c.args.words.now (rw c.in-type.is at c.requires.is) refusal.2))
+    refused _ c.from_residual.result _ c.from_residual.ensures.1
+    refusal.0 (inl (Press refusal.1, typed c.args.words.now (rw c.in-type.is at c.requires.is) refusal.2))
 
 pub returns-in_err-read_keys-in-insert-clause-fault : goal.returns-in_err-read_keys-in-insert-clause-fault
 returns-in_err-read_keys-in-insert-clause-fault g c =
     let refusal = c.in_err-read_keys-in-insert.ensures.fault in
-    refused _ c.from_residual-in_err-read_keys-in-insert.result _ c.from_residual-in_err-read_keys-in-insert.ensures.1 refusal.0
-    (inl (Press refusal.1, inserted c.args.words.now (rw c.in-insert.is at c.requires.is) refusal.2))
+    refused _ c.from_residual-in_err-read_keys-in-insert.result _ c.from_residual-in_err-read_keys-in-insert.ensures.1
+    refusal.0 (inl (Press refusal.1, inserted c.args.words.now (rw c.in-insert.is at c.requires.is) refusal.2))
 
 pub returns-in_err-named_key-in-key-clause-fault : goal.returns-in_err-named_key-in-key-clause-fault
 returns-in_err-named_key-in-key-clause-fault g c =
     told_on (AreNamed g.Q.NamedKey.words c.args.words.now) (MeansStationLine g.Q.NamedKey.words c.args._line.now)
     c.from_residual-in_err-named_key-in-key.result _ c.from_residual-in_err-named_key-in-key.ensures.1
-    (λ none. no_station_words g.Q.NamedKey.words _ _ _ c.requires.is c.requires.no_blank c.requires.some (codes "key") c.in-key.is (λ s. none s.0 s.1))
+    (λ none. no_station_words g.Q.NamedKey.words _ _ _ c.requires.is c.requires.no_blank c.requires.some
+    (codes "key") c.in-key.is (λ s. none s.0 s.1))
     (λ k. inl (Press k.0, named c.args.words.now (rw c.in-key.is at c.requires.is) k.1))
     c.in_err-named_key-in-key.ensures.fault
 
@@ -34,7 +35,8 @@ pub returns-in_err-read_awaited-in-await-clause-fault : goal.returns-in_err-read
 returns-in_err-read_awaited-in-await-clause-fault g c =
     told_on (IsAwaited c.args.words.now) (MeansStationLine g.Q.NamedKey.words c.args._line.now)
     c.from_residual-in_err-read_awaited-in-await.result _ c.from_residual-in_err-read_awaited-in-await.ensures.1
-    (λ none. no_station_words g.Q.NamedKey.words _ _ _ c.requires.is c.requires.no_blank c.requires.some (codes "await") c.in-await.is (λ s. none s.0 s.1))
+    (λ none. no_station_words g.Q.NamedKey.words _ _ _ c.requires.is c.requires.no_blank c.requires.some
+    (codes "await") c.in-await.is (λ s. none s.0 s.1))
     (λ k. inr (c.args.words.now, rw c.in-await.is at c.requires.is, k))
     c.in_err-read_awaited-in-await.ensures.fault
 
@@ -42,13 +44,15 @@ pub returns-in_err-read_filling-in-field-clause-fault : goal.returns-in_err-read
 returns-in_err-read_filling-in-field-clause-fault g c =
     told_on (IsFilling g.Q.NamedKey.words c.args.words.now) (MeansStationLine g.Q.NamedKey.words c.args._line.now)
     c.from_residual-in_err-read_filling-in-field.result _ c.from_residual-in_err-read_filling-in-field.ensures.1
-    (λ none. no_station_words g.Q.NamedKey.words _ _ _ c.requires.is c.requires.no_blank c.requires.some (codes "field") c.in-field.is (λ s. none s.0 s.1))
+    (λ none. no_station_words g.Q.NamedKey.words _ _ _ c.requires.is c.requires.no_blank c.requires.some
+    (codes "field") c.in-field.is (λ s. none s.0 s.1))
     (λ k. inl (Stroke (Fill k.0), (c.args.words.now, rw c.in-field.is at c.requires.is, k.1)))
     c.in_err-read_filling-in-field.ensures.fault
 
 pub returns-in_err-read_note-in-note-clause-fault : goal.returns-in_err-read_note-in-note-clause-fault
 returns-in_err-read_note-in-note-clause-fault g c =
-    refused _ c.from_residual-in_err-read_note-in-note.result _ c.from_residual-in_err-read_note-in-note.ensures.1 c.in_err-read_note-in-note.ensures.fault
+    refused _ c.from_residual-in_err-read_note-in-note.result _ c.from_residual-in_err-read_note-in-note.ensures.1
+    c.in_err-read_note-in-note.ensures.fault
     (inl (Report (Note c.args.words.now), rw c.in-note.is at c.requires.is))
 
 pub returns-in_ok-read_keys-in-type-clause-line : goal.returns-in_ok-read_keys-in-type-clause-line
@@ -66,19 +70,22 @@ returns-in_ok-named_key-in-key-clause-line g c =
 pub returns-in-None-clause-fault : goal.returns-in-None-clause-fault
 returns-in-None-clause-fault g c = (
   refl,
-  no_station_words g.Q.NamedKey.words _ _ _ c.requires.is c.requires.no_blank c.requires.some (codes "cursor") c.in-cursor.is (λ s. c.in-None.ensures s.0 s.1),
+  no_station_words g.Q.NamedKey.words _ _ _ c.requires.is c.requires.no_blank c.requires.some
+      (codes "cursor") c.in-cursor.is (λ s. c.in-None.ensures s.0 s.1),
 )
 
 pub returns-in-None-read_row-clause-fault : goal.returns-in-None-read_row-clause-fault
 returns-in-None-read_row-clause-fault g c = (
   refl,
-  no_station_words g.Q.NamedKey.words _ _ _ c.requires.is c.requires.no_blank c.requires.some (codes "cells") c.in-cells.is (λ s. c.in-None-read_row.ensures s.0 s.1),
+  no_station_words g.Q.NamedKey.words _ _ _ c.requires.is c.requires.no_blank c.requires.some
+      (codes "cells") c.in-cells.is (λ s. c.in-None-read_row.ensures s.0 s.1),
 )
 
 pub returns-in-None-read_span-clause-fault : goal.returns-in-None-read_span-clause-fault
 returns-in-None-read_span-clause-fault g c = (
   refl,
-  no_station_words g.Q.NamedKey.words _ _ _ c.requires.is c.requires.no_blank c.requires.some (codes "show") c.in-show.is (λ s. c.in-None-read_span.ensures s.0 s.1),
+  no_station_words g.Q.NamedKey.words _ _ _ c.requires.is c.requires.no_blank c.requires.some
+      (codes "show") c.in-show.is (λ s. c.in-None-read_span.ensures s.0 s.1),
 )
 
 pub returns-in_default-clause-fault : goal.returns-in_default-clause-fault
