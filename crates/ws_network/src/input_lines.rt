@@ -102,11 +102,6 @@ fn typed_word(line: &[u8]) -> Option<TypedWord>
     }
 }
 
-// Whether a line ends the lines that belong to one before it, and does nothing else: an empty one, or `end`.
-fn ends_block(line: &[u8]) -> bool {
-    matches!(without_end(line), [] | [b'e', b'n', b'd'])
-}
-
 // A line as it was read, without what ends it.
 fn without_end(raw: &[u8]) -> &[u8] {
     match raw {
@@ -195,7 +190,7 @@ impl<B: BufRead + Drop> InputLines<B> {
         Ok(line)
     }
 
-    // Takes the lines that begin with two blanks, and behind them an empty one or `end`: their text, as it stands.
+    // Takes the lines that begin with two blanks: their text, as it stands. The one behind them is kept.
     fn gather(&mut self, inside: &mut Vec<u8>) -> Result<(), ToldFault>
         ensures { IfErr result IsUnreadFault }
     {
@@ -204,7 +199,7 @@ impl<B: BufRead + Drop> InputLines<B> {
                 return Ok(());
             };
             if !is_indented(line.as_slice()) {
-                self.set_ahead(line);
+                self.ahead = Some(line);
                 return Ok(());
             }
             self.number = self.number.saturating_add(1);
@@ -213,15 +208,6 @@ impl<B: BufRead + Drop> InputLines<B> {
             }
         }
         Ok(())
-    }
-
-    // Keeps a line for the next time, but for one that ends a block, which is taken.
-    fn set_ahead(&mut self, line: Vec<u8>) {
-        if ends_block(line.as_slice()) {
-            self.number = self.number.saturating_add(1);
-        } else {
-            self.ahead = Some(line);
-        }
     }
 
     // Reads a line, with its line feed. Behind the last none is asked for again.
