@@ -1,24 +1,23 @@
 -- What a line of a script does at a host that takes any record, and what it prints.
 
-use Rattle.std.specs.Prelude.{◌≡◌, ℕ, List, [], ◌∷◌, ◌++◌, ◌⊎◌, Bool, true, false, not, ◌&&◌, ◌==◌, nat_lt, length}
-use Rattle.std.specs.Prelude.{codes, Option, None, Some, Result, Ok, Err, if◌then◌else◌, string_bytes}
+use Rattle.std.specs.Prelude.{◌≡◌, ℕ, List, [], ◌∷◌, ◌++◌, Bool, false, not, ◌&&◌, ◌==◌, nat_lt}
+use Rattle.std.specs.Prelude.{codes, Option, None, Some, Result, Ok, if◌then◌else◌, string_bytes}
 use Rattle.std.specs.List.{flat_map}
 use Rattle.std.specs.Fmt.{decimal}
 use Rattle.hex.specs.Hex.{encode_upper}
-use Rattle.ws_code.specs.Device.{most_reads, Devices}
 use Rattle.ws_code.specs.declared.fault.Fault.{Fault}
-use Rattle.ws_code.specs.declared.fault.Fault.TheVariants as fault
 use Rattle.ws_record.specs.Grammar.{two_bytes, opcode_byte}
-use Rattle.ws_end.specs.attached.Attachments.{AttachedParts, HasHeard, IsHearFault}
+use Rattle.ws_end.specs.attached.Attachments.{AttachedParts}
 use Rattle.ws_end.specs.attached.Requests.{HasActed}
 use Rattle.ws_end.specs.declared.attached.acted.Acted.{Acted}
 use Rattle.ws_end.specs.declared.host_end.send_fault.SendFault.{SendFault}
 use Rattle.ws_text.specs.ItemLines.{hex_behind_blank}
-use Rattle.ws_live.specs.live.LiveText.{LineResult, LinesDo, bad_outcome, bad_text, line_result}
-use Rattle.ws_live.specs.live.ServeText.{given_outcome, given_text, unheard_outcome, unheard_text}
+use Rattle.ws_live.specs.live.Hearing.{HearsOne, HearsUntil}
+use Rattle.ws_live.specs.live.LiveText.{LinesDo, bad_outcome, bad_text}
+use Rattle.ws_live.specs.live.ServeText.{given_outcome, given_text}
 use Rattle.ws_live.specs.live.Watches.{InTime, WatchTimes, WatchedDevices}
 use Rattle.ws_live.specs.live.WireRuns.{WireRuns}
-use Rattle.ws_live.specs.declared.live.Closing.TheVariants.{Nothing, Done, Ended}
+use Rattle.ws_live.specs.declared.live.Closing.TheVariants.{Nothing}
 use Rattle.ws_live.specs.declared.live.LiveSession.{LiveSession}
 use Rattle.ws_live.specs.declared.live.Telling.{Telling}
 use Rattle.ws_live.specs.declared.live.watch.WaitSpan.{WaitSpan}
@@ -64,69 +63,24 @@ any_waits Await = Some Whole
 any_waits (AwaitKey aid) = Some Whole
 any_waits line = None
 
-module _ {S K : Type 0} (devices : Devices S K) where
-  -- such a host on a source and a sink
-  abbrev pub AttachedAnyHost : Type 0
-  AttachedAnyHost = AttachedParts AnyParts S K
-
-  -- things were told one after another, none of which is a record by the key
-  abbrev pub HaveToldBeforeKey : ℕ → AttachedAnyHost → List AnyEvent → AttachedAnyHost → Type 0
-  HaveToldBeforeKey aid from [] to = to ≡ from
-  HaveToldBeforeKey aid from (event ∷ more) to = (mid : AttachedAnyHost)
-      × HasHeard any_behaviour devices from mid (Some event)
-      × (is_by aid event ≡ false) × HaveToldBeforeKey aid mid more to
-
--- What a wait comes to, at a watch that tells of a source whether the read that failed was late.
+-- What lines do, at a watch that tells of a source whether the read that failed was late.
 module _ {S K : Type 0} (on : WatchedDevices S K) where
-  -- such a host
-  abbrev pub WatchedAnyHost : Type 0
-  WatchedAnyHost = AttachedAnyHost on.devices
-
-  -- the host heard the station, and tells nothing more: the station closed, or a fault came
-  abbrev pub AnyHearsNone : WatchedAnyHost → LineResult → WatchedAnyHost → Type 0
-  AnyHearsNone from came to =
-      (HasHeard any_behaviour on.devices from to None × (came.outcome ≡ Ok Ended) × (came.text ≡ []))
-      ⊎ ((why : Fault) × (late : Bool) × IsHearFault any_behaviour on.devices from to why
-      × (why ≡ fault.Read → on.tells.is_late to.source late)
-      × (came.outcome ≡ unheard_outcome late why) × (came.text ≡ unheard_text why))
-
-  -- the host heard the station up to the first thing that it tells, which is printed, or tells none
-  abbrev pub AnyHears : WatchedAnyHost → Option AnyEvent → LineResult → WatchedAnyHost → Type 0
-  AnyHears from None came to = AnyHearsNone from came to
-  AnyHears from (Some event) came to = HasHeard any_behaviour on.devices from to (Some event)
-      × (came.outcome ≡ Ok Done) × (came.text ≡ any_event_text event)
-
-  -- The host heard the station up to a record by the key, and printed all that it told: after some things the record
-  -- came; or none more did; or as many were told as one wait takes.
-  pub record HearsKey (aid : ℕ) (from : WatchedAnyHost) (came : LineResult) (to : WatchedAnyHost) : Type 0 where
-    pub told : List AnyEvent
-    pub mid : WatchedAnyHost
-    pub before : HaveToldBeforeKey on.devices aid from told mid
-    pub last : List ℕ
-    pub ends : ((event : AnyEvent) × (is_by aid event ≡ true)
-        × AnyHears mid (Some event) (line_result came.outcome last) to)
-        ⊎ (AnyHears mid None (line_result came.outcome last) to
-        ⊎ ((length told ≡ most_reads) × (to ≡ mid) × (came.outcome ≡ Err fault.Read) × (last ≡ [])))
-    pub all : came.text ≡ flat_map any_event_text told ++ last
-
   -- what a line of this number comes to at such a host
-  abbrev pub AnyDoes : Option ℕ → LinesDo AnyLine WatchedAnyHost
+  abbrev pub AnyDoes : Option ℕ → LinesDo AnyLine (AttachedParts AnyParts S K)
   AnyDoes number NoLine from came to = (to ≡ from) × (came.outcome ≡ Ok Nothing) × (came.text ≡ [])
   AnyDoes number (Send r) from came to = (given : Result (Acted SendFault) Fault) × (from.broken ≡ false)
       × HasActed on.devices (any_judged r) from to given
       × (came.outcome ≡ given_outcome given) × (came.text ≡ given_text number given)
-  AnyDoes number Await from came to = (told : Option AnyEvent) × AnyHears from told came to
-  AnyDoes number (AwaitKey aid) from came to = HearsKey aid from came to
+  AnyDoes number Await from came to =
+      (told : Option AnyEvent) × HearsOne any_behaviour any_event_text on from told came to
+  AnyDoes number (AwaitKey aid) from came to =
+      HearsUntil any_behaviour any_event_text on (is_by aid) from came to
   AnyDoes number (Wire line) from came to = WireRuns on.devices.writer line from came.outcome to × (came.text ≡ [])
   AnyDoes number (Bad cause) from came to = (to ≡ from) × (came.outcome ≡ bad_outcome)
       × (came.text ≡ bad_text (string_bytes cause))
 
-  -- such a host, of which so many records are ahead, which none of its lines takes
-  abbrev pub AnyHostAndAhead : Type 0
-  AnyHostAndAhead = WatchedAnyHost × ℕ
-
-  -- what a line comes to at it
-  abbrev pub AnyRuns : Telling → LinesDo AnyLine AnyHostAndAhead
+  -- what a line comes to at it, where so many records are ahead, which none of its lines takes
+  abbrev pub AnyRuns : Telling → LinesDo AnyLine (AttachedParts AnyParts S K × ℕ)
   AnyRuns telling line from came to = AnyDoes telling.line line from.0 came to.0 × (to.1 ≡ from.1)
 
   -- what lines do at such a host, at a watch that keeps its waits so

@@ -1,14 +1,11 @@
 //! The lines that a host that takes any record prints.
 ghost use Rattle.std.specs.Prelude.{◌≡◌};
-ghost use Rattle.hex.specs.Hex.{encode_upper};
-ghost use Rattle.ws_record.specs.Grammar.{two_bytes};
 ghost use Rattle.ws_text.specs.Printing.{Prints};
 ghost use Rattle.ws_any_host.specs.AnyText as Spec;
 
 use crate::AnyEvent;
 use ws_code::Sink;
-use ws_record::Record;
-use ws_text::{Output, put, put_hex, put_hex_behind_blank, put_number, put_text};
+use ws_text::{EachAs, Hex, HexBehindBlank, Number, Output, Text, TextAs, put, texts};
 
 /// Writes the line of what a host tells that takes any record: `terminal NAME`, where a byte that doesn't print, a blank
 /// and `\` are `\` and two hex digits, or `record flags FFFF opcode K HEX`, with no HEX where there is no body.
@@ -18,54 +15,34 @@ pub fn put_any_event<S: Sink>(sink: &mut S, output: Output, event: &AnyEvent) ->
 {
     match event {
         AnyEvent::Ready(name) => {
-            let output = put_text(sink, output, "terminal ");
-            let output = put_name(sink, output, name.as_slice());
-            put_text(sink, output, "\n")
+            let name = EachAs(name.as_slice(), InName);
+            texts!("terminal ", name, "\n").put_to(sink, output)
         }
-        AnyEvent::Record(record) => put_record(sink, output, record),
+        AnyEvent::Record(record) => {
+            let flags = record.flags.to_be_bytes();
+            let opcode = Number(record.opcode.byte() as u64);
+            let body = HexBehindBlank(record.body.as_slice());
+            texts!("record flags ", Hex(&flags), " opcode ", opcode, body, "\n").put_to(
+                sink, output,
+            )
+        }
     }
 }
 
-fn put_record<S: Sink>(sink: &mut S, output: Output, record_: &Record<u8>) -> Output
-    ensures { Prints S.writer sink.old sink.new output result
-        (Spec.any_event_text (AnyEvent.Record record_.now)) }
-{
-    let output = put_text(sink, output, "record flags ");
-    let output = put_flags(sink, output, record_.flags);
-    let output = put_text(sink, output, " opcode ");
-    let output = put_number(sink, output, record_.opcode.byte() as u64);
-    let output = put_hex_behind_blank(sink, output, record_.body.as_slice());
-    put_text(sink, output, "\n")
-}
+// The sense of a byte of a terminal's name.
+#[derive(Clone, Copy)]
+struct InName;
 
-fn put_flags<S: Sink>(sink: &mut S, output: Output, flags: u16) -> Output
-    ensures { Prints S.writer sink.old sink.new output result
-        (encode_upper (two_bytes flags)) }
-{
-    put_hex(sink, output, &flags.to_be_bytes())
-}
+impl TextAs<InName> for u8 {
+    ghost text_as = { λ _. Spec.name_byte };
 
-// Writes a terminal's name.
-fn put_name<S: Sink>(sink: &mut S, output: Output, name: &[u8]) -> Output
-    ensures { Prints S.writer sink.old sink.new output result
-        (Spec.terminal_name_text name.now) }
-{
-    let mut output = output;
-    for byte in name {
-        output = put_name_byte(sink, output, *byte);
+    fn put_as<S: Sink>(&self, _sense: &InName, sink: &mut S, output: Output) -> Output {
+        if is_plain(*self) {
+            put(sink, output, &[*self])
+        } else {
+            texts!("\\", Hex(&[*self])).put_to(sink, output)
+        }
     }
-    output
-}
-
-fn put_name_byte<S: Sink>(sink: &mut S, output: Output, byte: u8) -> Output
-    ensures { Prints S.writer sink.old sink.new output result
-        (Spec.name_byte byte) }
-{
-    if is_plain(byte) {
-        return put(sink, output, &[byte]);
-    }
-    let output = put_text(sink, output, "\\");
-    put_hex(sink, output, &[byte])
 }
 
 // Whether a byte of a name stands for itself.

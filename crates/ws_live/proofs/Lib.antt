@@ -1,6 +1,6 @@
 pub mod CarryOns
 pub mod ConnectRuns
+pub mod Hearings
 pub mod LiveOutput
 pub mod LiveRuns
-pub mod ServeRuns
 pub mod StrokeRuns

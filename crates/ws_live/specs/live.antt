@@ -1,5 +1,6 @@
 pub mod CarryingOn
 pub mod ConnectText
+pub mod Hearing
 pub mod LiveText
 pub mod Operating
 pub mod Sentences

@@ -5,7 +5,7 @@ mod live;
 mod session_asked;
 
 pub use live::carried_wire::carry_wire;
-pub use live::host_closing::{put_given, put_unheard};
+pub use live::host_closing::{HeardEnd, hear_one, hear_until, put_given};
 pub use live::live_station::LiveStation;
 pub use live::repeated::carry_on;
 pub use live::serve::answer_on;

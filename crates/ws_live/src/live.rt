@@ -128,6 +128,15 @@ pub struct Carried {
     pub outcome: Result<Closing, Fault>,
 }
 
+impl Carried {
+    /// This much went out, and so it closed.
+    pub fn new(output: Output, outcome: Result<Closing, Fault>) -> Self
+        ensures { (result.output ≡ output) × (result.outcome ≡ outcome) }
+    {
+        Carried { output, outcome }
+    }
+}
+
 /// A live session: an end at its devices, and what its lines share.
 #[derive(Drop)]
 pub struct LiveSession<E, S, K, W> {
@@ -348,8 +357,6 @@ pub fn put_bad<O: Sink>(out: &mut O, output: Output, cause: &str) -> Carried
     ensures text { Prints O.writer out.old out.new output result.output
         (Spec.bad_text cause.now) }
 {
-    Carried {
-        output: texts!("bad line: ", cause, "\n").put_to(out, output),
-        outcome: Ok(Closing::Declined),
-    }
+    let output = texts!("bad line: ", cause, "\n").put_to(out, output);
+    Carried::new(output, Ok(Closing::Declined))
 }

@@ -14,8 +14,8 @@ use Rattle.ws_live.specs.declared.live.Ran.{Ran}
 use Rattle.ws_live.specs.declared.live.Telling.{Telling}
 use Rattle.ws_script.specs.declared.lines.live_line.NumberedLine.{NumberedLine}
 use Rattle.ws_live.specs.live.CarryingOn.{carrying_on}
-use Rattle.ws_live.specs.live.LiveText.{Account, IsLiveText, IsOverAt, LinesDo, account}
-use Rattle.ws_network.specs.SessionPrinting.{HaveLedTo, IsPrintedBehind, IsTextAndOn, SessionLines, TellsWell, all_lines}
+use Rattle.ws_live.specs.live.LiveText.{Account, IsLiveText, IsOverAt, LinesDo, WithClosing, account}
+use Rattle.ws_network.specs.SessionPrinting.{HaveLedTo, IsPrintedBehind, IsTextAndOn, SessionLines, all_lines}
 use Rattle.ws_network.specs.SessionPrinting.{does_after, prints_closed, serve_printing, session_lines, session_printing}
 
 -- what is told of a session, where its recording may have failed, or its connection been reset
@@ -24,6 +24,11 @@ pub judged : {T E : Type 0} (P : T → Type 0) (IsFault : E → Type 0) (outcome
 judged P IsFault outcome told well (inl as_it_was) = rw as_it_was well
 judged P IsFault outcome (Ok v) well (inr failed) = absurd failed
 judged P IsFault outcome (Err fault) well (inr failed) = tt
+
+-- where it is told as a good one, it was
+pub was_good : {T E : Type 0} {outcome : Result T E} {made : T} → (Ok made ≡ outcome) ⊎ ⊥ → outcome ≡ Ok made
+was_good (inl as_it_was) = sym as_it_was
+was_good (inr failed) = absurd failed
 
 module _ {L P : Type 0} (session : SessionLines L P) (is_over : Bool) (came : Account)
     (h : IsLiveText session.settings.after (prints_closed session) session.from session.lines is_over came session.to)
@@ -41,23 +46,31 @@ module _ {L P : Type 0} (session : SessionLines L P) (is_over : Bool) (came : Ac
       | inr at ↦ at.0
     ]
 
-module _ {L P O : Type 0} (session : SessionLines L P) (printer : Writer O) (has_script : Bool) (old new : O) where
+module _ {L P : Type 0} (session : SessionLines L P) (has_script : Bool) where
   -- what is printed by its lines alone, and told as it is
   abbrev Session : Printing Ran ToldFault
   Session = session_printing session has_script (λ ran told. told ≡ ran)
 
-  pub script_ends : (ran : Ran) → IsPrinted printer old new (all_lines session) (Ok ran)
+  pub script_ends : {O : Type 0} {printer : Writer O} {old new : O} (ran : Ran)
+      → IsPrinted printer old new (all_lines session) (Ok ran)
       → IsPrinted printer old new Session (Ok ran)
   script_ends ran e = (e.0, (ran, e.1, refl), e.2)
 
-  pub script_fails : (why : Fault) → IsPrinted printer old new (all_lines session) (Err why)
+  pub script_fails : {O : Type 0} {printer : Writer O} {old new : O} (why : Fault)
+      → IsPrinted printer old new (all_lines session) (Err why)
       → IsPrinted printer old new Session (Err (told_fault why))
   script_fails why (inl e) = inl (e.0, inl (why, e.1, refl), e.2)
   script_fails why (inr e) = inr (e.0, (why, e.1, refl), e.2)
 
-  pub judged_well : (ran : Ran) → IsPrinted printer old new Session (Ok ran)
-      → IsPrinted printer old new (session_printing session has_script TellsWell) (Ok ran.all_well)
-  judged_well ran e = let same : ran ≡ e.1.0 = e.1.2 in (e.0, (e.1.0, e.1.1, ap (λ r. r.all_well) same), e.2)
+-- a session of these lines alone that was told as it is
+module _ {L P O : Type 0} (does : Telling → LinesDo L P) (settings : LineSettings) (printer : Writer O)
+    (lines : List (NumberedLine L)) (to : P) (has_script : Bool) (old new : O) where
+  pub connected_well : (from fresh : P) (ran : Ran) → fresh ≡ from → IsPrinted printer old new
+      (session_printing (session_lines does settings fresh lines to) has_script (λ ran told. told ≡ ran)) (Ok ran)
+      → (text : List ℕ) × ((is_over : Bool)
+      × IsLiveText settings.after (WithClosing does settings) from lines is_over (account ran.all_well text) to)
+      × WentOut printer old new text
+  connected_well from fresh ran is e = (e.0, (ran.is_over, rw (← is, e.1.2) e.1.1), e.2)
 
 -- a session after whose lines one is carried on
 module _ {L P O : Type 0} (session : SessionLines L P) (on : L) (printer : Writer O) (has_script : Bool) (old new : O)
@@ -135,16 +148,3 @@ module _ {L P O : Type 0} (does : Telling → LinesDo L P) (settings : LineSetti
   served_well on (Ok all_well) s =
       let e = well_printed (SessionOf s.0) on printer has_script old new all_well s.2 in (s.0, e.0, s.1, e.1, e.2)
   served_well on (Err told) s = tt
-
-  pub connected_well : (outcome : Result Bool ToldFault)
-      → (lines : List (NumberedLine L)) × Read lines
-      × IsPrinted printer old new (session_printing (SessionOf lines) has_script TellsWell) outcome
-      → IfOk outcome (λ all_well. (lines : List (NumberedLine L)) × (text : List ℕ) × Read lines
-      × ((is_over : Bool)
-      × IsLiveText settings.after (prints_closed (SessionOf lines)) from lines is_over (account all_well text) to)
-      × WentOut printer old new text)
-  connected_well (Ok all_well) s =
-      let e = s.2 in
-      let ran : Ran = e.1.0 in
-      (s.0, e.0, s.1, (ran.is_over, rw e.1.2 e.1.1), e.2)
-  connected_well (Err told) s = tt

@@ -1,6 +1,7 @@
 -- What the sessions of `serve` come to, one or more at a listener.
 
-use Rattle.std.specs.Prelude.{◌≡◌, ℕ, zero, suc, ◌+◌, List, [], ◌++◌, Bool, true, ◌&&◌, Option, Some, codes}
+use Rattle.std.specs.Prelude.{◌≡◌, ℕ, zero, suc, ◌+◌, List, [], ◌++◌, Bool, true, ◌&&◌, ◌==◌, Option, Some, codes}
+use Rattle.std.specs.Prelude.{if◌then◌else◌}
 use Rattle.std.specs.Borrow.{Bor}
 use Rattle.std.specs.Fmt.{decimal}
 use Rattle.ws_script.specs.declared.lines.live_line.NumberedLine.{NumberedLine}
@@ -11,14 +12,9 @@ use Rattle.ws_network.specs.ServedHosts.{ServedHost}
 use Rattle.ws_network.specs.Sessions.{AreFromScript, IsServed}
 use Rattle.ws_live.specs.declared.session_asked.ServeAsked.{ServeAsked}
 
--- the line of a session by its number
-abbrev pub number_line : ℕ → List ℕ
-number_line number = codes "session " ++ (decimal number ++ codes "\n")
-
 -- the line before a session after so many: the first has none
 abbrev pub session_line : ℕ → List ℕ
-session_line zero = []
-session_line (suc before) = number_line (suc before + 1)
+session_line before = if before == 0 then [] else codes "session " ++ decimal (before + 1) ++ codes "\n"
 
 -- Sessions of which each has such an account.
 module _ (IsSession : Account → Type 0) where

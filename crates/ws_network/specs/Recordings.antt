@@ -14,4 +14,4 @@ sender_word Station = codes " station "
 -- the line of a piece: so many milliseconds after the connection's beginning, by whom, and its bytes
 abbrev pub piece_line : ℕ → PieceSender → List ℕ → List ℕ
 piece_line milliseconds sender bytes =
-    decimal milliseconds ++ (sender_word sender ++ (encode_upper bytes ++ codes "\n"))
+    decimal milliseconds ++ sender_word sender ++ encode_upper bytes ++ codes "\n"

@@ -27,10 +27,6 @@ AreUnnumbered (line ∷ more) = (line.number ≡ None) × AreUnnumbered more
 abbrev pub AreScripted : {L : Type 0} → Option (Bor (List (NumberedLine L))) → List (NumberedLine L) → Type 0
 AreScripted script lines = MatchOption script (AreUnnumbered lines) (λ asked. lines ≡ asked.now)
 
--- what is told of lines is whether all went well
-abbrev pub TellsWell : Ran → Bool → Type 0
-TellsWell ran all_well = all_well ≡ ran.all_well
-
 -- one of these faults came, and is told as the program's own
 abbrev pub IsOwnFault : (Fault → Type 0) → ToldFault → Type 0
 IsOwnFault IsFault told = (why : Fault) × IsFault why × (told ≡ told_fault why)

@@ -28,6 +28,7 @@ use Rattle.ws_network.specs.Times.{ConnectionReads, ConnectionWrites, no_reads, 
 use Rattle.ws_network.specs.Times.{timed_writer}
 use Rattle.ws_live.specs.declared.session_asked.ConnectAsked.{ConnectAsked}
 use Rattle.ws_live.specs.declared.session_asked.ServeAsked.{ServeAsked}
+use Rattle.ws_live.specs.declared.live.LineSettings.{LineSettings}
 use Rattle.ws_live.specs.declared.live.LiveSession.{LiveSession}
 use Rattle.ws_live.specs.live.Watches.{begun_session}
 use Rattle.ws_end.specs.station.Stations.{StationOf}
@@ -43,12 +44,11 @@ at_connection end written = record { end = end; source = no_reads; sink = writte
 
 module _ (at : LiveStation) where
   -- This station, new at a connection, carried out the lines, of which this is the account.
-  pub record IsConnected (station : at.Station) (asked : ConnectAsked)
+  pub record IsConnected (station : at.Station) (settings : LineSettings)
       (lines : List (NumberedLine (StationLine at.Pressed))) (came : Account) : Type 0 where
     pub to : LiveSession at.Station ConnectionReads ConnectionWrites ℕ
     pub is_over : Bool
-    pub ran : IsLiveText asked.settings.after
-        (WithClosing (StationRunsInTime at timed timed_waits) asked.settings)
+    pub ran : IsLiveText settings.after (WithClosing (StationRunsInTime at timed timed_waits) settings)
         (begun_session (at_connection station no_writes) 0) lines is_over came to
 
 -- such a host whose opening went out carried out the lines, and then awaited what came
@@ -67,7 +67,7 @@ module _ {O : Type 0} (out : Printout O) where
   abbrev pub HasConnectedOn : (at : LiveStation) → at.Station → ConnectAsked → Bool → Type 0
   HasConnectedOn at station asked all_well = (lines : List (NumberedLine (StationLine at.Pressed))) × (text : List ℕ)
       × AreFromScript (station_language at.words) asked.script lines
-      × IsConnected at station asked lines (account all_well text)
+      × IsConnected at station asked.settings lines (account all_well text)
       × IsPrintedOut out text
 
   -- What a session of `connect` came to, by a new station of the terminal that is asked for: one of the profile; or one

@@ -11,26 +11,7 @@ use ws_code::Sink;
 use ws_live::hand_on;
 use ws_printing::BufferedSink;
 use ws_script::{HostPort, RunFault, ToldFault, Unconnected, no_connection};
-use ws_text::{Output, put_text};
-
-/// Listens at an address, tells that it does, and takes one station. No other waits behind it: nobody listens any more.
-///
-/// # Errors
-///
-/// As `listen`, and then as `take_next`.
-pub(crate) fn take_station<R: LiveRuntime, O: Sink>(
-    rt: &R,
-    at: HostPort<'_>,
-    out: &mut BufferedSink<O>,
-) -> Result<TcpStream, ToldFault>
-    requires empty { out.old.held ≡ [] }
-    ensures held { out.new.held ≡ [] }
-    ensures told { OnOk result ((line : List ℕ)
-        × WentOut O.writer out.old.sink out.new.sink line) }
-{
-    let listener = listen(rt, at, out)?;
-    take_next(&listener)
-}
+use ws_text::{Output, Text};
 
 /// Listens at an address, and tells that it does.
 ///
@@ -52,7 +33,11 @@ pub(crate) fn listen<R: LiveRuntime, O: Sink>(
         Ok(listener) => listener,
         Err(error) => return Err(ToldFault::NoConnection(unbound(error.kind()))),
     };
-    put_listening(rt, &listener, out)?;
+    let address = listener.local_addr().map_err(failed)?;
+    let Ok(line) = format!(in rt.alloc(); "listening {address}\n") else {
+        return Err(ToldFault::Run(RunFault::Memory));
+    };
+    tell(&line.as_str(), out)?;
     Ok(listener)
 }
 
@@ -76,21 +61,18 @@ pub(crate) fn take_next(listener: &TcpListener) -> Result<TcpStream, ToldFault> 
     settled(stream)
 }
 
-fn put_listening<R: AllocGlobal, O: Sink>(
-    rt: &R,
-    listener: &TcpListener,
-    out: &mut BufferedSink<O>,
-) -> Result<(), ToldFault>
+/// Prints a text, and hands it on.
+///
+/// # Errors
+///
+/// `Write` where the sink failed.
+pub(crate) fn tell<T: Text, O: Sink>(text: &T, out: &mut BufferedSink<O>) -> Result<(), ToldFault>
     requires empty { out.old.held ≡ [] }
     ensures held { out.new.held ≡ [] }
-    ensures told { OnOk result ((line : List ℕ)
-        × WentOut O.writer out.old.sink out.new.sink line) }
+    ensures told { OnOk result
+        (WentOut O.writer out.old.sink out.new.sink (T.text text.now)) }
 {
-    let address = listener.local_addr().map_err(failed)?;
-    let Ok(line) = format!(in rt.alloc(); "listening {address}\n") else {
-        return Err(ToldFault::Run(RunFault::Memory));
-    };
-    let output = put_text(out, Output::Open, line.as_str());
+    let output = text.put_to(out, Output::Open);
     match hand_on(out, output) {
         Output::Open => Ok(()),
         Output::Failed => Err(ToldFault::Run(RunFault::Write)),

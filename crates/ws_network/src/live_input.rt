@@ -1,14 +1,10 @@
 //! The lines of a live session: those of a script, or of standard input one by one.
 ghost use Rattle.std.specs.Prelude.{◌≡◌, ◌⊎◌, [], List, Some, false, IfOk, IfErr, IfSome};
 ghost use Rattle.std.specs.Option.{is_some};
-ghost use Rattle.ws_live.specs.live.ConnectText.{StationRunsInTime};
-ghost use Rattle.ws_live.specs.live.Operating.{live_station};
 ghost use Rattle.ws_live.specs.live.Watches.{InTime};
 ghost use Rattle.ws_network.specs.InputLines.{IsInputFault, IsNextLine};
-ghost use Rattle.ws_network.specs.SessionPrinting.{AreScripted, AreUnnumbered, TellsWell, session_lines, session_printing};
-ghost use Rattle.ws_network.specs.Times.{timed, timed_waits};
+ghost use Rattle.ws_network.specs.SessionPrinting.{AreScripted, AreUnnumbered, session_lines, session_printing};
 ghost use Rattle.ws_script.specs.declared.lines.live_line.NumberedLine.{NumberedLine as ANumbered};
-ghost use Rattle.ws_script.specs.declared.lines.connect_line.StationLine.{StationLine as ALine};
 ghost use Rattle.ws_text.specs.Printed.{IsPrinted};
 
 use crate::connecting::host_text;
@@ -38,45 +34,12 @@ pub(crate) type TimedSession<'a, E, R> = LiveSession<
     TimedWatch<'a, R>,
 >;
 
-/// Carries out the lines of a script at a station, or without one those of standard input: true where all went well.
+/// Carries out the lines of a script, or without one those of standard input.
 ///
 /// # Errors
 ///
 /// As `carry_line`. Without a script also `Read` where standard input can't be read, `Line` where a line of it is bad,
 /// unless the session tells when it is ready, and `Memory` where a growth was refused in reading it.
-pub(crate) fn carry_at_station<E, R, O>(
-    rt: &R,
-    session: &mut TimedSession<'_, E, R>,
-    script: Option<&[NumberedLine<StationLine<E::Named>>]>,
-    vocabulary: Vocabulary,
-    settings: LineSettings,
-    out: &mut BufferedSink<O>,
-) -> Result<bool, ToldFault>
-where
-    E: LiveStation,
-    E::Named: NamedKey,
-    R: LiveRuntime,
-    O: Sink,
-    requires works { session.old.attached.broken ≡ false }
-    requires empty { out.old.held ≡ [] }
-    ensures printed { (lines : List (ANumbered (ALine E.Named)))
-        × AreScripted script.entry lines
-        × IsPrinted O.writer out.old.sink out.new.sink (session_printing (session_lines
-        (StationRunsInTime
-        (live_station E.behaviour E.keyed E.typing E.seen E.Display.does.shown
-        E.Display.operated E.Named.words) timed timed_waits) settings
-        session.old lines session.new)
-        (is_some script.entry) TellsWell) result }
-    ensures held { out.new.held ≡ [] }
-{
-    Ok(carry_session(rt, session, script, vocabulary, settings, out)?.all_well)
-}
-
-/// Carries out the lines of a script, or without one those of standard input.
-///
-/// # Errors
-///
-/// As `carry_at_station`.
 pub(crate) fn carry_session<R, E, S, K, L, W, O>(
     rt: &R,
     session: &mut LiveSession<E, S, K, W>,

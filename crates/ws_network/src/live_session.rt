@@ -16,7 +16,7 @@ ghost use Rattle.ws_network.specs.Sessions.{HasConnected, HasConnectedOn};
 
 use crate::connecting::connect_to;
 use crate::files::{lines_of, read_script_file};
-use crate::live_input::{carry_at_station, tell_connected};
+use crate::live_input::{carry_session, tell_connected};
 use crate::live_runtime::LiveRuntime;
 use crate::recording::{PieceSender, RecordFile, Recording};
 use crate::serving::serve_lines;
@@ -148,9 +148,9 @@ where
     );
     let mut session = LiveSession::new(attached, TimedWatch::new(&timer));
     let lines = lines_of(&script);
-    let outcome = carry_at_station(rt, &mut session, lines, vocabulary, asked.settings, out);
+    let outcome = carry_session(rt, &mut session, lines, vocabulary, asked.settings, out);
     close(rt, &stream, &recording, PieceSender::Host);
-    recording.judge(outcome)
+    Ok(recording.judge(outcome)?.all_well)
 }
 
 // A host for a station, or for some one after another.

@@ -17,7 +17,7 @@ use ws_code::{Sink, WriteSink};
 use ws_live::hand_on;
 use ws_printing::BufferedSink;
 use ws_script::{RunFault, ToldFault, Unconnected};
-use ws_text::{Output, put_hex, put_number, put_text};
+use ws_text::{Hex, Number, Output, Text, texts};
 
 // How many names are tried for a file that isn't there yet.
 const NAMES_TRIED: u32 = 10_000;
@@ -97,7 +97,7 @@ impl<'a, R: Runtime + AllocGlobal + Files<File = File>> Recording<'a, R> {
     ///
     /// `Write` where the file couldn't be written, whatever the session came to; `Connection` in place of `Read` where the
     /// other side has reset the connection; else the fault that it came to.
-    pub(crate) fn judge(&self, outcome: Result<bool, ToldFault>) -> Result<bool, ToldFault>
+    pub(crate) fn judge<T: Copy>(&self, outcome: Result<T, ToldFault>) -> Result<T, ToldFault>
         ensures { (result ≡ outcome) ⊎ IsErrAnd result (λ fault.
             (fault ≡ told.Run run.Write) ⊎ (outcome ≡ Err (told.Run run.Read))) }
     {
@@ -177,10 +177,8 @@ fn put_piece<O: Sink>(
     ensures { Prints O.writer out.old out.new output result
         (Spec.piece_line milliseconds sender bytes.now) }
 {
-    let output = put_number(out, output, milliseconds);
-    let output = put_text(out, output, sender_word(sender));
-    let output = put_hex(out, output, bytes);
-    put_text(out, output, "\n")
+    let sender = sender_word(sender);
+    texts!(Number(milliseconds), sender, Hex(bytes), "\n").put_to(out, output)
 }
 
 fn sender_word(sender: PieceSender) -> &'static str

@@ -46,7 +46,7 @@ pub(crate) trait ServedLine: HostedLine {
     ///
     /// # Errors
     ///
-    /// As `carry_at_station`; behind the lines as `carry_on`.
+    /// As `carry_session`; behind the lines as `carry_on`.
     fn carry_at_host<R: LiveRuntime, O: Sink>(
         rt: &R,
         session: &mut TimedSession<'_, Self::Host, R>,

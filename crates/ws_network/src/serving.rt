@@ -3,9 +3,8 @@ ghost use Rattle.std.specs.Prelude.{◌≡◌, ◌++◌, [], ℕ, List, Some, If
 ghost use Rattle.std.specs.Option.{is_none};
 ghost use Rattle.ws_code.specs.Device.{WentOut};
 ghost use Rattle.ws_network.specs.SessionPrinting.{AreScripted};
-ghost use Rattle.ws_network.specs.ManySessions.{AreMany, HasServedBy, number_line, session_line};
+ghost use Rattle.ws_network.specs.ManySessions.{AreMany, HasServedBy, session_line};
 ghost use Rattle.ws_network.specs.Sessions.{IsServed};
-ghost use Rattle.ws_text.specs.Printing.{Prints};
 ghost use Rattle.ws_live.specs.live.LiveText.{account};
 ghost use Rattle.ws_printing.specs.Printouts.{printout};
 ghost use Rattle.ws_script.specs.asked.OpenStreams.{missing};
@@ -13,7 +12,7 @@ ghost use Rattle.ws_script.specs.declared.asked.fault.RunFault.{RunFault as AFau
 ghost use Rattle.ws_script.specs.declared.lines.live_line.NumberedLine.{NumberedLine as ANumbered};
 
 use crate::files::{lines_of, read_script_file};
-use crate::listening::{listen, take_next, take_station};
+use crate::listening::{listen, take_next, tell};
 use crate::live_runtime::LiveRuntime;
 use crate::recording::{PieceSender, RecordFile, Recording};
 use crate::served_line::ServedLine;
@@ -23,11 +22,11 @@ use crate::timer::{TimedWatch, Timer};
 use std::net::TcpStream;
 use std::time::Duration;
 use ws_code::{Sink, write_whole};
-use ws_live::{LiveSession, ServeAsked, hand_on};
+use ws_live::{LiveSession, ServeAsked};
 use ws_printing::BufferedSink;
-use ws_script::{NumberedLine, OpenStreams, RunFault, ToldFault};
+use ws_script::{NumberedLine, OpenStreams, ToldFault};
 use ws_session::Attached;
-use ws_text::{Output, put_number, put_text};
+use ws_text::{Number, texts};
 
 /// Serves one station, or as many as are asked for one after another: true where all went well.
 ///
@@ -73,7 +72,8 @@ fn serve_one<R: LiveRuntime, L: ServedLine, O: Sink>(
         × IsServed L.served asked.now lines (account all_well text)
         × WentOut O.writer out.old.sink out.new.sink (first ++ text)) }
 {
-    let stream = take_station(rt, asked.address, out)?;
+    // No other waits behind it: nobody listens any more.
+    let stream = take_next(&listen(rt, asked.address, out)?)?;
     serve(rt, asked, &stream, file, script, out)
 }
 
@@ -142,17 +142,6 @@ fn put_session<O: Sink>(before: u32, out: &mut BufferedSink<O>) -> Result<(), To
     if before == 0 {
         return Ok(());
     }
-    let output = put_number_line(out, Output::Open, u64::from(before) + 1);
-    match hand_on(out, output) {
-        Output::Open => Ok(()),
-        Output::Failed => Err(ToldFault::Run(RunFault::Write)),
-    }
-}
-
-fn put_number_line<O: Sink>(out: &mut O, output: Output, number: u64) -> Output
-    ensures { Prints O.writer out.old out.new output result (number_line number) }
-{
-    let output = put_text(out, output, "session ");
-    let output = put_number(out, output, number);
-    put_text(out, output, "\n")
+    let number = Number(u64::from(before) + 1);
+    tell(&texts!("session ", number, "\n"), out)
 }

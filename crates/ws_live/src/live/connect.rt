@@ -42,10 +42,7 @@ where
             watch,
         } = session;
         match self {
-            StationLine::Nothing => Carried {
-                output,
-                outcome: Ok(Closing::Nothing),
-            },
+            StationLine::Nothing => Carried::new(output, Ok(Closing::Nothing)),
             StationLine::Press(keys) => {
                 *ahead = 0;
                 press_keys(attached, keys.as_slice(), telling.line, out, output)
@@ -151,16 +148,10 @@ where
         output = carried.output;
         match carried.outcome {
             Ok(next) => closing = closing_of_both(closing, next),
-            Err(fault) => return Carried {
-                output,
-                outcome: Err(fault),
-            },
+            Err(fault) => return Carried::new(output, Err(fault)),
         }
     }
-    Carried {
-        output,
-        outcome: Ok(closing),
-    }
+    Carried::new(output, Ok(closing))
 }
 
 // How keys close that close so, and one behind them.

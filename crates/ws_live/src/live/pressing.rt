@@ -128,10 +128,7 @@ pub(crate) fn put_pressed<O: Sink>(
         (Spec.pressed_text line pressed) }
 {
     let Err(untaken) = pressed else {
-        return Carried {
-            output,
-            outcome: Ok(Closing::Done),
-        };
+        return Carried::new(output, Ok(Closing::Done));
     };
     match untaken {
         Untaken::Refused { entered, why } => Carried {
@@ -142,10 +139,7 @@ pub(crate) fn put_pressed<O: Sink>(
             output: texts!("field refused NoSuchField", ByLine(line), "\n").put_to(out, output),
             outcome: Ok(Closing::Declined),
         },
-        Untaken::Unwritten(fault) => Carried {
-            output,
-            outcome: Err(fault),
-        },
+        Untaken::Unwritten(fault) => Carried::new(output, Err(fault)),
     }
 }
 

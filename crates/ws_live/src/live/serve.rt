@@ -1,23 +1,23 @@
 //! The lines of a script, carried out at a host; and what is told behind them.
-ghost use Rattle.std.specs.Prelude.{◌≡◌, [], false, List, ℕ, None, IfOk};
+ghost use Rattle.std.specs.Prelude.{◌≡◌, [], false, None};
 ghost use Rattle.ws_live.specs.live.ServeText as Spec;
 ghost use Rattle.ws_live.specs.live.CarryingOn.{carrying_on};
-ghost use Rattle.ws_live.specs.live.LiveText.{line_result, stops, telling_by};
+ghost use Rattle.ws_live.specs.live.LiveText.{telling_by};
 ghost use Rattle.ws_live.specs.live.Watches.{watched_devices};
 ghost use Rattle.ws_script.specs.declared.lines.serve_line.HostLine.TheVariants.{Await};
 ghost use Rattle.ws_text.specs.Printed.{IsPrinted};
-ghost use Rattle.ws_text.specs.Printing.{Prints};
+ghost use Rattle.ws_printing.specs.ToldLines.{told_text};
 ghost use Rattle.ws_code.specs.Device.{on_devices};
 
 use crate::live::carried_wire::carry_wire;
-use crate::live::host_closing::{put_given, put_unheard};
+use crate::live::host_closing::{HeardEnd, hear_one, hear_until, put_given};
 use crate::live::repeated::carry_on;
 use crate::live::watch::{WaitSpan, Watch};
 use crate::live::{Carried, Closing, LiveMove, LiveSession, Telling, put_bad};
 use ws_code::{Fault, Sink, Source};
 use ws_printing::{BufferedSink, Look, Paint, put_screen, put_told};
 use ws_script::{AnswerAwaited, HostLine};
-use ws_session::{Attached, HostEnd, HostEvent};
+use ws_session::{HostEnd, HostEvent};
 use ws_text::Output;
 
 impl<S: Source, K: Sink> LiveMove<HostEnd, S, K> for HostLine {
@@ -34,10 +34,7 @@ impl<S: Source, K: Sink> LiveMove<HostEnd, S, K> for HostLine {
         output: Output,
     ) -> Carried {
         match self {
-            HostLine::Nothing => Carried {
-                output,
-                outcome: Ok(Closing::Nothing),
-            },
+            HostLine::Nothing => Carried::new(output, Ok(Closing::Nothing)),
             HostLine::Give(order) => {
                 let given = session.attached.act(order);
                 put_given(out, output, telling.line, given)
@@ -46,110 +43,46 @@ impl<S: Source, K: Sink> LiveMove<HostEnd, S, K> for HostLine {
                 session
                     .watch
                     .begin(session.attached.source(), WaitSpan::Whole);
-                hear_event(&mut session.attached, &session.watch, out, output)
+                hear_one(&mut session.attached, &session.watch, out, output).0
             }
             HostLine::AwaitAnswer(awaited) => {
                 let source = session.attached.source();
                 session.watch.begin(source, WaitSpan::Whole);
-                hear_answer(&mut session.attached, &session.watch, awaited, out, output)
+                hear_until(&mut session.attached, &session.watch, awaited, out, output)
             }
-            HostLine::Show => Carried {
-                output: put_screen(
-                    out,
-                    output,
-                    Look::on_037(Paint::Plain),
-                    session.attached.end().screen(),
-                ),
-                outcome: Ok(Closing::Done),
-            },
-            HostLine::Wire(line) => Carried {
-                output,
-                outcome: carry_wire(&mut session.attached, &mut session.watch, line),
-            },
+            HostLine::Show => {
+                let look = Look::on_037(Paint::Plain);
+                let output = put_screen(out, output, look, session.attached.end().screen());
+                Carried::new(output, Ok(Closing::Done))
+            }
+            HostLine::Wire(line) => {
+                let outcome = carry_wire(&mut session.attached, &mut session.watch, line);
+                Carried::new(output, outcome)
+            }
             HostLine::Bad(cause) => put_bad(out, output, cause.as_str()),
         }
     }
 }
 
-// Takes what the station sends up to the first thing that the host end tells, and prints it.
-fn hear_event<S: Source, K: Sink, W: Watch<S>, O: Sink>(
-    attached: &mut Attached<HostEnd, S, K>,
-    watch: &W,
-    out: &mut O,
-    output: Output,
-) -> Carried
-    requires works { attached.old.broken ≡ false }
-    ensures heard { (text : List ℕ) × Spec.HostHearsOne
-        (watched_devices (on_devices K.writer S.reader) W.tells)
-        attached.old (line_result result.outcome text) attached.new
-        × Prints O.writer out.old out.new output result.output text }
-    ensures works { IfOk result.outcome (λ closing.
-        stops closing ≡ false → attached.new.broken ≡ false) }
-{
-    match attached.hear() {
-        Ok(Some(event)) => Carried {
-            output: put_told(out, output, &event),
-            outcome: Ok(Closing::Done),
-        },
-        Ok(None) => Carried {
-            output,
-            outcome: Ok(Closing::Ended),
-        },
-        Err(fault) => put_unheard(watch, attached.source(), out, output, fault),
-    }
-}
+impl HeardEnd for HostEnd {
+    type Awaited = AnswerAwaited;
 
-// Takes what the station sends up to the answer that is awaited, and prints what the host end tells.
-fn hear_answer<S: Source, K: Sink, W: Watch<S>, O: Sink>(
-    attached: &mut Attached<HostEnd, S, K>,
-    watch: &W,
-    awaited: &AnswerAwaited,
-    out: &mut O,
-    output: Output,
-) -> Carried
-    requires works { attached.old.broken ≡ false }
-    ensures heard { (text : List ℕ) × Spec.HearsAnswer
-        (watched_devices (on_devices K.writer S.reader) W.tells)
-        awaited.now attached.old (line_result result.outcome text) attached.new
-        × Prints O.writer out.old out.new output result.output text }
-    ensures works { IfOk result.outcome (λ closing.
-        stops closing ≡ false → attached.new.broken ≡ false) }
-{
-    let mut output = output;
-    for _ in 0..4_294_967_296u64 {
-        match attached.hear() {
-            Ok(Some(event)) => {
-                output = put_told(out, output, &event);
-                if is_awaited(awaited, &event) {
-                    return Carried {
-                        output,
-                        outcome: Ok(Closing::Done),
-                    };
-                }
-            }
-            Ok(None) => return Carried {
-                output,
-                outcome: Ok(Closing::Ended),
+    ghost prints = { told_text };
+
+    ghost meets = { Spec.is_awaited };
+
+    fn put_told<O: Sink>(out: &mut O, output: Output, told: &HostEvent) -> Output {
+        put_told(out, output, told)
+    }
+
+    fn is_awaited(awaited: &AnswerAwaited, told: &HostEvent) -> bool {
+        match told {
+            HostEvent::Answer(answer) => match awaited {
+                AnswerAwaited::Any => true,
+                AnswerAwaited::By(aid) => answer.aid == *aid,
             },
-            Err(fault) => return put_unheard(watch, attached.source(), out, output, fault),
+            _ => false,
         }
-    }
-    Carried {
-        output,
-        outcome: Err(Fault::Read),
-    }
-}
-
-// Whether the host end tells the answer that is awaited.
-fn is_awaited(awaited: &AnswerAwaited, event: &HostEvent) -> bool
-    ensures { result ≡ Spec.is_awaited awaited.now event.now }
-{
-    match event {
-        HostEvent::Answer(answer) => match awaited {
-            AnswerAwaited::Any => true,
-            AnswerAwaited::By(aid) => answer.aid == *aid,
-        },
-        _ => false,
     }
 }
 

@@ -281,18 +281,9 @@ pub(crate) fn put_waited<O: Sink>(out: &mut O, wait: Wait) -> Carried
 {
     let output = wait.output;
     match wait.waited {
-        Waited::Met => Carried {
-            output,
-            outcome: Ok(closing_by(wait.well)),
-        },
-        Waited::Late => Carried {
-            output,
-            outcome: Ok(Closing::Late),
-        },
-        Waited::Ended => Carried {
-            output,
-            outcome: Ok(Closing::Ended),
-        },
+        Waited::Met => Carried::new(output, Ok(closing_by(wait.well))),
+        Waited::Late => Carried::new(output, Ok(Closing::Late)),
+        Waited::Ended => Carried::new(output, Ok(Closing::Ended)),
         Waited::Failed(Fault::Refused { place, reason }) => {
             let output = put_event(out, output, &Event::StationRefused { place, reason });
             Carried {
@@ -300,10 +291,7 @@ pub(crate) fn put_waited<O: Sink>(out: &mut O, wait: Wait) -> Carried
                 outcome: Ok(Closing::Stopped),
             }
         }
-        Waited::Failed(fault) => Carried {
-            output,
-            outcome: Err(fault),
-        },
+        Waited::Failed(fault) => Carried::new(output, Err(fault)),
     }
 }
 

@@ -3,7 +3,6 @@ use Rattle.std.specs.Option.{is_none, is_some}
 use Rattle.std.specs.Prelude.{Option, None, Some, MatchOption}
 use Rattle.std.proofs.Common.{◌≡◌, ℕ, List, true, sym, subst, ◌∙◌}
 use Rattle.std.proofs.lemmas.Bool.{false≢true}
-use Rattle.std.proofs.lemmas.Result.{IfOk-weaker}
 use Rattle.ws_script.specs.declared.lines.live_line.NumberedLine.{NumberedLine}
 use Rattle.ws_script.specs.lines.ConnectLines.{station_language}
 use Rattle.ws_script.specs.lines.LiveScript.{AreLiveLines, LineLanguage}
@@ -12,7 +11,7 @@ use Rattle.ws_live.specs.live.Operating.{live_station}
 use Rattle.ws_network.specs.SessionPrinting.{AreScripted}
 use Rattle.ws_network.specs.Sessions.{AreFromScript}
 use Rattle.ws_network.specs.Times.{timed, timed_waits}
-use Rattle.ws_network.proofs.SessionPrinted.{connected_well, judged}
+use Rattle.ws_network.proofs.SessionPrinted.{connected_well, was_good}
 use Rattle.ws_network.proofs.live_session.connect_on.Goals as goal
 
 -- the lines of a session are those of the file that is named
@@ -41,21 +40,19 @@ pub returns-clause-ran : goal.returns-clause-ran
 returns-clause-ran g c =
     let at = live_station g.E.End.behaviour g.E.Keyed.keyed g.E.LiveStation.typing g.E.LiveStation.seen
     g.E.Display.StationDisplay.does.shown g.E.Display.OperatedDisplay.operated g.E.Named.NamedKey.words in
-    let carried = c.carry_at_station-outcome in
+    let carried = c.carry_session-outcome in
+    let ran = rw (was_good c.in_ok-judge.ensures) at carried.ensures.printed in
     let lines = c.lines_of-lines in
-    judged _ _ carried.result _ (IfOk-weaker carried.result _ _ (λ all_well ran. (
+    let fresh = rw (c.new-attached.ensures, c.new-2.ensures, c.new-3.ensures, c.new-4.ensures) at c.new-session.ensures
+    in
+    let came = connected_well (StationRunsInTime at timed timed_waits) c.args.asked.now.settings g.O.Sink.writer ran.0
+    carried.new.session (is_some lines.result) c.args.out.now.sink carried.new.out.sink _ _ c.in_ok-judge.field-0 fresh
+    ran.2 in (
       ran.0,
-      ran.1,
+      came.0,
       from_script (λ v. v.items) (station_language g.E.Named.NamedKey.words) c.args.asked.now.script
           c.in_ok-script.script lines.result ran.0 c.in_ok-script.ensures.lines c.in_ok-script.ensures.named
-          lines.ensures ran.2,
-      record {
-        to = carried.new.session;
-        is_over = ran.3.0;
-        ran = rw (c.new-session.ensures, c.new-attached.ensures, c.new-2.ensures, c.new-3.ensures, c.new-4.ensures)
-            at ran.3.1;
-      },
-      ran.4,
-    )) (connected_well (StationRunsInTime at timed timed_waits) c.args.asked.now.settings g.O.Sink.writer
-    c.new-session.result carried.new.session (is_some lines.result) c.args.out.now.sink carried.new.out.sink
-    (AreScripted lines.result) carried.result carried.ensures.printed)) c.judge.ensures
+          lines.ensures ran.1,
+      record { to = carried.new.session; is_over = came.1.0; ran = came.1.1 },
+      came.2,
+    )

@@ -12,7 +12,8 @@ pub returns-in-Err-clause-runs : goal.returns-in-Err-clause-runs
 returns-in-Err-clause-runs g c =
     let so_far = c.loop-key.invariant in
     let one = c.press_key.result in
-    let is = sym c.put_pressed-carried.ensures.outcome ∙ c.in-Err.is in (
+    let is = sym c.put_pressed-carried.ensures.outcome ∙ c.in-Err.is in
+    rw (c.new.ensures.0, c.new.ensures.1) (
       so_far.0 ++ pressed_text c.args.line one,
       so_far.2 _ _ (rw (left_at _ _ _ c.loop-key-test.true c.key-item.is)
           (one, c.press_key.new.attached, c.press_key.ensures.comes, rw is (refl, refl))),

@@ -5,7 +5,8 @@ use Rattle.ws_live.proofs.live.connect.StationLineNamedLiveMove.carry_out.Goals 
 
 pub returns-in-Nothing-clause-runs : goal.returns-in-Nothing-clause-runs
 returns-in-Nothing-clause-runs g c =
-    rw c.in-Nothing.is ([], (refl, refl, refl), prints_none g.O.Sink.writer c.args.out.now c.args.output)
+    rw (c.in-Nothing.is, c.new.ensures.0, c.new.ensures.1)
+    ([], (refl, refl, refl), prints_none g.O.Sink.writer c.args.out.now c.args.output)
 
 pub returns-in-Await-clause-runs : goal.returns-in-Await-clause-runs
 returns-in-Await-clause-runs g c =
