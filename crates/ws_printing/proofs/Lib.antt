@@ -1,5 +1,6 @@
 pub mod Buffers
 pub mod CheckLemmas
+pub mod ColoredCells
 pub mod Common
 pub mod LastBlanks
 pub mod LiveDisplays

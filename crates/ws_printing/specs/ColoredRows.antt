@@ -12,6 +12,10 @@ use Rattle.ws_screen.specs.declared.style.Style.{Style}
 abbrev pub sequence : List ℕ → List ℕ
 sequence selected = 0x1B ∷ codes "[" ++ selected ++ codes "m"
 
+-- back to how the terminal shows a text by itself
+abbrev pub reset : List ℕ
+reset = sequence (codes "0")
+
 -- a colour's codes; white is the terminal's white in high intensity
 abbrev pub color_codes : Color → List ℕ
 color_codes Green = codes "32"
@@ -27,16 +31,18 @@ abbrev pub style_codes : Style → List ℕ
 style_codes style = color_codes style.color ++ (if style.is_reversed then codes ";7" else [])
     ++ (if style.is_underscored then codes ";4" else []) ++ (if style.is_blinking then codes ";5" else [])
 
+-- an attribute's sequence begins with the reset, so that nothing of the one before stays on
+abbrev pub attribute_sequence : ℕ → List ℕ
+attribute_sequence attribute = sequence (codes "0;" ++ style_codes (style_of attribute))
+
 -- whether the attribute of the cell before, where there is one, is this one
 abbrev pub is_same : Option ℕ → ℕ → Bool
 is_same None attribute = false
 is_same (Some before) attribute = before == attribute
 
--- the sequence before a cell: none after a cell of the same attribute. It begins with the reset, so that nothing of the
--- one before stays on.
+-- the sequence before a cell: none after a cell of the same attribute
 abbrev pub sequence_behind : Option ℕ → ℕ → List ℕ
-sequence_behind before attribute =
-    if is_same before attribute then [] else sequence (codes "0;" ++ style_codes (style_of attribute))
+sequence_behind before attribute = if is_same before attribute then [] else attribute_sequence attribute
 
 -- what is printed of cells after a cell of an attribute, or after none: for each of them the sequence where its
 -- attribute is another, then its character
@@ -45,6 +51,6 @@ colored_behind before [] = []
 colored_behind before (cell ∷ cells) = sequence_behind before cell.attribute ++ encode_utf8 cell.character
     ++ colored_behind (Some cell.attribute) cells
 
--- what is printed of the cells of a row, and the reset after the last: the terminal shows a text as by itself
+-- what is printed of the cells of a row, and the reset after the last
 abbrev pub colored_text : List Shown → List ℕ
-colored_text cells = colored_behind None cells ++ sequence (codes "0")
+colored_text cells = colored_behind None cells ++ reset

@@ -1,70 +1,45 @@
 //! Cells in colour: their characters, with sequences that tell a terminal how to show them (ECMA-48, SGR).
-ghost use Rattle.std.specs.Prelude.{◌≡◌, encode_utf8, if◌then◌else◌, []};
+ghost use Rattle.std.specs.Prelude.{◌≡◌, ◌++◌, codes, encode_utf8, if◌then◌else◌, []};
 ghost use Rattle.ws_printing.specs.ColoredRows as Spec;
-ghost use Rattle.ws_printing.specs.ScreenLines.{painted};
 ghost use Rattle.ws_text.specs.Printing.{Prints};
 
-use crate::characters::Characters;
-use crate::paint::Paint;
 use ws_code::Sink;
-use ws_screen::{Attribute, Color, Shown};
+use ws_screen::{Attribute, Color, Shown, Style};
 use ws_text::{Character, Output, Text, texts};
 
-/// Writes the characters of cells, in colour before each whose attribute isn't that of the cell before it the
-/// attribute's sequence, and after the last the reset.
-pub fn put_painted<S: Sink>(sink: &mut S, output: Output, paint: Paint, cells: &[Shown]) -> Output
-    ensures { Prints S.writer sink.old sink.new output result (painted paint cells.now) }
-{
-    match paint {
-        Paint::Plain => Characters(cells).put_to(sink, output),
-        Paint::Color => {
-            let output = put_cells(sink, output, None, cells);
-            "\x1b[0m".put_to(sink, output)
+/// The characters of cells, and before each whose attribute isn't that of the cell before it the attribute's sequence;
+/// after the last the reset.
+#[derive(Clone, Copy)]
+pub struct ColoredCells<'a>(pub &'a [Shown]);
+
+impl Text for ColoredCells<'_> {
+    ghost text = { λ c. Spec.colored_text c.0.now };
+
+    fn put_to<S: Sink>(&self, sink: &mut S, output: Output) -> Output {
+        let mut output = output;
+        let mut before = None;
+        for cell in self.0 {
+            let sequence = AttributeSequence(before, cell.attribute);
+            output = texts!(sequence, Character(cell.character)).put_to(sink, output);
+            before = Some(cell.attribute);
         }
+        "\x1b[0m".put_to(sink, output)
     }
 }
 
-// Writes cells after a cell of an attribute, or after none.
-fn put_cells<S: Sink>(
-    sink: &mut S,
-    output: Output,
-    before: Option<Attribute>,
-    cells: &[Shown],
-) -> Output
-    ensures { Prints S.writer sink.old sink.new output result
-        (Spec.colored_behind before cells.now) }
-{
-    let Some((cell, behind)) = cells.split_first() else {
-        return output;
-    };
-    let output = put_sequence(sink, output, before, cell.attribute);
-    let output = put_char(sink, output, cell.character);
-    put_cells(sink, output, Some(cell.attribute), behind)
-}
+// An attribute's sequence, where the one before is another.
+#[derive(Clone, Copy)]
+struct AttributeSequence(Option<Attribute>, Attribute);
 
-// Writes an attribute's sequence, where the one before is another: whatever was shown before, and then what it shows.
-fn put_sequence<S: Sink>(
-    sink: &mut S,
-    output: Output,
-    before: Option<Attribute>,
-    attribute: Attribute,
-) -> Output
-    ensures { Prints S.writer sink.old sink.new output result
-        (Spec.sequence_behind before attribute) }
-{
-    if is_same(before, attribute) {
-        return output;
+impl Text for AttributeSequence {
+    ghost text = { λ c. Spec.sequence_behind c.0 c.1 };
+
+    fn put_to<S: Sink>(&self, sink: &mut S, output: Output) -> Output {
+        if is_same(self.0, self.1) {
+            return output;
+        }
+        put_style(sink, output, self.1.color())
     }
-    let style = attribute.color();
-    texts!(
-        "\x1b[0;",
-        color_codes(style.color),
-        code_if(style.is_reversed, ";7"),
-        code_if(style.is_underscored, ";4"),
-        code_if(style.is_blinking, ";5"),
-        "m"
-    )
-    .put_to(sink, output)
 }
 
 // Whether the attribute before is this one.
@@ -75,6 +50,22 @@ fn is_same(before: Option<Attribute>, attribute: Attribute) -> bool
         Some(before) => before.byte() == attribute.byte(),
         None => false,
     }
+}
+
+// Writes a style's sequence: whatever was shown before, and then what the style shows.
+fn put_style<S: Sink>(sink: &mut S, output: Output, style: Style) -> Output
+    ensures { Prints S.writer sink.old sink.new output result
+        (Spec.sequence (codes "0;" ++ Spec.style_codes style)) }
+{
+    texts!(
+        "\x1b[0;",
+        color_codes(style.color),
+        code_if(style.is_reversed, ";7"),
+        code_if(style.is_underscored, ";4"),
+        code_if(style.is_blinking, ";5"),
+        "m"
+    )
+    .put_to(sink, output)
 }
 
 fn color_codes(color: Color) -> &'static str

@@ -1,15 +1,17 @@
 //! The lines of a screen.
 ghost use Rattle.std.specs.Prelude.{◌≡◌, ◌≤◌, List, ℕ};
+ghost use Rattle.ws_code.specs.declared.address.TheConstants.{ROWS as ALL_ROWS};
 ghost use Rattle.ws_printing.specs.ScreenLines as Spec;
 ghost use Rattle.ws_text.specs.Printing.{Prints};
 
-use crate::characters::without_last_blanks;
-use crate::colored_cells::put_painted;
+use crate::characters::{Characters, without_last_blanks};
+use crate::colored_cells::ColoredCells;
 use crate::look::Look;
 use crate::operated_display::OperatedDisplay;
+use crate::paint::Paint;
 use crate::shown_on_page::row_on;
 use ws_code::{ROWS, Sink};
-use ws_screen::Screen;
+use ws_screen::{Screen, Shown};
 use ws_text::{Cell, Number, Output, Text, texts};
 
 /// Writes the lines of a screen.
@@ -45,23 +47,24 @@ impl Text for ScreenLines<'_> {
     ghost text = { λ l. Spec.screen_text l.0 l.1.now };
 
     fn put_to<S: Sink>(&self, sink: &mut S, output: Output) -> Output {
-        let output = "screen\n".put_to(sink, output);
-        let output = put_rows(sink, output, self.0, self.1, ROWS);
-        put_state(sink, output, self.1)
+        texts!("screen\n", Rows(self.0, self.1), StateLine(self.1)).put_to(sink, output)
     }
 }
 
-// Writes the lines of the first rows, so many.
-fn put_rows<S: Sink>(sink: &mut S, output: Output, look: Look, screen: &Screen, rows: u8) -> Output
-    requires { rows ≤ ROWS }
-    ensures { Prints S.writer sink.old sink.new output result
-        (Spec.rows_text look screen.now.cells rows) }
-{
-    if rows == 0 {
-        return output;
+// The lines of all rows.
+#[derive(Clone, Copy)]
+struct Rows<'a>(Look, &'a Screen);
+
+impl Text for Rows<'_> {
+    ghost text = { λ r. Spec.rows_text r.0 r.1.now.cells ALL_ROWS };
+
+    fn put_to<S: Sink>(&self, sink: &mut S, output: Output) -> Output {
+        let mut output = output;
+        for row in 1..=ROWS {
+            output = put_row(sink, output, self.0, self.1, row);
+        }
+        output
     }
-    let output = put_rows(sink, output, look, screen, rows - 1);
-    put_row(sink, output, look, screen, rows)
 }
 
 // Writes a row's line, if it isn't all blank.
@@ -76,9 +79,14 @@ fn put_row<S: Sink>(sink: &mut S, output: Output, look: Look, screen: &Screen, r
     if shown.is_empty() {
         return output;
     }
-    let output = texts!(indent(row), Number(row as u64), " ").put_to(sink, output);
-    let output = put_painted(sink, output, look.paint, shown);
-    "\n".put_to(sink, output)
+    texts!(
+        indent(row),
+        Number(row as u64),
+        " ",
+        Painted(look.paint, shown),
+        "\n"
+    )
+    .put_to(sink, output)
 }
 
 // What stands before a row's number.
@@ -88,24 +96,45 @@ fn indent(row: u8) -> &'static str
     if row < 10 { " " } else { "" }
 }
 
-// Writes the cursor, the keyboard's lock, message light and blinking cursor, and the number of fields.
-fn put_state<S: Sink>(sink: &mut S, output: Output, screen: &Screen) -> Output
-    ensures { Prints S.writer sink.old sink.new output result (Spec.state_line screen.now) }
-{
-    texts!(
-        "cursor ",
-        Cell(screen.cursor()),
-        ", ",
-        lock_name(screen.locked()),
-        ", message ",
-        on_or_off(screen.message()),
-        ", blink ",
-        on_or_off(screen.blink()),
-        ", fields ",
-        Number(screen.field_count() as u64),
-        "\n"
-    )
-    .put_to(sink, output)
+// What is printed of cells.
+#[derive(Clone, Copy)]
+struct Painted<'a>(Paint, &'a [Shown]);
+
+impl Text for Painted<'_> {
+    ghost text = { λ p. Spec.painted p.0 p.1.now };
+
+    fn put_to<S: Sink>(&self, sink: &mut S, output: Output) -> Output {
+        match self.0 {
+            Paint::Plain => Characters(self.1).put_to(sink, output),
+            Paint::Color => ColoredCells(self.1).put_to(sink, output),
+        }
+    }
+}
+
+// The cursor, the keyboard's lock, message light and blinking cursor, and the number of fields.
+#[derive(Clone, Copy)]
+struct StateLine<'a>(&'a Screen);
+
+impl Text for StateLine<'_> {
+    ghost text = { λ s. Spec.state_line s.0.now };
+
+    fn put_to<S: Sink>(&self, sink: &mut S, output: Output) -> Output {
+        let screen = self.0;
+        texts!(
+            "cursor ",
+            Cell(screen.cursor()),
+            ", ",
+            lock_name(screen.locked()),
+            ", message ",
+            on_or_off(screen.message()),
+            ", blink ",
+            on_or_off(screen.blink()),
+            ", fields ",
+            Number(screen.field_count() as u64),
+            "\n"
+        )
+        .put_to(sink, output)
+    }
 }
 
 /// How the keyboard is.

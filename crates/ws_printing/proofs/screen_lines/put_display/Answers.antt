@@ -1,4 +1,6 @@
-use Rattle.ws_printing.proofs.Common.{refl, ap, prints_both, prints_same, screen_text}
+use Rattle.std.proofs.Common.{refl, ap}
+use Rattle.ws_text.proofs.Prints.{prints_both, prints_same}
+use Rattle.ws_printing.specs.ScreenLines.{screen_text}
 use Rattle.ws_printing.proofs.screen_lines.put_display.Goals as goal
 
 pub returns : goal.returns
