@@ -74,3 +74,5 @@ pub hex_of_some : (bytes : List ℕ) → (length bytes == 0) ≡ false → codes
     ≡ hex_behind_blank bytes
 hex_of_some [] e = absurd (false≢true (sym e))
 hex_of_some (b ∷ bytes) e = refl
+
+pub ruleset hex_or_none = (prints_same, prints_both, hex_of_none, hex_of_some)

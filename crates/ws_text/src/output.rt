@@ -66,7 +66,7 @@ fn digit(value: u8) -> u8
 }
 
 /// Writes a blank and the bytes in upper case hex, where there are any.
-#[tactic(auto, using(crate::proofs::Prints::prints_same, crate::proofs::Prints::prints_both, crate::proofs::Prints::hex_of_none, crate::proofs::Prints::hex_of_some))]
+#[tactic(auto, using(crate::proofs::Prints::hex_or_none))]
 pub fn put_hex_behind_blank<S: Sink>(sink: &mut S, output: Output, bytes: &[u8]) -> Output
     ensures { Prints S.writer sink.old sink.new output result
         (hex_behind_blank bytes.now) }

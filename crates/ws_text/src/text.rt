@@ -181,6 +181,7 @@ pub struct Character(pub char);
 impl Text for Character {
     ghost text = { λ c. encode_utf8 c.0 };
 
+    #[tactic(auto, using(crate::proofs::Prints::prints_same))]
     fn put_to<S: Sink>(&self, sink: &mut S, output: Output) -> Output {
         put_text(sink, output, self.0.encode_utf8(&mut [0; 4]))
     }
