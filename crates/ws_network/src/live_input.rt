@@ -19,11 +19,11 @@ use std::io::{BufRead, BufReader};
 use std::os::fd::{AsRawFd, RawFd};
 use ws_code::{Sink, Source};
 use ws_live::{
-    AfterUnwell, Closing, ConnectAsked, LineSettings, LiveMove, LiveSession, LiveStation, Ran,
-    Watch, carry_line, carry_lines,
+    AfterUnwell, Closing, ConnectAsked, LineSettings, LiveMove, LiveSession, Ran, Watch,
+    carry_line, carry_lines,
 };
 use ws_printing::BufferedSink;
-use ws_script::{LiveLine, NamedKey, NumberedLine, RunFault, StationLine, ToldFault, Vocabulary};
+use ws_script::{LiveLine, NumberedLine, RunFault, ToldFault, Vocabulary};
 use ws_session::End;
 
 /// A live session over a connection.

@@ -1,5 +1,5 @@
 use Rattle.std.specs.Prelude.{None}
-use Rattle.std.proofs.Common.{◌≡◌, ◌++◌, ◌∷◌, [], true, List, refl, ap, inl, inr, ◌∙◌, false}
+use Rattle.std.proofs.Common.{◌++◌, ◌∷◌, [], true, List, refl, ap, inl, inr, ◌∙◌, false}
 use Rattle.std.proofs.lemmas.Result.{err_from_is_err_and}
 use Rattle.ws_code.proofs.DeviceLaws.{went_out_none}
 use Rattle.ws_script.specs.declared.lines.live_line.NumberedLine.{NumberedLine}
