@@ -126,14 +126,10 @@ module _ {Q : Type 0} (w : KeyWords Q) where
   MeansStationLine line (Bad cause) = ⊥
   MeansStationLine line Meanwhile = ⊥
 
-  -- a line of such a script, which is UTF-8
-  abbrev pub IsStationLine : List ℕ → StationLine Q → Type 0
-  IsStationLine line read = IsUtf8 line × MeansStationLine line read
-
-  -- the lines of such scripts: no line belongs to one before it
+  -- the lines of such scripts, which are UTF-8: no line belongs to one before it
   abbrev pub station_language : LineLanguage (StationLine Q)
   station_language = record {
-    means = λ line inside read. (inside ≡ []) × IsStationLine line read;
+    means = λ line inside read. (inside ≡ []) × IsUtf8 line × MeansStationLine line read;
     begins = λ line. IsUtf8 line × IsTextWait line;
     opener = λ line. ⊥;
     bad_at = λ line inside at. at ≡ 1;

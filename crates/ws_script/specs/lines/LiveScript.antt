@@ -92,13 +92,9 @@ module _ {L : Type 0} (language : LineLanguage L) where
   abbrev pub AreLiveLines : List ℕ → List (NumberedLine L) → Type 0
   AreLiveLines text read = MeanThese 0 (lines text) read []
 
-  -- a line with those that belong to it means nothing
-  abbrev pub IsMeaningless : List ℕ → List (List ℕ) → Type 0
-  IsMeaningless line inside = (read : L) → language.means line inside read → ⊥
-
   -- a line with those that belong to it means nothing, and this one is bad, counted from 1
   abbrev pub IsBadBlock : List ℕ → List (List ℕ) → ℕ → Type 0
-  IsBadBlock line inside at = IsMeaningless line inside × language.bad_at line inside at
+  IsBadBlock line inside at = ((read : L) → language.means line inside read → ⊥) × language.bad_at line inside at
 
   -- the first bad line of a script, counted from 1 as far as 64 bits count: it is one, or belongs to one, that means
   -- nothing

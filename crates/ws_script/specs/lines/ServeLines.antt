@@ -43,10 +43,6 @@ MeansHostLine line Show = line ≡ codes "show"
 MeansHostLine line (Wire wire) = MeansWire line wire
 MeansHostLine line (Bad cause) = ⊥
 
--- a line by itself, which is UTF-8
-abbrev pub IsOneLine : List ℕ → HostLine → Type 0
-IsOneLine line read = IsUtf8 line × MeansHostLine line read
-
 -- the lines that take memory: one that sends a record, up to the record's body, or works on the connection
 abbrev pub IsHostBegun : List ℕ → Type 0
 IsHostBegun line = IsSendLine line ⊎ IsWireBegun line
@@ -67,7 +63,7 @@ SendsInWords line elements read = (number : List ℕ) × (opcode : Opcode) × (r
 
 -- a line of such a script, and the lines of elements after it
 abbrev pub IsHostLine : List ℕ → List (List ℕ) → HostLine → Type 0
-IsHostLine line elements read = ((elements ≡ []) × IsOneLine line read)
+IsHostLine line elements read = ((elements ≡ []) × IsUtf8 line × MeansHostLine line read)
     ⊎ ((elements ≢ []) × SendsInWords line elements read)
 
 -- a line up to what takes memory

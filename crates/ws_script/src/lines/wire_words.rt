@@ -11,7 +11,6 @@ ghost use Rattle.ws_text.specs.Words.{IsHex};
 use crate::lines::wire_line::WireLine;
 use hex::FromHexError;
 use std::alloc::Global;
-use std::slice;
 use ws_code::List;
 use ws_printing::{ScriptFault, split_word};
 use ws_record::{Item, encode};
@@ -108,23 +107,10 @@ fn spelled_alone(alloc: Global, items: &[Item<Element>]) -> Result<List<u8>, Scr
         items.now ≡ TelnetItem telnet ∷ []) (Unit {0})) }
 {
     match items {
-        [item] => spelled(alloc, item),
-        _ => Err(ScriptFault::Line(1)),
-    }
-}
-
-// The bytes of an item, if it is a Telnet command.
-fn spelled(alloc: Global, item: &Item<Element>) -> Result<List<u8>, ScriptFault>
-    ensures bytes { IfOk result (λ bytes. (telnet : ATelnet)
-        × (item.now ≡ TelnetItem telnet) × (bytes ≡ telnet_spelling telnet)) }
-    ensures fault { IfErr result (IsLineFault (λ (telnet : ATelnet).
-        item.now ≡ TelnetItem telnet) (Unit {0})) }
-{
-    match item {
-        Item::Telnet(_) => match encode::<Commands>(alloc, slice::from_ref(item)) {
+        [Item::Telnet(_)] => match encode::<Commands>(alloc, items) {
             Ok(bytes) => Ok(List::of(bytes)),
             Err(_) => Err(ScriptFault::Memory),
         },
-        Item::Record(_) => Err(ScriptFault::Line(1)),
+        _ => Err(ScriptFault::Line(1)),
     }
 }
