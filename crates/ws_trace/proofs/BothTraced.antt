@@ -10,7 +10,8 @@ use Rattle.ws_trace.proofs.Tracings.{one_step, steps_both}
 
 -- Pieces of both ends, one after another.
 
-abbrev pub HostIsAt : TracerParts ExtendedPlace ExtendedElement ExtendedParts → EndAt ExtendedElement ExtendedState → Type 0
+abbrev pub HostIsAt : TracerParts ExtendedPlace ExtendedElement ExtendedParts → EndAt ExtendedElement ExtendedState
+    → Type 0
 HostIsAt = Tracks extended_rules IsMadeDisplay
 
 abbrev pub StationIsAt : TracerParts ExtendedAnswerPlace ExtendedAnswerPart (Unit {0})
@@ -18,7 +19,8 @@ abbrev pub StationIsAt : TracerParts ExtendedAnswerPlace ExtendedAnswerPart (Uni
 StationIsAt = Tracks extended_answer_rules IsMadeNothing
 
 -- these pieces were traced, with these entries
-pub record AreTraced (pieces : List Piece) (entries : List Entry) (host : TracerParts ExtendedPlace ExtendedElement ExtendedParts)
+pub record AreTraced (pieces : List Piece) (entries : List Entry)
+    (host : TracerParts ExtendedPlace ExtendedElement ExtendedParts)
     (station : TracerParts ExtendedAnswerPlace ExtendedAnswerPart (Unit {0})) : Type 0 where
   pub at : BothAt
   pub heard : AreAllHeard both_begin pieces entries at
@@ -26,8 +28,10 @@ pub record AreTraced (pieces : List Piece) (entries : List Entry) (host : Tracer
   pub station_is : StationIsAt station at.station
 
 -- a piece more
-pub traced_more : {pieces : List Piece} {before after : List Entry} {host host' : TracerParts ExtendedPlace ExtendedElement ExtendedParts}
-    {station station' : TracerParts ExtendedAnswerPlace ExtendedAnswerPart (Unit {0})} (t : AreTraced pieces before host station) (piece : Piece) (now : List Entry)
+pub traced_more : {pieces : List Piece} {before after : List Entry}
+    {host host' : TracerParts ExtendedPlace ExtendedElement ExtendedParts}
+    {station station' : TracerParts ExtendedAnswerPlace ExtendedAnswerPart (Unit {0})}
+    (t : AreTraced pieces before host station) (piece : Piece) (now : List Entry)
     (next : BothAt) → IsHeardPiece t.at piece now next → after ≡ before ++ now
     → HostIsAt host' next.host → StationIsAt station' next.station
     → AreTraced (pieces ++ piece ∷ []) after host' station'

@@ -29,7 +29,9 @@ module _ {Place U : Type 0} where
   pub last_whole : (rules : Rules Place U) (bytes : List ℕ) (items : List (Item U)) (item : Item U)
       → (so_far begun : List ℕ) × Holds rules bytes (items ++ item ∷ []) so_far begun → IsWholeItem rules item
   last_whole rules bytes items item h =
-      AllByRecursion-last (IsWholeItem rules) items item (rw h.2.are_items (AllByRecursion-append (IsWholeItem rules) _ (commands h.2.rest) (stretches_whole rules h.2.stretches h.2.each)
+      AllByRecursion-last (IsWholeItem rules) items item
+      (rw h.2.are_items (AllByRecursion-append (IsWholeItem rules) _ (commands h.2.rest)
+      (stretches_whole rules h.2.stretches h.2.each)
       (telnets_whole rules (flat_map command_of h.2.rest))))
 
   passed_whole : (rules : Rules Place U) (token : Token) → IsWholeCame rules (told_of_passed token)

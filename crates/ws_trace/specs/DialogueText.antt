@@ -24,20 +24,20 @@ abbrev pub sent_in : Streams → BothSent
 sent_in streams = record { begun = streams.begun; host = streams.host.now; station = streams.station.now }
 
 -- what is told of an end at a time, by a byte at a place of its stream, in a form
-abbrev pub traced_in : {U : Type 0} → TraceForm → ℕ → TracedEnd → (List U → List ℕ) → ℕ → Told U → List ℕ → List ℕ
-traced_in (Lines heads) time end lines place told stream =
+abbrev pub in_form : {U : Type 0} → TraceForm → ℕ → TracedEnd → (List U → List ℕ) → ℕ → Told U → List ℕ → List ℕ
+in_form (Lines heads) time end lines place told stream =
     entry_head heads time end ++ told_at_text (item_lines lines) place told stream
-traced_in (Objects heads) time end lines place told stream =
+in_form (Objects heads) time end lines place told stream =
     told_object (entry_members heads time end) lines place told stream
 
 -- the same of either end
-abbrev pub end_told_in : TraceForm → BothSent → ℕ → ℕ → EndTold → List ℕ
-end_told_in form sent time place (told_of.Host told) = traced_in form time Host extended_lines place told sent.host
-end_told_in form sent time place (told_of.Station told) = traced_in form time Station told_lines place told sent.station
+abbrev pub end_in_form : TraceForm → BothSent → ℕ → ℕ → EndTold → List ℕ
+end_in_form form sent time place (told_of.Host told) = in_form form time Host extended_lines place told sent.host
+end_in_form form sent time place (told_of.Station told) = in_form form time Station told_lines place told sent.station
 
 -- an entry in a form
 abbrev pub entry_in : TraceForm → BothSent → Entry → List ℕ
-entry_in form sent entry = end_told_in form sent (entry.milliseconds - sent.begun) entry.place entry.told
+entry_in form sent entry = end_in_form form sent (entry.milliseconds - sent.begun) entry.place entry.told
 
 -- an end in a form
 abbrev pub end_in : TraceForm → TracedEnd → EndCount → List Entry → List ℕ

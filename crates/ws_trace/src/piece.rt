@@ -46,11 +46,7 @@ impl Piece {
     }
 }
 
-/// What an end sent: its pieces, one after another.
-///
-/// # Errors
-///
-/// `Memory` where a growth was refused.
+/// What an end sent: its pieces, one after another. `Memory` comes where a growth was refused.
 pub(crate) fn stream_of(alloc: Global, pieces: &[Piece], end: TracedEnd) -> Result<Vec<u8>, Fault>
     ensures ok { IfOk result (λ stream. stream.items ≡ Spec.sent_by_end end pieces.now) }
     ensures fault { IfErr result (λ fault. fault ≡ Fault.Memory) }

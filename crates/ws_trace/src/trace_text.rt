@@ -118,7 +118,7 @@ fn put_told_in<S: Sink, U: Listed>(
     told: &Told<U>,
     stream: &[u8],
 ) -> Output
-    ensures { Prints S.writer sink.old sink.new output result (Forms.traced_in streams.now.form
+    ensures { Prints S.writer sink.old sink.new output result (Forms.in_form streams.now.form
         (entry.now.milliseconds - streams.now.begun) (Spec.sender_of entry.now.told) U.lines_of
         entry.now.place told.now stream.now) }
 {

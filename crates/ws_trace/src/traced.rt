@@ -39,11 +39,7 @@ pub(crate) trait Traced: Body {
     fn before_any() -> Self::Made
         ensures { is_made tracing.first result };
 
-    /// Carries out an item. Where that can't be, nothing comes of it.
-    ///
-    /// # Errors
-    ///
-    /// The reason for which it can't be.
+    /// Carries out an item. Where that can't be, the reason comes, and nothing of it.
     fn carry_out(made: &mut Self::Made, item: &Item<Self::Unit>) -> Result<(), Reason>
         requires whole { IsWholeItem Self.rules item.now }
         requires made { (state : State) × is_made state made.old }

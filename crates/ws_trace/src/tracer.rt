@@ -39,11 +39,8 @@ impl<B: Traced> Tracer<B> {
         }
     }
 
-    /// Takes bytes that came at a time, and adds their entries.
-    ///
-    /// # Errors
-    ///
-    /// `Memory` where a growth was refused, `Failed` where no more bytes can be counted.
+    /// Takes bytes that came at a time, and adds their entries. `Memory` comes where a growth was refused, `Failed`
+    /// where no more bytes can be counted.
     pub(crate) fn take_all(
         &mut self,
         milliseconds: u64,

@@ -14,7 +14,8 @@ apply-requires c =
 pub returns-in_err-apply-clause-fault : goal.returns-in_err-apply-clause-fault
 returns-in_err-apply-clause-fault c =
     let l = c.loop-element in
-    rw (handed_on c.from_residual.result c.from_residual.ensures.1) (refused_first c.args.display.now l.display c.args.elements.now l.element-index c.element-item.result
+    rw (handed_on c.from_residual.result c.from_residual.ensures.1)
+    (refused_first c.args.display.now l.display c.args.elements.now l.element-index c.element-item.result
     c.loop-element-test.true c.element-item.is l.invariant c.in_err-apply.field-0.0 c.in_err-apply.ensures.fault)
 
 pub loop-element-preserved : goal.loop-element-preserved

@@ -14,13 +14,15 @@ returns-in-Ok-None-clause-next g c = let reads = rw (← c.self.view_is) at c.re
 
 pub returns-in-Ok-Some-clause-next : goal.returns-in-Ok-Some-clause-next
 returns-in-Ok-Some-clause-next g c = let reads = rw (← c.self.view_is) at c.requires.reads in
-    rw (← c.self.view_is) (read_item g.B.Code.rules _ _ c.args.byte c.in-Ok-Some.item reads reads (λ bytes items h fits. (
+    rw (← c.self.view_is)
+    (read_item g.B.Code.rules _ _ c.args.byte c.in-Ok-Some.item reads reads (λ bytes items h fits. (
       omega (arith, c.if-taken.false, c.taken.ensures, h.leads.1.count),
       rw c.in-Ok-Some.field-0-is at (c.in-Ok-Some.ensures.taken bytes items h fits),
     )))
 
 pub returns-in-Err-Refused-clause-next : goal.returns-in-Err-Refused-clause-next
 returns-in-Err-Refused-clause-next g c = let reads = rw (← c.self.view_is) at c.requires.reads in
-    rw (← c.self.view_is) (read_refused g.B.Code.rules _ _ c.args.byte c.in-Err-Refused.field-0-0 c.in-Err-Refused.reason
+    rw (← c.self.view_is)
+    (read_refused g.B.Code.rules _ _ c.args.byte c.in-Err-Refused.field-0-0 c.in-Err-Refused.reason
     reads (ap not c.ends_record.ensures) c.restart.ensures.fresh c.new.ensures (λ bytes items h fits.
     rw c.in-Err-Refused.field-0-is at (c.in-Err-Refused.ensures.fault bytes items h fits)))
