@@ -26,7 +26,7 @@ use Rattle.ws_program.specs.AllTold.{ToldWay, all_printing, carrying, counts_aft
 use Rattle.ws_program.specs.AllTold.{makes_by, placed_text, told_at}
 use Rattle.ws_program.specs.declared.all_told.AllCounts.{AllCounts}
 use Rattle.ws_program.specs.declared.all_told.Way.{Way}
-use Rattle.ws_program.specs.declared.all_told.Way.TheVariants.{Lines, Objects, Refusals}
+use Rattle.ws_program.specs.declared.all_told.Way.TheVariants.{Refusals}
 
 -- A stream that is told as it is read.
 
@@ -34,9 +34,8 @@ use Rattle.ws_program.specs.declared.all_told.Way.TheVariants.{Lines, Objects, R
 
 pub makes_there : {U Made : Type 0} (makes : List (Item U) → Made → Type 0) (way : Way) (items : List (Item U))
     (made : Made) → makes items made → makes_by way makes items made
-makes_there makes Lines items made is = is
-makes_there makes Objects items made is = is
 makes_there makes (Refusals head) items made is = tt
+makes_there makes way items made is = is
 
 -- WHAT BYTES TELL
 

@@ -1,10 +1,13 @@
-use Rattle.std.specs.Prelude.{Result, Ok, Err}
-use Rattle.std.proofs.Common.{◌≡◌, ℕ, List, [], length, sym, ap, ◌∙◌, subst, arith, inl, inr}
+use Rattle.std.specs.Prelude.{Bool, true, false, Result, Ok, Err}
+use Rattle.std.proofs.Common.{◌≡◌, ℕ, List, [], length, refl, sym, ap, ◌∙◌, subst, arith, inl, inr}
 use Rattle.ws_code.specs.Device.{Writer, WentOut, FailedWithin}
 use Rattle.ws_text.specs.Printed.{Printing, IsPrinted}
 use Rattle.ws_printing.specs.Buffering.{Buffering, buffered_writer}
 use Rattle.ws_printing.proofs.Buffers.{flushed_out, flush_fails, fails_behind}
+use Rattle.ws_script.specs.declared.asked.fault.RunFault.{RunFault}
+use Rattle.ws_script.specs.declared.asked.fault.RunFault.TheVariants.{Write}
 use Rattle.ws_program.specs.Actions.{Action, IsCarriedOut}
+use Rattle.ws_program.specs.Streams.{IsHandedOn, at_output, outcome_at}
 
 -- What is printed into a buffer, and then goes out.
 
@@ -12,6 +15,22 @@ use Rattle.ws_program.specs.Actions.{Action, IsCarriedOut}
 abbrev pub CanBeCut : {A E : Type 0} → Printing A E → E → Type 0
 CanBeCut {A} {E} printing failed = (text : List ℕ) (outcome : Result A E) → printing.Ends text outcome
     → printing.Cut text failed
+
+-- a command that met a fault comes to it, with an output or without
+pub failed_at : (has_output : Bool) (fault : RunFault) → outcome_at has_output (Err fault) ≡ Err fault
+failed_at true fault = refl
+failed_at false fault = refl
+
+-- what is carried out with an output, or without one
+carried_at : {S : Type 0} (writer : Writer S) (from to : S) (action : Action Bool RunFault) (has_output : Bool)
+    (outcome : Result Bool RunFault) → IsCarriedOut writer from to action outcome
+    → IsCarriedOut writer from to (at_output has_output action) (outcome_at has_output outcome)
+carried_at writer from to action true outcome h = h
+carried_at writer from to action false (Ok accepted) (inl h) = absurd h
+carried_at writer from to action false (Ok accepted) (inr h) = inr (inl (h.0, (Ok accepted, h.1, refl), h.2))
+carried_at writer from to action false (Err fault) (inl h) = inl h
+carried_at writer from to action false (Err fault) (inr (inl h)) = inr (inl (h.0, (Err fault, h.1, refl), h.2))
+carried_at writer from to action false (Err fault) (inr (inr h)) = inr (inr h)
 
 module _ {S : Type 0} (writer : Writer S) (from mid : Buffering S) (empty : from.held ≡ []) (to : S) where
   -- nothing is held, since nothing was written
@@ -67,3 +86,15 @@ module _ {S : Type 0} (writer : Writer S) (from mid : Buffering S) (empty : from
     carried_unflushed action cut (Ok made) (inl h) = absurd h
     carried_unflushed action cut (Err met) (inl h) = absurd (unheld failed h.0)
     carried_unflushed action cut outcome (inr h) = inr (printed_unflushed action.prints cut outcome h)
+
+  -- it is handed on at the end, with an output or without
+  pub carried_last : (has_output : Bool) (outcome result : Result Bool RunFault)
+      → IsHandedOn writer mid to has_output outcome result → (action : Action Bool RunFault)
+      → CanBeCut action.prints Write → IsCarriedOut (buffered_writer writer) from mid action outcome
+      → IsCarriedOut writer from.sink to (at_output has_output action) result
+  carried_last has_output outcome result (inl e) action cut h =
+      subst (IsCarriedOut writer from.sink to (at_output has_output action)) (sym e.2)
+      (carried_at writer from.sink to action has_output outcome (carried_flushed e.0 e.1 action outcome h))
+  carried_last has_output outcome result (inr e) action cut h =
+      subst (IsCarriedOut writer from.sink to (at_output has_output action)) (failed_at has_output Write ∙ sym e.1)
+      (carried_at writer from.sink to action has_output (Err Write) (carried_unflushed e.0 Write action cut outcome h))

@@ -1,12 +1,14 @@
 use Rattle.std.specs.Prelude.{IfSome}
-use Rattle.std.proofs.Common.{◌≡◌, ℕ, zero, suc, ◌+◌, ◌-◌, ◌≤◌, Bool, true, false, List, [], ◌∷◌, ◌++◌, Option, Some}
+use Rattle.std.proofs.Common.{◌≡◌, ℕ, ◌+◌, ◌-◌, ◌≤◌, Bool, true, false, List, [], ◌∷◌, ◌++◌, Option, Some}
 use Rattle.std.proofs.Common.{None, inl, inr, length, take, drop, refl, sym, ap, ◌∙◌, subst, arith, append_assoc}
 use Rattle.std.proofs.Common.{length-append, take-append-drop}
 use Rattle.std.proofs.Math.Seq.{take-append-add}
+use Rattle.std.proofs.lemmas.Bool.{cases_lt, cases_order}
 use Rattle.std.proofs.lemmas.List.{append-nil, take-take, take_all}
 use Rattle.ws_code.specs.Code.{Rules, IsPrefixFree}
 use Rattle.ws_code.specs.declared.reason.Reason.{Reason}
 use Rattle.ws_code.proofs.CodeLaws.{Begins}
+use Rattle.ws_code.proofs.Lists.{same_last}
 use Rattle.ws_telnet.specs.Streams.{IsStream}
 use Rattle.ws_record.specs.Refusal.{Layer, IsRight, IsOpen, IsFirstClosed, IsRefused}
 use Rattle.ws_record.specs.Refusal.Layer.{Tokens, Header, Body}
@@ -29,27 +31,6 @@ not_longer items later x e = absurd (omega (
   length-append items (x ∷ []),
 ))
 
--- two places in their order
-data Places (m n : ℕ) : Type 0 where
-  Earlier : m + 1 ≤ n → Places m n
-  Later : n + 1 ≤ m → Places m n
-  Same : m ≡ n → Places m n
-
-places : (m n : ℕ) → Places m n
-places zero zero = Same refl
-places zero (suc n) = Earlier (omega arith)
-places (suc m) zero = Later (omega arith)
-places (suc m) (suc n) = elim (places m n) [
-  | Earlier h ↦ Earlier (omega (arith, h))
-  | Later h ↦ Later (omega (arith, h))
-  | Same h ↦ Same (ap (λ k. suc k) h)
-]
-
--- the next item is one
-same_item : {X : Type 0} (items : List X) (x y : X) → items ++ x ∷ [] ≡ items ++ y ∷ [] → x ≡ y
-same_item [] x y e = cc
-same_item (z ∷ items) x y e = same_item items x y (cc)
-
 module _ {Place U : Type 0} (rules : Rules Place U) (prefix_free : IsPrefixFree rules) (begins_all : Begins rules)
     (view : View U) where
   -- the items of fewer bytes begin those of more
@@ -70,13 +51,15 @@ module _ {Place U : Type 0} (rules : Rules Place U) (prefix_free : IsPrefixFree 
 
   pub one_next : (bytes : List ℕ) (items : List (Item U)) (x y : Placed U) → IsComplete rules bytes items x
       → IsComplete rules bytes items y → x ≡ y
-  one_next bytes items x y c d = elim (places x.0 y.0) [
-    | Earlier less ↦ none_complete bytes y.0 items x d.not_before less c
-    | Later more ↦ none_complete bytes x.0 items y c.not_before more d
-    | Same same ↦
+  one_next bytes items x y c d = elim (cases_order x.0 y.0) [
+    | inr other ↦ elim other [
+      | inl less ↦ none_complete bytes y.0 items x d.not_before (omega (arith, less)) c
+      | inr more ↦ none_complete bytes x.0 items y c.not_before (omega (arith, more)) d
+    ]
+    | inl same ↦
         (let whole = subst (λ (n : ℕ). HoldsItems rules (take (n + 1) bytes) (items ++ x.1 ∷ [])) same c.with_it in
-        let item : x.1 ≡ y.1 = same_item items x.1 y.1 (one_holding rules prefix_free begins_all (take (y.0 + 1) bytes)
-        (items ++ x.1 ∷ []) (items ++ y.1 ∷ []) whole d.with_it) in
+        let item : x.1 ≡ y.1 = (same_last items items x.1 y.1 (one_holding rules prefix_free begins_all
+        (take (y.0 + 1) bytes) (items ++ x.1 ∷ []) (items ++ y.1 ∷ []) whole d.with_it)).1 in
         ap (λ (n : ℕ). let p : Placed U = (n, x.1) in p) same ∙ ap (λ (i : Item U). let p : Placed U = (y.0, i) in
         p) item)
   ]
@@ -103,10 +86,9 @@ module _ {Place U : Type 0} (rules : Rules Place U) (prefix_free : IsPrefixFree 
   -- no item that is complete in bytes that no layer refuses ends behind a refused byte
   before_refused : (bytes : List ℕ) (place : ℕ) (reason : Reason) (items : List (Item U)) (x : Placed U)
       → IsRefused rules bytes place reason → IsComplete rules bytes items x → x.0 + 1 ≤ place
-  before_refused bytes place reason items x r c = elim (places x.0 place) [
-    | Earlier h ↦ h
-    | Later h ↦ behind (omega (arith, h))
-    | Same h ↦ behind (omega (arith, h))
+  before_refused bytes place reason items x r c = elim (cases_lt x.0 place) [
+    | inl h ↦ omega (arith, h)
+    | inr h ↦ behind (omega (arith, h))
   ]
     where
       behind : place + 1 ≤ x.0 + 1 → x.0 + 1 ≤ place

@@ -15,7 +15,7 @@ use Rattle.ws_trace.specs.declared.dialogue.Dialogue.{Dialogue}
 use Rattle.ws_trace.specs.declared.piece.Piece.{Piece}
 use Rattle.ws_trace.specs.declared.trace_text.TraceForm.{TraceForm}
 use Rattle.ws_program.specs.Actions.{IsCarriedOut}
-use Rattle.ws_program.specs.Recorded.{AreSent, IsFirstOther, IsOtherLine, IsPieceLine, piece_of}
+use Rattle.ws_program.specs.Recorded.{AreSent, IsFirstOther, IsOtherLine, piece_of}
 use Rattle.ws_program.specs.Traced.{AreRecorded, IsPieceOf, IsUntraced, dialogue_action, trace_action}
 use Rattle.ws_program.specs.declared.words.command_line.RecordedEnd.{RecordedEnd}
 
@@ -28,16 +28,9 @@ sent_of end [] [] h = ([], refl)
 sent_of end [] (piece ∷ pieces) h = absurd h
 sent_of end (line ∷ ls) [] h = absurd h
 sent_of end (line ∷ ls) (piece ∷ pieces) h =
-    let more = sent_of end ls pieces h.1 in
-    let is : IsPieceLine line h.0.sender piece.bytes.items = record {
-      milliseconds = h.0.digits;
-      hex = h.0.hex;
-      time = h.0.time;
-      said = h.0.said;
-      spelled = h.0.spelled;
-    } in (
+    let more = sent_of end ls pieces h.1 in (
       piece_of end h.0.sender piece.bytes.items ++ more.0,
-      (h.0.sender, piece.bytes.items, more.0, is, more.1, refl),
+      (h.0.sender, piece.bytes.items, more.0, h.0.said, more.1, refl),
     )
 
 recorded_more : (ls : List (List ℕ)) (pieces : List Piece) (line : List ℕ) (piece : Piece) → AreRecorded ls pieces

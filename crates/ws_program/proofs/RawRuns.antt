@@ -1,4 +1,4 @@
-use Rattle.std.specs.Prelude.{Bool, true, false, Option, None, Result, Ok, Err, IfOk, IfErr, IsErrAnd, ◌⊎◌}
+use Rattle.std.specs.Prelude.{Bool, true, false, Option, None, Result, Ok, Err, ◌⊎◌}
 use Rattle.std.specs.declared.num.NonZeroU16.{NonZeroU16}
 use Rattle.std.proofs.Common.{◌≡◌, ℕ, List, inl, inr, refl, Bor}
 use Rattle.ws_code.specs.Device.{Reader, Writer}
@@ -16,13 +16,13 @@ use Rattle.ws_program.specs.Runs.{HasRunInput, IsFaultOfInput, IsRawDone}
 use Rattle.ws_program.specs.ShownSources.{IsSourceShown, unread_printing}
 use Rattle.ws_program.specs.StreamText.{Showing, show_printing, showing}
 use Rattle.ws_program.specs.Streams.{closed_outcome, openly}
-use Rattle.ws_program.specs.ToldFaults.{IsToldOf}
+use Rattle.ws_program.specs.FileFaults.{IsToldOf}
 use Rattle.ws_program.specs.declared.words.command_line.InputAsked.{InputAsked}
 use Rattle.ws_program.specs.declared.words.command_line.InputAsked.TheVariants.{Check, Show}
 use Rattle.ws_program.specs.declared.words.command_line.StreamForm.TheVariants.{Raw}
 use Rattle.ws_program.proofs.SourceAnswers.{IsRawCarried, ended}
 
--- What is done with an input: with raw bytes while they are read, or with one that was read before.
+-- What is done with raw bytes while they are read.
 
 module _ {S : Type 0} (writer : Writer S) (from to : S) (streams : OpenStreams) where
   module _ (file : Option (Bor (List ℕ))) (sender : Sender) where
@@ -84,21 +84,3 @@ module _ {S : Type 0} (writer : Writer S) (from to : S) (streams : OpenStreams) 
       → IsFaultOfInput (printout writer from to) streams asked fault
   raw_told asked why fault plain (inl h) e = inl (why, h, e)
   raw_told asked why fault plain (inr h) e = inr (why, (h.0, h.1, plain h.0))
-
-  -- of one that was read before
-  pub read_done : (asked : InputAsked) (input : List ℕ) (outcome : Result Bool RunFault)
-      (result : Result Bool ToldFault)
-      → IsCarriedOut writer from to (openly streams.output asked input) outcome
-      → IfOk result (λ accepted. outcome ≡ Ok accepted) → IfOk result (HasRunInput
-      (printout writer from to) streams asked)
-  read_done asked input outcome (Ok accepted) h e = (input, rw e at h)
-  read_done asked input outcome (Err fault) h e = tt
-
-  pub read_told : (asked : InputAsked) (input : List ℕ) (outcome : Result Bool RunFault)
-      (result : Result Bool ToldFault)
-      → IsCarriedOut writer from to (openly streams.output asked input) outcome
-      → IfErr result (λ fault. IsErrAnd outcome (IsToldOf asked input fault))
-      → IfErr result (IsFaultOfInput (printout writer from to) streams asked)
-  read_told asked input outcome (Ok accepted) h told = tt
-  read_told asked input (Ok accepted) (Err fault) h told = absurd told
-  read_told asked input (Err why) (Err fault) h told = inr (why, (input, h, told))

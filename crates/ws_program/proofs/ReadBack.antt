@@ -75,13 +75,9 @@ module _ {Place U : Type 0} (rules : Rules Place U) where
       let both = stretches_right h.stretches h.rest (all_tokens _ h.cut.chain) h.each in
       subst (λ (z : List (Item U)). AreRight z) (sym h.are_items) (AllByRecursion-append IsRight _ _ both.0 both.1)
 
-  are_encoded : (items : List (Item U)) → AreRight items → CanAllBeEncoded rules items
-  are_encoded [] h = tt
-  are_encoded (x ∷ items) h = (h.0.0, are_encoded items h.1)
-
-  are_in_range : (items : List (Item U)) → AreRight items → AllByRecursion IsInRange items
-  are_in_range [] h = tt
-  are_in_range (x ∷ items) h = (h.0.1, are_in_range items h.1)
+  right_parts : (items : List (Item U)) → AreRight items → CanAllBeEncoded rules items × AllByRecursion IsInRange items
+  right_parts [] h = (tt, tt)
+  right_parts (x ∷ items) h = let rest = right_parts items h.1 in ((h.0.0, rest.0), (h.0.1, rest.1))
 
   -- each place is one of the bytes
   all_places : (view : View U) (bytes : List ℕ) (before : List (Item U)) (placed : List (Placed U))
@@ -105,7 +101,8 @@ pub shows_items : (bytes text : List ℕ) → length bytes < 2 ^ 64 → IsShown 
     true text
     → (items : List (Item Element)) × IsInGrammar element_rules bytes items × ShowsElements text items
 shows_items bytes text fits s =
-    let right = grammar_right element_rules bytes (items_without_places s.placed) s.ends.0 in (
+    let items = items_without_places s.placed in
+    let right = right_parts element_rules items (grammar_right element_rules bytes items s.ends.0) in (
       items_without_places s.placed,
       s.ends.0,
       record {
@@ -114,8 +111,8 @@ shows_items bytes text fits s =
         split = s.lines;
         are_items = refl;
         places = all_places element_rules host_view bytes [] s.placed fits s.shown;
-        encoded = are_encoded element_rules (items_without_places s.placed) right;
-        in_range = are_in_range element_rules (items_without_places s.placed) right;
+        encoded = right.0;
+        in_range = right.1;
         ends = screen_ends (on_037 Plain) (items_without_places s.placed) s.end s.ends.1;
       },
     )

@@ -4,7 +4,7 @@ use Rattle.std.proofs.Common.{inl, inr, length, take, drop, refl, sym, ap, ◌�
 use Rattle.std.proofs.Common.{length-append, length-take, take-append-drop}
 use Rattle.std.proofs.Math.Seq.{take-append-add}
 use Rattle.std.proofs.lemmas.Grind.{flat_map-append}
-use Rattle.std.proofs.lemmas.List.{append-nil, take-append-le, take-take, take_all}
+use Rattle.std.proofs.lemmas.List.{append-nil, map-append, take-append-le, take-take, take_all}
 use Rattle.ws_code.specs.Code.{Rules}
 use Rattle.ws_code.specs.Device.{Writer, WentOut, FailedWithin}
 use Rattle.ws_code.specs.declared.fault.Fault.{Fault}
@@ -27,15 +27,15 @@ use Rattle.ws_printing.proofs.SourceReads.{unrefused}
 use Rattle.ws_program.specs.ShownSources.{AreAllLines}
 use Rattle.ws_program.specs.StreamText.{Showing, View, Placed, items_without_places, lines_of, HoldsItems, IsComplete}
 use Rattle.ws_program.specs.StreamText.{AreShown, AreFirstLines, IsShown, HasStopped, IsStoppedEnd, HasShown}
-use Rattle.ws_program.specs.StreamText.{IsPieceShown, show_printing}
+use Rattle.ws_program.specs.StreamText.{IsPieceShown, IsWholeItem, show_printing}
+use Rattle.ws_trace.proofs.Tracings.{last_whole}
 
 -- Items that are shown one after another.
 
 module _ {U : Type 0} where
   items_more : (placed : List (Placed U)) (x : Placed U) → items_without_places (placed
       ++ x ∷ []) ≡ items_without_places placed ++ x.1 ∷ []
-  items_more [] x = refl
-  items_more (y ∷ ys) x = ap (λ z. y.1 ∷ z) (items_more ys x)
+  items_more placed x = map-append (λ y. y.1) placed (x ∷ [])
 
   lines_more : (view : View U) (placed : List (Placed U)) (x : Placed U) → lines_of view (placed ++ x ∷ [])
       ≡ lines_of view placed ++ view.lines x.0 x.1
@@ -159,6 +159,12 @@ module _ {S Place U : Type 0} (writer : Writer S) (from mid to : S) (way : Showi
   line_stops makes receiver made verdict refused lines w s (Err fault) done failed =
       printed_behind false lines (line_of verdict 0) w s.0 (Err fault) tt failed
 
+-- an item that is complete has a whole body
+pub whole_next : {Place U : Type 0} {rules : Rules Place U} {bytes : List ℕ} {items : List (Item U)} {x : Placed U}
+    → IsComplete rules bytes items x → IsWholeItem rules x.1
+whole_next {Place} {U} {rules} {bytes} {items} {x} c =
+    last_whole rules (take (x.0 + 1) bytes) items x.1 c.with_it
+
 -- what was taken of a piece, and the rest of it
 pub piece_through : (bytes piece : List ℕ) (used : ℕ)
     → (bytes ++ take used piece) ++ left_of piece used ≡ bytes ++ piece
@@ -166,11 +172,10 @@ piece_through bytes piece used = append_assoc bytes (take used piece) (left_of p
     ∙ ap (λ z. bytes ++ z) (left_joined piece used)
 
 -- before the first byte
-pub shows_none : {Place U Made S : Type 0} (writer : Writer S) (s : S) (way : Showing Place U)
-    (makes : List (Item U) → Made → Type 0) (receiver : Receiving Place U) (made : Made)
-    → HasReceived way.rules receiver [] [] → makes [] made
-    → HasShown (printout writer s s) way makes [] receiver made
-shows_none writer s way makes receiver made received none = record {
+pub shows_none : {Place U Made S : Type 0} {receiver : Receiving Place U} {made : Made} (writer : Writer S) (s : S)
+    (way : Showing Place U) (makes : List (Item U) → Made → Type 0) → HasReceived way.rules receiver [] []
+    → makes [] made → HasShown (printout writer s s) way makes [] receiver made
+shows_none writer s way makes received none = record {
   placed = [];
   shown = tt;
   received = received;
@@ -179,7 +184,7 @@ shows_none writer s way makes receiver made received none = record {
 }
 
 module _ {Place U Made S : Type 0} {way : Showing Place U} {makes : List (Item U) → Made → Type 0} {bytes : List ℕ}
-    {receiver : Receiving Place U} {made : Made} (writer : Writer S) (from mid : S)
+    {receiver : Receiving Place U} {made : Made} {writer : Writer S} {from mid : S}
     (h : HasShown (printout writer from mid) way makes bytes receiver made) where
   -- the lines that went out, and the items that they show
   abbrev pub lines_out : List ℕ
@@ -277,7 +282,6 @@ module _ {Place U Made S : Type 0} {way : Showing Place U} {makes : List (Item U
         (sym (take-append-add bytes more n) ∙ ap (λ (k : ℕ). take k (bytes ++ more)) last)
         (none n (omega (arith, last))) in
         (refl, stopped (line_of (Refused place reason) 0) _ (inl (place, reason, f.1, held, refl)) refl)
-    feed_stops (faults.Truncated n) f none = absurd f
     feed_stops faults.Memory f none = inl (
       lines_out,
       (
@@ -294,9 +298,7 @@ module _ {Place U Made S : Type 0} {way : Showing Place U} {makes : List (Item U
       ),
       h.went_out,
     )
-    feed_stops faults.Read f none = absurd f
-    feed_stops faults.Write f none = absurd f
-    feed_stops faults.Failed f none = absurd f
+    feed_stops fault f none = absurd f
 
     -- which is answered
     pub fault_stops : (all : List ℕ) → bytes ++ more ≡ all → (fault why : Fault)

@@ -1,7 +1,7 @@
-use Rattle.std.specs.Prelude.{Bool, true, false, Option, Result, Err, ◌⊎◌}
+use Rattle.std.specs.Prelude.{Bool, true, false, None, Result, Err, ◌⊎◌}
 use Rattle.std.specs.declared.num.NonZeroU16.{NonZeroU16}
-use Rattle.std.proofs.Common.{◌≡◌, ℕ, List, [], inl, inr, refl, ap, ◌∙◌, Bor}
-use Rattle.ws_code.specs.Device.{Writer, WentOut, FailedWithin}
+use Rattle.std.proofs.Common.{◌≡◌, ℕ, List, [], inl, inr, refl, ap, ◌∙◌}
+use Rattle.ws_code.specs.Device.{Writer, Reader}
 use Rattle.ws_code.specs.declared.fault.Fault.{Fault}
 use Rattle.ws_code.specs.declared.fault.Fault.TheVariants as device
 use Rattle.ws_script.specs.declared.asked.fault.RunFault.{RunFault}
@@ -12,11 +12,16 @@ use Rattle.ws_text.specs.Printed.{Printing, IsPrinted}
 use Rattle.ws_program.specs.Actions.{IsCarriedOut}
 use Rattle.ws_program.specs.Answering.{sender_parts, of_bytes, run_outcome}
 use Rattle.ws_printing.specs.Checking.{check_printing}
-use Rattle.ws_program.specs.Streams.{at_output, command_outcome, openly}
+use Rattle.ws_program.specs.Streams.{IsHandedOn, at_output, openly, outcome_at}
 use Rattle.ws_program.specs.declared.words.command_line.InputAsked.TheVariants.{Check}
 use Rattle.ws_program.specs.declared.words.command_line.StreamForm.TheVariants.{Raw}
-use Rattle.ws_program.proofs.Buffers.{CanBeCut, unheld, unchanged, printed_flushed, printed_unflushed}
-use Rattle.ws_program.proofs.Printings.{check_cut, bytes_printed, closed_carried}
+use Rattle.ws_program.proofs.Buffers.{CanBeCut, carried_last, failed_at, unheld, unchanged, printed_flushed}
+use Rattle.ws_program.proofs.Buffers.{printed_unflushed}
+use Rattle.ws_program.proofs.Printings.{bytes_cut, bytes_printed, check_cut, show_cut}
+use Rattle.ws_printing.specs.Printouts.{printout}
+use Rattle.ws_printing.specs.declared.look.Look.{Look}
+use Rattle.ws_program.specs.ShownSources.{AreEnough, IsSourceShown, unread_printing}
+use Rattle.ws_program.specs.StreamText.{Showing, show_printing, showing}
 
 -- what a check came to that met a fault, and what the program comes to by one
 abbrev pub met : Fault → Result Bool Fault
@@ -25,15 +30,6 @@ met fault = Err fault
 abbrev pub ended : RunFault → Result Bool RunFault
 ended fault = Err fault
 
--- what a command comes to whose source or sink failed
-read_outcome : (has_output : Bool) → command_outcome has_output (met device.Read) ≡ ended Read
-read_outcome true = refl
-read_outcome false = refl
-
-write_outcome : (has_output : Bool) → command_outcome has_output (met device.Write) ≡ ended Write
-write_outcome true = refl
-write_outcome false = refl
-
 module _ {S : Type 0} (writer : Writer S) (printing : List ℕ → Printing Bool Fault) (has_output : Bool)
     (bytes : List ℕ) where
   -- this is done with a raw input
@@ -41,77 +37,95 @@ module _ {S : Type 0} (writer : Writer S) (printing : List ℕ → Printing Bool
   IsRawCarried from to result =
       IsCarriedOut writer from to (at_output has_output (of_bytes Raw printing bytes)) result
 
-  -- and so what is printed of bytes
-  raw_printed : (from to : S) (outcome : Result Bool Fault) → IsPrinted writer from to (printing bytes) outcome
-      → IsRawCarried from to (command_outcome has_output outcome)
-  raw_printed from to outcome h = on has_output (bytes_printed writer from to Raw printing bytes bytes bytes refl refl
-      outcome h)
-    where
-      on : (open_ : Bool) → IsCarriedOut writer from to (of_bytes Raw printing bytes) (run_outcome outcome)
-          → IsCarriedOut writer from to (at_output open_ (of_bytes Raw printing bytes)) (command_outcome open_ outcome)
-      on true done = done
-      on false done = closed_carried writer from to (of_bytes Raw printing bytes) (run_outcome outcome) done
+  -- and so what was printed of bytes into a buffer
+  pub raw_last : (from mid : Buffering S) (empty : from.held ≡ []) (to : S) (outcome : Result Bool Fault)
+      (result : Result Bool RunFault) → IsHandedOn writer mid to has_output (run_outcome outcome) result
+      → ((any : List ℕ) → CanBeCut (printing any) device.Write)
+      → IsPrinted (buffered_writer writer) from mid (printing bytes) outcome → IsRawCarried from.sink to result
+  raw_last from mid empty to outcome result last cut printed =
+      carried_last writer from mid empty to has_output (run_outcome outcome) result last (of_bytes Raw printing bytes)
+      (bytes_cut Raw printing bytes cut)
+      (bytes_printed (buffered_writer writer) from mid Raw printing bytes bytes bytes refl refl outcome printed)
 
-  -- What was printed into a buffer.
-  module _ (from mid : Buffering S) (empty : from.held ≡ []) (to : S) (outcome : Result Bool Fault)
-      (printed : IsPrinted (buffered_writer writer) from mid (printing bytes) outcome) where
-    -- the rest goes out
-    pub raw_settled : WentOut writer mid.sink to mid.held → (mid.held ≡ [] → to ≡ mid.sink)
-        → IsRawCarried from.sink to (command_outcome has_output outcome)
-    raw_settled out idle = raw_printed from.sink to outcome
-        (printed_flushed writer from mid empty to out idle (printing bytes) outcome printed)
-
-    -- or doesn't
-    pub raw_unsettled : FailedWithin writer mid.sink to mid.held → CanBeCut (printing bytes) device.Write
-        → IsRawCarried from.sink to (ended Write)
-    raw_unsettled failed cut = rw (write_outcome has_output) at (raw_printed from.sink to (met device.Write)
-        (printed_unflushed writer from mid empty to failed device.Write (printing bytes) cut outcome printed))
-
-module _ {S : Type 0} (writer : Writer S) (file : Option (Bor (List ℕ))) (cut : NonZeroU16) (sender : Sender) where
+module _ {S : Type 0} (writer : Writer S) (cut : NonZeroU16) (sender : Sender) where
   abbrev check_of : List ℕ → Printing Bool Fault
   check_of bytes = check_printing (sender_parts sender).rules bytes
 
   -- a check of bytes is one of a raw input
   raw_checked : (from to : S) (has_output : Bool) (bytes : List ℕ) (result : Result Bool RunFault)
       → IsRawCarried writer check_of has_output bytes from to result
-      → IsCarriedOut writer from to (openly has_output (Check file Raw cut sender) bytes) result
+      → IsCarriedOut writer from to (openly has_output (Check None Raw cut sender) bytes) result
   raw_checked from to true bytes result h = h
   raw_checked from to false bytes result h = h
 
   -- What a check of a source comes to behind a buffer. Its source gave bytes of which this is known, or failed.
-  module _ (from mid : Buffering S) (empty : from.held ≡ []) (to : S) (has_output : Bool) (HasFailed : Type 0)
-      (HasGiven : List ℕ → Type 0) (outcome : Result Bool Fault) where
-    abbrev pub IsChecked : Type 0
-    IsChecked = ((outcome ≡ met device.Read) × (mid ≡ from) × HasFailed) ⊎ ((bytes : List ℕ) × HasGiven bytes
-        × IsPrinted (buffered_writer writer) from mid (check_of bytes) outcome)
+  pub check_last : (from mid : Buffering S) (empty : from.held ≡ []) (to : S) (has_output : Bool) (HasFailed : Type 0)
+      (HasGiven : List ℕ → Type 0) (outcome : Result Bool Fault) (result : Result Bool RunFault)
+      → IsHandedOn writer mid to has_output (run_outcome outcome) result
+      → ((outcome ≡ met device.Read) × (mid ≡ from) × HasFailed) ⊎ ((bytes : List ℕ) × HasGiven bytes
+      × IsPrinted (buffered_writer writer) from mid (check_of bytes) outcome)
+      → ((result ≡ ended Read) × (to ≡ from.sink) × HasFailed) ⊎ ((bytes : List ℕ) × HasGiven bytes
+      × IsCarriedOut writer from.sink to (openly has_output (Check None Raw cut sender) bytes) result)
+  check_last from mid empty to has_output HasFailed HasGiven outcome result (inl e) (inl h) = inl (
+    e.2 ∙ ap (λ (z : Result Bool Fault). outcome_at has_output (run_outcome z)) h.0 ∙ failed_at has_output Read,
+    unchanged writer from mid empty to e.0 e.1 h.1,
+    h.2,
+  )
+  check_last from mid empty to has_output HasFailed HasGiven outcome result (inr e) (inl h) =
+      absurd (unheld writer from mid empty to e.0 h.1)
+  check_last from mid empty to has_output HasFailed HasGiven outcome result e (inr h) = inr (
+    h.0,
+    h.1,
+    raw_checked from.sink to has_output h.0 result (raw_last writer check_of has_output h.0 from mid empty to outcome
+        result e (check_cut (sender_parts sender).rules) h.2),
+  )
 
-    abbrev pub IsCheckedOpenly : Result Bool RunFault → Type 0
-    IsCheckedOpenly result = ((result ≡ ended Read) × (to ≡ from.sink) × HasFailed)
-        ⊎ ((bytes : List ℕ) × HasGiven bytes
-        × IsCarriedOut writer from.sink to (openly has_output (Check file Raw cut sender) bytes) result)
+-- What came of showing a source behind a buffer.
 
-    -- the rest goes out
-    pub settled : WentOut writer mid.sink to mid.held → (mid.held ≡ [] → to ≡ mid.sink) → IsChecked
-        → IsCheckedOpenly (command_outcome has_output outcome)
-    settled out idle (inl h) = inl (
-      ap (command_outcome has_output) h.0 ∙ read_outcome has_output,
-      unchanged writer from mid empty to out idle h.1,
-      h.2,
+module _ {R Place U : Type 0} (reader : Reader R) (start end : R) (way : Showing Place U) where
+  module _ {S : Type 0} (writer : Writer S) (from mid : Buffering S) (empty : from.held ≡ []) (to : S)
+      (has_output : Bool) (outcome : Result Bool Fault) (result : Result Bool RunFault)
+      (last : IsHandedOn writer mid to has_output (run_outcome outcome) result) where
+    enough_last : (bytes : List ℕ) → AreEnough way bytes (printout (buffered_writer writer) from mid)
+        → AreEnough way bytes (printout writer from.sink to)
+    enough_last bytes (inl h) = inl h
+    enough_last bytes (inr h) = inr (on last)
+      where
+        on : IsHandedOn writer mid to has_output (run_outcome outcome) result
+            → (fault : Fault) × IsPrinted writer from.sink to (show_printing way bytes) (Err fault)
+        on (inl e) = (h.0, printed_flushed writer from mid empty to e.0 e.1 (show_printing way bytes) (met h.0) h.1)
+        on (inr e) = (
+          device.Write,
+          printed_unflushed writer from mid empty to e.0 device.Write (show_printing way bytes)
+              (show_cut way.rules way.view bytes) (met h.0) h.1,
+        )
+
+    shown_last : (bytes : List ℕ) → IsPrinted (buffered_writer writer) from mid (show_printing way bytes) outcome
+        → IsRawCarried writer (show_printing way) has_output bytes from.sink to result
+    shown_last bytes h = raw_last writer (show_printing way) has_output bytes from mid empty to outcome result last
+        (show_cut way.rules way.view) h
+
+    pub show_last : IsSourceShown reader start end (printout (buffered_writer writer) from mid) way
+        (λ printing bytes. IsPrinted (buffered_writer writer) from mid (printing bytes) outcome)
+        → IsSourceShown reader start end (printout writer from.sink to) way
+        (λ printing bytes. IsRawCarried writer printing has_output bytes from.sink to result)
+    show_last (bytes, inl h) = (
+      bytes,
+      inl (
+        h.0,
+        raw_last writer (unread_printing way) has_output bytes from mid empty to outcome result last
+            (λ any text met h. (refl, (met, h))) h.1,
+      ),
     )
-    settled out idle (inr h) = inr (
-      h.0,
-      h.1,
-      raw_checked from.sink to has_output h.0 (command_outcome has_output outcome)
-          (raw_settled writer check_of has_output h.0 from mid empty to outcome h.2 out idle),
+    show_last (bytes, inr (inl all, h)) = (bytes, inr (inl all, shown_last bytes h))
+    show_last (bytes, inr (inr enough, h)) = (
+      bytes,
+      inr (inr (enough.0, enough.1, enough_last bytes enough.2), shown_last bytes h),
     )
 
-    -- or doesn't
-    pub unsettled : FailedWithin writer mid.sink to mid.held → IsChecked → IsCheckedOpenly (ended Write)
-    unsettled failed (inl h) = absurd (unheld writer from mid empty to failed h.1)
-    unsettled failed (inr h) = inr (
-      h.0,
-      h.1,
-      raw_checked from.sink to has_output h.0 (ended Write)
-          (raw_unsettled writer check_of has_output h.0 from mid empty to outcome h.2 failed
-          (check_cut (sender_parts sender).rules h.0)),
-    )
+-- what came of showing what a sender's source gives
+abbrev pub IsSentShown : {R S : Type 0} → Reader R → R → R → Writer S → S → S → Look → Result Bool Fault → Sender
+    → Type 0
+IsSentShown reader start end writer from to look result sender =
+    IsSourceShown reader start end (printout writer from to) (showing (sender_parts sender).rules ((sender_parts sender).view look))
+    (λ printing bytes. IsPrinted writer from to (printing bytes) result)

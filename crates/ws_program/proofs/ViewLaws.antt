@@ -8,8 +8,7 @@ use Rattle.ws_screen.specs.ScreenParts.{ScreenParts}
 use Rattle.ws_extended.specs.ExtendedStates.{ExtendedState}
 use Rattle.ws_extended.specs.ExtendedViews.{ExtendedParts, Shows}
 use Rattle.ws_extended.specs.declared.extended_element.ExtendedElement.{ExtendedElement}
-use Rattle.ws_program.specs.ExtendedView.{new_state, state_after_item, state_after_items}
-use Rattle.ws_program.specs.Views.{after_item, after_items}
+use Rattle.ws_program.specs.Views.{new_state, state_after_item, state_after_items, after_item, after_items}
 
 -- The events of a host's items.
 

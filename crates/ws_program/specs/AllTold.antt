@@ -3,8 +3,7 @@
 -- by `check --all` the refusals and a count.
 
 use Rattle.std.specs.Prelude.{◌≡◌, ℕ, ◌+◌, ◌-◌, ◌^◌, ◌==◌, ◌&&◌, min, List, [], ◌∷◌, ◌++◌, ◌⊎◌, ◌↔◌, Bool, true}
-use Rattle.std.specs.Prelude.{false, IsTrue, Option, None, Some, Result, Ok, Err, codes, length, take}
-use Rattle.std.specs.Prelude.{if◌then◌else◌}
+use Rattle.std.specs.Prelude.{false, IsTrue, Option, None, Some, Result, Ok, Err, codes, length, take, if◌then◌else◌}
 use Rattle.std.specs.Borrow.{Bor}
 use Rattle.std.specs.Fmt.{decimal}
 use Rattle.std.specs.List.{flat_map}

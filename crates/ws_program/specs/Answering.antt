@@ -7,14 +7,6 @@ use Rattle.ws_extended.specs.ExtendedAnswers.{extended_answer_rules}
 use Rattle.ws_extended.specs.ExtendedElements.{extended_rules}
 use Rattle.ws_stream.specs.Elements.{element_rules}
 use Rattle.ws_stream.specs.AnswerParts.{answer_rules}
-use Rattle.ws_stream.specs.declared.answer_part.AnswerPart.{AnswerPart}
-use Rattle.ws_stream.specs.declared.answer_place.AnswerPlace.{AnswerPlace}
-use Rattle.ws_stream.specs.declared.element.Element.{Element}
-use Rattle.ws_stream.specs.declared.place.Place.{Place as ElementPlace}
-use Rattle.ws_extended.specs.declared.extended_answer_part.ExtendedAnswerPart.{ExtendedAnswerPart}
-use Rattle.ws_extended.specs.declared.extended_answer_place.ExtendedAnswerPlace.{ExtendedAnswerPlace}
-use Rattle.ws_extended.specs.declared.extended_element.ExtendedElement.{ExtendedElement}
-use Rattle.ws_extended.specs.declared.extended_place.ExtendedPlace.{ExtendedPlace}
 use Rattle.ws_screen.specs.ScreenParts.{ScreenParts}
 use Rattle.ws_text.specs.AnswerLines.{part_lines}
 use Rattle.ws_text.specs.AnswerWords.{answer_wording}
@@ -27,16 +19,16 @@ use Rattle.ws_text.specs.ItemLines.{element_lines}
 use Rattle.ws_text.specs.Printed.{Printing, in_whole}
 use Rattle.ws_text.specs.Wording.{Wording}
 use Rattle.ws_script.specs.asked.RunFaults.{run_fault}
-use Rattle.ws_program.specs.StreamText.{show_printing, showing, View}
+use Rattle.ws_program.specs.StreamText.{View}
 use Rattle.ws_program.specs.Actions.{Action}
-use Rattle.ws_program.specs.AllTold.{check_all_printing, file_head, show_all_printing}
-use Rattle.ws_printing.specs.Checking.{check_printing}
+use Rattle.ws_program.specs.Tellings.{told_printing}
+use Rattle.ws_program.specs.declared.telling.Telling.{Telling}
+use Rattle.ws_program.specs.declared.telling.Telling.TheVariants as telling
 use Rattle.ws_printing.specs.SourceChecks.{HasRefusal}
 use Rattle.ws_program.specs.Making.{make_action}
 use Rattle.ws_program.specs.StreamBytes.{AreBytesOf, IsFormFault}
 use Rattle.ws_program.specs.Traced.{trace_action}
-use Rattle.ws_program.specs.ExtendedView.{extended_view}
-use Rattle.ws_program.specs.Views.{painted_host_view, answer_view, told_view}
+use Rattle.ws_program.specs.Views.{extended_view, painted_host_view, answer_view, told_view}
 use Rattle.ws_printing.specs.declared.look.Look.{Look}
 use Rattle.ws_printing.specs.declared.paint.Paint.{Paint}
 use Rattle.ws_program.specs.declared.words.command_line.InputAsked.{InputAsked}
@@ -50,6 +42,8 @@ use Rattle.ws_script.specs.declared.asked.fault.RunFault.TheVariants.{Read, Line
 use Rattle.ws_nego.specs.declared.terminal.TerminalType.TheVariants.{Ibm3179Model2}
 use Rattle.ws_session.specs.declared.world.Event.{Event}
 use Rattle.ws_session.specs.declared.world.Move.{Move}
+use Rattle.ws_session.specs.declared.world.Report.{Report}
+use Rattle.ws_session.specs.world.Reports.{IsReport}
 use Rattle.ws_session.specs.world.Session.{Session, new_session, after_moves}
 use Rattle.ws_end.specs.station.StationEndState.{screen_at}
 use Rattle.ws_printing.specs.script.Script.{IsScript, IsFirstBad}
@@ -68,25 +62,26 @@ IsGoodScript script = IsReadSoFar script ⊎ ((moves : List Move) × IsScript sc
 abbrev pub SpellsMoves : List ℕ → Type 0
 SpellsMoves script = (moves : List Move) × IsScript script moves
 
--- the faults of a script that isn't played, which are met before anything is written
-abbrev pub IsUnplayed : List ℕ → RunFault → Type 0
-IsUnplayed script (Line number) = IsFirstBad script number
-IsUnplayed script Memory = IsGoodScript script
-IsUnplayed script fault = ⊥
+-- the faults of a script that isn't played, which are met before anything is written; over a connection that may fail
+-- where the script is good
+abbrev pub IsUnplayedBy : Bool → List ℕ → RunFault → Type 0
+IsUnplayedBy tcp script (Line number) = IsFirstBad script number
+IsUnplayedBy tcp script Memory = IsGoodScript script
+IsUnplayedBy true script NoConnection = SpellsMoves script
+IsUnplayedBy true script Read = SpellsMoves script
+IsUnplayedBy true script Write = SpellsMoves script
+IsUnplayedBy tcp script fault = ⊥
 
--- the same of a script that isn't played over a connection, which may fail where the script is good
-abbrev pub IsUnplayedByTcp : List ℕ → RunFault → Type 0
-IsUnplayedByTcp script (Line number) = IsFirstBad script number
-IsUnplayedByTcp script Memory = IsGoodScript script
-IsUnplayedByTcp script NoConnection = SpellsMoves script
-IsUnplayedByTcp script Read = SpellsMoves script
-IsUnplayedByTcp script Write = SpellsMoves script
-IsUnplayedByTcp script fault = ⊥
+-- what the session of a script comes to; over a connection it isn't known
+abbrev pub IsReportOf : Bool → List ℕ → Report → Type 0
+IsReportOf true script report = SpellsMoves script
+IsReportOf false script report = (moves : List Move) × IsScript script moves
+    × IsReport report (after_moves (new_session Ibm3179Model2) moves)
 
 -- a script is played, and what its session tells is printed; its terminal is the default one
 abbrev pub play_action : Paint → Bool → List ℕ → Action Bool RunFault
 play_action paint screen script = record {
-  Refuses = IsUnplayed script;
+  Refuses = IsUnplayedBy false script;
   prints = in_whole Write (λ text outcome. (moves : List Move) × IsScript script moves
       × IsSessionText paint (after_moves (new_session Ibm3179Model2) moves) screen text
       × (outcome ≡ Ok (no_end_refuses (after_moves (new_session Ibm3179Model2) moves).events)));
@@ -96,7 +91,7 @@ play_action paint screen script = record {
 -- so the session isn't either.
 abbrev pub play_tcp_action : Paint → Bool → List ℕ → Action Bool RunFault
 play_tcp_action paint screen script = record {
-  Refuses = IsUnplayedByTcp script;
+  Refuses = IsUnplayedBy true script;
   prints = in_whole Write (λ text outcome. SpellsMoves script × ((events : List Event) × (shown : ScreenParts)
       × IsPaintedPlayText paint events shown screen text × (outcome ≡ Ok (no_end_refuses events))));
 }
@@ -111,41 +106,19 @@ pub record SenderParts : Type 1 where
   pub view : Look → View Sent
   pub wording : Wording Sent
 
+-- these parts
+abbrev pub parts_of : {Place Sent : Type 0} → Rules Place Sent → (List Sent → List ℕ) → (Look → View Sent) → Wording Sent
+    → SenderParts
+parts_of {Place} {Sent} rules lines view wording =
+    record { Place = Place; Sent = Sent; rules = rules; lines = lines; view = view; wording = wording }
+
 -- A sender's parts: a host sends the commands of the profile alone, or also beside it; a station answers, alone or with
 -- what is told at once, and has no screen.
 abbrev pub sender_parts : Sender → SenderParts
-sender_parts Host = record {
-  Place = ElementPlace;
-  Sent = Element;
-  rules = element_rules;
-  lines = element_lines;
-  view = painted_host_view;
-  wording = element_wording;
-}
-sender_parts ExtendedHost = record {
-  Place = ExtendedPlace;
-  Sent = ExtendedElement;
-  rules = extended_rules;
-  lines = extended_lines;
-  view = extended_view;
-  wording = extended_wording;
-}
-sender_parts Station = record {
-  Place = AnswerPlace;
-  Sent = AnswerPart;
-  rules = answer_rules;
-  lines = part_lines;
-  view = λ look. answer_view;
-  wording = answer_wording;
-}
-sender_parts ExtendedStation = record {
-  Place = ExtendedAnswerPlace;
-  Sent = ExtendedAnswerPart;
-  rules = extended_answer_rules;
-  lines = told_lines;
-  view = λ look. told_view;
-  wording = told_wording;
-}
+sender_parts Host = parts_of element_rules element_lines painted_host_view element_wording
+sender_parts ExtendedHost = parts_of extended_rules extended_lines extended_view extended_wording
+sender_parts Station = parts_of answer_rules part_lines (λ look. answer_view) answer_wording
+sender_parts ExtendedStation = parts_of extended_answer_rules told_lines (λ look. told_view) told_wording
 
 -- a byte of a sender's stream is refused
 abbrev pub HasRefusalBy : Sender → List ℕ → Type 0
@@ -168,16 +141,18 @@ of_bytes form printing input = record {
   };
 }
 
+-- what is printed of a sender's bytes
+abbrev pub sent_printing : Sender → Telling → List ℕ → Printing Bool Fault
+sent_printing sender told bytes = told_printing (sender_parts sender).rules (sender_parts sender).lines
+    (sender_parts sender).view told bytes
+
 -- what the program does with its input: with the bytes that it tells, with a recording, a script, or items as text
 abbrev pub answer_action : InputAsked → List ℕ → Action Bool RunFault
-answer_action (Check file form cut sender) input =
-    of_bytes form (λ bytes. check_printing (sender_parts sender).rules bytes) input
+answer_action (Check file form cut sender) input = of_bytes form (sent_printing sender (telling.Check cut)) input
 answer_action (CheckAll file form sender named) input =
-    of_bytes form (check_all_printing (sender_parts sender).rules (file_head (if named then file else None))) input
-answer_action (Show file form sender look) input =
-    of_bytes form (show_printing (showing (sender_parts sender).rules ((sender_parts sender).view look))) input
-answer_action (ShowAll file form sender shown) input = of_bytes form (show_all_printing (sender_parts sender).rules
-    (sender_parts sender).lines (sender_parts sender).view shown) input
+    of_bytes form (sent_printing sender (telling.CheckAll (if named then file else None))) input
+answer_action (Show file form sender look) input = of_bytes form (sent_printing sender (telling.Show look)) input
+answer_action (ShowAll file form sender shown) input = of_bytes form (sent_printing sender (telling.ShowAll shown)) input
 answer_action (Trace file form) input = trace_action form input
 answer_action (Play file screen false paint) input = play_action paint screen input
 answer_action (Play file screen true paint) input = play_tcp_action paint screen input

@@ -1,21 +1,25 @@
--- Checks of several files: a line for each, which begins with the file's name.
+-- Checks of several files: a line for each, which begins with the file's name; or where they go on after refusals, lines
+-- that do.
 
-use Rattle.std.specs.Prelude.{◌≡◌, ℕ, ◌<◌, List, [], ◌∷◌, ◌++◌, Bool, codes, length, take, flat_map, HoldsAt, ◌⊎◌}
+use Rattle.std.specs.Prelude.{◌≡◌, ℕ, ◌<◌, List, [], ◌∷◌, ◌++◌, ◌&&◌, Bool, true, Result, Ok, Err, codes}
+use Rattle.std.specs.Prelude.{false, length, take, flat_map, HoldsAt, Some, IsErrAnd, ◌⊎◌}
 use Rattle.std.specs.Borrow.{Bor}
 use Rattle.std.specs.List.{list_all}
-use Rattle.ws_code.specs.Device.{FailedWithin}
+use Rattle.ws_code.specs.Device.{FailedWithin, Writer, WentOut}
 use Rattle.ws_script.specs.declared.asked.fault.RunFault.{RunFault}
 use Rattle.ws_script.specs.declared.asked.fault.RunFault.TheVariants.{Write}
 use Rattle.ws_script.specs.declared.asked.sender.Sender.{Sender}
 use Rattle.ws_printing.specs.Printouts.{IsPrintedOut, Printout}
+use Rattle.ws_program.specs.Actions.{IsCarriedOut}
 use Rattle.ws_program.specs.Answering.{sender_parts}
 use Rattle.ws_printing.specs.CheckLine.{IsVerdict, is_accepted, line_of}
-use Rattle.ws_program.specs.FileFaults.{IsOfFile}
-use Rattle.ws_program.specs.InputFaults.{IsInputUnread}
+use Rattle.ws_program.specs.FileFaults.{IsInputUnread, IsOfFile}
 use Rattle.ws_program.specs.StreamBytes.{AreBytesOf, IsFormFault}
+use Rattle.ws_program.specs.Streams.{openly}
 use Rattle.ws_program.specs.declared.command_fault.CommandFault.{CommandFault}
 use Rattle.ws_program.specs.declared.file_checks.FileChecks.{FileChecks}
 use Rattle.ws_printing.specs.declared.verdict.Verdict.{Verdict}
+use Rattle.ws_program.specs.declared.words.command_line.InputAsked.TheVariants.{CheckAll}
 use Rattle.ws_program.specs.declared.words.command_line.StreamForm.{StreamForm}
 
 -- what a check found in a file of this name: the bytes of its stream, and what holds of them
@@ -51,6 +55,48 @@ AreFound form sender [] [] = Unit {0}
 AreFound form sender (file ∷ files) (f ∷ found) = (f.name ≡ file.now) × IsFoundIn form sender f.bytes f.verdict
     × AreFound form sender files found
 AreFound form sender files found = ⊥
+
+-- what a check of a file does to a sink, and what it comes to
+abbrev pub FileCheck : Type 0 → Type 1
+FileCheck S = Bor (List ℕ) → S → S → Result Bool RunFault → Type 0
+
+module _ {S : Type 0} (IsChecked : FileCheck S) where
+  -- files were checked one after another, and whether all are accepted
+  abbrev pub AreChecked : List (Bor (List ℕ)) → S → S → Bool → Type 0
+  AreChecked [] from to accepted = (to ≡ from) × (accepted ≡ true)
+  AreChecked (file ∷ files) from to accepted = (mid : S) × (first rest : Bool) × IsChecked file from mid (Ok first)
+      × AreChecked files mid to rest × (accepted ≡ (first && rest))
+
+  -- The files before one were checked. The check of this one met a fault, which is told with the file's name where it is
+  -- one of the file.
+  pub record IsFaultOfFiles (files : List (Bor (List ℕ))) (from to : S) (fault : CommandFault) : Type 0 where
+    pub count : ℕ
+    pub within : count < length files
+    pub mid : S
+    pub accepted : Bool
+    pub before : AreChecked (take count files) from mid accepted
+    pub why : RunFault
+    pub met : HoldsAt (λ file. IsOfFile file.now why fault × IsChecked file mid to (Err why)) files count
+
+-- A file was checked, and its line was printed. Nothing is found in it, or its line couldn't be printed whole.
+abbrev pub IsFileChecked : {S : Type 0} → Writer S → FileChecks → FileCheck S
+IsFileChecked writer checks file from to (Ok accepted) = (found : Found) × (found.name ≡ file.now)
+    × IsFoundIn checks.form checks.from found.bytes found.verdict × (accepted ≡ is_accepted found.verdict)
+    × WentOut writer from to (found_line found)
+IsFileChecked writer checks file from to (Err why) = ((to ≡ from) × (IsUnfound checks.form why ⊎ (why ≡ Write)))
+    ⊎ ((why ≡ Write) × ((found : Found) × FailedWithin writer from to (found_line found)))
+
+module _ {S : Type 0} (writer : Writer S) (has_output : Bool) (checks : FileChecks) where
+  -- a file can't be read, or was checked with the bytes that were read of it, going on after refusals
+  abbrev pub IsOneChecked : FileCheck S
+  IsOneChecked file from to outcome = IsErrAnd outcome (λ fault. (to ≡ from) × IsInputUnread fault)
+      ⊎ ((input : List ℕ) × IsCarriedOut writer from to
+      (openly has_output (CheckAll (Some file) checks.form checks.from true) input) outcome)
+
+  -- a check of a file that goes on after refusals, or one with a line
+  abbrev pub IsCheckedBy : Bool → FileCheck S
+  IsCheckedBy true = IsOneChecked
+  IsCheckedBy false = IsFileChecked writer checks
 
 module _ {S : Type 0} (out : Printout S) (checks : FileChecks) where
   -- the files were checked, and the line of each was printed

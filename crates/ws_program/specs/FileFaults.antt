@@ -1,15 +1,27 @@
--- Faults as they are told, with the name of the file that they are about.
+-- Faults as they are told: with their causes, and with the name of the file that they are about.
 
 use Rattle.std.specs.Prelude.{◌≡◌, ℕ, List, Option, Some, ◌⊎◌, string_bytes}
 use Rattle.std.specs.Option.{option_map}
+use Rattle.std.specs.Str.Lines.{lines}
+use Rattle.ws_script.specs.cause.ToldCauses.{IsLineTold}
 use Rattle.ws_script.specs.declared.asked.fault.RunFault.{RunFault}
 use Rattle.ws_script.specs.declared.asked.fault.RunFault.TheVariants as run
 use Rattle.ws_script.specs.declared.asked.fault.ToldFault.{ToldFault}
 use Rattle.ws_script.specs.declared.asked.fault.ToldFault.TheVariants.{Run}
+use Rattle.ws_script.specs.declared.cause.vocabulary.Vocabulary.TheVariants.{Items}
 use Rattle.ws_program.specs.declared.command_fault.CommandFault.{CommandFault}
 use Rattle.ws_program.specs.declared.command_fault.CommandFault.TheVariants.{Told, OfFile, Unwritten}
 use Rattle.ws_program.specs.declared.words.command_line.InputAsked.{InputAsked}
 use Rattle.ws_program.specs.declared.words.command_line.InputAsked.TheVariants.{Make, Trace}
+
+-- an input can't be read, or a growth was refused in reading it
+abbrev pub IsInputUnread : RunFault → Type 0
+IsInputUnread fault = (fault ≡ run.Read) ⊎ (fault ≡ run.Memory)
+
+-- a fault of a command with its cause, where items as text have a bad line, and as it is otherwise
+abbrev pub IsToldOf : InputAsked → List ℕ → ToldFault → RunFault → Type 0
+IsToldOf (Make file sent raw) text told (run.Line number) = IsLineTold (Items sent) (lines text) number told
+IsToldOf asked text told fault = told ≡ Run fault
 
 -- a fault that was met with a file is told with its name, or by itself; or memory was wanted for the name
 abbrev pub IsOfFile : List ℕ → RunFault → CommandFault → Type 0

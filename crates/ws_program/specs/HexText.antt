@@ -2,6 +2,8 @@
 
 use Rattle.std.specs.Prelude.{◌≡◌, ℕ, List, Bool, Ok, IsErr, ◌==◌, ◌||◌, not, filter}
 use Rattle.hex.specs.Hex.{decode_of}
+use Rattle.ws_script.specs.declared.asked.fault.RunFault.{RunFault}
+use Rattle.ws_script.specs.declared.asked.fault.RunFault.TheVariants as run
 use Rattle.ws_program.specs.declared.hex_text.TextFault.{TextFault}
 use Rattle.ws_program.specs.declared.hex_text.TextFault.TheVariants.{NotHex, Memory}
 
@@ -21,3 +23,8 @@ IsHexOf bytes text = decode_of (without_blanks text) ≡ Ok bytes
 abbrev pub IsHexTextFault : List ℕ → TextFault → Type 0
 IsHexTextFault text NotHex = IsErr (decode_of (without_blanks text))
 IsHexTextFault text Memory = (bytes : List ℕ) × IsHexOf bytes text
+
+-- such a fault as the program's own
+abbrev pub text_run_fault : TextFault → RunFault
+text_run_fault NotHex = run.NotHex
+text_run_fault Memory = run.Memory

@@ -1,12 +1,9 @@
 pub mod Actions
 pub mod AllTold
 pub mod Answering
-pub mod ExtendedView
 pub mod FileChecks
-pub mod FileChecksOfAll
 pub mod FileFaults
 pub mod HexText
-pub mod InputFaults
 pub mod Recorded
 pub mod Runs
 pub mod ShownSources
@@ -15,7 +12,7 @@ pub mod StreamText
 pub mod StreamTraces
 pub mod Streams
 pub mod Tables
+pub mod Tellings
 pub mod Traced
 pub mod Views
 pub mod Making
-pub mod ToldFaults

@@ -16,15 +16,12 @@ use Rattle.ws_program.specs.Answering.{of_bytes, sender_parts}
 use Rattle.ws_program.specs.ShownSources.{unread_printing}
 use Rattle.ws_program.specs.StreamText.{showing}
 use Rattle.ws_program.specs.Streams.{at_output, openly}
-use Rattle.ws_program.specs.FileChecks.{HasChecked, IsFaultOfChecks}
-use Rattle.ws_program.specs.FileChecksOfAll.{HaveAllChecked, IsFaultOfAllChecks}
-use Rattle.ws_program.specs.FileFaults.{IsToldBy, IsToldOfFile}
-use Rattle.ws_program.specs.InputFaults.{IsInputUnread}
+use Rattle.ws_program.specs.FileChecks.{AreChecked, HasChecked, IsFaultOfChecks, IsFaultOfFiles, IsOneChecked}
+use Rattle.ws_program.specs.FileFaults.{IsInputUnread, IsToldBy, IsToldOf, IsToldOfFile}
 use Rattle.ws_program.specs.StreamTraces.{HasTraced, IsFaultOfTrace}
 use Rattle.ws_program.specs.Tables.{HasPrinted, IsUnprinted}
-use Rattle.ws_program.specs.ToldFaults.{IsToldOf}
 use Rattle.ws_program.specs.declared.command_fault.CommandFault.{CommandFault}
-use Rattle.ws_program.specs.declared.command_fault.CommandFault.TheVariants.{Words, Run, Told, OfFile, Unwritten}
+use Rattle.ws_program.specs.declared.command_fault.CommandFault.TheVariants.{Words, Run}
 use Rattle.ws_program.specs.declared.words.command_line.InputAsked.{InputAsked}
 use Rattle.ws_program.specs.declared.words.command_line.InputAsked.TheVariants.{Show}
 use Rattle.ws_program.specs.declared.words.command_line.StreamForm.TheVariants.{Raw}
@@ -35,9 +32,7 @@ use Rattle.ws_program.specs.declared.words.command_line.Task.TheVariants.{Input,
 abbrev pub IsWordsFault : CommandFault → Type 0
 IsWordsFault (Words why) = Unit {0}
 IsWordsFault (Run fault) = fault ≡ Memory
-IsWordsFault (Told fault) = ⊥
-IsWordsFault (OfFile fault file why) = ⊥
-IsWordsFault Unwritten = ⊥
+IsWordsFault other = ⊥
 
 -- what a live session lacks: without a script it reads standard input
 abbrev pub missing_live : OpenStreams → SessionAsked → Option RunFault
@@ -78,8 +73,8 @@ module _ {S : Type 0} (out : Printout S) (streams : OpenStreams) where
   abbrev pub HasRunTask : Task → Bool → Type 0
   HasRunTask (Input asked) accepted = HasRunInput asked accepted
   HasRunTask (Files checks) accepted = HasChecked out checks accepted
-  HasRunTask (AllFiles checks) accepted = HaveAllChecked out.writer streams.output checks checks.files.items out.from
-      out.to accepted
+  HasRunTask (AllFiles checks) accepted = AreChecked (IsOneChecked out.writer streams.output checks)
+      checks.files.items out.from out.to accepted
   HasRunTask (Streams traced) accepted = HasTraced out streams.output traced accepted
   HasRunTask (Print shown) accepted = HasPrinted out streams.output shown accepted
   HasRunTask (Live asked) accepted = (missing_live streams asked ≡ None)
@@ -90,7 +85,8 @@ module _ {S : Type 0} (out : Printout S) (streams : OpenStreams) where
   IsFaultOfTask (Input asked) fault = (met : ToldFault) × IsFaultOfInput asked met
       × IsToldBy asked met fault
   IsFaultOfTask (Files checks) fault = IsFaultOfChecks out checks fault
-  IsFaultOfTask (AllFiles checks) fault = IsFaultOfAllChecks out.writer streams.output checks out.from out.to fault
+  IsFaultOfTask (AllFiles checks) fault = IsFaultOfFiles (IsOneChecked out.writer streams.output checks)
+      checks.files.items out.from out.to fault
   IsFaultOfTask (Streams traced) fault = IsFaultOfTrace out streams.output traced fault
   IsFaultOfTask (Print shown) fault = IsUnprinted out streams.output shown fault
   IsFaultOfTask (Live asked) fault = (met : ToldFault)

@@ -9,12 +9,11 @@ use Rattle.ws_script.specs.declared.asked.fault.ToldFault.TheVariants.{Run}
 use Rattle.ws_trace.specs.declared.piece.Piece.{Piece}
 use Rattle.ws_trace.specs.declared.piece.TracedEnd.{TracedEnd}
 use Rattle.ws_trace.specs.declared.piece.TracedEnd.TheVariants.{Host, Station}
-use Rattle.ws_trace.specs.declared.trace_text.TraceForm.{TraceForm}
-use Rattle.ws_program.specs.Actions.{Action, IsCarriedOut}
+use Rattle.ws_program.specs.Actions.{IsCarriedOut}
 use Rattle.ws_program.specs.FileChecks.{IsUnfound}
 use Rattle.ws_program.specs.FileFaults.{IsOfFile}
 use Rattle.ws_program.specs.StreamBytes.{AreBytesOf}
-use Rattle.ws_program.specs.Streams.{into_closed}
+use Rattle.ws_program.specs.Streams.{at_output}
 use Rattle.ws_program.specs.Traced.{dialogue_action}
 use Rattle.ws_program.specs.declared.command_fault.CommandFault.{CommandFault}
 use Rattle.ws_program.specs.declared.command_fault.CommandFault.TheVariants.{Told, Unwritten}
@@ -55,11 +54,6 @@ abbrev pub IsFaultOfBoth : StreamTrace → CommandFault → Type 0
 IsFaultOfBoth asked fault = IsFaultOfEnd asked.raw asked.host fault ⊎ ((host : List Piece)
     × ArePiecesOfEnd asked.raw Host asked.host host × IsFaultOfEnd asked.raw asked.station fault)
 
--- the dialogue of pieces is printed in a form, at an output or without one
-abbrev pub pieces_action : Bool → TraceForm → List Piece → Action Bool RunFault
-pieces_action true form pieces = dialogue_action form pieces
-pieces_action false form pieces = into_closed (dialogue_action form pieces)
-
 -- a fault of printing, as it is told
 abbrev pub told_untimed : RunFault → CommandFault
 told_untimed Write = Unwritten
@@ -69,10 +63,10 @@ module _ {S : Type 0} (out : Printout S) (has_output : Bool) (asked : StreamTrac
   -- the dialogue of the files' pieces was printed
   abbrev pub HasTraced : Bool → Type 0
   HasTraced accepted = (pieces : List Piece) × ArePiecesOfBoth asked pieces
-      × IsCarriedOut out.writer out.from out.to (pieces_action has_output asked.form pieces) (Ok accepted)
+      × IsCarriedOut out.writer out.from out.to (at_output has_output (dialogue_action asked.form pieces)) (Ok accepted)
 
   -- it wasn't: a file is at fault, and nothing was written; or this was met in printing it
   abbrev pub IsFaultOfTrace : CommandFault → Type 0
   IsFaultOfTrace fault = (IsFaultOfBoth asked fault × (out.to ≡ out.from)) ⊎ ((pieces : List Piece) × (why : RunFault)
       × ArePiecesOfBoth asked pieces × (fault ≡ told_untimed why)
-      × IsCarriedOut out.writer out.from out.to (pieces_action has_output asked.form pieces) (Err why))
+      × IsCarriedOut out.writer out.from out.to (at_output has_output (dialogue_action asked.form pieces)) (Err why))

@@ -8,34 +8,26 @@ use Rattle.hex.specs.Hex.{encode_upper}
 use Rattle.ws_code.specs.Device.{FailedWithin}
 use Rattle.ws_code.specs.Reason.{number_of, name_of, text_of}
 use Rattle.ws_code.specs.declared.reason.Reason.{Reason}
+use Rattle.ws_code.specs.declared.reason.Reason.TheVariants as because
 use Rattle.ws_printing.specs.script.KeyNames.{aid_named, answering_keys, function_keys, plain_keys}
 use Rattle.ws_printing.specs.Printouts.{IsPrintedOut, Printout}
 use Rattle.ws_program.specs.declared.command_fault.CommandFault.{CommandFault}
 use Rattle.ws_program.specs.declared.command_fault.CommandFault.TheVariants.{Unwritten}
 use Rattle.ws_program.specs.declared.tables.Table.{Table}
 use Rattle.ws_program.specs.declared.tables.Table.TheVariants as table
-use Rattle.ws_code.specs.declared.reason.Reason.TheVariants.{BadCommand, StraySe, BadSub, SubTooLong, LengthBelowHeader}
-use Rattle.ws_code.specs.declared.reason.Reason.TheVariants.{BadType, BadReserved, BadVariableLength, UnknownOpcode}
-use Rattle.ws_code.specs.declared.reason.Reason.TheVariants.{TooLong, TooShort, NoEscape, UnknownCommand, BadAddress}
-use Rattle.ws_code.specs.declared.reason.Reason.TheVariants.{BadSohLength, Resequencing, BadEraseList, BadRepeat}
-use Rattle.ws_code.specs.declared.reason.Reason.TheVariants.{BadFormatByte, StructuredField, AlternateSize, SaveRestore}
-use Rattle.ws_code.specs.declared.reason.Reason.TheVariants.{Roll, ErrorCode, ReadScreen, ReadImmediate}
-use Rattle.ws_code.specs.declared.reason.Reason.TheVariants.{ExtendedAttribute, TransparentData, DisplayStructuredField}
-use Rattle.ws_code.specs.declared.reason.Reason.TheVariants.{TooManyFcws, LeftOutShift, BadAid, EndedInside}
-use Rattle.ws_code.specs.declared.reason.Reason.TheVariants.{BadAnswerByte, BackwardAddress, PastEnd, ZeroLength}
-use Rattle.ws_code.specs.declared.reason.Reason.TheVariants.{FieldPastEnd, FieldOverlap, TableFull}
-use Rattle.ws_code.specs.declared.reason.Reason.TheVariants.{RecordBeforeNegotiation, UnsupportedTerminal}
-use Rattle.ws_code.specs.declared.reason.Reason.TheVariants.{UnaskedAnswer, AnswerMismatch}
 
 -- every reason, by its number
 abbrev pub all_reasons : List Reason
-all_reasons = BadCommand ∷ StraySe ∷ BadSub ∷ SubTooLong ∷ LengthBelowHeader ∷ BadType ∷ BadReserved
-    ∷ BadVariableLength ∷ UnknownOpcode ∷ TooLong ∷ TooShort ∷ NoEscape ∷ UnknownCommand ∷ BadAddress ∷ BadSohLength
-    ∷ Resequencing ∷ BadEraseList ∷ BadRepeat ∷ BadFormatByte ∷ StructuredField ∷ AlternateSize ∷ SaveRestore ∷ Roll
-    ∷ ErrorCode ∷ ReadScreen ∷ ReadImmediate ∷ ExtendedAttribute ∷ TransparentData ∷ DisplayStructuredField
-    ∷ TooManyFcws ∷ LeftOutShift ∷ BadAid ∷ EndedInside ∷ BadAnswerByte ∷ BackwardAddress ∷ PastEnd ∷ ZeroLength
-    ∷ FieldPastEnd ∷ FieldOverlap ∷ TableFull ∷ RecordBeforeNegotiation ∷ UnsupportedTerminal ∷ UnaskedAnswer
-    ∷ AnswerMismatch ∷ []
+all_reasons = because.BadCommand ∷ because.StraySe ∷ because.BadSub ∷ because.SubTooLong ∷ because.LengthBelowHeader
+    ∷ because.BadType ∷ because.BadReserved ∷ because.BadVariableLength ∷ because.UnknownOpcode ∷ because.TooLong
+    ∷ because.TooShort ∷ because.NoEscape ∷ because.UnknownCommand ∷ because.BadAddress ∷ because.BadSohLength
+    ∷ because.Resequencing ∷ because.BadEraseList ∷ because.BadRepeat ∷ because.BadFormatByte ∷ because.StructuredField
+    ∷ because.AlternateSize ∷ because.SaveRestore ∷ because.Roll ∷ because.ErrorCode ∷ because.ReadScreen
+    ∷ because.ReadImmediate ∷ because.ExtendedAttribute ∷ because.TransparentData ∷ because.DisplayStructuredField
+    ∷ because.TooManyFcws ∷ because.LeftOutShift ∷ because.BadAid ∷ because.EndedInside ∷ because.BadAnswerByte
+    ∷ because.BackwardAddress ∷ because.PastEnd ∷ because.ZeroLength ∷ because.FieldPastEnd ∷ because.FieldOverlap
+    ∷ because.TableFull ∷ because.RecordBeforeNegotiation ∷ because.UnsupportedTerminal ∷ because.UnaskedAnswer
+    ∷ because.AnswerMismatch ∷ []
 
 -- what stands after the digits with which a text begins
 abbrev pub after_number : List ℕ → List ℕ

@@ -16,8 +16,7 @@ use Rattle.ws_trace.specs.declared.piece.TracedEnd.{TracedEnd}
 use Rattle.ws_trace.specs.declared.piece.TracedEnd.TheVariants as traced
 use Rattle.ws_trace.specs.declared.trace_text.TraceForm.{TraceForm}
 use Rattle.ws_program.specs.Actions.{Action}
-use Rattle.ws_program.specs.HexText.{IsHexOf}
-use Rattle.ws_program.specs.Recorded.{IsTime, IsFirstOther, end_word}
+use Rattle.ws_program.specs.Recorded.{IsFirstOther, IsPieceLine}
 use Rattle.ws_program.specs.declared.words.command_line.RecordedEnd.{RecordedEnd}
 use Rattle.ws_program.specs.declared.words.command_line.RecordedEnd.TheVariants.{Host, Station}
 
@@ -33,13 +32,9 @@ traced_end Station = traced.Station
 
 -- the piece that a line of a recording has
 pub record IsPieceOf (line : List ℕ) (piece : Piece) : Type 0 where
-  pub digits : List ℕ
   pub sender : RecordedEnd
-  pub hex : List ℕ
-  pub time : IsTime digits
-  pub said : line ≡ digits ++ (end_word sender ++ hex)
-  pub spelled : IsHexOf piece.bytes.items hex
-  pub milliseconds : piece.milliseconds ≡ number_with 0 digits
+  pub said : IsPieceLine line sender piece.bytes.items
+  pub milliseconds : piece.milliseconds ≡ number_with 0 said.milliseconds
   pub is_sender : piece.sender ≡ traced_end sender
 
 -- the pieces of lines, one after another

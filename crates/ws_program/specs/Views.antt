@@ -1,4 +1,4 @@
--- How the items of a host and those of a station are shown.
+-- How the items of a host and those of a station are shown, and those of a live host.
 
 use Rattle.std.specs.Prelude.{◌≡◌, ℕ, List, [], ◌∷◌, Option, None}
 use Rattle.ws_code.specs.declared.reason.Reason.{Reason}
@@ -15,10 +15,17 @@ use Rattle.ws_extended.specs.declared.extended_answer_part.ExtendedAnswerPart.{E
 use Rattle.ws_text.specs.AnswerLines.{answer_text}
 use Rattle.ws_text.specs.ExtendedAnswerLines.{told_item_text}
 use Rattle.ws_text.specs.ItemLines.{item_text}
-use Rattle.ws_printing.specs.ScreenLines.{IsScreenText, on_037}
+use Rattle.ws_printing.specs.ScreenLines.{IsScreenText, on_037, IsDisplayText}
 use Rattle.ws_printing.specs.declared.look.Look.{Look}
 use Rattle.ws_printing.specs.declared.paint.Paint.TheVariants.{Plain}
 use Rattle.ws_program.specs.StreamText.{View}
+use Rattle.ws_extended.specs.ExtendedStates.{ExtendedState}
+use Rattle.ws_extended.specs.ExtendedViews.{ExtendedParts, Shows}
+use Rattle.ws_extended.specs.declared.extended_element.ExtendedElement.{ExtendedElement}
+use Rattle.ws_extended_station.specs.ExtendedDisplays.{standing_row}
+use Rattle.ws_text.specs.ExtendedLines.{extended_item_text}
+use Rattle.ws_printing.specs.ErrorRow.{error_line}
+pub use Rattle.ws_trace.specs.BothEnds.{new_state, state_after_item, extended_item_fault}
 
 -- the events so far, and those of an item: a record is applied as a station does, a Telnet command has no effect
 abbrev pub after_item : History → Item Element → History
@@ -54,6 +61,29 @@ painted_host_view look = record {
 -- how a host's items are shown, and the screen after them in plain text on page 037
 abbrev pub host_view : View Element
 host_view = painted_host_view (on_037 Plain)
+
+-- the display after the items
+abbrev pub state_after_items : ExtendedState → List (Item ExtendedElement) → ExtendedState
+state_after_items state [] = state
+state_after_items state (x ∷ xs) = state_after_items (state_after_item state x) xs
+
+-- a display that the items give, where no write is open
+abbrev pub MakesDisplay : List (Item ExtendedElement) → ExtendedParts → Type 0
+MakesDisplay items display = Shows (state_after_items new_state items) display × (display.screen.writing ≡ None)
+
+-- what stands after the items: the screen of the display that they give, and the row on which an error stands
+abbrev pub IsExtendedEnd : Look → List (Item ExtendedElement) → List ℕ → Type 0
+IsExtendedEnd look items text = (d : ExtendedParts) × Shows (state_after_items new_state items) d
+    × IsDisplayText look d.screen (error_line (standing_row d)) text
+
+-- how a live host's items are shown, and after them the display's screen in a paint and on a page, and the row of an
+-- error
+abbrev pub extended_view : Look → View ExtendedElement
+extended_view look = record {
+  lines = extended_item_text;
+  fault = λ before item. extended_item_fault (state_after_items new_state before) item;
+  Ends = IsExtendedEnd look;
+}
 
 -- nothing stands after a station's answers
 abbrev pub IsNoEnd : {U : Type 0} → List (Item U) → List ℕ → Type 0

@@ -1,60 +1,13 @@
 //! What a check tells that goes on after a refusal with the next record: a line for each, and a last one.
 ghost use Rattle.ws_text.specs.Printed.{IsPrinted};
-ghost use Rattle.ws_program.specs.Actions.{IsCarriedOut};
 ghost use Rattle.ws_program.specs.AllTold.{check_all_printing, checked_line, file_head};
-ghost use Rattle.ws_program.specs.Answering.{of_bytes, sender_parts};
 
 use crate::all_told::{AllCounts, FileHead, Way, are_accepted, tell_all};
 use crate::shown::Shown;
-use crate::stream_bytes::bytes_of;
-use crate::words::StreamForm;
 use std::alloc::Global;
 use ws_code::{Fault, Sink};
-use ws_extended::{ExtendedAnswers, ExtendedCommands};
 use ws_printing::{Verdict, VerdictLine};
-use ws_script::{RunFault, Sender};
-use ws_stream::{Answers, Commands};
 use ws_text::{Listed, Number, Output, Text, print, texts};
-
-/// Writes what a check tells of the bytes that an input tells, as those of a sender, of which records may be refused;
-/// each line after the file's name, where one is told.
-///
-/// # Errors
-///
-/// As `bytes_of` has it, and then nothing was written; else as `check_all_to`.
-pub(crate) fn check_all_input<S: Sink>(
-    alloc: Global,
-    form: StreamForm,
-    input: &[u8],
-    head: FileHead<'_>,
-    from: Sender,
-    sink: &mut S,
-) -> Result<bool, RunFault>
-    ensures { IsCarriedOut S.writer sink.old sink.new (of_bytes form
-        (check_all_printing (sender_parts from).rules (file_head head.entry.0)) input.now) result }
-{
-    let bytes = bytes_of(alloc, form, input)?;
-    Ok(check_all_sent(alloc, bytes.as_slice(), head, from, sink)?)
-}
-
-// The same of bytes.
-fn check_all_sent<S: Sink>(
-    alloc: Global,
-    bytes: &[u8],
-    head: FileHead<'_>,
-    from: Sender,
-    sink: &mut S,
-) -> Result<bool, Fault>
-    ensures { IsPrinted S.writer sink.old sink.new
-        (check_all_printing (sender_parts from).rules (file_head head.entry.0) bytes.now) result }
-{
-    match from {
-        Sender::Host => check_all_to::<Commands, S>(alloc, bytes, head, sink),
-        Sender::ExtendedHost => check_all_to::<ExtendedCommands, S>(alloc, bytes, head, sink),
-        Sender::Station => check_all_to::<Answers, S>(alloc, bytes, head, sink),
-        Sender::ExtendedStation => check_all_to::<ExtendedAnswers, S>(alloc, bytes, head, sink),
-    }
-}
 
 /// Writes a line for each refusal of the bytes, after which the next record is read, and a last one: true where nothing
 /// is refused and the stream may end. No record is carried out.

@@ -1,22 +1,18 @@
 //! Checks of several files, a line for each.
-ghost use Rattle.std.specs.Prelude.{◌≡◌, ◌⊎◌, [], List, ℕ, length, IfOk, IfErr};
-ghost use Rattle.ws_code.specs.Device.{WentOut, FailedWithin};
-ghost use Rattle.ws_printing.specs.Printouts.{printout};
+ghost use Rattle.std.specs.Prelude.{◌≡◌, [], List, ℕ, length, IfOk, IfErr};
 ghost use Rattle.ws_program.specs.Answering.{HasRefusalBy, sender_parts};
-ghost use Rattle.ws_printing.specs.CheckLine.{IsVerdict, is_accepted};
-ghost use Rattle.ws_program.specs.FileChecks.{Found, found_line, named_line, HasChecked, IsFaultOfChecks, IsFoundIn};
-ghost use Rattle.ws_program.specs.FileChecks.{IsUnfound};
-ghost use Rattle.ws_program.specs.InputFaults.{IsInputUnread};
+ghost use Rattle.ws_printing.specs.CheckLine.{IsVerdict};
+ghost use Rattle.ws_program.specs.FileChecks.{AreChecked, IsCheckedBy, IsFaultOfFiles, IsFileChecked, IsFoundIn, IsUnfound};
 ghost use Rattle.ws_printing.specs.SourceChecks.{GaveEnough, FailedBefore};
-ghost use Rattle.ws_program.specs.StreamBytes.{AreBytesOf, IsFormFault};
 
 use crate::command_fault::CommandFault;
 use crate::file_fault::of_file;
 use crate::input::read_input;
+use crate::program::answer_openly;
 use crate::stream_bytes::bytes_of;
-use crate::words::StreamForm;
-use std::alloc::Global;
+use crate::words::{InputAsked, StreamForm};
 use std::fs::File;
+use std::net::{Net, TcpListener, TcpStream};
 use std::num::NonZeroU16;
 use std::rt::Files;
 use ws_code::{Fault, ReadSource, Sink, Source};
@@ -36,34 +32,68 @@ pub struct FileChecks<'a> {
     pub from: Sender,
 }
 
-/// Does these checks, and writes the line of each file: true where all are accepted. Standard output may have been closed
-/// when the program began.
+/// Does these checks: true where all are accepted. With `all` each goes on after a refusal with the next record; else a
+/// line is written of each file. Standard output may have been closed when the program began.
 ///
 /// # Errors
 ///
 /// The fault that ended the first check that didn't end well, with the file's name where it is one of the file: it can't
 /// be read or has another form, and the lines of those before it went out. `Write` where the sink failed or standard
 /// output was closed, `Memory` where a growth was refused.
-pub(crate) fn check_files<R: AllocGlobal + Files<File = File> + Input, S: Sink>(
+pub(crate) fn check_files<R, S>(
     rt: &R,
     checks: &FileChecks<'_>,
+    all: bool,
     streams: OpenStreams,
     sink: &mut BufferedSink<S>,
 ) -> Result<bool, CommandFault>
+where
+    R: AllocGlobal + Files<File = File> + Input + Net<Listener = TcpListener, Stream = TcpStream>,
+    S: Sink,
     requires empty { sink.old.held ≡ [] }
-    ensures done { IfOk result
-        (HasChecked (printout S.writer sink.old.sink sink.new.sink) checks.now) }
-    ensures fault { IfErr result
-        (IsFaultOfChecks (printout S.writer sink.old.sink sink.new.sink) checks.now) }
+    ensures done { IfOk result (AreChecked (IsCheckedBy S.writer streams.output checks.now all)
+        checks.now.files.items sink.old.sink sink.new.sink) }
+    ensures fault { IfErr result (IsFaultOfFiles (IsCheckedBy S.writer streams.output checks.now all)
+        checks.now.files.items sink.old.sink sink.new.sink) }
 {
     let mut all_accepted = true;
     for file in checks.files.as_slice() {
-        match check_named(rt, file, checks, streams, sink) {
+        match check_one(rt, file, checks, all, streams, sink) {
             Ok(accepted) => all_accepted = all_accepted & accepted,
             Err(fault) => return Err(of_file(rt, file, fault)),
         }
     }
     Ok(all_accepted)
+}
+
+// Does the check of a file.
+fn check_one<R, S>(
+    rt: &R,
+    file: &str,
+    checks: &FileChecks<'_>,
+    all: bool,
+    streams: OpenStreams,
+    sink: &mut BufferedSink<S>,
+) -> Result<bool, RunFault>
+where
+    R: AllocGlobal + Files<File = File> + Input + Net<Listener = TcpListener, Stream = TcpStream>,
+    S: Sink,
+    requires empty { sink.old.held ≡ [] }
+    ensures held { sink.new.held ≡ [] }
+    ensures checked { IsCheckedBy S.writer streams.output checks.now all file.entry sink.old.sink
+        sink.new.sink result }
+{
+    if !all {
+        return check_named(rt, file, checks, streams, sink);
+    }
+    let asked = InputAsked::CheckAll {
+        file: Some(file),
+        form: checks.form,
+        from: checks.from,
+        named: true,
+    };
+    let input = read_input(rt, Some(file))?;
+    answer_openly(rt, rt.alloc(), asked, input.as_slice(), streams, sink)
 }
 
 // Checks a file, and writes its line.
@@ -76,38 +106,10 @@ fn check_named<R: AllocGlobal + Files<File = File> + Input, S: Sink>(
 ) -> Result<bool, RunFault>
     requires empty { sink.old.held ≡ [] }
     ensures held { sink.new.held ≡ [] }
-    ensures done { IfOk result (λ accepted. (found : Found) × (found.name ≡ file.now)
-        × IsFoundIn checks.now.form checks.now.from found.bytes found.verdict
-        × (accepted ≡ is_accepted found.verdict)
-        × WentOut S.writer sink.old.sink sink.new.sink (found_line found)) }
-    ensures fault { IfErr result (λ fault. ((sink.new.sink ≡ sink.old.sink)
-        × (IsUnfound checks.now.form fault ⊎ (fault ≡ RunFault.Write)))
-        ⊎ ((fault ≡ RunFault.Write) × ((found : Found)
-        × FailedWithin S.writer sink.old.sink sink.new.sink (found_line found)))) }
+    ensures checked { IsFileChecked S.writer checks.now file.entry sink.old.sink sink.new.sink result }
 {
-    match file_verdict(rt, file, checks) {
-        Ok((verdict, size)) => put_line(file, verdict, size, streams.output, sink),
-        Err(fault) => Err(fault),
-    }
-}
-
-// Writes the line of a file with so many bytes, and hands it on: whether they are accepted.
-fn put_line<S: Sink>(
-    file: &str,
-    verdict: Verdict,
-    size: usize,
-    has_output: bool,
-    sink: &mut BufferedSink<S>,
-) -> Result<bool, RunFault>
-    requires empty { sink.old.held ≡ [] }
-    ensures held { sink.new.held ≡ [] }
-    ensures done { IfOk result (λ accepted. (accepted ≡ is_accepted verdict)
-        × WentOut S.writer sink.old.sink sink.new.sink (named_line file.now verdict size)) }
-    ensures fault { IfErr result (λ fault. (fault ≡ RunFault.Write)
-        × ((sink.new.sink ≡ sink.old.sink)
-        ⊎ FailedWithin S.writer sink.old.sink sink.new.sink (named_line file.now verdict size))) }
-{
-    if !has_output {
+    let (verdict, size) = file_verdict(rt, file, checks)?;
+    if !streams.output {
         return Err(RunFault::Write);
     }
     let line = texts!(file, ": ", VerdictLine(verdict, size as u64));
@@ -129,43 +131,12 @@ fn file_verdict<R: AllocGlobal + Files<File = File> + Input>(
     ensures fault { IfErr result (IsUnfound checks.now.form) }
 {
     if let StreamForm::Raw = checks.form {
-        return raw_verdict(rt, file, checks.cut, checks.from);
+        // None of them is held.
+        let mut source = ReadSource::new(File::open(rt, file)?);
+        return Ok(source_verdict(checks.cut, checks.from, &mut source)?);
     }
     let input = read_input(rt, Some(file))?;
-    told_verdict(rt.alloc(), input.as_slice(), checks)
-}
-
-// The same of raw bytes, of which none is held.
-fn raw_verdict<R: Files<File = File>>(
-    rt: &R,
-    file: &str,
-    cut: NonZeroU16,
-    from: Sender,
-) -> Result<(Verdict, usize), RunFault>
-    ensures found { IfOk result (λ found. (bytes : List ℕ)
-        × IsVerdict (sender_parts from).rules bytes found.0 × (found.1 ≡ length bytes)) }
-    ensures fault { IfErr result IsInputUnread }
-{
-    let mut source = ReadSource::new(File::open(rt, file)?);
-    match source_verdict(cut, from, &mut source) {
-        Ok(found) => Ok(found),
-        Err(_) => Err(RunFault::Read),
-    }
-}
-
-// The same of the bytes that an input tells.
-fn told_verdict(
-    alloc: Global,
-    input: &[u8],
-    checks: &FileChecks<'_>,
-) -> Result<(Verdict, usize), RunFault>
-    ensures found { IfOk result (λ found. (bytes : List ℕ)
-        × AreBytesOf checks.now.form bytes input.now
-        × IsVerdict (sender_parts checks.now.from).rules bytes found.0
-        × (found.1 ≡ length bytes)) }
-    ensures fault { IfErr result (IsFormFault checks.now.form input.now) }
-{
-    let told = bytes_of(alloc, checks.form, input)?;
+    let told = bytes_of(rt.alloc(), checks.form, input.as_slice())?;
     let bytes = told.as_slice();
     Ok((sent_verdict(bytes, checks.cut, checks.from), bytes.len()))
 }

@@ -1,17 +1,18 @@
-//! Faults with the name of the file that they are about.
+//! Faults with their causes, and with the name of the file that they are about.
 ghost use Rattle.std.specs.Prelude.{◌≡◌, Ok, IfOk, IfErr, IsErrAnd};
 ghost use Rattle.std.specs.Option.{option_map};
-ghost use Rattle.ws_program.specs.FileFaults.{IsOfFile, IsToldBy, IsToldOfFile};
+ghost use Rattle.ws_program.specs.FileFaults.{IsOfFile, IsToldBy, IsToldOf, IsToldOfFile};
 
 use crate::command_fault::CommandFault;
 use crate::hex_text::is_blank;
 use crate::words::InputAsked;
+use std::alloc::Global;
 use std::fs;
 use std::fs::File;
 use std::io::ErrorKind;
 use std::rt::Files;
 use thiserror::Error;
-use ws_script::{RunFault, ToldFault};
+use ws_script::{RunFault, ToldFault, Vocabulary, bad_line};
 
 /// Why a file can't be read, or not as hex text.
 #[derive(Clone, Copy, Debug, PartialEq, Eq, Drop, Error)]
@@ -25,6 +26,37 @@ pub enum Unreadable {
     /// The first byte that is no part of hex text, counted from 0.
     #[error("byte {at} is '{shown}'")]
     OtherByte { at: usize, shown: char },
+}
+
+/// What a command came to with this input, with its cause where items as text have a bad line.
+///
+/// # Errors
+///
+/// As `bad_line` where items as text have a bad line; else `Run` with the fault that it came to.
+pub(crate) fn with_cause(
+    alloc: Global,
+    asked: InputAsked<'_>,
+    text: &[u8],
+    outcome: Result<bool, RunFault>,
+) -> Result<bool, ToldFault>
+    ensures done { IfOk result (λ accepted. outcome ≡ Ok accepted) }
+    ensures fault { IfErr result (λ fault. IsErrAnd outcome (IsToldOf asked.entry text.now fault)) }
+{
+    match outcome {
+        Ok(accepted) => Ok(accepted),
+        Err(fault) => Err(told_fault(alloc, asked, text, fault)),
+    }
+}
+
+fn told_fault(alloc: Global, asked: InputAsked<'_>, text: &[u8], fault: RunFault) -> ToldFault
+    ensures { IsToldOf asked.entry text.now result fault }
+{
+    match (asked, fault) {
+        (InputAsked::Make { from, .. }, RunFault::Line(number)) => {
+            bad_line(alloc, text, number, Vocabulary::Items(from))
+        }
+        _ => ToldFault::Run(fault),
+    }
 }
 
 /// What a command of an input came to, as it is told.

@@ -1,8 +1,7 @@
 //! The bytes that a text spells in hex.
 ghost use Rattle.std.specs.Prelude.{◌≡◌, List, ℕ, true, false, IfOk, IfErr, IsErr};
 ghost use Rattle.hex.specs.Hex.{decode_of};
-ghost use Rattle.ws_program.specs.InputFaults.{text_run_fault};
-ghost use Rattle.ws_program.specs.HexText.{is_blank_byte, without_blanks, IsHexOf, IsHexTextFault};
+ghost use Rattle.ws_program.specs.HexText.{is_blank_byte, text_run_fault, without_blanks, IsHexOf, IsHexTextFault};
 
 use std::alloc::{AllocError, Global};
 use thiserror::Error;

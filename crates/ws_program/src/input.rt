@@ -1,12 +1,11 @@
 //! The words of the command line, and the input of a command.
 ghost use Rattle.std.specs.Prelude.{◌≡◌, [], IfErr};
 ghost use Rattle.ws_printing.specs.Printouts.{printout};
-ghost use Rattle.ws_program.specs.InputFaults.{IsInputUnread};
+ghost use Rattle.ws_program.specs.FileFaults.{IsInputUnread};
 ghost use Rattle.ws_program.specs.Runs.{IsRawDone, IsWordsFault};
 
 use crate::command_fault::CommandFault;
-use crate::source_check::check_source_openly;
-use crate::source_show::show_source_openly;
+use crate::sources::{check_source_openly, show_source_openly};
 use crate::words::{InputAsked, StreamForm, no_text};
 use std::fs::File;
 use std::io::Read;

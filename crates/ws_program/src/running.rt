@@ -6,14 +6,12 @@ ghost use Rattle.ws_program.specs.Runs.{HasRunInput, HasRunTask, IsFaultOfInput,
 ghost use Rattle.ws_program.specs.declared.words.command_line.Task.{Task as ATask};
 
 use crate::command_fault::CommandFault;
-use crate::file_check_all::check_all_files;
 use crate::file_checks::check_files;
-use crate::file_fault::{told_of, with_file};
+use crate::file_fault::{told_of, with_cause, with_file};
 use crate::input::{check_file, given_words, read_input, show_file};
 use crate::program::answer_openly;
 use crate::stream_trace::trace_streams;
 use crate::tables::print_table;
-use crate::told::with_cause;
 use crate::words::{InputAsked, StreamForm, Task, read_words};
 use std::fs::File;
 use std::io::IsTerminal;
@@ -81,8 +79,8 @@ where
             let outcome = run_input(rt, asked, streams, sink);
             told_of(rt, asked, outcome)
         }
-        Task::Files(checks) => check_files(rt, &checks, streams, sink),
-        Task::AllFiles(checks) => check_all_files(rt, &checks, streams, sink),
+        Task::Files(checks) => check_files(rt, &checks, false, streams, sink),
+        Task::AllFiles(checks) => check_files(rt, &checks, true, streams, sink),
         Task::Streams(traced) => trace_streams(rt, traced, streams, sink),
         Task::Print(table) => print_table(table, streams.output, sink),
         Task::Live(asked) => {

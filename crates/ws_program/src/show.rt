@@ -1,6 +1,5 @@
 //! The items of a stream as lines, and what they make.
-ghost use Rattle.std.specs.Prelude.{◌≡◌, ◌++◌, ◌+◌, ◌<◌, ◌^◌, Bool, List, ℕ, length, true, IfErr, OnOk};
-ghost use Rattle.ws_code.specs.Device.{WentOut, FailedWithin};
+ghost use Rattle.std.specs.Prelude.{◌≡◌, ◌++◌, ◌+◌, ◌<◌, ◌^◌, Bool, List, ℕ, length, true};
 ghost use Rattle.ws_record.specs.Grammar.{IsInGrammar};
 ghost use Rattle.ws_record.specs.declared.record.Item.{Item as AnItem};
 ghost use Rattle.ws_stream.specs.Elements.{element_rules};
@@ -17,7 +16,7 @@ use crate::shown::Shown;
 use std::alloc::Global;
 use ws_code::{DeviceFailed, Fault, Sink, Source};
 use ws_printing::{Look, Paint, Verdict, verdict_by_fault};
-use ws_record::{Item, Receiver};
+use ws_record::Receiver;
 use ws_stream::Commands;
 use ws_text::Output;
 
@@ -62,12 +61,8 @@ pub(crate) fn show_body_to<B: Shown, S: Sink>(
     bytes: &[u8],
     sink: &mut S,
 ) -> Result<bool, Fault>
-    ensures printed { IsPrinted S.writer sink.old sink.new
+    ensures { IsPrinted S.writer sink.old sink.new
         (show_printing (showing B.rules (in_look B.view B.Ends look)) bytes.now) result }
-    ensures parts_begin { (accepted : Bool) (whole part : List ℕ)
-        → IsShown (showing B.rules (in_look B.view B.Ends look)) bytes.now accepted whole
-        → AreFirstLines (showing B.rules (in_look B.view B.Ends look)) bytes.now part
-        → (rest : List ℕ) × (whole ≡ part ++ rest) }
 {
     let mut receiver = Receiver::<B>::new(alloc);
     let mut made = B::before_any();
@@ -139,34 +134,16 @@ fn show_piece<B: Shown, S: Sink>(
         used += fed.used;
         if let Some(item) = fed.item {
             let place = receiver.taken().saturating_sub(1);
-            write_item::<B, S>(place, &item, sink)?;
+            match B::put_lines(sink, Output::Open, place, &item) {
+                Output::Open => {}
+                Output::Failed => return Err(Fault::Write),
+            }
             if let Err(reason) = B::carry_out(made, &item) {
                 return Verdict::Refused { place, reason }.write_to(0, sink);
             }
         }
     }
     Ok(true)
-}
-
-/// Writes an item's lines.
-///
-/// # Errors
-///
-/// `Write` where the sink failed within them.
-pub(crate) fn write_item<B: Shown, S: Sink>(
-    place: u64,
-    item: &Item<B::Unit>,
-    sink: &mut S,
-) -> Result<(), Fault>
-    ensures ok { OnOk result (WentOut S.writer sink.old sink.new
-        (B.view.lines place item.now)) }
-    ensures err { IfErr result (λ fault. (fault ≡ Fault.Write)
-        × FailedWithin S.writer sink.old sink.new (B.view.lines place item.now)) }
-{
-    match B::put_lines(sink, Output::Open, place, item) {
-        Output::Open => Ok(()),
-        Output::Failed => Err(Fault::Write),
-    }
 }
 
 // Writes what stands behind all items of a stream that ends, or the line of one that ends too early.

@@ -1,20 +1,27 @@
 //! How the items of a body are shown and carried out.
 ghost use Rattle.std.specs.Prelude.{◌≡◌, ◌++◌, ◌∷◌, [], List, ℕ, OnErr, OnOk};
+ghost use Rattle.ws_extended_station.specs.ExtendedDisplays.{standing_row as a_standing_row};
 ghost use Rattle.ws_record.specs.declared.record.Item.{Item as AnItem};
 ghost use Rattle.ws_screen.specs.Faults.{refusal};
 ghost use Rattle.ws_text.specs.Printing.{Prints};
+ghost use Rattle.ws_program.specs.Views.{extended_view, IsExtendedEnd, MakesDisplay};
 ghost use Rattle.ws_program.specs.StreamText.{View, IsWholeItem};
 ghost use Rattle.ws_program.specs.Views.{host_view, answer_view, told_view, IsNoEnd, IsScreenEnd, MakesScreen};
+ghost use Rattle.ws_printing.specs.ScreenLines.{on_037};
 ghost use Rattle.ws_printing.specs.declared.look.Look.{Look as ALook};
+ghost use Rattle.ws_printing.specs.declared.paint.Paint.TheVariants.{Plain};
 
 use ws_code::{Body, Reason, Sink};
-use ws_extended::{ExtendedAnswerPart, ExtendedAnswers};
-use ws_printing::{Look, put_screen};
+use ws_extended::{
+    ExtendedAnswerPart, ExtendedAnswers, ExtendedCommands, ExtendedElement, ExtendedScreen,
+};
+use ws_printing::{Look, put_error_row, put_screen};
 use ws_record::Item;
 use ws_screen::Screen;
 use ws_session::apply_record;
 use ws_stream::{AnswerPart, Answers, Commands, Element};
 use ws_text::{Output, put_item, put_text};
+use ws_trace::apply_extended_record;
 
 /// A body whose items are shown, and carried out one after another.
 pub(crate) trait Shown: Body {
@@ -96,6 +103,47 @@ impl Shown for Commands {
     }
 }
 
+// A live host's records make a display, which stands behind them.
+impl Shown for ExtendedCommands {
+    type Made = ExtendedScreen;
+
+    ghost view = { extended_view (on_037 Plain) };
+
+    ghost Ends = { IsExtendedEnd };
+
+    ghost makes = { MakesDisplay };
+
+    fn before_any() -> ExtendedScreen {
+        ExtendedScreen::new()
+    }
+
+    fn carry_out(display: &mut ExtendedScreen, item: &Item<ExtendedElement>) -> Result<(), Reason> {
+        match item {
+            Item::Record(record) => apply_extended_record(display, record),
+            Item::Telnet(_) => Ok(()),
+        }
+    }
+
+    fn put_lines<S: Sink>(
+        sink: &mut S,
+        output: Output,
+        place: u64,
+        item: &Item<ExtendedElement>,
+    ) -> Output {
+        put_item::<S, ExtendedElement>(sink, output, place, item)
+    }
+
+    fn put_end<S: Sink>(
+        sink: &mut S,
+        output: Output,
+        look: Look,
+        display: &ExtendedScreen,
+    ) -> Output {
+        let output = put_screen(sink, output, look, display.screen());
+        put_error_row(sink, output, standing_row(display))
+    }
+}
+
 // A station's answers make nothing that is shown.
 impl Shown for Answers {
     type Made = ();
@@ -153,5 +201,16 @@ impl Shown for ExtendedAnswers {
 
     fn put_end<S: Sink>(sink: &mut S, output: Output, _look: Look, _made: &()) -> Output {
         put_text(sink, output, "")
+    }
+}
+
+// The row on which an error stands, where one does.
+fn standing_row(display: &ExtendedScreen) -> Option<u8>
+    ensures { result ≡ a_standing_row display.now }
+{
+    if display.error_stands() {
+        Some(display.error_row())
+    } else {
+        None
     }
 }

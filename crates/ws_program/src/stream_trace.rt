@@ -2,16 +2,15 @@
 ghost use Rattle.std.specs.Prelude.{◌≡◌, ◌++◌, ◌∷◌, [], List as Seq, IfOk, IfErr, OnOk};
 ghost use Rattle.ws_printing.specs.Printouts.{printout};
 ghost use Rattle.ws_trace.specs.declared.piece.Piece.{Piece as APiece};
-ghost use Rattle.ws_program.specs.Actions.{IsCarriedOut};
 ghost use Rattle.ws_program.specs.FileChecks.{IsUnfound};
 ghost use Rattle.ws_program.specs.StreamBytes.{AreBytesOf, IsFormFault};
 ghost use Rattle.ws_program.specs.StreamTraces as Spec;
-ghost use Rattle.ws_program.specs.Traced.{dialogue_action};
 
 use crate::command_fault::CommandFault;
 use crate::file_fault::of_file;
 use crate::hex_text::hex_bytes;
 use crate::input::read_input;
+use crate::program::hand_on_last;
 use crate::traced::{add, put_pieces};
 use std::alloc::Global;
 use std::fs::File;
@@ -60,13 +59,8 @@ pub(crate) fn trace_streams<R: AllocGlobal + Files<File = File> + Input, S: Sink
         asked.raw,
         &mut pieces,
     )?;
-    match put_openly(
-        rt.alloc(),
-        pieces.as_slice(),
-        asked.form,
-        streams.output,
-        sink,
-    ) {
+    let outcome = put_pieces(rt.alloc(), pieces.as_slice(), asked.form, sink);
+    match hand_on_last(outcome, streams.output, sink) {
         Ok(accepted) => Ok(accepted),
         Err(fault) => Err(told(fault)),
     }
@@ -124,45 +118,6 @@ fn bytes_in(alloc: Global, input: Vec<u8>, raw: bool) -> Result<Vec<u8>, RunFaul
         return Ok(input);
     }
     Ok(hex_bytes(alloc, input.as_slice())?)
-}
-
-// Writes the dialogue of pieces where standard output may have been closed.
-fn put_openly<S: Sink>(
-    alloc: Global,
-    pieces: &[Piece],
-    form: TraceForm,
-    has_output: bool,
-    sink: &mut BufferedSink<S>,
-) -> Result<bool, RunFault>
-    requires empty { sink.old.held ≡ [] }
-    ensures { IsCarriedOut S.writer sink.old.sink sink.new.sink
-        (Spec.pieces_action has_output form pieces.now) result }
-{
-    if has_output {
-        return put_buffered(alloc, pieces, form, sink);
-    }
-    match put_buffered(alloc, pieces, form, sink) {
-        Ok(_) => Err(RunFault::Write),
-        Err(fault) => Err(fault),
-    }
-}
-
-// Writes the dialogue of pieces, and hands on what the buffer before the sink holds at the end.
-fn put_buffered<S: Sink>(
-    alloc: Global,
-    pieces: &[Piece],
-    form: TraceForm,
-    sink: &mut BufferedSink<S>,
-) -> Result<bool, RunFault>
-    requires empty { sink.old.held ≡ [] }
-    ensures { IsCarriedOut S.writer sink.old.sink sink.new.sink
-        (dialogue_action form pieces.now) result }
-{
-    let outcome = put_pieces(alloc, pieces, form, sink);
-    match sink.flush() {
-        Ok(()) => outcome,
-        Err(_) => Err(RunFault::Write),
-    }
 }
 
 // A fault of printing, as it is told.

@@ -9,6 +9,7 @@ mod page_words;
 mod show_words;
 mod table_command;
 mod trace_words;
+mod wrong_word;
 
 pub use command_line::{InputAsked, RecordedEnd, StreamForm, Task};
 pub(crate) use command_line::{no_text, read_words};

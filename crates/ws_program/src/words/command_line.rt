@@ -2,11 +2,11 @@
 use crate::file_checks::FileChecks;
 use crate::stream_trace::StreamTrace;
 use crate::tables::Table;
-use crate::words::command_parts::{CommandParts, fault, flag, place};
+use crate::words::command_parts::{CommandParts, fault, flag, option, place};
 use crate::words::input_help::{
-    ALL_HELP, ANSWERS_HELP, CHECK_EXAMPLES, EXTENDED_HELP, FILES_HELP, HEX_AND_STATUS, ITEMS_HELP,
-    MAKE_EXAMPLES, OF_HELP, PLAY_EXAMPLES, RAW_HELP, RAW_OUT_HELP, SCREEN_HELP, SCRIPT_HELP,
-    TCP_HELP,
+    ALL_HELP, ANSWERS_HELP, CHECK_EXAMPLES, CUT_HELP, EXTENDED_HELP, FILES_HELP, HEX_AND_STATUS,
+    ITEMS_HELP, MAKE_EXAMPLES, OF_HELP, PLAY_EXAMPLES, RAW_HELP, RAW_OUT_HELP, SCREEN_HELP,
+    SCRIPT_HELP, TCP_HELP,
 };
 use crate::words::live_command::{
     COLOR_HELP, connect_asked, connect_command, paint_asked, serve_asked, serve_command,
@@ -14,6 +14,7 @@ use crate::words::live_command::{
 use crate::words::show_words::{ShowForm, show_asked, show_command};
 use crate::words::table_command::{keys_command, reasons_asked, reasons_command};
 use crate::words::trace_words::{trace_asked, trace_command};
+use crate::words::wrong_word::WrongWord;
 use clap::{Arg, ArgAction, ArgMatches, Command, value_parser};
 use std::alloc::{AllocError, Global};
 use std::convert::AsStr;
@@ -151,45 +152,33 @@ fn bare_program<'a>(alloc: Global) -> Command<'a> {
 }
 
 fn check_command<'a>(alloc: Global) -> CommandParts<'a> {
-    CommandParts::new(
-        alloc,
-        "check",
-        "Tells whether a stream is accepted, refused or truncated",
-        CHECK_EXAMPLES,
-    )
-    .word(flag(alloc, "answers", ANSWERS_HELP))
-    .word(flag(alloc, "extended", EXTENDED_HELP))
-    .word(flag(alloc, "all", ALL_HELP))
-    .word(cut(alloc))
-    .word(of(alloc))
-    .made_word(raw(alloc))
-    .word(files(alloc))
+    let about = "Tells whether a stream is accepted, refused or truncated";
+    CommandParts::new(alloc, "check", about, CHECK_EXAMPLES)
+        .word(flag(alloc, "answers", ANSWERS_HELP))
+        .word(flag(alloc, "extended", EXTENDED_HELP))
+        .word(flag(alloc, "all", ALL_HELP))
+        .word(cut(alloc))
+        .word(of(alloc))
+        .made_word(raw(alloc))
+        .word(files(alloc))
 }
 
 fn play_command<'a>(alloc: Global) -> CommandParts<'a> {
-    CommandParts::new(
-        alloc,
-        "play",
-        "Plays a script of sends, keys and deliveries with both ends",
-        PLAY_EXAMPLES,
-    )
-    .word(flag(alloc, "screen", SCREEN_HELP))
-    .word(flag(alloc, "color", COLOR_HELP))
-    .word(flag(alloc, "tcp", TCP_HELP))
-    .word(place(alloc, "SCRIPT", SCRIPT_HELP, false))
+    let about = "Plays a script of sends, keys and deliveries with both ends";
+    CommandParts::new(alloc, "play", about, PLAY_EXAMPLES)
+        .word(flag(alloc, "screen", SCREEN_HELP))
+        .word(flag(alloc, "color", COLOR_HELP))
+        .word(flag(alloc, "tcp", TCP_HELP))
+        .word(place(alloc, "SCRIPT", SCRIPT_HELP, false))
 }
 
 fn make_command<'a>(alloc: Global) -> CommandParts<'a> {
-    CommandParts::new(
-        alloc,
-        "make",
-        "Prints a stream as hex text, from the lines that show prints",
-        MAKE_EXAMPLES,
-    )
-    .word(flag(alloc, "answers", ANSWERS_HELP))
-    .word(flag(alloc, "extended", EXTENDED_HELP))
-    .word(flag(alloc, "raw", RAW_OUT_HELP))
-    .word(place(alloc, "FILE", ITEMS_HELP, false))
+    let about = "Prints a stream as hex text, from the lines that show prints";
+    CommandParts::new(alloc, "make", about, MAKE_EXAMPLES)
+        .word(flag(alloc, "answers", ANSWERS_HELP))
+        .word(flag(alloc, "extended", EXTENDED_HELP))
+        .word(flag(alloc, "raw", RAW_OUT_HELP))
+        .word(place(alloc, "FILE", ITEMS_HELP, false))
 }
 
 fn files<'a>(alloc: Global) -> Arg<'a> {
@@ -200,12 +189,7 @@ fn files<'a>(alloc: Global) -> Arg<'a> {
 }
 
 fn cut<'a>(alloc: Global) -> Arg<'a> {
-    Arg::new(alloc, "cut")
-        .long("cut")
-        .value_name("N")
-        .help("Reads the bytes in pieces of N, from 1 to 65535; the line stays the same")
-        .value_parser(value_parser!(u16).range(1..=65535))
-        .action(ArgAction::Set)
+    option(alloc, "cut", "N", CUT_HELP).value_parser(value_parser!(u16).range(1..=65535))
 }
 
 // The ends by name, the host first.
@@ -213,12 +197,7 @@ const ENDS: [&str; 2] = ["host", "station"];
 
 /// The option that names an end of a recording.
 pub(crate) fn of<'a>(alloc: Global) -> Arg<'a> {
-    Arg::new(alloc, "of")
-        .long("of")
-        .value_name("END")
-        .help(OF_HELP)
-        .value_parser(ENDS.as_slice())
-        .action(ArgAction::Set)
+    option(alloc, "of", "END", OF_HELP).value_parser(ENDS.as_slice())
 }
 
 /// The flag of raw bytes. An input is no recording and raw bytes at once.
@@ -237,7 +216,7 @@ pub(crate) fn no_text(alloc: Global) -> Result<clap::Error, clap::Error> {
 
 fn program_fault(alloc: Global, why: &str) -> Result<clap::Error, clap::Error> {
     let program = CommandParts::of(program(alloc)?);
-    Ok(fault(program, "t5250", String::from_str(alloc, why)))
+    Ok(fault(alloc, program, "t5250", WrongWord::Because(why)))
 }
 
 /// What the words ask for, of which the first is the program's name.
@@ -268,7 +247,8 @@ pub(crate) fn read_words<'a, S: AsStr>(
     }
 }
 
-// A check of one file or of standard input, or checks of several files.
+// A check of one file or of standard input, or checks of several files. Where it goes on after refusals, the size of the
+// pieces says nothing.
 fn check_asked<'a>(alloc: Global, words: &ArgMatches<'a>) -> Result<Task<'a>, clap::Error> {
     // The parser of `--cut` lets no 0 through.
     let cut = words.get_one::<u16>("cut").unwrap_or(u16::MAX);
@@ -276,45 +256,37 @@ fn check_asked<'a>(alloc: Global, words: &ArgMatches<'a>) -> Result<Task<'a>, cl
     let (form, from) = (form_asked(words), sender_asked(words));
     let named = words.get_strs("FILE").unwrap_or(&[]);
     let all = words.get_flag("all");
-    if named.len() < 2 {
-        return Ok(Task::Input(one_check(named.first().copied(), form, cut, from, all)));
+    if named.len() > 1 {
+        let mut files = Vec::new(alloc);
+        files.extend_from_slice(named)?;
+        let checks = FileChecks {
+            files,
+            form,
+            cut,
+            from,
+        };
+        return Ok(if all {
+            Task::AllFiles(checks)
+        } else {
+            Task::Files(checks)
+        });
     }
-    let mut files = Vec::new(alloc);
-    files.extend_from_slice(named)?;
-    let checks = FileChecks {
-        files,
-        form,
-        cut,
-        from,
-    };
-    if all {
-        return Ok(Task::AllFiles(checks));
-    }
-    Ok(Task::Files(checks))
-}
-
-// A check of one input, which with `all` goes on after refusals; then the size of the pieces says nothing.
-fn one_check<'a>(
-    file: Option<&'a str>,
-    form: StreamForm,
-    cut: NonZeroU16,
-    from: Sender,
-    all: bool,
-) -> InputAsked<'a> {
-    if all {
-        return InputAsked::CheckAll {
+    let file = named.first().copied();
+    Ok(Task::Input(if all {
+        InputAsked::CheckAll {
             file,
             form,
             from,
             named: false,
-        };
-    }
-    InputAsked::Check {
-        file,
-        form,
-        cut,
-        from,
-    }
+        }
+    } else {
+        InputAsked::Check {
+            file,
+            form,
+            cut,
+            from,
+        }
+    }))
 }
 
 /// How the input tells the bytes. The parser of `--of` lets no other name through, and none beside `--raw`.

@@ -1,4 +1,5 @@
 //! A command to which parts are added one by one.
+use crate::words::wrong_word::WrongWord;
 use clap::error::ErrorKind;
 use clap::{Arg, ArgAction, Command};
 use std::alloc::{AllocError, Global};
@@ -74,24 +75,36 @@ pub(crate) fn place<'a>(alloc: Global, name: &'a str, help: &'a str, is_required
         .action(ArgAction::Set)
 }
 
-/// The fault of words that a command of this whole name can't take, with its usage. It is of the kind `OutOfMemory` where
+/// An option with a value.
+pub(crate) fn option<'a>(alloc: Global, name: &'a str, value: &'a str, help: &'a str) -> Arg<'a> {
+    Arg::new(alloc, name)
+        .long(name)
+        .value_name(value)
+        .help(help)
+        .action(ArgAction::Set)
+}
+
+/// The fault of a word that a command of this whole name can't take, with its usage. It is of the kind `OutOfMemory` where
 /// a growth was refused, else `InvalidValue`.
 pub(crate) fn fault(
+    alloc: Global,
     command: CommandParts<'_>,
     name: &str,
-    why: Result<String, AllocError>,
+    wrong: WrongWord<'_>,
 ) -> clap::Error {
-    match made_fault(command, name, why) {
+    match made_fault(alloc, command, name, wrong) {
         Ok(fault) => fault,
         Err(lack) => lack.into(),
     }
 }
 
 fn made_fault(
+    alloc: Global,
     command: CommandParts<'_>,
     name: &str,
-    why: Result<String, AllocError>,
+    wrong: WrongWord<'_>,
 ) -> Result<clap::Error, AllocError> {
+    let why = wrong.told(alloc)?;
     let mut command = command.finish()?.bin_name(name)?;
-    command.error(ErrorKind::InvalidValue, why?.as_str())
+    command.error(ErrorKind::InvalidValue, why.as_str())
 }

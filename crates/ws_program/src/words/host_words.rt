@@ -1,35 +1,6 @@
 //! The words of `connect` and `serve` that name a host, a port and a script.
-use std::alloc::{AllocError, Global};
+use crate::words::wrong_word::WrongWord;
 use ws_script::{HostPort, host_and_port, listening_address};
-
-/// A word that can't stand where it does.
-#[derive(Clone, Copy)]
-pub(crate) enum WrongWord<'a> {
-    NoHost(&'a str),
-    NoAddress(&'a str),
-    NoPort(&'a str),
-    OneTooMany(&'a str),
-}
-
-impl WrongWord<'_> {
-    /// Why it can't.
-    ///
-    /// # Errors
-    ///
-    /// `AllocError` where a growth was refused.
-    pub(crate) fn told(self, alloc: Global) -> Result<String, AllocError> {
-        match self {
-            WrongWord::NoHost(word) => {
-                format!(in alloc; "`{word}` names no host: HOST, HOST:PORT, [V6]:PORT")
-            }
-            WrongWord::NoAddress(word) => {
-                format!(in alloc; "`{word}` names no address to listen at: HOST:PORT, [V6]:PORT")
-            }
-            WrongWord::NoPort(word) => format!(in alloc; "`{word}` is no port"),
-            WrongWord::OneTooMany(word) => format!(in alloc; "`{word}` is one word too many"),
-        }
-    }
-}
 
 /// The host of `connect` and its script. Words are HOST, HOST:PORT or HOST and PORT, and then maybe SCRIPT: where the
 /// first names no port, a second one of digits does.
@@ -43,7 +14,7 @@ pub(crate) fn host_and_script<'a>(
     third: Option<&'a str>,
 ) -> Result<(HostPort<'a>, Option<&'a str>), WrongWord<'a>> {
     let Some(named) = host_and_port(host) else {
-        return Err(no_port_in(host, WrongWord::NoHost(host)));
+        return Err(no_port_in(host, WrongWord::Host(host)));
     };
     let Some(word) = second else {
         return Ok((named, None));
@@ -58,13 +29,13 @@ pub(crate) fn host_and_script<'a>(
                 },
                 third,
             )),
-            Err(_) => Err(WrongWord::NoPort(word)),
+            Err(_) => Err(WrongWord::Port(word)),
         };
     }
     match third {
         None => Ok((named, second)),
         Some(third) if has_port => Err(WrongWord::OneTooMany(third)),
-        Some(_) => Err(WrongWord::NoPort(word)),
+        Some(_) => Err(WrongWord::Port(word)),
     }
 }
 
@@ -76,7 +47,7 @@ pub(crate) fn host_and_script<'a>(
 pub(crate) fn address_to_listen(address: &str) -> Result<HostPort<'_>, WrongWord<'_>> {
     match listening_address(address) {
         Some(named) => Ok(named),
-        None => Err(no_port_in(address, WrongWord::NoAddress(address))),
+        None => Err(no_port_in(address, WrongWord::Address(address))),
     }
 }
 
@@ -89,7 +60,7 @@ fn no_port_in<'a>(word: &'a str, wrong: WrongWord<'a>) -> WrongWord<'a> {
     if port.is_empty() || is_bare || host_and_port(host).is_none() {
         return wrong;
     }
-    WrongWord::NoPort(port)
+    WrongWord::Port(port)
 }
 
 /// Whether it is a number of digits alone.

@@ -177,6 +177,12 @@ pub(crate) const FILES_HELP: &str =
 
 pub(crate) const OF_HELP: &str = "Reads a recording, and of that what this end has sent";
 
+pub(crate) const CUT_HELP: &str =
+    "Reads the bytes in pieces of N, from 1 to 65535; the line stays the same";
+
+pub(crate) const CODE_PAGE_HELP: &str =
+    "The code page of a screen's text: 037 by default, 273, 277, 278, 280, 284, 285, 297, 500, 871 or 1140 to 1149";
+
 pub(crate) const RAW_HELP: &str = "Reads the bytes themselves, and no hex text";
 
 pub(crate) const JSON_HELP: &str = "Prints objects of JSON, one on a line";

@@ -1,8 +1,9 @@
 //! The words of `connect` and `serve`.
-use crate::words::command_parts::{CommandParts, fault, flag, place};
+use crate::words::command_parts::{CommandParts, fault, flag, option, place};
 use crate::words::host_words::{address_to_listen, host_and_script};
-use crate::words::identity_words::{code_page, device, identity_asked, keyboard};
-use clap::{Arg, ArgAction, ArgMatches, value_parser};
+use crate::words::identity_words::{identity_asked, with_identity};
+use crate::words::wrong_word::WrongWord;
+use clap::{Arg, ArgMatches, value_parser};
 use std::alloc::{AllocError, Global};
 use ws_live::{AfterUnwell, ConnectAsked, LineSettings, ServeAsked};
 use ws_nego::TerminalType;
@@ -18,6 +19,9 @@ const STRICT_HELP: &str =
     "Keeps to the profile, and refuses what live hosts send in addition to it";
 
 const EXTENDED_HELP: &str = "Without effect: what it asked for is taken without --strict";
+
+const TERMINAL_HELP: &str =
+    "The terminal's type: IBM-3179-2 by default, IBM-5251-11, IBM-5291-1, IBM-5292-2 or IBM-3196-A1";
 
 const ANY_HELP: &str = "Takes any terminal name and any record, for tests of emulators";
 
@@ -38,52 +42,38 @@ const STOP_HELP: &str =
 
 const GO_ON_HELP: &str = "Carries out the lines after such a line; the default without a SCRIPT";
 
+const SESSIONS_HELP: &str =
+    "Serves N stations one after another by the script, N from 1 to 1000000";
+
+const RECORD_HELP: &str =
+    "Records what both ends send; FILE-1, FILE-2 .. where FILE is there already";
+
+const WAIT_HELP: &str =
+    "The time of a whole await, of connecting and of a write, from 1 to 86400; 30 by default";
+
 const SCRIPT_HELP: &str = "A script; by default standard input, a line at a time";
 
 /// The commands of live sessions.
 pub(crate) fn connect_command<'a>(alloc: Global) -> CommandParts<'a> {
-    let connect = CommandParts::new(
-        alloc,
-        "connect",
-        "Is a station at a host, by a script or line by line",
-        CONNECT_HELP,
-    )
-    .word(flag(alloc, "color", COLOR_HELP))
-    .word(flag(alloc, "strict", STRICT_HELP))
-    .word(flag(alloc, "extended", EXTENDED_HELP))
-    .word(terminal(alloc))
-    .made_word(device(alloc))
-    .made_word(keyboard(alloc))
-    .made_word(code_page(alloc))
-    .word(place(alloc, "HOST[:PORT]", HOST_HELP, true))
-    .word(place(alloc, "PORT", PORT_HELP, false));
+    let about = "Is a station at a host, by a script or line by line";
+    let connect = CommandParts::new(alloc, "connect", about, CONNECT_HELP)
+        .word(flag(alloc, "color", COLOR_HELP))
+        .word(flag(alloc, "strict", STRICT_HELP))
+        .word(flag(alloc, "extended", EXTENDED_HELP))
+        .word(option(alloc, "terminal", "NAME", TERMINAL_HELP));
+    let connect = with_identity(alloc, connect)
+        .word(place(alloc, "HOST[:PORT]", HOST_HELP, true))
+        .word(place(alloc, "PORT", PORT_HELP, false));
     with_script(alloc, connect)
 }
 
 pub(crate) fn serve_command<'a>(alloc: Global) -> CommandParts<'a> {
-    let serve = CommandParts::new(
-        alloc,
-        "serve",
-        "Is a host for one station, by a script or line by line",
-        SERVE_HELP,
-    );
-    with_script(
-        alloc,
-        serve
-            .word(flag(alloc, "any", ANY_HELP))
-            .made_word(sessions(alloc))
-            .word(place(alloc, "ADDRESS", ADDRESS_HELP, true)),
-    )
-}
-
-fn terminal<'a>(alloc: Global) -> Arg<'a> {
-    Arg::new(alloc, "terminal")
-        .long("terminal")
-        .value_name("NAME")
-        .help(
-            "The terminal's type: IBM-3179-2 by default, IBM-5251-11, IBM-5291-1, IBM-5292-2 or IBM-3196-A1",
-        )
-        .action(ArgAction::Set)
+    let about = "Is a host for one station, by a script or line by line";
+    let serve = CommandParts::new(alloc, "serve", about, SERVE_HELP)
+        .word(flag(alloc, "any", ANY_HELP))
+        .made_word(sessions(alloc))
+        .word(place(alloc, "ADDRESS", ADDRESS_HELP, true));
+    with_script(alloc, serve)
 }
 
 /// The paint of screens that these words ask for.
@@ -103,37 +93,18 @@ fn with_script<'a>(alloc: Global, command: CommandParts<'a>) -> CommandParts<'a>
         .word(flag(alloc, "ready", READY_HELP))
         .made_word(flag(alloc, "stop", STOP_HELP).conflicts_with("go-on"))
         .word(flag(alloc, "go-on", GO_ON_HELP))
-        .word(record(alloc))
+        .word(option(alloc, "record", "FILE", RECORD_HELP))
         .word(place(alloc, "SCRIPT", SCRIPT_HELP, false))
 }
 
 fn sessions<'a>(alloc: Global) -> Result<Arg<'a>, AllocError> {
-    Arg::new(alloc, "sessions")
-        .long("sessions")
-        .value_name("N")
-        .help("Serves N stations one after another by the script, N from 1 to 1000000")
+    option(alloc, "sessions", "N", SESSIONS_HELP)
         .value_parser(value_parser!(u32).range(1..=1_000_000))
-        .action(ArgAction::Set)
         .requires_arg("SCRIPT")
 }
 
-fn record<'a>(alloc: Global) -> Arg<'a> {
-    Arg::new(alloc, "record")
-        .long("record")
-        .value_name("FILE")
-        .help("Records what both ends send; FILE-1, FILE-2 .. where FILE is there already")
-        .action(ArgAction::Set)
-}
-
 fn wait<'a>(alloc: Global) -> Arg<'a> {
-    Arg::new(alloc, "wait")
-        .long("wait")
-        .value_name("SECONDS")
-        .help(
-            "The time of a whole await, of connecting and of a write, from 1 to 86400; 30 by default",
-        )
-        .value_parser(value_parser!(u32).range(1..=86400))
-        .action(ArgAction::Set)
+    option(alloc, "wait", "SECONDS", WAIT_HELP).value_parser(value_parser!(u32).range(1..=86400))
 }
 
 /// The session that these words of `connect` ask for.
@@ -146,19 +117,20 @@ pub(crate) fn connect_asked<'a>(
     alloc: Global,
     words: &ArgMatches<'a>,
 ) -> Result<ConnectAsked<'a>, clap::Error> {
+    match connect_named(words) {
+        Ok(asked) => Ok(asked),
+        Err(wrong) => Err(fault(alloc, connect_command(alloc), "t5250 connect", wrong)),
+    }
+}
+
+fn connect_named<'a>(words: &ArgMatches<'a>) -> Result<ConnectAsked<'a>, WrongWord<'a>> {
     let first = words.get_str("HOST[:PORT]").unwrap_or("");
     let (second, third) = (words.get_str("PORT"), words.get_str("SCRIPT"));
-    let (host, script) = match host_and_script(first, second, third) {
-        Ok(named) => named,
-        Err(wrong) => return Err(connect_fault(alloc, wrong.told(alloc))),
-    };
-    let identity = match identity_asked(words) {
-        Ok(identity) => identity,
-        Err(wrong) => return Err(connect_fault(alloc, wrong.told(alloc))),
-    };
+    let (host, script) = host_and_script(first, second, third)?;
+    let identity = identity_asked(words)?;
     Ok(ConnectAsked {
         host,
-        terminal: terminal_asked(alloc, words)?,
+        terminal: terminal_asked(words)?,
         wait: seconds(words),
         settings: settings_asked(words, paint_asked(words), script),
         extended: !words.get_flag("strict"),
@@ -168,21 +140,11 @@ pub(crate) fn connect_asked<'a>(
     })
 }
 
-fn terminal_asked(alloc: Global, words: &ArgMatches<'_>) -> Result<TerminalType, clap::Error> {
-    let Some(name) = words.get_str("terminal") else {
-        return Ok(TerminalType::default());
-    };
-    match TerminalType::from_name(name.as_bytes()) {
-        Some(terminal) => Ok(terminal),
-        None => {
-            let why = format!(in alloc; "no terminal has the name `{name}`");
-            Err(connect_fault(alloc, why))
-        }
+fn terminal_asked<'a>(words: &ArgMatches<'a>) -> Result<TerminalType, WrongWord<'a>> {
+    match words.get_str("terminal") {
+        Some(name) => { TerminalType::from_name(name.as_bytes()).ok_or(WrongWord::Terminal(name)) }
+        None => Ok(TerminalType::default()),
     }
-}
-
-fn connect_fault(alloc: Global, why: Result<String, AllocError>) -> clap::Error {
-    fault(connect_command(alloc), "t5250 connect", why)
 }
 
 /// The session that these words of `serve` ask for.
@@ -197,7 +159,7 @@ pub(crate) fn serve_asked<'a>(
 ) -> Result<ServeAsked<'a>, clap::Error> {
     let address = match address_to_listen(words.get_str("ADDRESS").unwrap_or("")) {
         Ok(address) => address,
-        Err(wrong) => return Err(fault(serve_command(alloc), "t5250 serve", wrong.told(alloc))),
+        Err(wrong) => return Err(fault(alloc, serve_command(alloc), "t5250 serve", wrong)),
     };
     let script = words.get_str("SCRIPT");
     Ok(ServeAsked {

@@ -1,11 +1,11 @@
 //! The words of `show`.
 use crate::words::command_line::{InputAsked, form_asked, of, raw, sender_asked};
-use crate::words::command_parts::{CommandParts, flag, place};
+use crate::words::command_parts::{CommandParts, fault, flag, option, place};
 use crate::words::input_help::{
-    ALL_HELP, ANSWERS_HELP, EXTENDED_HELP, JSON_HELP, SHOW_EXAMPLES, STREAM_HELP,
+    ALL_HELP, ANSWERS_HELP, CODE_PAGE_HELP, EXTENDED_HELP, JSON_HELP, SHOW_EXAMPLES, STREAM_HELP,
 };
 use crate::words::live_command::{COLOR_HELP, paint_asked};
-use crate::words::page_words::{code_page, page_asked};
+use crate::words::page_words::page_asked;
 use clap::{Arg, ArgMatches};
 use std::alloc::{AllocError, Global};
 use ws_printing::Look;
@@ -21,21 +21,17 @@ pub enum ShowForm {
 
 /// The command that prints the items of a stream.
 pub(crate) fn show_command<'a>(alloc: Global) -> CommandParts<'a> {
-    CommandParts::new(
-        alloc,
-        "show",
-        "Prints a stream's records and Telnet commands, and the screen that they make",
-        SHOW_EXAMPLES,
-    )
-    .word(flag(alloc, "answers", ANSWERS_HELP))
-    .word(flag(alloc, "extended", EXTENDED_HELP))
-    .word(flag(alloc, "all", ALL_HELP))
-    .made_word(json(alloc))
-    .word(flag(alloc, "color", COLOR_HELP))
-    .word(code_page(alloc))
-    .word(of(alloc))
-    .made_word(raw(alloc))
-    .word(place(alloc, "FILE", STREAM_HELP, false))
+    let about = "Prints a stream's records and Telnet commands, and the screen that they make";
+    CommandParts::new(alloc, "show", about, SHOW_EXAMPLES)
+        .word(flag(alloc, "answers", ANSWERS_HELP))
+        .word(flag(alloc, "extended", EXTENDED_HELP))
+        .word(flag(alloc, "all", ALL_HELP))
+        .made_word(json(alloc))
+        .word(flag(alloc, "color", COLOR_HELP))
+        .word(option(alloc, "code-page", "N", CODE_PAGE_HELP))
+        .word(of(alloc))
+        .made_word(raw(alloc))
+        .word(place(alloc, "FILE", STREAM_HELP, false))
 }
 
 // Objects have no colours.
@@ -52,9 +48,13 @@ pub(crate) fn show_asked<'a>(
     alloc: Global,
     words: &ArgMatches<'a>,
 ) -> Result<InputAsked<'a>, clap::Error> {
+    let page = match page_asked(words) {
+        Ok(page) => page,
+        Err(wrong) => return Err(fault(alloc, show_command(alloc), "t5250 show", wrong)),
+    };
     let look = Look {
         paint: paint_asked(words),
-        page: page_asked(alloc, words, show_command(alloc), "t5250 show")?,
+        page,
     };
     let (file, form, from) = (
         words.get_str("FILE"),

@@ -1,6 +1,7 @@
 //! The commands that print a table.
 use crate::tables::{Table, reason_numbered};
 use crate::words::command_parts::{CommandParts, fault, place};
+use crate::words::wrong_word::WrongWord;
 use clap::ArgMatches;
 use std::alloc::Global;
 
@@ -34,12 +35,8 @@ const REASON_HELP: &str = "The number of a reason, of which alone the line is pr
 /// The commands that print a table.
 pub(crate) fn reasons_command<'a>(alloc: Global) -> CommandParts<'a> {
     let about = "Prints the reasons for which bytes are refused";
-    CommandParts::new(alloc, "reasons", about, REASONS_EXAMPLES).word(place(
-        alloc,
-        "K",
-        REASON_HELP,
-        false,
-    ))
+    let number = place(alloc, "K", REASON_HELP, false);
+    CommandParts::new(alloc, "reasons", about, REASONS_EXAMPLES).word(number)
 }
 
 pub(crate) fn keys_command<'a>(alloc: Global) -> CommandParts<'a> {
@@ -61,6 +58,10 @@ pub(crate) fn reasons_asked(alloc: Global, words: &ArgMatches<'_>) -> Result<Tab
             return Ok(Table::Reason(reason));
         }
     }
-    let why = format!(in alloc; "no reason has the number `{word}`");
-    Err(fault(reasons_command(alloc), "t5250 reasons", why))
+    Err(fault(
+        alloc,
+        reasons_command(alloc),
+        "t5250 reasons",
+        WrongWord::Reason(word),
+    ))
 }

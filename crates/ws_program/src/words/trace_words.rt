@@ -1,37 +1,30 @@
 //! The words of `trace`.
 use crate::stream_trace::StreamTrace;
 use crate::words::command_line::{InputAsked, Task};
-use crate::words::command_parts::{CommandParts, fault, flag, place};
+use crate::words::command_parts::{CommandParts, fault, flag, option, place};
 use crate::words::input_help::{
     HOST_STREAM_HELP, JSON_HELP, RAW_HELP, RECORDING_HELP, STATION_STREAM_HELP, TRACE_EXAMPLES,
 };
-use clap::{Arg, ArgAction, ArgMatches};
+use crate::words::wrong_word::WrongWord;
+use clap::{Arg, ArgMatches};
 use std::alloc::{AllocError, Global};
 use ws_trace::{Heads, TraceForm};
 
 /// The command that prints what both ends sent.
 pub(crate) fn trace_command<'a>(alloc: Global) -> CommandParts<'a> {
-    CommandParts::new(
-        alloc,
-        "trace",
-        "Prints what both ends sent: of a recording in the order of time, or of two streams",
-        TRACE_EXAMPLES,
-    )
-    .made_word(stream(alloc, "host", HOST_STREAM_HELP))
-    .made_word(stream(alloc, "station", STATION_STREAM_HELP))
-    .word(flag(alloc, "raw", RAW_HELP))
-    .word(flag(alloc, "json", JSON_HELP))
-    .word(place(alloc, "FILE", RECORDING_HELP, false))
+    let about =
+        "Prints what both ends sent: of a recording in the order of time, or of two streams";
+    CommandParts::new(alloc, "trace", about, TRACE_EXAMPLES)
+        .made_word(stream(alloc, "host", HOST_STREAM_HELP))
+        .made_word(stream(alloc, "station", STATION_STREAM_HELP))
+        .word(flag(alloc, "raw", RAW_HELP))
+        .word(flag(alloc, "json", JSON_HELP))
+        .word(place(alloc, "FILE", RECORDING_HELP, false))
 }
 
 // What an end sent, in place of a recording.
 fn stream<'a>(alloc: Global, end: &'a str, help: &'a str) -> Result<Arg<'a>, AllocError> {
-    Arg::new(alloc, end)
-        .long(end)
-        .value_name("FILE")
-        .help(help)
-        .action(ArgAction::Set)
-        .conflicts_with("FILE")
+    option(alloc, end, "FILE", help).conflicts_with("FILE")
 }
 
 /// What the words of `trace` ask for: the dialogue of two streams where one is named, else of a recording.
@@ -55,11 +48,13 @@ pub(crate) fn trace_asked<'a>(
         }));
     }
     if raw {
-        let why = String::from_str(
+        let why = "a recording isn't raw: `--raw` stands with `--host` or `--station`";
+        return Err(fault(
             alloc,
-            "a recording isn't raw: `--raw` stands with `--host` or `--station`",
-        );
-        return Err(fault(trace_command(alloc), "t5250 trace", why));
+            trace_command(alloc),
+            "t5250 trace",
+            WrongWord::Because(why),
+        ));
     }
     let file = words.get_str("FILE");
     let form = form_asked(words, Heads::Timed);

@@ -1,5 +1,6 @@
-use Rattle.std.proofs.lemmas.Result.{err_from_is_err_and}
-use Rattle.ws_program.proofs.RawRuns.{raw_done, raw_told, read_done, read_told}
+use Rattle.std.proofs.Common.{inr}
+use Rattle.std.proofs.lemmas.Result.{err_from_is_err_and, IfErr-weaker, IfOk-weaker}
+use Rattle.ws_program.proofs.RawRuns.{raw_done, raw_told}
 use Rattle.ws_program.specs.declared.words.command_line.InputAsked.TheVariants.{Show}
 use Rattle.ws_program.specs.declared.words.command_line.StreamForm.TheVariants.{Raw}
 use Rattle.ws_program.proofs.running.run_other.Goals as goal
@@ -19,13 +20,11 @@ returns-in-Raw-clause-done g c =
     c.args.streams (Show arm.file Raw arm.from arm.look) c.in_ok-show_file.field-0 c.in_ok-show_file.ensures)
 
 pub returns-clause-done : goal.returns-clause-done
-returns-clause-done g c =
-    read_done g.S.Sink.writer c.args.sink.now.sink c.answer_openly-outcome.new.sink.sink
-    c.args.streams c.args.asked c.as_slice-text.result.now c.answer_openly-outcome.result c.with_cause.result
-    c.answer_openly-outcome.ensures.done c.with_cause.ensures.done
+returns-clause-done g c = IfOk-weaker c.with_cause.result _ _
+    (λ accepted e. (c.as_slice-text.result.now, rw e at c.answer_openly-outcome.ensures.done)) c.with_cause.ensures.done
 
 pub returns-clause-fault : goal.returns-clause-fault
-returns-clause-fault g c =
-    read_told g.S.Sink.writer c.args.sink.now.sink c.answer_openly-outcome.new.sink.sink
-    c.args.streams c.args.asked c.as_slice-text.result.now c.answer_openly-outcome.result c.with_cause.result
-    c.answer_openly-outcome.ensures.done c.with_cause.ensures.fault
+returns-clause-fault g c = IfErr-weaker c.with_cause.result _ _ (λ fault t.
+    let p = err_from_is_err_and c.answer_openly-outcome.result t in
+    inr (p.0, (c.as_slice-text.result.now, rw p.1 at c.answer_openly-outcome.ensures.done, p.2)))
+    c.with_cause.ensures.fault

@@ -10,8 +10,7 @@ pub loop-init : goal.loop-init
 loop-init g c = (
   [],
   record { reads = []; made = refl; counted = refl; within = omega arith; gave = refl; uncounted = refl },
-  shows_none g.S.Sink.writer c.args.sink.now _ _ c.new-receiver.result c.before_any-made.result c.new-receiver.ensures
-      c.before_any-made.ensures,
+  shows_none g.S.Sink.writer c.args.sink.now _ _ c.new-receiver.ensures c.before_any-made.ensures,
   omega arith,
 )
 
@@ -76,8 +75,8 @@ returns-in-Err g c =
           counted = c.in-Err.ensures.err.1 ∙ ap one_more inv.1.uncounted;
         }),
         inl (
-          lines_out g.S.Sink.writer c.args.sink.now c.loop.sink inv.2,
-          (all_lines g.S.Sink.writer c.args.sink.now c.loop.sink inv.2, refl),
+          lines_out inv.2,
+          (all_lines inv.2, refl),
           inv.2.went_out,
         ),
       ),
@@ -102,8 +101,8 @@ returns g c =
       inl (
         inr (rw (let e : c.loop.counter ≡ 4294967296 = omega arith in e) at inv.1),
         inl (
-          lines_out g.S.Sink.writer c.args.sink.now c.loop.sink inv.2,
-          (all_lines g.S.Sink.writer c.args.sink.now c.loop.sink inv.2, refl),
+          lines_out inv.2,
+          (all_lines inv.2, refl),
           inv.2.went_out,
         ),
       ),

@@ -20,16 +20,16 @@ returns-in-Err g c = λ from bytes h fits.
     let told = rw early.0 at c.in_ok-verdict_by_fault.ensures in
     let same : c.in_ok-verdict_by_fault.field-0 ≡ Truncated (length bytes) = cc in
     printed_behind g.S.Sink.writer from c.args.sink.now c.write_to.new.sink _ bytes false
-    (lines_out g.S.Sink.writer from c.args.sink.now h) _ h.went_out
-    (ends_early g.S.Sink.writer from c.args.sink.now h early.1) c.write_to.result
+    (lines_out h) _ h.went_out
+    (ends_early h early.1) c.write_to.result
     (rw same at c.write_to.ensures.printed) (rw same at c.write_to.ensures.fault)
 
 pub returns-in-Open : goal.returns-in-Open
 returns-in-Open g c = λ from bytes h fits.
     let put = c.put_end.ensures in
     printed_behind g.S.Sink.writer from c.args.sink.now c.put_end.new.sink _ bytes true
-    (lines_out g.S.Sink.writer from c.args.sink.now h) put.0 h.went_out
-    (ends_accepted g.S.Sink.writer from c.args.sink.now h (c.in_default.ensures.ok.1 bytes _ h.received) put.0 put.1)
+    (lines_out h) put.0 h.went_out
+    (ends_accepted h (c.in_default.ensures.ok.1 bytes _ h.received) put.0 put.1)
     (Ok true) (
       refl,
       subst (λ (o : Output). IsOut g.S.Sink.writer c.args.sink.now c.put_end.new.sink o put.0)
@@ -40,8 +40,8 @@ pub returns-in-Failed : goal.returns-in-Failed
 returns-in-Failed g c = λ from bytes h fits.
     let put = c.put_end.ensures in
     printed_behind g.S.Sink.writer from c.args.sink.now c.put_end.new.sink _ bytes true
-    (lines_out g.S.Sink.writer from c.args.sink.now h) put.0 h.went_out
-    (ends_accepted g.S.Sink.writer from c.args.sink.now h (c.in_default.ensures.ok.1 bytes _ h.received) put.0 put.1)
+    (lines_out h) put.0 h.went_out
+    (ends_accepted h (c.in_default.ensures.ok.1 bytes _ h.received) put.0 put.1)
     (Err faults.Write) tt (
       refl,
       subst (λ (o : Output). IsOut g.S.Sink.writer c.args.sink.now c.put_end.new.sink o put.0)

@@ -1,6 +1,8 @@
 use Rattle.std.proofs.Common.{◌≡◌, ◌++◌, [], List, inl, inr, refl, ap, ◌∙◌}
 use Rattle.std.proofs.lemmas.Result.{err_from_is_err_and}
 use Rattle.ws_trace.specs.declared.piece.Piece.{Piece}
+use Rattle.ws_program.specs.Traced.{dialogue_action}
+use Rattle.ws_program.proofs.Buffers.{carried_last}
 use Rattle.ws_program.proofs.stream_trace.trace_streams.Goals as goal
 
 -- the pieces that were added one after another
@@ -31,7 +33,10 @@ returns-in-Ok-clause-done g c =
         station.1,
         c.as_slice.ensures.value ∙ both _ _ _ host.0 station.0 c.new-pieces.ensures.items host.2 station.2,
       ),
-      rw c.in-Ok.is at c.put_openly.ensures,
+      rw c.in-Ok.is at (carried_last g.S.Sink.writer c.args.sink.now c.put_pieces-outcome.new.sink c.requires.empty
+          c.hand_on_last.new.sink.sink c.args.streams.output c.put_pieces-outcome.result c.hand_on_last.result
+          c.hand_on_last.ensures.done (dialogue_action c.args.asked.form c.as_slice.result.now)
+          (λ text outcome h. (refl, (outcome, h))) c.put_pieces-outcome.ensures),
     )
 
 pub returns-clause-fault : goal.returns-clause-fault
@@ -49,5 +54,8 @@ returns-clause-fault g c =
         c.as_slice.ensures.value ∙ both _ _ _ host.0 station.0 c.new-pieces.ensures.items host.2 station.2,
       ),
       c.told.ensures,
-      rw c.in-Err.is at c.put_openly.ensures,
+      rw c.in-Err.is at (carried_last g.S.Sink.writer c.args.sink.now c.put_pieces-outcome.new.sink c.requires.empty
+          c.hand_on_last.new.sink.sink c.args.streams.output c.put_pieces-outcome.result c.hand_on_last.result
+          c.hand_on_last.ensures.done (dialogue_action c.args.asked.form c.as_slice.result.now)
+          (λ text outcome h. (refl, (outcome, h))) c.put_pieces-outcome.ensures),
     )

@@ -21,12 +21,8 @@ returns-clause-piece c =
       said = got.2;
       spelled = c.in-Ok.ensures.ok;
     } in record {
-      digits = got.0;
       sender = found.sender;
-      hex = found.hex.now;
-      time = got.1;
-      said = got.2;
-      spelled = c.in-Ok.ensures.ok;
+      said = is;
       milliseconds = c.number_of.ensures ∙ ap (number_with 0) (c.split_at.ensures.front
           ∙ ap (λ n. take n line) c.digit_count.ensures ∙ (line_parts line found.sender c.in-Ok.bytes.items is).0);
       is_sender = c.traced_end.ensures;
