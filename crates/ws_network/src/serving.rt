@@ -73,7 +73,10 @@ fn serve_one<R: LiveRuntime, L: ServedLine, O: Sink>(
         × WentOut O.writer out.old.sink out.new.sink (first ++ text)) }
 {
     // No other waits behind it: nobody listens any more.
-    let stream = take_next(&listen(rt, asked.address, out)?)?;
+    let stream = {
+        let listener = listen(rt, asked.address, out)?;
+        take_next(&listener)?
+    };
     serve(rt, asked, &stream, file, script, out)
 }
 
