@@ -1,9 +1,10 @@
 #!/usr/bin/env python3
-"""Checks that the files which the documents name are there.
+"""Checks that the files which the documents name are there, and the contracts that docs/PROMISES.md names.
 
 Run it from anywhere. A name in backquotes that ends like a source file's, as `specs/Code.antt`, has to end the path of some
 file of the repository, or of docs/DEFINITIONS.md, which `make docs` makes; so has each file of a list
-`{first,second}.rt`. A name right before a text is that of a file which the reader is to make of it. Its last line counts the names, and its status is 1 where one is of no file.
+`{first,second}.rt`. A name right before a text is that of a file which the reader is to make of it. Each name behind a
+promise has to be a word of some crate's sources or definitions. Its last line counts the names, and its status is 1 where one is of nothing.
 """
 import pathlib
 import re
@@ -23,6 +24,14 @@ def names(text):
                 yield from (found[1] + part + found[3] for part in found[2].split(",")) if found else [word]
 
 
+def cited(text):
+    """The names of functions, definitions and clauses in the last column of a table; `a_{b,c}` is two."""
+    for row in text.split("\n"):
+        for quoted in re.findall(r"`([^`./]+)`", row.rpartition(" | ")[2]):
+            for front, parts, end, name in re.findall(r"(\w*)\{([\w,]+)\}(\w*)|([A-Za-z_]\w+)", quoted):
+                yield from (front + part + end for part in parts.split(",")) if parts else [name]
+
+
 def main():
     listed = ["git", "ls-files", "--cached", "--others", "--exclude-standard"]
     files = subprocess.run(listed, cwd=ROOT, capture_output=True, text=True, check=True).stdout.split("\n")
@@ -35,6 +44,13 @@ def main():
                 passed += 1
             else:
                 wrong.append(f"{page.name} names a file that isn't there: {name}")
+    sources = [file.read_text() for part in ("src", "specs") for file in ROOT.glob(f"crates/*/{part}/**/*.*t")]
+    known = set(re.findall(r"\w+", "\n".join(sources)))
+    for name in sorted(set(cited((ROOT / "docs/PROMISES.md").read_text()))):
+        if name in known:
+            passed += 1
+        else:
+            wrong.append(f"PROMISES.md names a contract that isn't there: {name}")
     for line in wrong:
         print(line)
     print(f"{passed} passed, {len(wrong)} failed")
