@@ -57,9 +57,9 @@ class RecordsTest(PairTest):
 
     def test_no_time_takes_all(self) -> None:
         """More than one read has come."""
-        self.send(ASKED, *[text("A" * 1900)] * 30, text("LAST"))
+        self.send(ASKED, *[text("A" * 1900)] * 4, text("LAST"))
         self.assertEqual(self.session.wait_text("LAST", wait=0).row(1), "LAST")
-        self.assertEqual(self.session.screen.state.records, 31)
+        self.assertEqual(self.session.screen.state.records, 5)
 
     def test_cut_anywhere(self) -> None:
         """Also between IAC and EOR, and where a record has bytes that look like its end."""
@@ -104,7 +104,7 @@ class GoalsTest(PairTest):
                 time.sleep(0.1)
 
         self.send(ASKED)
-        beside, begun = Beside(work), time.monotonic()
+        begun, beside = time.monotonic(), Beside(work)
         screen = self.session.wait_quiet(3)
         self.assertEqual(screen.row(1), "THREE")
         self.assertGreaterEqual(time.monotonic() - begun, 3.1)
@@ -204,7 +204,7 @@ class SaidTest(PairTest):
             except StatusError as error:
                 told.append(str(error))
 
-        beside, begun = Beside(work), time.monotonic()
+        begun, beside = time.monotonic(), Beside(work)
         time.sleep(0.2)
         self.session.close()
         beside.finish()
@@ -236,7 +236,7 @@ class SaidTest(PairTest):
                     self.session.press(Key.ATTENTION)
 
         self.session._connection.wait = 60
-        beside, begun = Beside(work), time.monotonic()
+        begun, beside = time.monotonic(), Beside(work)
         time.sleep(0.5)
         self.session.close()
         beside.finish()
