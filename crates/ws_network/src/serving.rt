@@ -67,8 +67,8 @@ fn serve_one<R: LiveRuntime, L: ServedLine, O: Sink>(
     out: &mut BufferedSink<O>,
 ) -> Result<bool, ToldFault>
     requires empty { out.old.held ≡ [] }
-    ensures { IfOk result (λ all_well. (lines : List (ANumbered L)) × (first : List ℕ) × (text : List ℕ)
-        × AreScripted script.entry lines
+    ensures { IfOk result (λ all_well. (lines : List (ANumbered L)) × (first : List ℕ)
+        × (text : List ℕ) × AreScripted script.entry lines
         × IsServed L.served asked.now lines (account all_well text)
         × WentOut O.writer out.old.sink out.new.sink (first ++ text)) }
 {

@@ -53,7 +53,8 @@ where
     requires empty { sink.old.held ≡ [] }
     ensures done { IfOk result (AreChecked (IsCheckedBy S.writer streams.output checks.now all)
         checks.now.files.items sink.old.sink sink.new.sink) }
-    ensures fault { IfErr result (IsFaultOfFiles (IsCheckedBy S.writer streams.output checks.now all)
+    ensures fault { IfErr result (IsFaultOfFiles
+        (IsCheckedBy S.writer streams.output checks.now all)
         checks.now.files.items sink.old.sink sink.new.sink) }
 {
     let mut all_accepted = true;
@@ -106,7 +107,8 @@ fn check_named<R: AllocGlobal + Files<File = File> + Input, S: Sink>(
 ) -> Result<bool, RunFault>
     requires empty { sink.old.held ≡ [] }
     ensures held { sink.new.held ≡ [] }
-    ensures checked { IsFileChecked S.writer checks.now file.entry sink.old.sink sink.new.sink result }
+    ensures checked { IsFileChecked S.writer checks.now file.entry sink.old.sink sink.new.sink
+        result }
 {
     let (verdict, size) = file_verdict(rt, file, checks)?;
     if !streams.output {
