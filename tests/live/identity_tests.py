@@ -93,7 +93,7 @@ class TestIdentity(unittest.TestCase):
 
     def test_without_an_identity(self):
         for words in [], ["--strict"]:
-            self.at(words, (ASK, REFUSES), (SEND_ALL + ASK, REFUSES))
+            self.at(words, (ASK, REFUSES), (SEND_ALL + ASK, REFUSES), (PERFORMS, bytes([IAC, DONT, NEW_ENVIRON])))
 
     def test_wrong_names(self):
         for option, names, why in [

@@ -22,6 +22,12 @@ REFUSED = [
 ]
 BEHIND_SIGN_ON = len(ASKED + record(SIGN_ON))
 
+# Two records with FFs that stand twice, and with an option that is refused. The first is refused at a Roll's control
+# byte, its byte 12, which comes as byte 16; the second, which is too short, at its last byte, which comes as byte 31.
+ROLL = bytes.fromhex("00FFFF12 FFFD27 A0000004000003 042361 FFFF FFFD27 FFEF")
+SHORT = bytes.fromhex("00FFFF FFFD27 FFEF")
+REFUSES = bytes.fromhex("FFFC27")
+
 
 def told(place, reason="39 TransparentData", who="record"):
     return told_refusal(who, BEHIND_SIGN_ON + place, reason)
@@ -86,6 +92,29 @@ class TestRefused(unittest.TestCase):
         expect(status, "status unlocked ready 6 53 field 1 records 2 bytes %d\n" % taken, "status")
         connect.end(1, "")
         host.end()
+
+    def test_it_is_told_at_the_eor_and_counts_all_bytes(self):
+        for pieces in 0, 1:
+            go = threading.Event()
+
+            def play(side):
+                side.send(ROLL[:-1], pieces)
+                side.take(REFUSES * 2)
+                go.wait(60)
+                side.send(ROLL[-1:] + record(PRICE), pieces)
+                side.take(OF_COMMAND)
+                side.take_end()
+            connect, host = settled_connect(play, 60)
+            expect(connect.asked("await quiet 500"), "", "await quiet")
+            go.set()
+            expect(connect.asked("await record"), told(16, "33 Roll"), "await record")
+            connect.end(1, "")
+            host.end()
+
+    def test_a_record_refused_as_a_whole_is_so_at_its_last_byte(self):
+        play = behind_sign_on(ROLL + SHORT + record(PRICE), REFUSES * 2 + OF_COMMAND + REFUSES + OF_OTHER)
+        printed = told(16, "33 Roll") + told(31, "16 TooShort")
+        at_host(play, ["--ready", "--wait", "60"], "await\nawait record\n", 1, "ok\n" + printed + "ok\n")
 
     def test_keys_while_one_is_passed_over(self):
         go = threading.Event()
