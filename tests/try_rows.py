@@ -20,8 +20,6 @@ CRATES = [
     "rows_wire",
     "rows_display",
     "rows_session",
-    "rows_entry",
-    "rows_lasting",
     "rows_program",
 ]
 # Seconds for each test of a crate of which some take minutes as `rt try` compiles them. Those that haven't ended then
