@@ -1,36 +1,39 @@
 -- Tables of first words, as the code has them.
 
-use Rattle.std.specs.Prelude.{◌||◌}
+use Rattle.std.specs.Prelude.{Some, if◌then◌else◌}
+use Rattle.std.specs.Option.{is_some}
 use Rattle.std.specs.Str.{bytes_eq}
-use Rattle.std.proofs.Common.{◌≡◌, ◌<◌, ℕ, zero, suc, List, [], ◌∷◌, Bool, true, false, Bor, map, get_or, length, arith}
-use Rattle.std.proofs.Common.{refl, ap}
+use Rattle.std.proofs.Common.{◌≡◌, ◌<◌, ◌+◌, ℕ, zero, suc, List, [], ◌∷◌, Bool, true, false, Bor, Option, map, get_or}
+use Rattle.std.proofs.Common.{drop, length, arith, refl, sym, ap, ◌∙◌}
+use Rattle.std.proofs.lemmas.List.{at_drop_more}
 use Rattle.std.proofs.lemmas.Slice.Eq.{bytes_eq-Decides}
-use Rattle.std.specs.List.{list_any}
+use Rattle.ws_text.specs.Names.{look_up}
+use Rattle.ws_script.specs.cause.Vocabularies.{Words}
+use Rattle.ws_script.specs.declared.cause.word_kind.WordKind.{WordKind}
 
-either : (a b : Bool) → b ≡ true → (a || b) ≡ true
-either true b h = refl
-either false b h = h
+abbrev pub Known : Type 0
+Known = Bor (List ℕ) × Bor (List WordKind)
 
-module _ {A : Type 0} where
-  -- the first words of a table
-  abbrev firsts : List (Bor (List ℕ) × A) → List (List ℕ)
-  firsts words = map (λ known. known.0.now) words
+-- their bytes, with the kinds of the words after each
+abbrev pub table : List Known → Words
+table words = map (λ known. (known.0.now, known.1.now)) words
 
-  pub any_firsts : (word : List ℕ) (words : List (Bor (List ℕ) × A)) → list_any (bytes_eq word) (firsts words)
-      ≡ list_any (λ known. bytes_eq word known.0.now) words
-  any_firsts word [] = refl
-  any_firsts word (known ∷ words) = ap (λ b. bytes_eq word known.0.now || b) (any_firsts word words)
+either : {A : Type 0} (b : Bool) (a : A) (other : Option A) → is_some other ≡ true
+    → is_some (if b then Some a else other) ≡ true
+either true a other some = refl
+either false a other some = some
 
-  -- a word that is found at a place is one of them
-  pub among_at : (word : List ℕ) (words : List (Bor (List ℕ) × A)) (i : ℕ) (d : Bor (List ℕ) × A) → i < length words
-      → bytes_eq word (get_or words i d).0.now ≡ true → list_any (bytes_eq word) (firsts words) ≡ true
-  among_at word [] i d within e = absurd (omega arith)
-  among_at word (known ∷ words) zero d within e = ap (λ b. b || list_any (bytes_eq word) (firsts words)) e
-  among_at word (known ∷ words) (suc i) d within e =
-      either (bytes_eq word known.0.now) _ (among_at word words i d (omega arith) e)
+-- what a word is looked up for from a place on
+pub from_place : (word : List ℕ) (words : List Known) (i : ℕ) (d : Known) (is : Bool) → i < length words
+    → is ≡ bytes_eq word (get_or words i d).0.now → look_up word (table (drop i words))
+    ≡ (if is then Some (get_or words i d).1.now else look_up word (table (drop (i + 1) words)))
+from_place word words i d is within e = at_drop_more (λ z. look_up word (table z)) words i d within
+    ∙ ap (λ b. if b then Some (get_or words i d).1.now else look_up word (table (drop (i + 1) words))) (sym e)
 
-  -- each of them is
-  pub known_in : (words : List (Bor (List ℕ) × A)) (i : ℕ) (d : Bor (List ℕ) × A) → i < length words
-      → list_any (bytes_eq (get_or words i d).0.now) (firsts words) ≡ true
-  known_in words i d within = let word = (get_or words i d).0.now in
-      among_at word words i d within ((bytes_eq-Decides word word).1 refl)
+-- each word of a table is found
+pub known_in : (words : List Known) (i : ℕ) (d : Known) → i < length words
+    → is_some (look_up (get_or words i d).0.now (table words)) ≡ true
+known_in [] i d within = absurd (omega arith)
+known_in (known ∷ words) zero d within = rw ((bytes_eq-Decides known.0.now known.0.now).1 refl) refl
+known_in (known ∷ words) (suc i) d within =
+    either (bytes_eq (get_or words i d).0.now known.0.now) known.1.now _ (known_in words i d (omega arith))

@@ -1,8 +1,9 @@
 //! The words that lines of a script begin with, and those that may stand after each.
 ghost use Rattle.std.specs.Prelude.{◌≡◌, map};
+ghost use Rattle.std.specs.Option.{option_map};
 ghost use Rattle.ws_script.specs.cause.Vocabularies as Spec;
-ghost use Rattle.std.specs.Option.{is_some};
-ghost use Rattle.ws_script.specs.cause.Vocabularies.{is_first, vocabulary_words};
+ghost use Rattle.ws_script.specs.cause.Vocabularies.{vocabulary_words};
+ghost use Rattle.ws_text.specs.Names.{look_up};
 
 use crate::asked::sender::Sender;
 use crate::cause::AskedByte;
@@ -113,9 +114,9 @@ static UNITS: [Word; 30] = [
 ];
 
 /// The words that may stand after this first word; `None` where no such line begins with it.
-#[tactic(auto, using(crate::proofs::WordTables::among_at))]
 pub fn kinds_after(vocabulary: Vocabulary, word: &str) -> Option<&'static [WordKind]>
-    ensures { is_some result ≡ is_first vocabulary word.now }
+    ensures { option_map (λ kinds. kinds.now) result
+        ≡ look_up word.now (vocabulary_words vocabulary) }
 {
     for known in words_of(vocabulary) {
         if word == known.0 {
@@ -127,7 +128,7 @@ pub fn kinds_after(vocabulary: Vocabulary, word: &str) -> Option<&'static [WordK
 
 // The words that such a line begins with.
 pub(crate) fn words_of(vocabulary: Vocabulary) -> &'static [Word]
-    ensures { map (λ known. known.0.now) result.now ≡ vocabulary_words vocabulary }
+    ensures { map (λ known. (known.0.now, known.1.now)) result.now ≡ vocabulary_words vocabulary }
 {
     match vocabulary {
         Vocabulary::Station | Vocabulary::ExtendedStation => &STATION,

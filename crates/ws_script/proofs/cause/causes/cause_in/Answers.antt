@@ -1,5 +1,4 @@
-use Rattle.std.proofs.Common.{sym, ap, ◌∙◌, subst}
-use Rattle.std.specs.Option.{is_some}
+use Rattle.std.proofs.Common.{subst, refl}
 use Rattle.ws_script.specs.cause.Causes.{IsTextOf, front_of}
 use Rattle.ws_script.proofs.CauseTexts.{begins_with, left_by, of_line, stands_at}
 use Rattle.ws_script.proofs.cause.causes.cause_in.Goals as goal
@@ -13,7 +12,7 @@ pub returns-in-None : goal.returns-in-None
 returns-in-None c = c.unknown.ensures c.args.line.now
     (c.args.text.now, c.requires, begins_with _ _ _ c.first_word.ensures.no_blank c.first_word.ensures.split)
     (stands_at c.args.line.now _ _ _ (front_of c.args.vocabulary, c.requires) c.first_word.ensures.split)
-    (sym c.kinds_after.ensures ∙ ap is_some c.in-None.is)
+    (rw (← c.kinds_after.ensures, c.in-None.is) refl)
 
 pub returns-in-Some-wrong_words : goal.returns-in-Some-wrong_words
 returns-in-Some-wrong_words c = of_line c.args.vocabulary c.args.line.now c.in-Some-wrong_words.cause
