@@ -139,7 +139,7 @@ class RefusedRecordsTest(RowsTest):
             written = b""
             for at, byte in enumerate(data):
                 if byte != 0xEF:
-                    # The keyboard is locked behind a record that is carried out.
+                    # The keyboard is locked after a record that is carried out.
                     with contextlib.suppress(KeyRefused):
                         station.press(Key.TAB)
                     self.assertEqual(station.push(ASK), REFUSES)
