@@ -94,6 +94,12 @@ class HeaderTest(unittest.TestCase):
         self.assertEqual(ribbonscarp.__version__, version[1])
 
     def test_sentences(self) -> None:
+        """Those of reasons begin with their numbers, and are short."""
+        for reason in Reason:
+            text = library.reason_text(reason)
+            self.assertTrue(text.startswith(f"{reason.value}: ") and len(text.encode()) < 80, text)
+        query = "30: structured fields aren't part of the profile"
+        self.assertEqual(library.reason_text(Reason.STRUCTURED_FIELD), query)
         self.assertEqual(library.reason_text(Reason.ROLL), "33: rolling of the screen isn't part of the profile")
         self.assertEqual(library.refusal_text(KeyRefusal.LOCKED), "the keyboard is locked")
         self.assertEqual(library.status_text(Status.NOT_READY), "both ends haven't agreed on records yet")
