@@ -5,8 +5,10 @@ import unittest
 
 from live.lines import KINDS, READY, at_host, sending, served
 from live.program import Run, timed
+from live.screen_tests import FORM
 from live.screens import SIGN_ON, SIGN_ON_FIELDS
 from live.sessions_tests import begun, whole
+from peers import Side
 from records import record
 
 # What a host does, a line after the first `await` at which something goes wrong there, and what it prints.
@@ -14,6 +16,15 @@ STATIONS = [(sending(SIGN_ON), "await record", "late\n"), (sending(SIGN_ON, clos
             (sending(SIGN_ON), "key Dup", "key refused DupNotAllowed\n"),
             (sending(SIGN_ON), "field 3 SECRET", "field refused NoSuchField\n"),
             (sending(SIGN_ON), "await text No such text", "late\n")]
+
+# Scripts at a form, what they print with `ok`, and their status.
+SCRIPTS = [
+    ("--go-on", "# none\n\nnote A\n", "A\nok\n", 0),
+    ("--go-on", "await record\nfields\n", "ok\nfield 6 53 10 4000\nok\n", 0),
+    ("--go-on", "await\ntype A\nawait text A\nkey Dup\n", "ok\nok\nok\nkey refused DupNotAllowed (line 4)\nok\n", 1),
+    ("--stop", "await record\nawait record\nnote A\n", "ok\nlate (line 2)\nok\n", 1),
+    ("--stop", "await\nkey Dup\nkey Enter\n", "ok\nkey refused DupNotAllowed (line 2)\nok\n", 1),
+]
 
 
 def by_line(number, told):
@@ -38,6 +49,12 @@ class TestStop(unittest.TestCase):
             told = "ended (line 3)\n" if printed == "ended\n" else ""
             at_host(play, ["--wait", "3", "--go-on"], None, 1, by_line(2, printed) + SIGN_ON_FIELDS + told + "A\n",
                     script=text)
+
+    def test_lines_at_a_station(self):
+        for word, script, printed, status in SCRIPTS:
+            # Where nothing is awaited the session is over before records are allowed.
+            play = sending(FORM) if "await" in script else Side.take_end
+            at_host(play, ["--ready", "--wait", "3", word], None, status, printed, script=script)
 
     def test_a_good_script_stops_nowhere(self):
         play = sending(SIGN_ON, answer=record("0636F1" "110635C1"))
