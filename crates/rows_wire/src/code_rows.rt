@@ -6,8 +6,8 @@ use std::alloc::Global;
 use std::fmt::Display;
 use std::process::Abort;
 use ws_code::{
-    Address, Adjust, Aid, ByteList, DataByte, Fault, Ffw, List, Reason, Shift, ShortList, ebcdic,
-    word,
+    Address, Adjust, Aid, ByteList, CodePage, DataByte, Fault, Ffw, List, Reason, Shift, ShortList,
+    code_pages_are_one_to_one, ebcdic, word,
 };
 
 // The reasons with their numbers and names, as they are printed.
@@ -68,21 +68,6 @@ fn reasons_have_their_numbers_and_names(rt: HostRuntime) {
         same(&rt, reason.number(), *number);
         same(&rt, reason.name(), *name);
     }
-}
-
-// Whether a text is short, and begins with a number and a colon.
-fn is_sentence(rt: &impl Abort, alloc: Global, text: &str, number: u8) -> bool {
-    let front = format!(in alloc; "{number}: ").expect(rt, "memory");
-    text.starts_with(front.as_str()) && text.len() < 80
-}
-
-#[test]
-fn sentences_begin_with_the_number(rt: HostRuntime) {
-    for (reason, number, _name) in &REASONS {
-        holds(&rt, is_sentence(&rt, rt.alloc(), reason.text(), *number));
-    }
-    let query = "30: structured fields aren't part of the profile";
-    same(&rt, Reason::StructuredField.text(), query);
 }
 
 // What is told has this text.
@@ -179,6 +164,22 @@ fn code_page(rt: HostRuntime) {
     same(&rt, ebcdic::to_char(0xFF), None);
     same(&rt, ebcdic::from_char('\u{9F}'), None);
     same(&rt, ebcdic::from_char('€'), None);
+}
+
+const PAGES: [u16; 20] = [
+    37, 273, 277, 278, 280, 284, 285, 297, 500, 871, 1140, 1141, 1142, 1143, 1144, 1145, 1146,
+    1147, 1148, 1149,
+];
+
+// What no script asks of the pages. Their tables are in python/tests.
+#[test]
+fn numbers_of_pages(rt: HostRuntime) {
+    for number in &PAGES {
+        let page = CodePage::from_number(*number).expect(&rt, "a page");
+        same(&rt, page.number(), *number);
+    }
+    same(&rt, CodePage::default().number(), 37);
+    code_pages_are_one_to_one();
 }
 
 // Rows and columns, and the places of their cells.

@@ -7,8 +7,6 @@
 mod code_rows;
 #[cfg(test)]
 mod device_rows;
-#[cfg(test)]
-mod page_rows;
 
 // Rows of ws_telnet.
 #[cfg(test)]

@@ -9,9 +9,9 @@ use ws_telnet::{CommandCode, Sub, Telnet, Token, Tokens, Verb, spell, write_teln
 
 // The token that the bytes bring with the one at a place, or the reason for which that one is refused. `None` where the
 // token goes on.
-pub type Answer = Option<(usize, Result<Token, Reason>)>;
+type Answer = Option<(usize, Result<Token, Reason>)>;
 
-pub fn answer_to(bytes: &[u8]) -> Answer {
+fn answer_to(bytes: &[u8]) -> Answer {
     let mut machine = Tokens::start(Tokens::first());
     for (at, byte) in bytes.iter().enumerate() {
         match machine.push(*byte) {
