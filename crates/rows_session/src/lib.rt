@@ -1,5 +1,5 @@
-//! The tests of sessions, of scripts, and of lines over devices in memory: `ws_session` and `ws_live`; and of live
-//! stations, `ws_lasting` and `ws_entry`. They call what these crates hand out, and nothing else.
+//! The tests of sessions and of scripts: `ws_session` and `ws_script`; and of live stations, `ws_lasting` and `ws_entry`.
+//! They call what these crates hand out, and nothing else.
 #![tactic(auto)]
 
 // What the rows of ws_session share, the callers that docs/CALLING.md shows, and a display of their own.
@@ -38,9 +38,7 @@ mod station_rows;
 #[cfg(test)]
 mod live_station_rows;
 
-// Rows of ws_live.
-#[cfg(test)]
-mod live_rows;
+// Rows of ws_script.
 #[cfg(test)]
 mod script_rows;
 
