@@ -8,7 +8,6 @@ pub use live::carried_wire::carry_wire;
 pub use live::host_closing::{HeardEnd, hear_one, hear_until, put_given};
 pub use live::live_station::LiveStation;
 pub use live::repeated::carry_on;
-pub use live::serve::answer_on;
 pub use live::watch::{WaitSpan, Watch};
 pub use live::{
     AfterUnwell, Carried, Closing, LineSettings, LiveMove, LiveSession, Ran, Telling, carry_line,

@@ -1,21 +1,15 @@
-//! The lines of a script, carried out at a host; and what is told behind them.
-ghost use Rattle.std.specs.Prelude.{◌≡◌, [], false, None};
+//! The lines of a script, carried out at a host.
 ghost use Rattle.ws_live.specs.live.ServeText as Spec;
-ghost use Rattle.ws_live.specs.live.CarryingOn.{carrying_on};
-ghost use Rattle.ws_live.specs.live.LiveText.{telling_by};
 ghost use Rattle.ws_live.specs.live.Watches.{watched_devices};
-ghost use Rattle.ws_script.specs.declared.lines.serve_line.HostLine.TheVariants.{Await};
-ghost use Rattle.ws_text.specs.Printed.{IsPrinted};
 ghost use Rattle.ws_printing.specs.ToldLines.{told_text};
 ghost use Rattle.ws_code.specs.Device.{on_devices};
 
 use crate::live::carried_wire::carry_wire;
 use crate::live::host_closing::{HeardEnd, hear_one, hear_until, put_given};
-use crate::live::repeated::carry_on;
 use crate::live::watch::{WaitSpan, Watch};
 use crate::live::{Carried, Closing, LiveMove, LiveSession, Telling, put_bad};
-use ws_code::{Fault, Sink, Source};
-use ws_printing::{BufferedSink, Look, Paint, put_screen, put_told};
+use ws_code::{Sink, Source};
+use ws_printing::{Look, Paint, put_screen, put_told};
 use ws_script::{AnswerAwaited, HostLine};
 use ws_session::{HostEnd, HostEvent};
 use ws_text::Output;
@@ -84,29 +78,4 @@ impl HeardEnd for HostEnd {
             _ => false,
         }
     }
-}
-
-/// Answers a station on, and prints what the host end tells, until the station closes the connection, a wait for the
-/// next thing is over, or a byte is refused: true where none is.
-///
-/// # Errors
-///
-/// `Write` where the sink or the connection failed; `Read` where a read failed, though not for want of time, or
-/// 4,294,967,296 reads told nothing, or as many things were told; `Memory` where a growth was refused; `Failed` where
-/// the end was shut before.
-pub fn answer_on<S: Source, K: Sink, W: Watch<S>, O: Sink>(
-    session: &mut LiveSession<HostEnd, S, K, W>,
-    out: &mut BufferedSink<O>,
-) -> Result<bool, Fault>
-    // At an end that works, with nothing held back.
-    requires works { session.old.attached.broken ≡ false }
-    requires empty { out.old.held ≡ [] }
-    // What was printed, and how it ended.
-    ensures printed { IsPrinted O.writer out.old.sink out.new.sink (carrying_on
-        (Spec.HostRunsInTime (watched_devices (on_devices K.writer S.reader) W.tells) W.times
-        (telling_by Paint.Plain None)) Await
-        session.old session.new) result }
-    ensures held { out.new.held ≡ [] }
-{
-    carry_on(session, &HostLine::Await, out)
 }
