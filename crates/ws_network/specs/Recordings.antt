@@ -1,10 +1,13 @@
 -- A recording of a connection: a line `MILLISECONDS host|station HEX` for each piece that crossed it.
 
-use Rattle.std.specs.Prelude.{ℕ, List, ◌++◌, codes}
+use Rattle.std.specs.Prelude.{◌≡◌, ℕ, List, ◌++◌, codes, string_bytes}
 use Rattle.std.specs.Fmt.{decimal}
 use Rattle.hex.specs.Hex.{encode_upper}
 use Rattle.ws_network.specs.declared.recording.PieceSender.{PieceSender}
 use Rattle.ws_network.specs.declared.recording.PieceSender.TheVariants.{Host, Station}
+use Rattle.ws_script.specs.declared.asked.fault.RunFault.TheVariants as run
+use Rattle.ws_script.specs.declared.asked.fault.ToldFault.{ToldFault}
+use Rattle.ws_script.specs.declared.asked.fault.ToldFault.TheVariants.{Recording, Run}
 
 -- who sent a piece
 abbrev pub sender_word : PieceSender → List ℕ
@@ -15,3 +18,8 @@ sender_word Station = codes " station "
 abbrev pub piece_line : ℕ → PieceSender → List ℕ → List ℕ
 piece_line milliseconds sender bytes =
     decimal milliseconds ++ sender_word sender ++ encode_upper bytes ++ codes "\n"
+
+-- that a recording's file can't be written is told with its name, or by itself
+abbrev pub IsUnwritten : List ℕ → ToldFault → Type 0
+IsUnwritten name (Recording told) = string_bytes told ≡ name
+IsUnwritten name told = told ≡ Run run.Write

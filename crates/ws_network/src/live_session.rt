@@ -44,8 +44,8 @@ use ws_session::{Attached, ProfileDisplay, StationOn};
 /// # Errors
 ///
 /// In this order: `Read` where a script is named that can't be read, and `Line` and `Memory` as `read_lines` has them;
-/// `Read` where standard input is to be read and is closed, and `Write` where standard output is; `Write` where the
-/// folder of a recording isn't there; `NoConnection`. Then those met in running, `Write` too where the file of a
+/// `Read` where standard input is to be read and is closed, and `Write` where standard output is; `Recording` where the
+/// folder of a recording isn't there; `NoConnection`. Then those met in running, `Recording` too where the file of a
 /// recording, which is made at the first byte, can't be made or written.
 pub fn run_live<R, O>(
     rt: &R,

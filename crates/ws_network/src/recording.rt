@@ -1,5 +1,5 @@
 //! Recordings of what both ends sent: a line `MILLISECONDS host|station HEX` for each piece.
-ghost use Rattle.std.specs.Prelude.{◌≡◌, ◌⊎◌, Err, IsErrAnd};
+ghost use Rattle.std.specs.Prelude.{◌≡◌, ◌⊎◌, ℕ, List, Err, IsErrAnd};
 ghost use Rattle.ws_script.specs.declared.asked.fault.RunFault.TheVariants as run;
 ghost use Rattle.ws_script.specs.declared.asked.fault.ToldFault.TheVariants as told;
 ghost use Rattle.ws_network.specs.Recordings as Spec;
@@ -41,12 +41,15 @@ impl<'a> RecordFile<'a> {
     ///
     /// # Errors
     ///
-    /// `Write` where the name's folder isn't there.
-    pub(crate) fn new<R: Files>(rt: &R, name: Option<&'a str>) -> Result<Self, RunFault> {
+    /// As `unwritten` where the name's folder isn't there.
+    pub(crate) fn new<R: AllocGlobal + Files>(
+        rt: &R,
+        name: Option<&'a str>,
+    ) -> Result<Self, ToldFault> {
         if let Some(name) = name
             && !has_folder(rt, name)
         {
-            return Err(RunFault::Write);
+            return Err(unwritten(rt, name));
         }
         Ok(RecordFile {
             name,
@@ -95,14 +98,14 @@ impl<'a, R: Runtime + AllocGlobal + Files<File = File>> Recording<'a, R> {
     ///
     /// # Errors
     ///
-    /// `Write` where the file couldn't be written, whatever the session came to; `Connection` in place of `Read` where the
-    /// other side has reset the connection; else the fault that it came to.
+    /// As `unwritten` where the file couldn't be made or written, whatever the session came to; `Connection` in place of
+    /// `Read` where the other side has reset the connection; else the fault that it came to.
     pub(crate) fn judge<T: Copy>(&self, outcome: Result<T, ToldFault>) -> Result<T, ToldFault>
         ensures { (result ≡ outcome) ⊎ IsErrAnd result (λ fault.
-            (fault ≡ told.Run run.Write) ⊎ (outcome ≡ Err (told.Run run.Read))) }
+            ((name : List ℕ) × Spec.IsUnwritten name fault) ⊎ (outcome ≡ Err (told.Run run.Read))) }
     {
         if self.has_failed.get() {
-            return Err(ToldFault::Run(RunFault::Write));
+            return Err(unwritten(self.rt, self.file.name.unwrap_or("")));
         }
         let Some(peer) = self.reset_by.get() else {
             return outcome;
@@ -130,7 +133,7 @@ impl<'a, R: Runtime + AllocGlobal + Files<File = File>> Recording<'a, R> {
     ///
     /// # Errors
     ///
-    /// `WriteZero` where the file couldn't be made or written; `judge` answers `Write` from then on.
+    /// `WriteZero` where the file couldn't be made or written; `judge` tells so from then on.
     pub(crate) fn keep(&self, sender: PieceSender, bytes: &[u8]) -> io::Result<()> {
         if bytes.is_empty() {
             return Ok(());
@@ -163,6 +166,16 @@ impl<'a, R: Runtime + AllocGlobal + Files<File = File>> Recording<'a, R> {
             return 0;
         };
         u64::try_from(now.saturating_duration_since(begun).as_millis()).unwrap_or(u64::MAX)
+    }
+}
+
+/// That a recording's file of this name can't be made or written: `Recording`, or `Write` where a growth was refused.
+fn unwritten<R: AllocGlobal>(rt: &R, name: &str) -> ToldFault
+    ensures { Spec.IsUnwritten name.now result }
+{
+    match String::from_str(rt.alloc(), name) {
+        Ok(name) => ToldFault::Recording(name),
+        Err(_) => ToldFault::Run(RunFault::Write),
     }
 }
 

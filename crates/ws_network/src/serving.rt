@@ -106,7 +106,8 @@ fn serve_many<R: LiveRuntime, L: ServedLine, O: Sink>(
 }
 
 // Serves a station at a connection: carries the lines out, or without a script those of standard input, and what comes
-// behind them. `Write` where the host's opening or the recording's file can't be written; else as `carry_at_host`.
+// behind them. `Write` where the host's opening can't be written, `Recording` where the recording's file can't; else as
+// `carry_at_host`.
 fn serve<R: LiveRuntime, L: ServedLine, O: Sink>(
     rt: &R,
     asked: &ServeAsked<'_>,
@@ -126,7 +127,9 @@ fn serve<R: LiveRuntime, L: ServedLine, O: Sink>(
     let timer = Timer::new(rt, Duration::from_secs(u64::from(asked.wait)));
     let (host, opening) = L::open(rt.alloc());
     let mut sink = TimedSink::new(stream, &timer, &recording, PieceSender::Host);
-    write_whole(&mut sink, opening.as_slice())?;
+    if let Err(fault) = write_whole(&mut sink, opening.as_slice()) {
+        return recording.judge(Err(ToldFault::from(fault)));
+    }
     let source = TimedSource::new(stream, &timer, &recording, PieceSender::Station);
     let attached = Attached::new(host, source, sink);
     let mut session = LiveSession::new(attached, TimedWatch::new(&timer));

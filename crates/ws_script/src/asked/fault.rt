@@ -51,6 +51,9 @@ pub enum ToldFault {
     /// Why there is no connection, or none any more, with its address.
     #[error("{0}")]
     Connection(String),
+    /// A recording's file of this name can't be made or written.
+    #[error("cannot write: {0}")]
+    Recording(String),
 }
 
 /// Why there is no connection. Each has a word or some.
