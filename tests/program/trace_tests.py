@@ -147,7 +147,7 @@ class TestTrace(Runs):
 
     def test_faults(self):
         for text, line in NO_RECORDINGS:
-            self.expect(f"trace of {text}", run(["trace"], text), 2, "", f"script line {line}\n")
+            self.expect(f"trace of {text}", run(["trace"], text), 2, "", f"script line {line}: it isn't `MILLISECONDS host|station HEX`\n")
         with open("/dev/full", "w") as full:
             self.expect("trace into a full file", run(["trace"], stdout=full), 2, "", "cannot write\n")
 

@@ -1,13 +1,13 @@
 -- Faults as they are told: with their causes, and with the name of the file that they are about.
 
-use Rattle.std.specs.Prelude.{◌≡◌, ℕ, List, Option, Some, ◌⊎◌, string_bytes}
+use Rattle.std.specs.Prelude.{◌≡◌, ℕ, List, Option, Some, ◌⊎◌, codes, string_bytes}
 use Rattle.std.specs.Option.{option_map}
 use Rattle.std.specs.Str.Lines.{lines}
 use Rattle.ws_script.specs.cause.ToldCauses.{IsLineTold}
 use Rattle.ws_script.specs.declared.asked.fault.RunFault.{RunFault}
 use Rattle.ws_script.specs.declared.asked.fault.RunFault.TheVariants as run
 use Rattle.ws_script.specs.declared.asked.fault.ToldFault.{ToldFault}
-use Rattle.ws_script.specs.declared.asked.fault.ToldFault.TheVariants.{Run}
+use Rattle.ws_script.specs.declared.asked.fault.ToldFault.TheVariants.{Run, Line}
 use Rattle.ws_script.specs.declared.cause.vocabulary.Vocabulary.TheVariants.{Items}
 use Rattle.ws_program.specs.declared.command_fault.CommandFault.{CommandFault}
 use Rattle.ws_program.specs.declared.command_fault.CommandFault.TheVariants.{Told, OfFile, Unwritten}
@@ -18,9 +18,16 @@ use Rattle.ws_program.specs.declared.words.command_line.InputAsked.TheVariants.{
 abbrev pub IsInputUnread : RunFault → Type 0
 IsInputUnread fault = (fault ≡ run.Read) ⊎ (fault ≡ run.Memory)
 
--- a fault of a command with its cause, where items as text have a bad line, and as it is otherwise
+-- a line of a recording that has another form is told with that form, or memory was wanted
+abbrev pub IsOtherLineTold : ℕ → ToldFault → Type 0
+IsOtherLineTold number (Line told cause) = (told ≡ number)
+    × (string_bytes cause ≡ codes "it isn't `MILLISECONDS host|station HEX`")
+IsOtherLineTold number told = told ≡ Run run.Memory
+
+-- a fault of a command with its cause, where items as text or a traced recording have a bad line, and as it is otherwise
 abbrev pub IsToldOf : InputAsked → List ℕ → ToldFault → RunFault → Type 0
 IsToldOf (Make file sent raw) text told (run.Line number) = IsLineTold (Items sent) (lines text) number told
+IsToldOf (Trace file form) text told (run.Line number) = IsOtherLineTold number told
 IsToldOf asked text told fault = told ≡ Run fault
 
 -- a fault that was met with a file is told with its name, or by itself; or memory was wanted for the name

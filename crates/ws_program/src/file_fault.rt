@@ -1,7 +1,7 @@
 //! Faults with their causes, and with the name of the file that they are about.
 ghost use Rattle.std.specs.Prelude.{◌≡◌, Ok, IfOk, IfErr, IsErrAnd};
 ghost use Rattle.std.specs.Option.{option_map};
-ghost use Rattle.ws_program.specs.FileFaults.{IsOfFile, IsToldBy, IsToldOf, IsToldOfFile};
+ghost use Rattle.ws_program.specs.FileFaults.{IsOfFile, IsOtherLineTold, IsToldBy, IsToldOf, IsToldOfFile};
 
 use crate::command_fault::CommandFault;
 use crate::hex_text::is_blank;
@@ -28,11 +28,12 @@ pub enum Unreadable {
     OtherByte { at: usize, shown: char },
 }
 
-/// What a command came to with this input, with its cause where items as text have a bad line.
+/// What a command came to with this input, with its cause where items as text or a recording to be traced have a bad line.
 ///
 /// # Errors
 ///
-/// As `bad_line` where items as text have a bad line; else `Run` with the fault that it came to.
+/// As `bad_line` where items as text have a bad line, and `Line` or `Memory` where a recording has; else `Run` with the
+/// fault that it came to.
 pub(crate) fn with_cause(
     alloc: Global,
     asked: InputAsked<'_>,
@@ -55,7 +56,18 @@ fn told_fault(alloc: Global, asked: InputAsked<'_>, text: &[u8], fault: RunFault
         (InputAsked::Make { from, .. }, RunFault::Line(number)) => {
             bad_line(alloc, text, number, Vocabulary::Items(from))
         }
+        (InputAsked::Trace { .. }, RunFault::Line(number)) => other_line(alloc, number),
         _ => ToldFault::Run(fault),
+    }
+}
+
+// That the line of this number is none of a recording.
+fn other_line(alloc: Global, number: u64) -> ToldFault
+    ensures { IsOtherLineTold number result }
+{
+    match String::from_str(alloc, "it isn't `MILLISECONDS host|station HEX`") {
+        Ok(cause) => ToldFault::Line { number, cause },
+        Err(_) => ToldFault::Run(RunFault::Memory),
     }
 }
 
