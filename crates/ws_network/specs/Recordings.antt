@@ -20,6 +20,6 @@ piece_line milliseconds sender bytes =
     decimal milliseconds ++ sender_word sender ++ encode_upper bytes ++ codes "\n"
 
 -- that a recording's file can't be written is told with its name, or by itself
-abbrev pub IsUnwritten : List ℕ → ToldFault → Type 0
-IsUnwritten name (Recording told) = string_bytes told ≡ name
-IsUnwritten name told = told ≡ Run run.Write
+abbrev pub IsUnrecorded : List ℕ → ToldFault → Type 0
+IsUnrecorded name (Recording told) = string_bytes told ≡ name
+IsUnrecorded name told = told ≡ Run run.Write

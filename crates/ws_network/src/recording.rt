@@ -102,7 +102,8 @@ impl<'a, R: Runtime + AllocGlobal + Files<File = File>> Recording<'a, R> {
     /// `Read` where the other side has reset the connection; else the fault that it came to.
     pub(crate) fn judge<T: Copy>(&self, outcome: Result<T, ToldFault>) -> Result<T, ToldFault>
         ensures { (result ≡ outcome) ⊎ IsErrAnd result (λ fault.
-            ((name : List ℕ) × Spec.IsUnwritten name fault) ⊎ (outcome ≡ Err (told.Run run.Read))) }
+            ((name : List ℕ) × Spec.IsUnrecorded name fault)
+            ⊎ (outcome ≡ Err (told.Run run.Read))) }
     {
         if self.has_failed.get() {
             return Err(unwritten(self.rt, self.file.name.unwrap_or("")));
@@ -171,7 +172,7 @@ impl<'a, R: Runtime + AllocGlobal + Files<File = File>> Recording<'a, R> {
 
 /// That a recording's file of this name can't be made or written: `Recording`, or `Write` where a growth was refused.
 fn unwritten<R: AllocGlobal>(rt: &R, name: &str) -> ToldFault
-    ensures { Spec.IsUnwritten name.now result }
+    ensures { Spec.IsUnrecorded name.now result }
 {
     match String::from_str(rt.alloc(), name) {
         Ok(name) => ToldFault::Recording(name),
