@@ -239,13 +239,13 @@ class TestRecordings(Test):
 
     def test_recordings_that_can_not_be_written(self):
         # That the folder isn't there is told before anything is connected or listened at.
-        Run(["connect", "--record", "/nowhere/at/all", "127.0.0.1:1"]).end(2, "", "cannot write\n")
-        Run(["serve", "--record", "/nowhere/at/all", "127.0.0.1:0"]).end(2, "", "cannot write\n")
-        Run(["connect", "--record", "", "127.0.0.1:1"]).end(2, "", "cannot write\n")
+        for name in "/nowhere/at/all", "":
+            for words in ["connect", "--record", name, "127.0.0.1:1"], ["serve", "--record", name, "127.0.0.1:0"]:
+                Run(words).end(2, "", f"cannot write: {name}\n")
         if not os.path.exists("/dev/full"):
             self.skipTest("/dev/full isn't there")
         words = ["--wait", "60", "--record", "/dev/full"]
-        told = "recording: /dev/full\ncannot write\n"
+        told = "recording: /dev/full\ncannot write: /dev/full\n"
         at_host(negotiate_as_host, words, "await\n", 2, "", told, keep_open=True, host_ends=False)
         serve = Run(["serve", *words, "127.0.0.1:0"])
         side = station_at(serve)

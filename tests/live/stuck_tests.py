@@ -53,19 +53,6 @@ class TestStuck(unittest.TestCase):
         expect(run.stderr, b"cannot write\n", "standard error")
         expect(run.returncode, 2, "status")
 
-    @unittest.skipUnless(os.path.exists("/dev/full"), "/dev/full isn't there")
-    def test_a_recording_that_takes_nothing(self):
-        """Its folder isn't there, which is told before all else, or not a byte of a piece can be written."""
-        name, fault = "/dev/full/it", "cannot write: /dev/full/it\n"
-        for words in ["connect", "--record", name, "127.0.0.1:1"], ["serve", "--record", name, "127.0.0.1:0"]:
-            Run(words, "").end(2, "", fault)
-        name, fault = "/dev/full", "recording: /dev/full\ncannot write: /dev/full\n"
-        at_host(sending(SIGN_ON), ["--record", name], "await\n", 2, "", fault, host_ends=False)
-        serve = Run(["serve", "--record", name, "127.0.0.1:0"], "await\n")
-        side = station_at(serve)
-        serve.end(2, "", fault)
-        side.close()
-
     def test_a_reset_is_a_fault(self):
         serve, side = served("await\nawait\n", wait=60, keep_open=True)
         expect(serve.line(), READY, "await")
