@@ -1,7 +1,7 @@
 -- The names that the proofs cite most, of the crates below and of the specs, passed on from one place.
 
 pub use Rattle.std.proofs.Math.Seq.{drop-append_seam}
-pub use Rattle.std.specs.Prelude.{OnErr}
+pub use Rattle.std.specs.Prelude.{IfErr, OnErr}
 pub use Rattle.ws_code.specs.Code.{Stands}
 pub use Rattle.ws_code.specs.declared.code.Push.{Push}
 pub use Rattle.ws_code.specs.declared.code.Push.TheVariants.{More, Unit as Whole, Bad}
@@ -67,20 +67,20 @@ pub use Rattle.ws_end.specs.station.Displays.{Answers, Signals, OnDisplay}
 pub use Rattle.ws_end.specs.station.StationReacting.{applied_by, at_item_on, transitions_on, StationStands}
 pub use Rattle.ws_end.specs.station.StationReacting.{station_driving}
 pub use Rattle.ws_end.specs.station.StationTransitions.{at_key_on, key_on, takes_on}
-pub use Rattle.ws_end.specs.station.Stations.{ReachedOn, IsKeyedOn, AtStationOn, PartsOn}
+pub use Rattle.ws_end.specs.station.Stations.{ReachedOn, IsKeyedOn, ItemsOf, AtStationOn, PartsOn}
 pub use Rattle.ws_lasting.specs.AsStation.{all_carried_out}
-pub use Rattle.ws_lasting.specs.Behaviour.{AreQuiet, AreTakenSo, LastingRefuses, lasting_behaviour, LeadsOnFrom}
+pub use Rattle.ws_lasting.specs.Behaviour.{AreQuiet, AreTakenSo, EndsAt, LastingRefuses, lasting_behaviour, LeadsOnFrom}
 pub use Rattle.ws_lasting.specs.Behaviour.{LastingTraces, lasting_key_judged}
 pub use Rattle.ws_lasting.specs.Counting.{IsCounted}
 pub use Rattle.ws_lasting.specs.Footings.{AtLasting, LastingOf, LastingStep, bytes_written, IsByteTaken}
 pub use Rattle.ws_lasting.specs.Footings.{IsRefusalPlaced, LastingParts, ReadsOrPasses, StandsAt, IsKeyHeard}
 pub use Rattle.ws_lasting.specs.Footings.{IsPassingOver, IsReading, IsReplied, IsWordHeard, IsFollowed}
-pub use Rattle.ws_lasting.specs.Footings.{IsRefusalPlacedSo, told_place}
+pub use Rattle.ws_lasting.specs.Footings.{IsEndedFor, IsRefusalPlacedSo, StaysShut, told_place}
 pub use Rattle.ws_lasting.specs.Fronts.{IsFrontTaken, IsWordRefused}
 pub use Rattle.ws_lasting.specs.Identity.{identity_told, environ_after, reply_to}
 pub use Rattle.ws_lasting.specs.Lasting.{Footing, IsAtByte, Lasts, FootingOn, IsPerformed, IsRefusedFor, IsDeclined}
 pub use Rattle.ws_lasting.specs.Lasting.{IsTokenStep, may_pass_over}
-pub use Rattle.ws_lasting.specs.LastingLaws.{leads_both, lasts_both, counted_none, leads_none}
+pub use Rattle.ws_lasting.specs.LastingLaws.{leads_both, lasts_both, counted_both, counted_none, leads_none}
 pub use Rattle.ws_lasting.specs.Negative.{negative, is_of_record}
 pub use Rattle.ws_lasting.specs.Others.{OthersAsBefore}
 pub use Rattle.ws_lasting.specs.Records.{IsUnfit, IsSpoilt}

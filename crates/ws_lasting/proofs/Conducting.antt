@@ -2,7 +2,7 @@ use Rattle.ws_lasting.proofs.Common as C
 use C.{◌≡◌, ℕ, List, [], ◌∷◌, ◌++◌, refl, sym, ap, ◌∙◌, inl, inr, arith, length, take, suc, ◌≤◌, ◌<◌, ◌+◌, ◌-◌, ◌^◌, Ok}
 use C.{Err, Result, IsSome, cases_lt, OnErr, no_end, same_last, TakesSome, IsShut, EndFed, Refusal, Failed, OnDisplay}
 use C.{value_at, AreQuiet, AreTakenSo, LastingRefuses, lasting_behaviour, AtLasting, LastingOf, LastingStep}
-use C.{bytes_written, LastingReply, RecordEvent}
+use C.{bytes_written, LastingReply, RecordEvent, StaysShut}
 
 -- What a piece gives a station that no record ends is what one gives an end.
 
@@ -13,7 +13,7 @@ module _ (on : OnDisplay) (old : LastingOf on) (piece : List ℕ) (some : 0 < le
   -- a byte ends the session
   module _ (used : ℕ) (why : Refusal) (within : used ≤ length piece)
       (taken : AtLasting on old (λ at. old.taken + 1 < 2 ^ 64 → AreTakenSo on old new at (take used piece) (Err why)))
-      (stopped : IsShut old.ended old.taken → Fails (Err why) × (used ≡ 0))
+      (stopped : IsShut old.ended old.taken → Fails (Err why) × (used ≡ 0) × StaysShut old new)
     where
       abbrev Stops : Type 0
       Stops = (byte : ℕ) × (rest : List ℕ) × (piece ≡ take (used - 1) piece ++ byte ∷ rest)
@@ -50,7 +50,7 @@ module _ (on : OnDisplay) (old : LastingOf on) (piece : List ℕ) (some : 0 < le
               record {
                 led = λ at st few. (let t = taken at st (omega (arith, few)) in
                     absurd (no_end t.0 t.1 [] (sym front ∙ t.2)));
-                shut = λ shut. (refl, (let e = (stopped shut).0 in cc));
+                shut = λ shut. (refl, (let e = (stopped shut).0 in cc), (stopped shut).2);
               },
             ))
       ]
@@ -60,7 +60,7 @@ module _ (on : OnDisplay) (old : LastingOf on) (piece : List ℕ) (some : 0 < le
       → AtLasting on old (λ at. old.taken + 1 < 2 ^ 64 → AreTakenSo on old new at (take fed.used piece) fed.step)
       → AtLasting on old (λ at. (n : ℕ) → n < fed.used → AreQuiet on at (take n piece))
       → OnErr fed.step (IsSome new.ended)
-      → (IsShut old.ended old.taken → (fed.step ≡ Err Failed) × (fed.used ≡ 0))
+      → (IsShut old.ended old.taken → (fed.step ≡ Err Failed) × (fed.used ≡ 0) × StaysShut old new)
       → (IsSome old.ended → new ≡ old)
       → TakesSome (lasting_behaviour on) (bytes_written on) old piece new fed
   takes_some fed within any taken first after stopped failed = by fed.step refl where

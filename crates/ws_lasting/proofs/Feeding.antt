@@ -4,6 +4,8 @@ use C.{take, zero, suc, ◌≤◌, ◌<◌, ◌+◌, Err, Ok, None, OnOk, Result
 use C.{each_on, left_of, bytes_came, came_append, Came, all_came, EndFed, Refusal, At, Failed, Memory, OnDisplay}
 use C.{AreQuiet, AreTakenSo, LeadsOnFrom, AtLasting, LastingOf, LastingStep, IsByteTaken, IsRefusalPlaced}
 use C.{bytes_written, IsFrontTaken, FootingOn, IsAtByte, Lasts, LastingReply, RecordEvent, leads_both, lasts_both}
+use C.{EndsAt, IfErr, IsEndedFor, ItemsOf, Option, ReadsOrPasses, RefusedRecord, Some, StandsAt, StationStands}
+use C.{counted_both, counted_none}
 use Rattle.ws_lasting.proofs.Placing.{placed_after}
 
 -- What comes of bytes one after another.
@@ -44,21 +46,54 @@ module _ (on : OnDisplay) where
         nothing [] y e = (refl, sym e)
         nothing (c ∷ x) y e = cc
 
+  -- what reacts at a station is what stands where it does
+  standing : (old : LastingOf on) (at : FootingOn on) (o : Option RefusedRecord) → ReadsOrPasses on old at o
+      → (items : ItemsOf on) × StationStands on.does old.station.reacts items at.state
+  standing old at None w = (w.0.items, w.0.reached.stands)
+  standing old at (Some why) w = ([], w.reached.stands)
+
+  -- what is left where the session ends is what stood there
+  pub ends_so : (old new : LastingOf on) (at : FootingOn on) (items : ItemsOf on)
+      (result : Result (LastingStep on.Replied) Refusal) → old.ended ≡ None → old.environ ≡ at.environ
+      → StationStands on.does old.station.reacts items at.state → IfErr result (λ why. IsEndedFor old new why)
+      → IfErr result (λ why. EndsAt on old.counts new at why)
+  ends_so old new at items (Ok step) works named stands left = tt
+  ends_so old new at items (Err why) works named stands left = record {
+    items = items;
+    stands = rw left.1 stands;
+    is_environ = ap (λ (z : LastingOf on). z.environ) left.2 ∙ named;
+    counted = rw (ap (λ (z : LastingOf on). z.counts) left.2) (counted_none old.counts);
+    ended = left.0 works;
+  }
+
   -- a byte that is taken is taken alone
   pub taken_alone : (old new : LastingOf on) (at : FootingOn on) (byte : ℕ)
       (result : Result (LastingStep on.Replied) Refusal) → IsByteTaken on old new at byte result
-      → OnOk result (new.taken ≡ old.taken + 1) → AreTakenSo on old new at (byte ∷ []) result
-  taken_alone old new at byte (Ok step) h counted = (
+      → OnOk result (new.taken ≡ old.taken + 1) → IfErr result (λ why. IsEndedFor old new why) → StandsAt on old at
+      → AreTakenSo on old new at (byte ∷ []) result
+  taken_alone old new at byte (Ok step) h counted left st = (
     h.0,
     (h.0, _, [], _, [], h.1, (refl, refl, refl), sym (append-nil _), sym (append-nil _)),
     h.2,
     h.3,
     counted,
   )
-  taken_alone old new at byte (Err (At place reason)) h counted =
-      ([], byte, refl, (at, (refl, refl, refl), omega (arith, h.0), h.1))
-  taken_alone old new at byte (Err Failed) h counted = absurd h
-  taken_alone old new at byte (Err Memory) h counted = absurd h
+  taken_alone old new at byte (Err (At place reason)) h counted left st =
+      let s = standing old at old.passing st.within in (
+        [],
+        byte,
+        refl,
+        (
+          at,
+          (refl, refl, refl),
+          omega (arith, h.0),
+          h.1,
+          omega (arith, h.0, h.2),
+          ends_so old new at s.0 (Err (At place reason)) st.works st.is_environ s.1 left,
+        ),
+      )
+  taken_alone old new at byte (Err Failed) h counted left st = absurd h
+  taken_alone old new at byte (Err Memory) h counted left st = absurd h
 
   module _ (a b c : LastingOf on) (at : FootingOn on) (came : List ℕ)
       (l : LeadsOnFrom on a b at (all_came came) [] []) where
@@ -77,6 +112,14 @@ module _ (on : OnDisplay) where
             (lasts_both on (all_came came) (all_came t.0) at l.0 t.3.0 [] [] [] [] l.1 t.3.1),
         (let n = ap length (bytes_came on.Pressed came) in omega (arith, t.3.2, l.4, n, length-append came t.0)),
         t.3.3,
+        t.3.4,
+        (let e = t.3.5 in record {
+          items = e.items;
+          stands = e.stands;
+          is_environ = e.is_environ;
+          counted = counted_both a.counts b.counts c.counts [] [] l.3 e.counted;
+          ended = e.ended;
+        }),
       ),
     )
     taken_after more (Err Failed) t = absurd t.3

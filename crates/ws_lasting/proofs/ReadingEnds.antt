@@ -5,8 +5,8 @@ use C.{Whole, Reason, SpellsBytes, Begins, CanEnd, token_rules, EOR, IAC, Eor, i
 use C.{Act, Happen, Happening, all_came, Applied, EndStep, Refusal, At, Bring, DriverFeeds, DisplayOf, on_display}
 use C.{StationStands, station_driving, PartsOn, AreQuiet, AreTakenSo, IsCounted, LastingParts, LastingStep, IsWordHeard}
 use C.{StandsAt, IsWordRefused, Footing, IsTokenStep, Lasts, RecordCounts, Station, CarriedOut, false, true}
-use C.{IsFrontTaken, OnErr, IsRefusalPlacedSo, IsSome, AtLasting, Push, Token}
-use Rattle.ws_lasting.proofs.Feeding.{quiet_then}
+use C.{IsFrontTaken, OnErr, IsRefusalPlacedSo, IsSome, AtLasting, Push, Token, IfErr, IsEndedFor}
+use Rattle.ws_lasting.proofs.Feeding.{ends_so, quiet_then}
 use Rattle.ws_lasting.proofs.Holdings.{no_more, one_holds}
 use Rattle.ws_lasting.proofs.ReadingOn.{fits_so, heard, judged}
 use Rattle.ws_lasting.proofs.ReadingRuns.{brings, fresh, front_goes, front_refused, front_shut, held, reading}
@@ -100,17 +100,18 @@ module _ {D P U H PlaceV V K R : Type 0} (rules : Rules P U) (d : DisplayOf D U 
           subst (λ x. AreTakenSo on old new at x (Ok (record { reply = Station gave.reply; event = Some CarriedOut })))
           (sym is) (taken_last on old new at Mid (IAC ∷ []) EOR (Whole Eor) (old.taken + 1)
           (Ok (record { reply = Station gave.reply; event = Some CarriedOut })) lasts_mid (token new.begun between) h
-          (omega arith) (omega (arith, all)))
+          (omega arith) (omega (arith, all)) tt)
 
       -- it is refused
       stops : (place : ℕ) (reason : Reason) (new : LastingParts D P) (result : Result (LastingStep R) Refusal)
           → used ≡ 2 → step ≡ Err (At place reason) → new.begun ≡ old.begun → new.taken ≡ old.taken + used
+          → IfErr result (λ why. IsEndedFor (record old { station = station }) new why)
           → ((mid : Footing H) (items : List (Item U)) (byte : ℕ) → StationStands d station.reacts items mid.state
           → IsTokenStep mid.begun byte old.begun (Whole Eor) → IsWordRefused (on_display rules d) mid (Whole Eor) reason
           → old.size ≡ length mid.so_far → old.environ ≡ mid.environ
           → IsWordHeard (on_display rules d) old.counts new mid (old.taken + 1) (Whole Eor) result)
           → AreTakenSo (on_display rules d) old new at (take used Both) result
-      stops place reason new result all err same counted then =
+      stops place reason new result all err same counted left then =
           let on = on_display rules d in
           let is : take used Both ≡ (IAC ∷ []) ++ EOR ∷ [] = rw all refl in
           let why = run_stops (station_driving on) old.station station Bytes Items at.state (take used Both) (IAC ∷ [])
@@ -122,7 +123,8 @@ module _ {D P U H PlaceV V K R : Type 0} (rules : Rules P U) (d : DisplayOf D U 
           subst (λ x. AreTakenSo on old new at x result) (sym is)
           (taken_last on old new at Mid (IAC ∷ []) EOR (Whole Eor) (old.taken + 1) result lasts_mid
           (token new.begun (same ∙ between)) (then Mid Items EOR why.1 (token old.begun between) refused size
-          st.is_environ) (omega arith) (omega (arith, counted, all)))
+          st.is_environ) (omega arith) (omega (arith, counted, all))
+          (ends_so on (record old { station = station }) new Mid Items result st.works st.is_environ why.1 left))
 
       -- its FF alone isn't used
       module _ (one : used ≡ 1) where
@@ -192,6 +194,7 @@ module _ {D P U H PlaceV V K R : Type 0} (rules : Rules P U) (d : DisplayOf D U 
     pub end_refused : (place : ℕ) (reason : Reason) (new : LastingParts D P)
         (result : Result (LastingStep R) Refusal) → step ≡ Err (At place reason)
         → (new.begun ≡ old.begun) × (new.taken ≡ old.taken + used) → OnErr result (IsSome new.ended)
+        → IfErr result (λ why. IsEndedFor (record old { station = station }) new why)
         → IsRefusalPlacedSo old (old.taken + used - 1) new result
         → ((mid : Footing H) (items : List (Item U)) (byte : ℕ) (word : Push Token)
         → StationStands d station.reacts items mid.state
@@ -200,12 +203,12 @@ module _ {D P U H PlaceV V K R : Type 0} (rules : Rules P U) (d : DisplayOf D U 
         → old.size ≡ length mid.so_far → old.ended ≡ None → old.environ ≡ mid.environ
         → IsWordHeard (on_display rules d) old.counts new mid (old.taken + used - 1) word result)
         → IsFrontTaken (on_display rules d) old Both new (record { used = used; step = result })
-    end_refused place reason new result err same after placed then =
+    end_refused place reason new result err same after left placed then =
         front_refused rules d free begins can law old Both fits some between reads station used step feeds quiet_end
         place reason new result err same.1 after placed (λ any at st. elim (cases_lt 1 used) [
           | inl more ↦ (let all : used ≡ 2 = omega (arith, more, feeds.within) in
               let here : old.taken + used - 1 ≡ old.taken + 1 = omega (arith, all) in
-              stops at st place reason new result all err same.0 same.1 (λ mid items b s token refused long named.
+              stops at st place reason new result all err same.0 same.1 left (λ mid items b s token refused long named.
               rw here at (then mid items b (Whole Eor) s token refused (λ e. refl) (λ e. cc) long st.works named)))
           | inr less ↦ absurd (not_one_refused at st (omega (arith, less, any)) place reason err)
         ])

@@ -6,9 +6,9 @@ use C.{AllByRecursion-front, AllByRecursion-last, IAC, ◌≢◌, holds_values, 
 use C.{EndStep, Refusal, At, Failed, Memory, Bring, DriverFeeds, DisplayOf, on_display, StationStands, station_driving}
 use C.{PartsOn, last_of, none_reached, AreQuiet, AreTakenSo, LastingParts, LastingStep, IsReading, IsWordHeard}
 use C.{ReadsOrPasses, StandsAt, IsWordRefused, Footing, IsTokenStep, Station, RefusedRecord, false, true, told_place}
-use C.{IsFrontTaken, OnErr, IsRefusalPlacedSo, IsSome, AtLasting, Push, Token, Eor}
+use C.{IsFrontTaken, OnErr, IsRefusalPlacedSo, IsSome, AtLasting, Push, Token, Eor, IfErr, IsEndedFor}
 use Rattle.ws_lasting.proofs.Placing.{placed_from, placed_here}
-use Rattle.ws_lasting.proofs.Feeding.{ok_so, quiet_front}
+use Rattle.ws_lasting.proofs.Feeding.{ends_so, ok_so, quiet_front}
 use Rattle.ws_lasting.proofs.ReadingOn.{fits_so, heard, held_so, judged}
 use Rattle.ws_lasting.proofs.Runs.{fits_run, lasts_plain, run_goes_on, run_stops, skipped, taken_last}
 
@@ -36,6 +36,10 @@ module _ {D P U H PlaceV V K R : Type 0} (rules : Rules P U) (d : DisplayOf D U 
     (feeds : DriverFeeds (station_driving (on_display rules d)) old.station run station
     (record { used = used; step = step }))
   where
+    -- where it has heard these bytes, and the record has all of them but the last
+    abbrev Heard : LastingParts D P
+    Heard = record old { station = station; size = old.size + (used - 1) }
+
     module _ (at : Footing H) (st : StandsAt (on_display rules d) old at) where
       abbrev Come : IsReading (on_display rules d) old.station old.taken at × (old.size ≡ length at.so_far)
       Come = reading rules d free begins can old between reads at st
@@ -126,19 +130,19 @@ module _ {D P U H PlaceV V K R : Type 0} (rules : Rules P U) (d : DisplayOf D U 
             (taken_last on old new at Mid front last (Whole (Data last)) (old.taken + length front)
             (Ok (record { reply = Station gave.reply; event = None }))
             (lasts_plain on front at none bytes_front plain_in_front) (token_at new.begun between) h refl
-            (omega (arith, long)))
+            (omega (arith, long)) tt)
 
         -- it is refused
         stops : (place : ℕ) (reason : Reason) (new : LastingParts D P)
             (result : Result (LastingStep R) Refusal) → step ≡ Err (At place reason) → new.begun ≡ old.begun
-            → new.taken ≡ old.taken + used
+            → new.taken ≡ old.taken + used → IfErr result (λ why. IsEndedFor Heard new why)
             → (StationStands d station.reacts Come.0.items at.state
             → IsTokenStep at.begun last old.begun (Whole (Data last))
             → IsWordRefused (on_display rules d) Mid (Whole (Data last)) reason
             → old.size + length front ≡ length Mid.so_far
             → IsWordHeard (on_display rules d) old.counts new Mid (old.taken + length front) (Whole (Data last)) result)
             → AreTakenSo (on_display rules d) old new at (take used run) result
-        stops place reason new result err same counted then =
+        stops place reason new result err same counted left then =
             let on = on_display rules d in
             let why = run_stops (station_driving on) old.station station Come.0.bytes Come.0.items at.state
             (take used run) front last is skip (At place reason) (rw err at brings) in
@@ -153,7 +157,8 @@ module _ {D P U H PlaceV V K R : Type 0} (rules : Rules P U) (d : DisplayOf D U 
             subst (λ x. AreTakenSo on old new at x result) (sym is)
             (taken_last on old new at Mid front last (Whole (Data last)) (old.taken + length front) result
             (lasts_plain on front at none bytes_front plain_in_front) (token_at new.begun (same ∙ between))
-            (then why.1 token refused (omega (arith, k, Come.1))) refl (omega (arith, counted, long)))
+            (then why.1 token refused (omega (arith, k, Come.1))) refl (omega (arith, counted, long))
+            (ends_so on Heard new Mid Come.0.items result st.works st.is_environ why.1 left))
 
     module _ (quiet : AtLasting (on_display rules d) old (λ at. (n : ℕ) → n < used
         → AreQuiet (on_display rules d) at (take n run))) where
@@ -231,7 +236,9 @@ module _ {D P U H PlaceV V K R : Type 0} (rules : Rules P U) (d : DisplayOf D U 
 
       pub run_refused : (place : ℕ) (reason : Reason) (new : LastingParts D P) (result : Result (LastingStep R) Refusal)
           → step ≡ Err (At place reason) → (new.begun ≡ old.begun) × (new.taken ≡ old.taken + used)
-          → OnErr result (IsSome new.ended) → IsRefusalPlacedSo old (old.taken + used - 1) new result
+          → OnErr result (IsSome new.ended)
+          → IfErr result (λ why. IsEndedFor Heard new why)
+          → IsRefusalPlacedSo old (old.taken + used - 1) new result
           → ((mid : Footing H) (items : List (Item U)) (byte : ℕ) (word : Push Token)
           → StationStands d station.reacts items mid.state
           → IsTokenStep mid.begun byte old.begun word → IsWordRefused (on_display rules d) mid word reason
@@ -239,12 +246,12 @@ module _ {D P U H PlaceV V K R : Type 0} (rules : Rules P U) (d : DisplayOf D U 
           → old.size + (used - 1) ≡ length mid.so_far → old.ended ≡ None → old.environ ≡ mid.environ
           → IsWordHeard (on_display rules d) old.counts new mid (old.taken + used - 1) word result)
           → IsFrontTaken (on_display rules d) old run new (record { used = used; step = result })
-      run_refused place reason new result err same after placed then =
+      run_refused place reason new result err same after left placed then =
           front_refused quiet_run place reason new result err same.1 after placed (λ any at st. (
           let l = last_of run used feeds.within any in
           let n = long at st are plain l.0 l.1 l.2 in
           let here : old.taken + used - 1 ≡ old.taken + length l.0 = omega (arith, n) in
-          stops at st are plain l.0 l.1 l.2 place reason new result err same.0 same.1 (λ stands token refused size.
+          stops at st are plain l.0 l.1 l.2 place reason new result err same.0 same.1 left (λ stands token refused size.
           rw here at (then (record at { so_far = at.so_far ++ l.0 }) (Come at st).0.items l.1 (Whole (Data l.1)) stands
           token refused (λ e. cc) (λ e f. cc) (omega (arith, n, size)) st.works st.is_environ))))
 

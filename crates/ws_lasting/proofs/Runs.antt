@@ -8,7 +8,7 @@ use C.{bytes_append, bytes_came, came_append, Act, Came, Happen, Happening, IsTr
 use C.{items_of, protocol_of, Bring, Driven, Driving, GoesOnAt, IsReached, IsWhy, transitions_of, trace_none, EndStep}
 use C.{Refusal, At, Failed, Memory, DisplayOf, OnDisplay, on_display, PartsOn, ReachedOn, AreTakenSo, LeadsOnFrom}
 use C.{IsCounted, LastingOf, LastingParts, LastingStep, IsWordHeard, ReadsOrPasses, StandsAt, Footing, FootingOn}
-use C.{IsTokenStep, Lasts, counted_none, RefusedRecord}
+use C.{IsTokenStep, Lasts, counted_none, RefusedRecord, EndsAt, IfErr}
 use Rattle.ws_lasting.proofs.Pushing.{came_one}
 use Rattle.ws_lasting.proofs.Passing.{spoilt_more, stands_passing}
 use Rattle.ws_lasting.proofs.Feeding.{lasts_more, quiet_then}
@@ -33,8 +33,9 @@ module _ (on : OnDisplay) where
   pub taken_last : (old new : LastingOf on) (at mid : FootingOn on) (front : List ℕ) (byte : ℕ) (word : Push Token)
       (here : ℕ) (result : Result (LastingStep on.Replied) Refusal) → Lasts on at (all_came front) mid [] []
       → IsTokenStep mid.begun byte new.begun word → IsWordHeard on old.counts new mid here word result
-      → here ≡ old.taken + length front → new.taken ≡ here + 1 → AreTakenSo on old new at (front ++ byte ∷ []) result
-  taken_last old new at mid front byte word here (Ok step) l t h place counted = (
+      → here ≡ old.taken + length front → new.taken ≡ here + 1 → IfErr result (λ why. EndsAt on old.counts new mid why)
+      → AreTakenSo on old new at (front ++ byte ∷ []) result
+  taken_last old new at mid front byte word here (Ok step) l t h place counted left = (
     h.0,
     lasts_more on front byte at mid h.0 _ _ l
         (word, subst (λ x. IsTokenStep mid.begun byte x word) h.2.is_begun t, h.1),
@@ -43,10 +44,14 @@ module _ (on : OnDisplay) where
     (let n = ap length (bytes_came on.Pressed (front ++ byte ∷ [])) in
         omega (arith, n, place, counted, length-append front (byte ∷ []))),
   )
-  taken_last old new at mid front byte word here (Err (At place reason)) l t h is counted =
-      (front, byte, refl, (mid, l, h.0 ∙ is, (word, new.begun, t, h.1)))
-  taken_last old new at mid front byte word here (Err Failed) l t h is counted = absurd h
-  taken_last old new at mid front byte word here (Err Memory) l t h is counted = absurd h
+  taken_last old new at mid front byte word here (Err (At place reason)) l t h is counted left = (
+    front,
+    byte,
+    refl,
+    (mid, l, h.0 ∙ is, (word, new.begun, t, h.1), omega (arith, counted, h.0), left),
+  )
+  taken_last old new at mid front byte word here (Err Failed) l t h is counted left = absurd h
+  taken_last old new at mid front byte word here (Err Memory) l t h is counted left = absurd h
 
 -- what a slice has is bytes
 pub run_bytes : (run : List ℕ) → ((i : ℕ) → get_or run i 0 < 256) → AreBytes run

@@ -1,6 +1,6 @@
 -- What a station that no record ends keeps, where it stands, and what bytes and keys make of it
 
-use Rattle.std.specs.Prelude.{◌≡◌, ℕ, ◌+◌, ◌^◌, ◌<◌, ◌≤◌, ◌⊎◌, List, [], ◌∷◌, Option, Some, None, Result, Ok, Err, OnOk, OnErr, IsSome, MatchResult, true, length}
+use Rattle.std.specs.Prelude.{◌≡◌, ℕ, ◌+◌, ◌^◌, ◌<◌, ◌≤◌, ◌⊎◌, List, [], ◌∷◌, Option, Some, None, Result, Ok, Err, IfErr, OnOk, OnErr, IsSome, MatchResult, true, length}
 use Rattle.ws_code.specs.declared.code.Push.{Push}
 use Rattle.ws_code.specs.declared.code.Push.TheVariants.{Unit as Whole}
 use Rattle.ws_telnet.specs.declared.token.Telnet.{Telnet}
@@ -15,6 +15,7 @@ use Rattle.ws_keys.specs.Contents.{answer_bytes}
 use Rattle.ws_keys.specs.declared.answer.Answer.{Answer}
 use Rattle.ws_keys.specs.declared.answer.Answer.TheVariants.{Read, Attention, SystemRequest}
 use Rattle.ws_end.specs.Acts.{as_list}
+use Rattle.ws_end.specs.Ends.{IsShut}
 use Rattle.ws_end.specs.declared.end_step.EndStep.{EndStep}
 use Rattle.ws_end.specs.declared.station.answer.TheConstants.{ATN, SRQ}
 use Rattle.ws_end.specs.declared.station.key_fault.KeyFault.{KeyFault}
@@ -76,6 +77,15 @@ abbrev pub IsRefusalPlacedSo : {D P R : Type 0} → LastingParts D P → ℕ →
 IsRefusalPlacedSo old here new result =
     MatchResult result (λ step. IsRefusalPlaced old here new step.event) (λ why. new.refused_at ≡ old.refused_at)
 
+-- it has ended for this reason, and all but the bytes that came is as before: what reacts, the counts, the identity
+abbrev pub IsEndedFor : {D P : Type 0} → LastingParts D P → LastingParts D P → Refusal → Type 0
+IsEndedFor old new why = (old.ended ≡ None → new.ended ≡ Some why) × (new.station.reacts ≡ old.station.reacts)
+    × (new ≡ record old { station = new.station; begun = new.begun; taken = new.taken; ended = new.ended })
+
+-- one that is shut stays as it is, and has ended if it had only taken as many bytes as can be counted
+abbrev pub StaysShut : {D P : Type 0} → LastingParts D P → LastingParts D P → Type 0
+StaysShut old new = (new ≡ record old { ended = new.ended }) × (old.ended ≡ None → new.ended ≡ Some Failed)
+
 module _ (on : OnDisplay) where
   abbrev pub LastingOf : Type 0
   LastingOf = LastingParts on.Parts on.Place
@@ -122,6 +132,7 @@ module _ (on : OnDisplay) where
       × IsAtByte on at byte next (bytes_written new step.reply) (as_list step.event)
       × StandsAt new next × IsCounted old.counts (as_list step.event) new.counts
   IsByteTaken old new at byte (Err (At place reason)) = (place ≡ old.taken) × IsFatal on at byte reason
+      × (new.taken ≡ old.taken + 1)
   IsByteTaken old new at byte (Err why) = ⊥
 
   -- what a byte gives
@@ -131,6 +142,8 @@ module _ (on : OnDisplay) where
     pub placed : IsRefusalPlacedSo old old.taken new result
     pub counted : OnOk result (new.taken ≡ old.taken + 1)
     pub after : OnErr result (IsSome new.ended)
+    pub left : IfErr result (λ why. IsEndedFor old new why)
+    pub shut : IsShut old.ended old.taken → StaysShut old new
     pub full : old.taken + 1 ≡ 2 ^ 64 → result ≡ Err Failed
     pub failed : IsSome old.ended → result ≡ Err Failed
 

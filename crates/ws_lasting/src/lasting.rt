@@ -1,8 +1,8 @@
 //! A station that no record ends.
-ghost use Rattle.std.specs.Prelude.{◌≡◌, ◌&&◌, ◌≢◌, ◌≤◌, ◌<◌, ◌+◌, ◌-◌, ◌^◌, ◌∷◌, ℕ, [], None, Some, Err, IfOk, IsSome, OnErr, OnOk};
+ghost use Rattle.std.specs.Prelude.{◌≡◌, ◌&&◌, ◌≢◌, ◌≤◌, ◌<◌, ◌+◌, ◌-◌, ◌^◌, ◌∷◌, ℕ, [], None, Some, Err, IfErr, IfOk, IsSome, OnErr, OnOk};
 ghost use Rattle.ws_identity.specs.Environ.{new_environ};
 ghost use Rattle.ws_lasting.specs.Behaviour.{LastingTraces};
-ghost use Rattle.ws_lasting.specs.Footings.{AtLasting, IsByteTaken, IsKeyHeard, IsRefusalPlacedSo, IsPushedSo, StandsAt};
+ghost use Rattle.ws_lasting.specs.Footings.{AtLasting, IsByteTaken, IsEndedFor, IsKeyHeard, IsRefusalPlacedSo, IsPushedSo, StandsAt, StaysShut};
 ghost use Rattle.ws_lasting.specs.Lasting.{new_footing};
 ghost use Rattle.ws_end.specs.Acts.{Did};
 ghost use Rattle.ws_end.specs.Ends.{IsShut};
@@ -132,8 +132,8 @@ impl<D: StationDisplay> LastingStation<D> {
     /// # Errors
     ///
     /// `At` the first byte after which the bytes are no tokens, that a record has which comes while records aren't
-    /// allowed and is refused, or at which one ends that isn't allowed any more. It answers `Failed` from then on, as
-    /// after 18,446,744,073,709,551,615 bytes.
+    /// allowed and is refused, or at which one ends that isn't allowed any more. Display and records are then as
+    /// before that byte, and it answers `Failed` from then on, as after 18,446,744,073,709,551,615 bytes.
     pub fn take_byte(&mut self, byte: u8) -> Result<LastingStep<D::Reply>, Refusal>
         ensures taken { AtLasting (on D.Commands.rules D.does) self.old (λ at.
             self.old.taken + 1 < 2 ^ 64
@@ -141,6 +141,8 @@ impl<D: StationDisplay> LastingStation<D> {
         ensures placed { IsRefusalPlacedSo self.old self.old.taken self.new result }
         ensures counted { OnOk result (self.new.taken ≡ self.old.taken + 1) }
         ensures after { OnErr result (IsSome self.new.ended) }
+        ensures left { IfErr result (λ why. IsEndedFor self.old self.new why) }
+        ensures shut { IsShut self.old.ended self.old.taken → StaysShut self.old self.new }
         ensures full { self.old.taken + 1 ≡ 2 ^ 64 → result ≡ Err ARefusal.Failed }
         ensures failed { IsSome self.old.ended → result ≡ Err ARefusal.Failed }
     {
@@ -187,6 +189,7 @@ impl<D: StationDisplay> LastingStation<D> {
             self.old (Did key ∷ []) (sent_by answer) [] self.new) }
         ensures shut { IsShut self.old.ended self.old.taken → result ≡ Err AKeyFault.Failed }
         ensures same { OnErr result (self.new ≡ self.old) }
+        ensures others { self.new ≡ record self.old { station = self.new.station } }
     {
         if self.is_shut() {
             return Err(KeyFault::Failed);

@@ -1,7 +1,7 @@
 //! Bytes that come to a station that no record ends, in pieces.
 ghost use Rattle.std.specs.Prelude.{◌≡◌, ◌≢◌, ◌≤◌, ◌<◌, ◌+◌, ◌^◌, ◌⊎◌, [], ℕ, None, Ok, Err, IfErr, IfOk, IsSome, OnErr, OnOk, length, take, true, false};
 ghost use Rattle.ws_lasting.specs.Behaviour.{AreQuiet, AreTakenSo};
-ghost use Rattle.ws_lasting.specs.Footings.{AtLasting, IsRefusalPlacedSo, LastingStep, bytes_written};
+ghost use Rattle.ws_lasting.specs.Footings.{AtLasting, IsRefusalPlacedSo, LastingStep, StaysShut, bytes_written};
 ghost use Rattle.ws_lasting.specs.Fronts.{IsFrontTaken};
 ghost use Rattle.ws_end.specs.Ends.{IsShut};
 ghost use Rattle.ws_end.specs.station.Displays.{on_display as on};
@@ -35,7 +35,8 @@ impl<D: StationDisplay> LastingStation<D> {
         ensures placed { IsRefusalPlacedSo self.old self.old.taken self.new result.step }
         ensures after { OnErr result.step (IsSome self.new.ended) }
         ensures stopped { IsShut self.old.ended self.old.taken
-            → (result.step ≡ Err Refusal.Failed) × (result.used ≡ 0) }
+            → (result.step ≡ Err Refusal.Failed) × (result.used ≡ 0)
+            × StaysShut self.old self.new }
         ensures failed { IsSome self.old.ended → self.new ≡ self.old }
     {
         if self.ended.is_some() {

@@ -1,6 +1,6 @@
 //! What comes of a byte where a station reads.
-ghost use Rattle.std.specs.Prelude.{◌≡◌, ◌≢◌, ◌<◌, ◌-◌, ◌^◌, [], ℕ, List, None, Some, IsSome, OnErr, length, true, false};
-ghost use Rattle.ws_lasting.specs.Footings.{IsFollowed, IsRefusalPlacedSo, IsReading, IsWordHeard, LastingOf, bytes_written};
+ghost use Rattle.std.specs.Prelude.{◌≡◌, ◌≢◌, ◌<◌, ◌-◌, ◌^◌, [], ℕ, List, None, Some, IfErr, IsSome, OnErr, length, true, false};
+ghost use Rattle.ws_lasting.specs.Footings.{IsEndedFor, IsFollowed, IsRefusalPlacedSo, IsReading, IsWordHeard, LastingOf, bytes_written};
 ghost use Rattle.ws_lasting.specs.Fronts.{IsWordRefused};
 ghost use Rattle.ws_lasting.specs.Lasting.{Footing, IsTokenStep};
 ghost use Rattle.ws_record.specs.declared.record.Item.{Item};
@@ -55,6 +55,7 @@ impl<D: StationDisplay> LastingStation<D> {
             → IsRefusalPlacedSo self.old (self.old.taken - 1) self.new result }
         ensures same { (self.new.begun ≡ self.old.begun) × (self.new.taken ≡ self.old.taken) }
         ensures after { OnErr result (IsSome self.new.ended) }
+        ensures left { IfErr result (λ why. IsEndedFor self.old self.new why) }
     {
         if let Push::Bad(reason) = word {
             return self.end(reason);
@@ -90,6 +91,7 @@ impl<D: StationDisplay> LastingStation<D> {
             → IsRefusalPlacedSo self.old (self.old.taken - 1) self.new result }
         ensures same { (self.new.begun ≡ self.old.begun) × (self.new.taken ≡ self.old.taken) }
         ensures after { OnErr result (IsSome self.new.ended) }
+        ensures left { IfErr result (λ why. IsEndedFor self.old self.new why) }
     {
         if !self.may_pass_over(reason) {
             return self.end(reason);

@@ -1,6 +1,6 @@
 //! What comes of a byte where a station passes over a record.
-ghost use Rattle.std.specs.Prelude.{◌≡◌, ◌<◌, ◌-◌, ℕ, Some, None, IsSome, OnErr};
-ghost use Rattle.ws_lasting.specs.Footings.{IsPassingOver, IsRefusalPlacedSo, IsWordHeard};
+ghost use Rattle.std.specs.Prelude.{◌≡◌, ◌<◌, ◌-◌, ℕ, Some, None, IfErr, IsSome, OnErr};
+ghost use Rattle.ws_lasting.specs.Footings.{IsEndedFor, IsPassingOver, IsRefusalPlacedSo, IsWordHeard};
 ghost use Rattle.ws_lasting.specs.Lasting.{Footing, IsTokenStep};
 ghost use Rattle.ws_end.specs.station.Displays.{on_display as on};
 
@@ -30,6 +30,7 @@ impl<D: StationDisplay> LastingStation<D> {
             → IsRefusalPlacedSo self.old (self.old.taken - 1) self.new result }
         ensures same { (self.new.begun ≡ self.old.begun) × (self.new.taken ≡ self.old.taken) }
         ensures after { OnErr result (IsSome self.new.ended) }
+        ensures left { IfErr result (λ why. IsEndedFor self.old self.new why) }
     {
         match word {
             Push::More => Ok(silence::<D>()),

@@ -44,6 +44,7 @@ returns-in-Ok g c =
           (omega (arith, c.requires.counted, taken, kept.1)));
       same = (kept.0 ∙ ap (λ (z : LastingParts _ _). z.begun) same, kept.1 ∙ taken);
       after = search rules;
+      left = search rules;
     }
 
 pub returns-in-Err-Failed : goal.returns-in-Err-Failed
@@ -57,6 +58,7 @@ returns-in-Err-Failed g c =
       placed = search rules;
       same = search rules;
       after = search rules;
+      left = search rules;
     }
 
 pub returns-in-Err-Memory : goal.returns-in-Err-Memory
@@ -73,6 +75,7 @@ returns-in-Err-Memory g c =
       placed = search rules;
       same = search rules;
       after = search rules;
+      left = search rules;
     }
 
 pub returns : goal.returns
@@ -107,4 +110,5 @@ returns g c =
           c.refuse.result) same (c.refuse.ensures.placed (ap (λ (z : LastingParts _ _). z.passing) same ∙ none));
       same = (c.refuse.ensures.same.0 ∙ begun, c.refuse.ensures.same.1 ∙ taken);
       after = c.refuse.ensures.after;
+      left = search rules;
     }

@@ -1,5 +1,5 @@
 use Rattle.ws_lasting.proofs.Common as C
-use C.{rules, ◌+◌, ◌-◌, ◌∷◌, [], Err, None, ap, ◌∙◌, subst, Refusal, Failed, Memory, IsCounted, LastingParts}
+use C.{rules, ◌+◌, ◌∷◌, [], Err, None, ap, ◌∙◌, subst, Refusal, Failed, Memory, IsCounted, LastingParts}
 use C.{RecordCounts, CarriedOut}
 use Rattle.ws_lasting.proofs.ReadingEnds.{end_goes, end_refused, end_shut}
 use Rattle.ws_lasting.proofs.lasting.LastingStation.read_end.Goals as goal
@@ -30,7 +30,8 @@ returns-in-Err-At g c =
     h.new.self.station h.result.used h.result.step h.ensures.heard c.in-Err-At.field-0-0 c.in-Err-At.reason
     c.refuse.new.self c.refuse.result
     (c.in-Err-At.is ∙ ap (λ (r : Refusal). Err r) (rw c.in-Err-At.is at c.in-Err-At.field-0-is))
-    (rw same at c.refuse.ensures.same) c.refuse.ensures.after (rw same at c.refuse.ensures.placed c.requires.reads)
+    (rw same at c.refuse.ensures.same) c.refuse.ensures.after (rw same at c.refuse.ensures.left)
+    (rw same at c.refuse.ensures.placed c.requires.reads)
     (rw same at c.refuse.ensures.heard)
 
 pub returns-in-Err-Failed : goal.returns-in-Err-Failed

@@ -36,7 +36,8 @@ returns-in-Err-At g c =
     (run_bytes c.args.run.now (λ i. omega (arith, c.type_inv.run i))) c.requires.plain c.in-Err-At.field-0-0
     c.in-Err-At.reason c.refuse.new.self c.refuse.result
     (c.in-Err-At.is ∙ ap (λ (r : Refusal). Err r) (rw c.in-Err-At.is at c.in-Err-At.field-0-is))
-    (rw same at c.refuse.ensures.same) c.refuse.ensures.after (rw same at c.refuse.ensures.placed c.requires.reads)
+    (rw same at c.refuse.ensures.same) c.refuse.ensures.after (rw same at c.refuse.ensures.left)
+    (rw same at c.refuse.ensures.placed c.requires.reads)
     (rw same at c.refuse.ensures.heard)
 
 pub returns-in-Err-Failed : goal.returns-in-Err-Failed

@@ -22,7 +22,8 @@ returns-in-None-clause-taken g c = λ at st few.
     step (ap (λ (z : LastingParts _ _). z.size) same ∙ within.1) passing
     (ap (λ (z : LastingParts _ _). z.ended) same ∙ st.works)
     (ap (λ (z : LastingParts _ _). z.environ) same ∙ st.is_environ) in
-    taken_so on c.args.self.now c.read.new.self at c.args.byte c.step-word.result c.read.result
+    taken_so on c.args.self.now c.read.new.self at c.args.byte c.step-word.result (c.read.ensures.same.1 ∙ taken)
+    c.read.result
     (subst (λ x. IsTokenStep at.begun c.args.byte x c.step-word.result) (sym c.read.ensures.same.0) step)
     (subst₂ (λ (k : RecordCounts) n. IsWordHeard on k c.read.new.self at n c.step-word.result c.read.result) (ap (λ (z
     : LastingParts _ _). z.counts) same) place heard)
@@ -44,7 +45,8 @@ returns-in-Some-clause-taken g c = λ at st few.
     (subst (λ x. IsPassingOver on x at c.in-Some.why) (sym (ap (λ (z : LastingParts _ _). z.station) same)) within)
     step passing (ap (λ (z : LastingParts _ _). z.ended) same ∙ st.works)
     (ap (λ (z : LastingParts _ _). z.environ) same ∙ st.is_environ) in
-    taken_so on c.args.self.now c.pass.new.self at c.args.byte c.step-word.result c.pass.result
+    taken_so on c.args.self.now c.pass.new.self at c.args.byte c.step-word.result (c.pass.ensures.same.1 ∙ taken)
+    c.pass.result
     (subst (λ x. IsTokenStep at.begun c.args.byte x c.step-word.result) (sym c.pass.ensures.same.0) step)
     (subst₂ (λ (k : RecordCounts) n. IsWordHeard on k c.pass.new.self at n c.step-word.result c.pass.result) (ap (λ (z
     : LastingParts _ _). z.counts) same) place heard)

@@ -26,7 +26,7 @@ returns g c =
       some = λ ne. omega arith;
       taken = λ at st. rw (take_more piece 0 0 c.requires.some) (taken_alone on c.args.self.now c.take_byte.new.self at
           _ c.take_byte.result (c.take_byte.ensures.taken at st (omega (arith, c.requires.some, c.requires.fits)))
-          c.take_byte.ensures.counted);
+          c.take_byte.ensures.counted c.take_byte.ensures.left st);
       first = λ at st n lt. (let zero : n ≡ 0 = omega (arith, lt) in rw zero (at, (refl, refl, refl)));
       placed = c.take_byte.ensures.placed;
       counted = c.take_byte.ensures.counted;
