@@ -4,6 +4,7 @@ pub mod FirstWords
 pub mod LineFronts
 pub mod LiveLines
 pub mod LiveScripts
+pub mod NearestWords
 pub mod ServeWords
 pub mod StationLines
 pub mod StrokeWords

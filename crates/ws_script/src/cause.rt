@@ -1,5 +1,5 @@
 //! The causes of bad lines.
-ghost use Rattle.std.specs.Prelude.{◌≡◌, IfOk, string_bytes};
+ghost use Rattle.std.specs.Prelude.{◌≡◌, ◌++◌, IfOk, string_bytes};
 ghost use Rattle.ws_script.specs.cause.CauseTexts as Spec;
 
 pub(crate) mod body_refusal;
@@ -12,7 +12,8 @@ pub(crate) mod vocabulary;
 pub(crate) mod word_kind;
 
 use crate::cause::body_refusal::body_refusal;
-use crate::cause::vocabulary::Switch;
+use crate::cause::nearest::known_of;
+use crate::cause::vocabulary::{Switch, Vocabulary};
 use std::alloc::{AllocError, Global};
 
 // How many characters of a word are told.
@@ -46,8 +47,8 @@ pub enum Cause<'a> {
     TwoBlanks,
     BlankInFront,
     BlankAtEnd,
-    /// No such line begins with it.
-    UnknownWord(&'a str, Option<Known>),
+    /// No line of this kind begins with it.
+    UnknownWord(&'a str, Vocabulary),
     /// It is another word than may stand there.
     Unexpected(&'a str),
     UnknownKey(&'a str),
@@ -85,6 +86,7 @@ pub enum Cause<'a> {
 }
 
 /// A cause in words. Of the word at fault the first 60 characters stand in it; a control character and `\` as `\HH`.
+/// After an unknown word comes what is known of it.
 ///
 /// # Errors
 ///
@@ -93,20 +95,20 @@ pub fn cause_text(alloc: Global, cause: Cause<'_>) -> Result<String, AllocError>
     ensures { IfOk result (λ text. Spec.IsCauseText cause.entry (string_bytes text)) }
 {
     let shown = shown(alloc, cause)?;
-    let known = told(alloc, known_word(cause))?;
+    let known = told(alloc, known_word(alloc, cause)?)?;
     let mut text = String::from_str(alloc, saying(cause))?;
     text.push_str(shown.as_str())?;
     text.push_str(known.as_str())?;
     Ok(text)
 }
 
-// What a cause tells of the word at fault.
-fn known_word<'a>(cause: Cause<'a>) -> Option<Known>
-    ensures { result ≡ Spec.known_word cause.entry }
+// What is known of an unknown word.
+fn known_word(alloc: Global, cause: Cause<'_>) -> Result<Option<Known>, AllocError>
+    ensures { IfOk result (Spec.IsKnownOf cause.entry) }
 {
     match cause {
-        Cause::UnknownWord(_, known) => known,
-        _ => None,
+        Cause::UnknownWord(word, vocabulary) => known_of(alloc, vocabulary, word),
+        _ => Ok(None),
     }
 }
 
@@ -125,7 +127,9 @@ fn told(alloc: Global, known: Option<Known>) -> Result<String, AllocError>
 }
 
 // The first characters of the word at fault, with what it should be before them.
-fn shown(alloc: Global, cause: Cause<'_>) -> Result<String, AllocError> {
+fn shown(alloc: Global, cause: Cause<'_>) -> Result<String, AllocError>
+    ensures { IfOk result (λ text. Spec.IsShown cause.entry (string_bytes text)) }
+{
     match cause {
         Cause::UnknownWord(word, _)
         | Cause::Unexpected(word)
@@ -154,28 +158,46 @@ fn shown(alloc: Global, cause: Cause<'_>) -> Result<String, AllocError> {
     }
 }
 
-// The byte at which a body is refused, and the reason's sentence.
-fn refused(alloc: Global, hex: &str) -> Result<String, AllocError> {
-    let Some((place, reason)) = body_refusal(alloc, hex)? else {
-        return String::from_str(alloc, "");
-    };
-    let sentence = reason.text();
+// Where bytes in hex are no body, the byte at which they are refused, and the reason's sentence.
+fn refused(alloc: Global, hex: &str) -> Result<String, AllocError>
+    ensures { IfOk result (λ text. Spec.IsRefusalShown hex.now (string_bytes text)) }
+{
+    match body_refusal(alloc, hex)? {
+        Some((place, reason)) => refusal_text(alloc, place, reason.text()),
+        None => String::from_str(alloc, ""),
+    }
+}
+
+// A refusal at this byte with this sentence.
+fn refusal_text(alloc: Global, place: usize, sentence: &str) -> Result<String, AllocError>
+    ensures { IfOk result (λ text. string_bytes text ≡ Spec.refusal_text place sentence.now) }
+{
     format!(in alloc; ", refused at {place}, {sentence}")
 }
 
-// The first characters of a word, after a blank; a control character and `\` by two hex digits after a `\`.
-fn quoted(alloc: Global, word: &str) -> Result<String, AllocError> {
+// The first characters of a word, in quotes after a blank.
+fn quoted(alloc: Global, word: &str) -> Result<String, AllocError>
+    ensures { IfOk result (λ text. string_bytes text ≡ Spec.quoted word.now) }
+{
     let mut shown = String::from_str(alloc, " `")?;
     for character in word.chars().take(SHOWN) {
-        if !character.is_control() && character != '\\' {
-            shown.push(character)?;
-        } else {
-            let code = u32::from(character);
-            shown.push_str(format!(in alloc; "\\{code:02X}")?.as_str())?;
-        }
+        push_shown(alloc, &mut shown, character)?;
     }
-    shown.push('`')?;
+    shown.push_str("`")?;
     Ok(shown)
+}
+
+// Adds a character; a control character and `\` by two hex digits after a `\`.
+fn push_shown(alloc: Global, shown: &mut String, character: char) -> Result<(), AllocError>
+    ensures { IfOk result (λ _. string_bytes shown.new
+        ≡ string_bytes shown.old ++ Spec.shown_character character) }
+{
+    if !character.is_control() && character != '\\' {
+        return shown.push(character);
+    }
+    shown.push('\\')?;
+    let code = hex::encode_upper(alloc, [character as u8])?;
+    shown.push_str(code.as_str())
 }
 
 // What is said, before the word at fault and numbers.

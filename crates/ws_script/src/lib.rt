@@ -17,7 +17,7 @@ pub use cause::vocabulary::{Switch, Vocabulary};
 pub use cause::{Cause, Known, cause_text};
 pub use lines::connect_line::{Awaited, StationLine};
 pub use lines::live_line::{LiveLine, NumberedLine, is_indented, read_lines};
-pub use lines::script_stroke::{FieldFilling, ScriptStroke};
+pub use lines::script_stroke::{FieldFault, FieldFilling, ScriptStroke};
 pub use lines::serve_line::{AnswerAwaited, HostLine};
 pub use lines::wire_line::WireLine;
 pub use lines::wire_words::read_wire;

@@ -1,6 +1,16 @@
 -- A cause in words.
 
-use Rattle.std.specs.Prelude.{◌≡◌, ℕ, List, [], ◌++◌, Option, None, Some, codes}
+use Rattle.std.specs.Prelude.{◌≡◌, ◌⊎◌, ℕ, List, [], ◌∷◌, ◌++◌, ◌||◌, ◌==◌, Option, None, Some, codes, take}
+use Rattle.std.specs.Prelude.{if◌then◌else◌}
+use Rattle.std.specs.Char.{encode_utf8, is_control}
+use Rattle.std.specs.Fmt.{decimal}
+use Rattle.std.specs.List.{flat_map}
+use Rattle.std.specs.Str.{chars}
+use Rattle.hex.specs.Hex.{encode_upper}
+use Rattle.ws_code.specs.Reason.{text_of}
+use Rattle.ws_code.specs.declared.reason.Reason.{Reason}
+use Rattle.ws_script.specs.cause.BodyRefusals.{IsHexRefused}
+use Rattle.ws_script.specs.cause.Causes.{IsKnown}
 use Rattle.ws_script.specs.declared.cause.Cause.{Cause}
 use Rattle.ws_script.specs.declared.cause.Cause.TheVariants.{NotUtf8, Tab, TwoBlanks, BlankInFront, BlankAtEnd, UnknownWord}
 use Rattle.ws_script.specs.declared.cause.Cause.TheVariants.{Unexpected, UnknownKey, NoNumber, OutOfRange, NoHex}
@@ -18,7 +28,7 @@ saying Tab = codes "a tab"
 saying TwoBlanks = codes "two blanks between words"
 saying BlankInFront = codes "a blank in front"
 saying BlankAtEnd = codes "a blank at the end"
-saying (UnknownWord word known) = codes "unknown word"
+saying (UnknownWord word vocabulary) = codes "unknown word"
 saying (Unexpected word) = codes "unexpected word"
 saying (UnknownKey word) = codes "unknown key"
 saying (NoNumber word) = codes "no number:"
@@ -36,11 +46,6 @@ saying (OutOfRange word least most) = codes "not from "
 saying (OtherLength word digits) = codes "not "
 saying Other = codes "it isn't a line of this script"
 
--- what a cause tells of the word at fault
-abbrev pub known_word : Cause → Option Known
-known_word (UnknownWord word told) = told
-known_word cause = None
-
 -- what is said of what is known
 abbrev pub saying_known : Option Known → List ℕ
 saying_known None = []
@@ -48,6 +53,48 @@ saying_known (Some (Near word)) = codes ", did you mean `" ++ word.now ++ codes 
 saying_known (Some (With Extended)) = codes ", it is read with --extended"
 saying_known (Some (With Any)) = codes ", it is read with --any"
 
--- a cause in words, with what it shows of the word at fault
+-- what is known of a cause's word
+abbrev pub IsKnownOf : Cause → Option Known → Type 0
+IsKnownOf (UnknownWord word vocabulary) known = IsKnown vocabulary word.now known
+IsKnownOf cause known = known ≡ None
+
+-- a character as it is shown: a control character and `\` by two hex digits after a `\`
+abbrev pub shown_character : ℕ → List ℕ
+shown_character character = if is_control character || (character == 92)
+    then 92 ∷ encode_upper (character ∷ []) else encode_utf8 character
+
+-- the first 60 characters of a word, in quotes after a blank
+abbrev pub quoted : List ℕ → List ℕ
+quoted word = codes " `" ++ flat_map shown_character (take 60 (chars word)) ++ codes "`"
+
+-- a refusal at this byte with this sentence
+abbrev pub refusal_text : ℕ → List ℕ → List ℕ
+refusal_text place sentence = codes ", refused at " ++ (decimal place ++ (codes ", " ++ sentence))
+
+-- the byte at which a body is refused, and the reason's sentence, where it is refused
+abbrev pub IsRefusalShown : List ℕ → List ℕ → Type 0
+IsRefusalShown hex shown = (shown ≡ []) ⊎ ((place : ℕ) × (reason : Reason) × IsHexRefused hex place reason
+    × (shown ≡ refusal_text place (text_of reason)))
+
+-- what is shown of the word at fault, with what it should be before it
+abbrev pub IsShown : Cause → List ℕ → Type 0
+IsShown (UnknownWord word vocabulary) shown = shown ≡ quoted word.now
+IsShown (Unexpected word) shown = shown ≡ quoted word.now
+IsShown (UnknownKey word) shown = shown ≡ quoted word.now
+IsShown (NoNumber word) shown = shown ≡ quoted word.now
+IsShown (NoHex word) shown = shown ≡ quoted word.now
+IsShown (Missing word) shown = shown ≡ quoted word.now
+IsShown (TooMany word) shown = shown ≡ quoted word.now
+IsShown (Illegal word asked) shown = shown ≡ quoted word.now
+IsShown (Misplaced word) shown = shown ≡ quoted word.now
+IsShown (OutOfRange word least most) shown =
+    shown ≡ decimal least ++ (codes " to " ++ (decimal most ++ (codes ":" ++ quoted word.now)))
+IsShown (OtherLength word digits) shown = shown ≡ decimal digits ++ (codes " hex digits:" ++ quoted word.now)
+IsShown (NoByte character) shown = shown ≡ quoted (encode_utf8 character)
+IsShown (NoBody hex) shown = IsRefusalShown hex.now shown
+IsShown cause shown = shown ≡ []
+
+-- a cause in words
 abbrev pub IsCauseText : Cause → List ℕ → Type 0
-IsCauseText cause text = (shown : List ℕ) × (text ≡ saying cause ++ shown ++ saying_known (known_word cause))
+IsCauseText cause text = (shown : List ℕ) × (known : Option Known) × IsShown cause shown × IsKnownOf cause known
+    × (text ≡ saying cause ++ shown ++ saying_known known)

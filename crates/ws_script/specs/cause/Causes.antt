@@ -1,12 +1,13 @@
 -- Why a line is no line of a script or of items as text.
 
 use Rattle.std.specs.Prelude.{◌≡◌, ◌≢◌, ◌⊎◌, ◌≤◌, ℕ, List, [], ◌∷◌, ◌++◌, Bool, true, false, ◌&&◌, Option, None, MatchOption}
-use Rattle.std.specs.Prelude.{IfSome, Some, length, drop, ◌-◌, ◌==◌, ◌%◌}
+use Rattle.std.specs.Prelude.{IfSome, Some, length, drop, map, ◌<◌, ◌-◌, ◌==◌, ◌/◌, ◌%◌}
 use Rattle.std.specs.Borrow.{Bor}
 use Rattle.std.specs.List.{list_all}
 use Rattle.std.specs.Option.{is_some}
-use Rattle.std.specs.Str.{IsUtf8}
-use Rattle.std.specs.Char.{is_ascii_hexdigit}
+use Rattle.std.specs.Str.{IsUtf8, chars}
+use Rattle.strsim.specs.Edits.{osa_table}
+use Rattle.std.specs.Char.{is_ascii_hexdigit, to_ascii_lowercase}
 use Rattle.ws_code.specs.Aid.{IsAid}
 use Rattle.ws_code.specs.DataByte.{IsData}
 use Rattle.ws_code.specs.Ebcdic.{byte_of}
@@ -127,10 +128,21 @@ IsReadWith (Elements sent switch) told word = (told ≡ switch)
     × (is_first (wider (Elements sent switch)) word ≡ true)
 IsReadWith vocabulary told word = ⊥
 
--- what is known of a word that no line of this kind begins with is true
-abbrev pub IsKnown : Vocabulary → List ℕ → Known → Type 0
-IsKnown vocabulary word (Near name) = is_first vocabulary name.now ≡ true
-IsKnown vocabulary word (With switch) = IsReadWith vocabulary switch word
+-- how many characters of a word are put in, left out or others than those of a known one, letter case aside; two that
+-- are swapped count once (optimal string alignment)
+abbrev pub apart : List ℕ → List ℕ → ℕ
+apart word known = (osa_table (chars (map to_ascii_lowercase word)) (chars (map to_ascii_lowercase known))).last_row
+    (length (chars (map to_ascii_lowercase known)))
+
+-- what is known of a word that no line of this kind begins with: the switch with which one does; or else, where it has
+-- at most 36 characters, the nearest that one begins with, if it is apart from it in at most a third of these
+abbrev pub IsKnown : Vocabulary → List ℕ → Option Known → Type 0
+IsKnown vocabulary word (Some (With switch)) = IsReadWith vocabulary switch word
+IsKnown vocabulary word (Some (Near near)) = (length (chars word) ≤ 36) × (is_first vocabulary near.now ≡ true)
+    × (apart word near.now ≤ length (chars word) / 3)
+    × ((known : List ℕ) → is_first vocabulary known ≡ true → apart word near.now ≤ apart word known)
+IsKnown vocabulary word None = (36 < length (chars word))
+    ⊎ ((known : List ℕ) → is_first vocabulary known ≡ true → length (chars word) / 3 < apart word known)
 
 -- the units of a record in lines of this kind, and the switch with which their command reads more
 abbrev pub units_of : Vocabulary → Option Vocabulary
@@ -143,9 +155,8 @@ units_of vocabulary = None
 abbrev pub IsCause : Vocabulary → List ℕ → Cause → Type 0
 IsCause vocabulary line NotUtf8 = IsUtf8 line → ⊥
 IsCause vocabulary line BlankInFront = (rest : List ℕ) × IsTextOf vocabulary line (32 ∷ rest)
-IsCause vocabulary line (UnknownWord word known) = HasFirst vocabulary line word.now
+IsCause vocabulary line (UnknownWord word of) = (of ≡ vocabulary) × HasFirst vocabulary line word.now
     × (is_first vocabulary word.now ≡ false)
-    × IfSome known (IsKnown vocabulary word.now)
 IsCause vocabulary line (Misplaced word) = HasFirst vocabulary line word.now × IsUnitLine vocabulary line
 IsCause vocabulary line Apart = (units_of vocabulary ≡ None) × ((rest : List ℕ) × (line ≡ 32 ∷ (32 ∷ rest)))
 IsCause vocabulary line cause = IsTrueOf vocabulary line cause

@@ -9,7 +9,6 @@ ghost use Rattle.ws_script.specs.declared.cause.vocabulary.Vocabulary.{Vocabular
 use crate::asked::sender::Sender;
 use crate::cause::Cause;
 use crate::cause::cause_words::{first_word, has_tab, wrong_words};
-use crate::cause::nearest::known_of;
 use crate::cause::vocabulary::{Switch, Vocabulary, kinds_after};
 use crate::cause::word_kind::settled;
 use std::str;
@@ -84,7 +83,7 @@ fn unknown<'a>(first: &'a str, vocabulary: Vocabulary) -> Cause<'a>
     if has_tab(first) {
         Cause::Tab
     } else {
-        Cause::UnknownWord(first, known_of(vocabulary, first))
+        Cause::UnknownWord(first, vocabulary)
     }
 }
 

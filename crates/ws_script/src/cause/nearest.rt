@@ -1,67 +1,73 @@
 //! What is known of an unknown word.
-ghost use Rattle.std.specs.Prelude.{IfSome};
+ghost use Rattle.std.specs.Prelude.{◌≡◌, IfOk, length};
+ghost use Rattle.std.specs.Str.{chars};
+ghost use Rattle.ws_script.specs.cause.Causes as Spec;
 ghost use Rattle.ws_script.specs.cause.Causes.{IsKnown};
 
 use crate::cause::Known;
 use crate::cause::vocabulary::{Vocabulary, kinds_after, wider, words_of};
+use std::alloc::{AllocError, Global};
+use strsim::osa_distance;
+
+// The most characters of a word that is near a known one: no known one has more than two thirds of them.
+const LONGEST: usize = 36;
 
 /// With which switch such a line begins with a word that otherwise none begins with, or the nearest to it.
-pub(crate) fn known_of(vocabulary: Vocabulary, word: &str) -> Option<Known>
-    ensures { IfSome result (IsKnown vocabulary word.now) }
+///
+/// # Errors
+///
+/// `AllocError` where a growth was refused.
+pub(crate) fn known_of(
+    alloc: Global,
+    vocabulary: Vocabulary,
+    word: &str,
+) -> Result<Option<Known>, AllocError>
+    ensures { IfOk result (IsKnown vocabulary word.now) }
 {
     match vocabulary {
         Vocabulary::Elements(_, switch) if kinds_after(wider(vocabulary), word).is_some() => {
-            Some(Known::With(switch))
+            Ok(Some(Known::With(switch)))
         }
-        _ => nearest(vocabulary, word),
+        _ => nearest(alloc, vocabulary, word),
     }
 }
 
-// The first of the words that such a line begins with from which this one differs least, letter case aside, where that
-// is in at most a third of its characters.
-fn nearest(vocabulary: Vocabulary, word: &str) -> Option<Known>
-    ensures { IfSome result (IsKnown vocabulary word.now) }
+// The nearest of the words that such a line begins with, where it is near.
+fn nearest(
+    alloc: Global,
+    vocabulary: Vocabulary,
+    word: &str,
+) -> Result<Option<Known>, AllocError>
+    ensures { IfOk result (IsKnown vocabulary word.now) }
 {
+    let length = characters(word);
+    if length > LONGEST {
+        return Ok(None);
+    }
     let mut found = None;
-    let mut below = word.len() / 3 + 1;
+    let mut below = length / 3 + 1;
     for known in words_of(vocabulary) {
-        let differs = difference(word.as_bytes(), known.0.as_bytes());
+        let differs = apart(alloc, word, known.0)?;
         if differs < below {
             found = Some(Known::Near(known.0));
             below = differs;
         }
     }
-    found
+    Ok(found)
 }
 
-// How many bytes of the longer word stand between what both begin and end with, letter case aside. Two that are
-// swapped count as one.
-fn difference(word: &[u8], name: &[u8]) -> usize {
-    let front = word
-        .iter()
-        .zip(name)
-        .take_while(|pair| pair.0.eq_ignore_ascii_case(pair.1))
-        .count();
-    let back = word
-        .iter()
-        .rev()
-        .zip(name.iter().rev())
-        .take_while(|pair| pair.0.eq_ignore_ascii_case(pair.1))
-        .count();
-    let shared = front.saturating_add(back).min(word.len()).min(name.len());
-    let differs = word.len().max(name.len()).saturating_sub(shared);
-    if differs == 2 && is_swapped(word, name, front) {
-        1
-    } else {
-        differs
-    }
+// How far a word is from a known one.
+fn apart(alloc: Global, word: &str, known: &str) -> Result<usize, AllocError>
+    ensures { IfOk result (λ differs. differs ≡ Spec.apart word.now known.now) }
+{
+    let word = word.to_ascii_lowercase(alloc)?;
+    let known = known.to_ascii_lowercase(alloc)?;
+    osa_distance(alloc, word.as_str(), known.as_str())
 }
 
-// Whether the two bytes after so many are swapped.
-fn is_swapped(word: &[u8], name: &[u8], front: usize) -> bool {
-    match (word.get(front..), name.get(front..)) {
-        (Some([a, b, ..]), Some([c, d, ..])) => a.eq_ignore_ascii_case(d)
-            && b.eq_ignore_ascii_case(c),
-        _ => false,
-    }
+// How many characters a word has.
+fn characters(word: &str) -> usize
+    ensures { result ≡ length (chars word.now) }
+{
+    word.chars().count()
 }
