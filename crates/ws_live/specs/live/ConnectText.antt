@@ -25,6 +25,8 @@ use Rattle.ws_printing.specs.ShownTexts.{BeginsAt, ShowsText}
 use Rattle.ws_printing.specs.declared.place_and_reason.PlaceAndReason.{PlaceAndReason}
 use Rattle.ws_printing.specs.declared.station_report.StationReport.{StationReport}
 use Rattle.ws_printing.specs.declared.station_report.StationReport.TheVariants.{Note}
+use Rattle.ws_script.specs.declared.lines.script_stroke.FieldFault.{FieldFault}
+use Rattle.ws_script.specs.declared.lines.script_stroke.FieldFault.TheVariants.{NoSuchField, TooLong}
 use Rattle.ws_script.specs.declared.lines.connect_line.StationLine.{StationLine}
 use Rattle.ws_script.specs.declared.lines.connect_line.StationLine.TheVariants.{Nothing as NoLine, Press, Stroke, Await}
 use Rattle.ws_script.specs.declared.lines.connect_line.StationLine.TheVariants.{Fields, Show, Report, Meanwhile, Bad}
@@ -40,7 +42,7 @@ use Rattle.ws_live.specs.declared.live.Closing.TheVariants.{Nothing, Done, Decli
 use Rattle.ws_live.specs.declared.live.LiveSession.{LiveSession}
 use Rattle.ws_live.specs.declared.live.Telling.{Telling}
 use Rattle.ws_live.specs.declared.live.pressing.Untaken.{Untaken}
-use Rattle.ws_live.specs.declared.live.pressing.Untaken.TheVariants.{NoSuchField, Refused, Unwritten}
+use Rattle.ws_live.specs.declared.live.pressing.Untaken.TheVariants.{Refused, Unfilled, Unwritten}
 use Rattle.ws_live.specs.declared.live.waiting.Waited.{Waited}
 use Rattle.ws_live.specs.declared.live.waiting.Waited.TheVariants.{Met, Late as WasLate, Ended as HasEnded, Failed}
 use Rattle.ws_live.specs.declared.live.watch.WaitSpan.{WaitSpan}
@@ -126,10 +128,16 @@ abbrev pub key_refused_line : Option ℕ → Option ℕ → KeyFault → List �
 key_refused_line line entered why =
     codes "key refused " ++ key_fault_name why ++ entered_behind entered ++ line_behind line ++ codes "\n"
 
--- what is printed of keys by a line of this number: which was refused, or that the screen has no field of the number
+-- why a field can't be filled
+abbrev pub field_fault_word : FieldFault → List ℕ
+field_fault_word NoSuchField = codes "NoSuchField"
+field_fault_word TooLong = codes "TooLong"
+
+-- what is printed of keys by a line of this number: which was refused, or why the field can't be filled
 abbrev pub pressed_text : Option ℕ → Result (Unit {0}) Untaken → List ℕ
 pressed_text line (Err (Refused entered why)) = key_refused_line line entered why
-pressed_text line (Err NoSuchField) = codes "field refused NoSuchField" ++ line_behind line ++ codes "\n"
+pressed_text line (Err (Unfilled why)) =
+    codes "field refused " ++ field_fault_word why ++ line_behind line ++ codes "\n"
 pressed_text line pressed = []
 
 -- how they close
@@ -196,11 +204,11 @@ module _ {S K : Type 0} (at : LiveStation) (devices : Devices S K) where
       ((mid : AttachedStation) × KeyComes key from (Ok tt) mid × KeysCome keys mid came to)
       ⊎ ((why : Untaken) × KeyComes key from (Err why) to × (came ≡ Err why))
 
-  -- what the keys of a stroke come to; the screen may not have the field that it names
-  abbrev pub StrokeComes : Option (List at.Pressed) → AttachedStation → Result (Unit {0}) Untaken → AttachedStation
-      → Type 0
-  StrokeComes None from came to = (to ≡ from) × (came ≡ Err NoSuchField)
-  StrokeComes (Some keys) from came to = KeysCome keys from came to
+  -- what the keys of a stroke come to; where the field that it names can't be filled none is pressed
+  abbrev pub StrokeComes : Result (List at.Pressed) FieldFault → AttachedStation → Result (Unit {0}) Untaken
+      → AttachedStation → Type 0
+  StrokeComes (Err why) from came to = (to ≡ from) × (came ≡ Err (Unfilled why))
+  StrokeComes (Ok keys) from came to = KeysCome keys from came to
 
   -- What keys one after another come to, up to one that isn't written, where a line of this number tells of each that is
   -- refused; those before them closed so, and printed this.

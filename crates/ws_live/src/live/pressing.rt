@@ -10,7 +10,7 @@ use crate::live::live_station::LiveStation;
 use crate::live::{ByLine, Carried, Closing};
 use ws_code::{Fault, Sink, Source};
 use ws_printing::put_key_fault;
-use ws_script::{NamedKey, ScriptStroke};
+use ws_script::{FieldFault, NamedKey, ScriptStroke};
 use ws_session::{Acted, Attached, KeyFault, StationDisplay};
 use ws_text::{Character, Output, Text, put_text, texts};
 
@@ -22,8 +22,8 @@ pub(crate) enum Untaken {
         entered: Option<char>,
         why: KeyFault,
     },
-    /// The screen has no field of the number that the stroke names.
-    NoSuchField,
+    /// The field of the number that the stroke names can't be filled.
+    Unfilled(FieldFault),
     /// What one of them sends didn't go out.
     Unwritten(Fault),
 }
@@ -91,8 +91,9 @@ where
         attached.old result attached.new }
     ensures works { IfOk (Spec.pressed_outcome result) (λ closing. attached.new.broken ≡ false) }
 {
-    let Some(runs) = stroke.runs(attached.end().display().screen()) else {
-        return Err(Untaken::NoSuchField);
+    let runs = match stroke.runs(attached.end().display().screen()) {
+        Ok(runs) => runs,
+        Err(why) => return Err(Untaken::Unfilled(why)),
     };
     for run in runs.as_slice() {
         let key = E::Named::from_profile(run.key);
@@ -135,11 +136,22 @@ pub(crate) fn put_pressed<O: Sink>(
             output: put_key_refused(out, output, line, entered, why),
             outcome: Ok(Closing::Declined),
         },
-        Untaken::NoSuchField => Carried {
-            output: texts!("field refused NoSuchField", ByLine(line), "\n").put_to(out, output),
+        Untaken::Unfilled(why) => Carried {
+            output: texts!("field refused ", field_fault_word(why), ByLine(line), "\n")
+                .put_to(out, output),
             outcome: Ok(Closing::Declined),
         },
         Untaken::Unwritten(fault) => Carried::new(output, Err(fault)),
+    }
+}
+
+// The word for why a field can't be filled.
+fn field_fault_word(why: FieldFault) -> &'static str
+    ensures { result.now ≡ Spec.field_fault_word why }
+{
+    match why {
+        FieldFault::NoSuchField => "NoSuchField",
+        FieldFault::TooLong => "TooLong",
     }
 }
 
