@@ -4,7 +4,7 @@ pub use Rattle.std.specs.List.{flat_map, AllByRecursion}
 pub use Rattle.std.specs.Option.{is_some, option_or}
 pub use Rattle.std.proofs.Common.{ap, ◌≡◌, refl, ◌∷◌, ◌++◌, ◌∙◌, take, List, [], sym, Some, None, drop, ◌+◌, ℕ, inl}
 pub use Rattle.std.proofs.Common.{not, Option, length, false, Bool, true, ◌<◌, ◌≤◌, inr, arith, get_or, ◌^◌}
-pub use Rattle.std.proofs.Common.{length-append, map, append_assoc}
+pub use Rattle.std.proofs.Common.{length-append, length-take, map, append_assoc}
 pub use Rattle.std.proofs.lemmas.List.{append-nil, take_all, take_more, drop_more, drop_all}
 pub use Rattle.ws_code.specs.Code.{Rules, IsChain, IsPrefix, IsSpelled, IsUnfinished}
 pub use Rattle.ws_code.specs.declared.fault.Fault.{Fault}

@@ -1,13 +1,14 @@
 use Rattle.std.specs.Prelude.{if◌then◌else◌, Result, Ok, Err, IfErr, OnOk, IsTrue, ◌↔◌, is_ok}
 use mathlib.Core.Bool.{true≢false}
-use Rattle.ws_code.specs.declared.fault.Fault.TheVariants.{Truncated}
+use Rattle.ws_code.specs.declared.fault.Fault.TheVariants as faults
 use Rattle.ws_telnet.specs.Token.{token_rules}
-use Rattle.ws_record.specs.Receiver.{HasReceived, Receiving}
+use Rattle.ws_record.specs.Receiver.{HasReceived, IsTakeFault, Receiving}
 use Rattle.ws_record.specs.Refusal.{IsRefused, IsTruncated}
 use Rattle.ws_trace.proofs.Common.{length-append, IsUnfinished, TelnetToken, IsInGrammar, ReaderParts, StandsThere}
 use Rattle.ws_trace.proofs.Common.{append-nil, IsSpelled, IsPrefix, IsNextOf, Refused, length, Reason, Passes, is_eor}
 use Rattle.ws_trace.proofs.Common.{Fault, false, arith, Rules, Token, Reads, Whole, List, ◌++◌, Bool, true, None, Some}
 use Rattle.ws_trace.proofs.Common.{refl, Data, Item, ◌≡◌, ◌+◌, ◌<◌, ◌^◌, ◌∷◌, inl, inr, not, sym, ◌∙◌, Eor, [], ap, ℕ}
+use Rattle.ws_trace.specs.Readers.{IsFull}
 use Rattle.ws_trace.specs.Reading.{StreamStanding, HoldsUnrefused, after_passed, after_refusal, ends_record}
 use Rattle.ws_trace.specs.Reading.{told_of_passed, MayEndAt}
 
@@ -112,13 +113,31 @@ module _ {Place U : Type 0} (rules : Rules Place U) where
       (still, begun, rw same s.2),
     )
 
+  -- a receiver has no other fault
+  no_other : (bytes : List ℕ) (items : List (Item U)) (byte : ℕ) (fault : Fault)
+      → ((place : ℕ) (reason : Reason) → fault ≡ faults.Refused place reason → ⊥) → (fault ≡ faults.Memory → ⊥)
+      → IsTakeFault rules bytes items byte fault → ⊥
+  no_other bytes items byte (faults.Refused place reason) refused memory h = refused place reason refl
+  no_other bytes items byte faults.Memory refused memory h = memory refl
+  no_other bytes items byte fault refused memory h = h
+
+  -- so that such a reader stands nowhere
+  pub stands_nowhere : (old : ReaderParts Place U) (byte : ℕ) (fault : Fault)
+      → ((place : ℕ) (reason : Reason) → fault ≡ faults.Refused place reason → ⊥) → (fault ≡ faults.Memory → ⊥)
+      → old.is_passing ≡ false
+      → ((bytes : List ℕ) (items : List (Item U)) → HasReceived rules old.receiver bytes items
+      → length bytes + 1 < 2 ^ 64 → IsTakeFault rules bytes items byte fault) → IsFull rules old
+  stands_nowhere old byte fault refused memory reads is (Reads bytes items) s =
+      absurd (no_other bytes items byte fault refused memory (is bytes items s.2 s.1))
+  stands_nowhere old byte fault refused memory reads is (Passes begun) s = absurd (true≢false (sym s.0 ∙ reads))
+
   -- whether a stream may end where a reader stands
   pub ends_there : (Same : Type 0) (reader : ReaderParts Place U) (result : Result (Unit {0}) Fault)
       → reader.is_passing ≡ false
       → OnOk result (Same × ((bytes : List ℕ) (items : List (Item U)) → HasReceived rules reader.receiver bytes items
       → IsInGrammar rules bytes items))
       → IfErr result (λ fault. (bytes : List ℕ) (items : List (Item U)) → HasReceived rules reader.receiver bytes items
-      → length bytes + 1 < 2 ^ 64 → (fault ≡ Truncated (length bytes)) × IsTruncated rules bytes)
+      → length bytes + 1 < 2 ^ 64 → (fault ≡ faults.Truncated (length bytes)) × IsTruncated rules bytes)
       → (at : StreamStanding U) → StandsThere rules reader at → IsTrue (is_ok result) ↔ MayEndAt rules at
   ends_there Same reader (Ok done) reads ok err (Reads bytes items) s = (λ _. ok.1 bytes items s.2, λ _. refl)
   ends_there Same reader (Err fault) reads ok err (Reads bytes items) s =

@@ -1,3 +1,4 @@
+use Rattle.std.specs.Prelude.{if◌then◌else◌}
 use Rattle.ws_code.proofs.Lists.{AllByRecursion-append, AllByRecursion-last}
 use Rattle.ws_telnet.specs.Streams.{command_of}
 use Rattle.ws_telnet.specs.declared.token.Telnet.{Telnet}
@@ -5,9 +6,11 @@ use Rattle.ws_trace.proofs.Common.{RecordItem, TelnetItem, Record, ◌≡◌, �
 use Rattle.ws_trace.proofs.Common.{None, Some, map, refl, sym, ap, ◌∙◌, append_assoc, flat_map, AllByRecursion}
 use Rattle.ws_trace.proofs.Common.{append-nil, Rules, Reason, Token, Data, Eor, TelnetToken, Holds, IsStretch, commands}
 use Rattle.ws_trace.proofs.Common.{Item, Tracing, EndAt, IsWholeItem, told_with, Reads, Passes, ReaderParts, IsNextOf}
+use Rattle.ws_trace.proofs.Common.{◌≤◌, Bool, true, false, arith, length, length-append, Fault}
 use Rattle.ws_trace.proofs.Common.{TracerParts, IsAdded, IsWholeCame, Tracks, Whole, Refused, AreSteps, made_of}
-use Rattle.ws_trace.specs.Ends.{IsHeard, carry_fault}
-use Rattle.ws_trace.specs.Reading.{StreamStanding, IsNextByte, told_of_passed}
+use Rattle.ws_trace.specs.Ends.{AreHeard, IsHeard, carry_fault}
+use Rattle.ws_trace.specs.Readers.{bytes_read}
+use Rattle.ws_trace.specs.Reading.{IsCountFault, StreamStanding, IsNextByte, after_passed, ends_record, told_of_passed}
 use Rattle.ws_trace.specs.declared.told.Told.{Told}
 
 -- The records that bytes hold have whole bodies.
@@ -49,6 +52,34 @@ module _ {Place U : Type 0} where
   came_whole rules (Passes begun) byte came next (inr (inl h)) = rw h.1 (passed_whole rules h.0)
   came_whole rules (Passes begun) byte came next (inr (inr h)) = rw h.0 tt
 
+-- A byte is one more, at most, since records are read.
+
+none_read : (U : Type 0) (is_over : Bool) → bytes_read {U = U} (if is_over then Reads [] [] else Passes []) ≡ []
+none_read U true = refl
+none_read U false = refl
+
+none_passed : (U : Type 0) (token : Token) → bytes_read {U = U} (after_passed token) ≡ []
+none_passed U (Data b) = refl
+none_passed U Eor = refl
+none_passed U (TelnetToken t) = refl
+
+one_read : {Place U : Type 0} (rules : Rules Place U) (at : StreamStanding U) (byte : ℕ) (came : Option (Told U))
+    (next : StreamStanding U) → IsNextByte rules at byte came next
+    → length (bytes_read next) ≤ length (bytes_read at) + 1
+one_read rules (Reads bytes items) byte None next h = rw h.0 (omega (arith, length-append bytes (byte ∷ [])))
+one_read rules (Reads bytes items) byte (Some (Whole item)) next h =
+    rw h.0 (omega (arith, length-append bytes (byte ∷ [])))
+one_read {Place} {U} rules (Reads bytes items) byte (Some (Refused reason)) next h =
+    rw (h.0, none_read U (ends_record reason)) (omega arith)
+one_read rules (Passes begun) byte came next (inl h) = rw h.1 (omega arith)
+one_read {Place} {U} rules (Passes begun) byte came next (inr (inl h)) = rw (h.2, none_passed U h.0) (omega arith)
+one_read rules (Passes begun) byte came next (inr (inr h)) = rw h.1 (omega arith)
+
+-- bytes were taken, and no more of them than these are read
+abbrev pub AreCounted : {U State : Type 0} → EndAt U State → EndAt U State → List ℕ → Type 0
+AreCounted at next bytes = (next.taken ≡ at.taken + length bytes)
+    × (length (bytes_read next.standing) ≤ length (bytes_read at.standing) + length bytes)
+
 -- Steps one after another.
 
 module _ {At X T : Type 0} (IsStep : At → X → List T → At → Type 0) where
@@ -74,6 +105,16 @@ module _ {Place U State T : Type 0} (rules : Rules Place U) (end : Tracing U Sta
   -- what is told of a byte
   abbrev pub EntriesOf : EndAt U State → Option (Told U) → List T
   EntriesOf at came = map (put at.taken) (told_with came (carry_fault end at.state came))
+
+  -- they are counted
+  pub heard_count : (at next : EndAt U State) (bytes : List ℕ) (entries : List T)
+      → AreHeard rules end put at bytes entries next → AreCounted at next bytes
+  heard_count at next [] entries h = rw h.1 (omega arith, omega arith)
+  heard_count at next (byte ∷ bytes) entries h =
+      let more = heard_count h.0 next bytes h.2 h.4 in (
+        omega (arith, h.3.1.counted, more.0),
+        omega (arith, one_read rules at.standing byte h.3.0 h.0.standing h.3.1.read, more.1),
+      )
 
   -- what bytes add after others
   pub added_more : {at : EndAt U State} {bytes : List ℕ} {before mid after : List T} {byte : ℕ}
@@ -130,3 +171,8 @@ module _ {Place U State T : Type 0} (rules : Rules Place U) (end : Tracing U Sta
           there = record { stands = stood.2; made = makes at.state t.made; counted = one ∙ ap (λ n. n + 1) t.counted };
           entries = is;
         }
+
+-- what a fault says, it says of what follows from that
+pub fault_weaker : {P Q : Type 0} {fault : Fault} → (P → Q) → IsCountFault P fault → IsCountFault Q fault
+fault_weaker f (inl memory) = inl memory
+fault_weaker f (inr failed) = inr (failed.0, f failed.1)

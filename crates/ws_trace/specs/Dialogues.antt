@@ -1,6 +1,6 @@
 -- The dialogue of both ends: what their streams tell, in the order in which the pieces came that end it.
 
-use Rattle.std.specs.Prelude.{◌≡◌, ◌↔◌, ℕ, List, IsTrue}
+use Rattle.std.specs.Prelude.{◌≡◌, ◌-◌, ◌<◌, ◌^◌, ◌↔◌, ℕ, List, IsTrue, length}
 use Rattle.ws_code.specs.Code.{Rules}
 use Rattle.ws_extended.specs.ExtendedAnswers.{extended_answer_rules}
 use Rattle.ws_extended.specs.ExtendedElements.{extended_rules}
@@ -10,6 +10,7 @@ use Rattle.ws_extended.specs.declared.extended_element.ExtendedElement.{Extended
 use Rattle.ws_trace.specs.BothEnds.{host_end, station_end}
 use Rattle.ws_trace.specs.Ends.{EndAt, AreHeard, AreSteps, end_begins, entry_at}
 use Rattle.ws_trace.specs.Reading.{MayEndAt}
+use Rattle.ws_trace.specs.TraceText.{sent_by_end}
 use Rattle.ws_trace.specs.declared.entry.EndTold.TheVariants as told_of
 use Rattle.ws_trace.specs.declared.dialogue.Dialogue.{Dialogue}
 use Rattle.ws_trace.specs.declared.dialogue.EndCount.{EndCount}
@@ -46,6 +47,10 @@ IsHeardPiece at piece entries next =
 -- pieces came one after another: the entries of all, and where both streams are then
 abbrev pub AreAllHeard : BothAt → List Piece → List Entry → BothAt → Type 0
 AreAllHeard = AreSteps IsHeardPiece
+
+-- an end sent more bytes than can be counted
+abbrev pub IsTooLong : List Piece → Type 0
+IsTooLong pieces = (end : TracedEnd) × (2 ^ 64 - 2 < length (sent_by_end end pieces))
 
 -- the dialogue of the pieces
 pub record IsDialogue (pieces : List Piece) (dialogue : Dialogue) : Type 0 where

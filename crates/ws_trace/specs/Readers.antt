@@ -1,6 +1,6 @@
 -- What a reader keeps, and where it stands.
 
-use Rattle.std.specs.Prelude.{◌≡◌, ℕ, ◌+◌, ◌<◌, ◌^◌, List, [], Bool, true, false, Option, length}
+use Rattle.std.specs.Prelude.{◌≡◌, ℕ, ◌+◌, ◌-◌, ◌<◌, ◌≤◌, ◌^◌, List, [], Bool, true, false, Option, length}
 use Rattle.ws_code.specs.Code.{Rules}
 use Rattle.ws_telnet.specs.declared.token.Token.{Token}
 use Rattle.ws_telnet.specs.declared.token.Token.TheVariants.{Eor}
@@ -21,6 +21,16 @@ StandsThere rules reader (Reads bytes items) = (reader.is_passing ≡ false) × 
     × HasReceived rules reader.receiver bytes items
 StandsThere rules reader (Passes begun) = (reader.is_passing ≡ true) × (reader.begun ≡ begun)
     × HasReceived rules reader.receiver [] []
+
+-- the bytes since records are read
+abbrev pub bytes_read : {U : Type 0} → StreamStanding U → List ℕ
+bytes_read (Reads bytes items) = bytes
+bytes_read (Passes begun) = []
+
+-- where a reader stands, as many bytes have come since records are read as can be counted
+abbrev pub IsFull : {Place U : Type 0} → Rules Place U → ReaderParts Place U → Type 0
+IsFull {Place} {U} rules reader = (at : StreamStanding U) → StandsThere rules reader at
+    → 2 ^ 64 - 2 ≤ length (bytes_read at)
 
 -- a token is an EOR
 abbrev pub is_eor : Token → Bool

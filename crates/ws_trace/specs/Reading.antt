@@ -4,6 +4,8 @@
 use Rattle.std.specs.Prelude.{◌≡◌, ℕ, ◌+◌, List, [], ◌∷◌, ◌++◌, ◌⊎◌, Bool, true, false, Option, None, Some, length}
 use Rattle.std.specs.Prelude.{if◌then◌else◌}
 use Rattle.ws_code.specs.Code.{Rules, IsSpelled, IsUnfinished, IsPrefix}
+use Rattle.ws_code.specs.declared.fault.Fault.{Fault}
+use Rattle.ws_code.specs.declared.fault.Fault.TheVariants.{Memory, Failed}
 use Rattle.ws_code.specs.declared.reason.Reason.{Reason}
 use Rattle.ws_code.specs.declared.reason.Reason.TheVariants.{TooShort, EndedInside}
 use Rattle.ws_telnet.specs.Token.{token_rules}
@@ -21,6 +23,10 @@ use Rattle.ws_trace.specs.declared.told.Told.TheVariants.{Whole, Refused}
 pub data StreamStanding (U : Type 0) : Type 0 where
   Reads : List ℕ → List (Item U) → StreamStanding U
   Passes : List ℕ → StreamStanding U
+
+-- why no more bytes are taken: a growth was refused, or this holds, by which they can't be counted
+abbrev pub IsCountFault : Type 0 → Fault → Type 0
+IsCountFault Full fault = (fault ≡ Memory) ⊎ ((fault ≡ Failed) × Full)
 
 -- the refused byte is that of an EOR, so that the record is over
 abbrev pub ends_record : Reason → Bool

@@ -1,9 +1,9 @@
 //! Reads a stream of which records may be refused: after one the next is read.
-ghost use Rattle.std.specs.Prelude.{◌≡◌, ◌⊎◌, ◌↔◌, [], true, false, IfOk, IfErr, IsTrue};
+ghost use Rattle.std.specs.Prelude.{◌≡◌, ◌↔◌, [], true, false, IfOk, IfErr, IsTrue};
 ghost use Rattle.ws_trace.specs.Reading as Spec;
-ghost use Rattle.ws_trace.specs.Reading.{IsNextByte, MayEndAt, StreamStanding};
+ghost use Rattle.ws_trace.specs.Reading.{IsCountFault, MayEndAt, StreamStanding};
 ghost use Rattle.ws_trace.specs.Reading.StreamStanding.{Reads};
-ghost use Rattle.ws_trace.specs.Readers.{IsNextOf, StandsThere, is_eor as is_end};
+ghost use Rattle.ws_trace.specs.Readers.{IsFull, IsNextOf, StandsThere, is_eor as is_end};
 
 use crate::Told;
 use std::alloc::Global;
@@ -58,7 +58,7 @@ impl<B: Body> Reader<B> {
     /// `Memory` where a growth was refused, `Failed` where no more bytes can be counted.
     pub fn take(&mut self, byte: u8) -> Result<Option<Told<B::Unit>>, Fault>
         ensures next { IfOk result (IsNextOf B.rules self.old self.new byte) }
-        ensures fault { IfErr result (λ fault. (fault ≡ Fault.Memory) ⊎ (fault ≡ Fault.Failed)) }
+        ensures fault { IfErr result (IsCountFault (IsFull B.rules self.old)) }
     {
         if self.is_passing {
             Ok(self.pass(byte))
@@ -71,7 +71,7 @@ impl<B: Body> Reader<B> {
     fn read(&mut self, byte: u8) -> Result<Option<Told<B::Unit>>, Fault>
         requires reads { self.old.is_passing ≡ false }
         ensures next { IfOk result (IsNextOf B.rules self.old self.new byte) }
-        ensures fault { IfErr result (λ fault. (fault ≡ Fault.Memory) ⊎ (fault ≡ Fault.Failed)) }
+        ensures fault { IfErr result (IsCountFault (IsFull B.rules self.old)) }
     {
         if self.receiver.taken() >= u64::MAX - 1 {
             return Err(Fault::Failed);
@@ -79,14 +79,16 @@ impl<B: Body> Reader<B> {
         match self.receiver.take(byte) {
             Ok(None) => Ok(None),
             Ok(Some(item)) => Ok(Some(Told::Whole(item))),
-            Err(Fault::Refused { reason, .. }) => {
-                self.receiver = Receiver::new(self.alloc);
-                self.tokens.restart(());
-                self.is_passing = !ends_record(reason);
-                Ok(Some(Told::Refused(reason)))
-            }
-            Err(Fault::Memory) => Err(Fault::Memory),
-            Err(_) => Err(Fault::Failed),
+            Err(fault) => match fault {
+                Fault::Refused { reason, .. } => {
+                    self.receiver = Receiver::new(self.alloc);
+                    self.tokens.restart(());
+                    self.is_passing = !ends_record(reason);
+                    Ok(Some(Told::Refused(reason)))
+                }
+                Fault::Memory => Err(Fault::Memory),
+                _ => Err(Fault::Failed),
+            },
         }
     }
 

@@ -1,8 +1,9 @@
 //! The dialogue of pieces that crossed a connection, and its text.
 ghost use Rattle.std.specs.Prelude.{◌≡◌, ◌⊎◌, IfOk, IfErr};
 ghost use Rattle.ws_code.specs.Device.{FailedWithin, WentOut};
-ghost use Rattle.ws_trace.specs.Dialogues.{IsDialogue};
+ghost use Rattle.ws_trace.specs.Dialogues.{IsDialogue, IsTooLong};
 ghost use Rattle.ws_trace.specs.DialogueText.{dialogue_text};
+ghost use Rattle.ws_trace.specs.Reading.{IsCountFault};
 ghost use Rattle.ws_trace.specs.TraceText as Spec;
 ghost use Rattle.ws_trace.specs.declared.dialogue.Dialogue.{Dialogue as ADialogue};
 
@@ -23,7 +24,7 @@ use ws_text::Output;
 /// `Memory` where a growth was refused; `Failed` where an end sent more than 18,446,744,073,709,551,614 bytes.
 pub fn dialogue_of(alloc: Global, pieces: &[Piece]) -> Result<Dialogue, Fault>
     ensures dialogue { IfOk result (IsDialogue pieces.now) }
-    ensures fault { IfErr result (λ fault. (fault ≡ Fault.Memory) ⊎ (fault ≡ Fault.Failed)) }
+    ensures fault { IfErr result (IsCountFault (IsTooLong pieces.now)) }
 {
     let mut host = Tracer::<ExtendedCommands>::new(alloc);
     let mut station = Tracer::<ExtendedAnswers>::new(alloc);
@@ -61,7 +62,7 @@ pub fn trace_to<S: Sink>(
     ensures fault { IfErr result (λ fault. ((fault ≡ Fault.Write) × ((dialogue : ADialogue)
         × IsDialogue pieces.now dialogue
         × FailedWithin S.writer sink.old sink.new (dialogue_text form pieces.now dialogue)))
-        ⊎ (((fault ≡ Fault.Memory) ⊎ (fault ≡ Fault.Failed)) × (sink.new ≡ sink.old))) }
+        ⊎ (IsCountFault (IsTooLong pieces.now) fault × (sink.new ≡ sink.old))) }
 {
     let dialogue = dialogue_of(alloc, pieces)?;
     let host = stream_of(alloc, pieces, TracedEnd::Host)?;

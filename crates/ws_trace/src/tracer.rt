@@ -1,8 +1,9 @@
 //! An end's stream as it is traced: its items are read and carried out, and entries made of them.
-ghost use Rattle.std.specs.Prelude.{◌≡◌, ◌++◌, ◌∷◌, ◌⊎◌, [], IfErr, OnOk, map};
+ghost use Rattle.std.specs.Prelude.{◌≡◌, ◌++◌, ◌∷◌, [], IfErr, OnOk, length, map};
 ghost use Rattle.ws_trace.specs.Dialogues.{IsEndCount};
 ghost use Rattle.ws_trace.specs.Ends.{EndAt, end_begins, entry_at, carry_fault, made_of, told_with};
-ghost use Rattle.ws_trace.specs.Tracers.{IsAdded, IsWholeCame, Tracks};
+ghost use Rattle.ws_trace.specs.Reading.{IsCountFault};
+ghost use Rattle.ws_trace.specs.Tracers.{IsAdded, IsOverfull, IsWholeCame, Tracks};
 
 use crate::reader::Reader;
 use crate::traced::Traced;
@@ -52,7 +53,8 @@ impl<B: Traced> Tracer<B> {
             → Tracks B.rules B.is_made self.old at
             → IsAdded B.rules B.tracing (entry_at B.told_as milliseconds) at bytes.now
             entries.old.items entries.new.items (Tracks B.rules B.is_made self.new)) }
-        ensures fault { IfErr result (λ fault. (fault ≡ Fault.Memory) ⊎ (fault ≡ Fault.Failed)) }
+        ensures fault { IfErr result (IsCountFault
+            (IsOverfull B.rules B.is_made self.old (length bytes.now))) }
     {
         for byte in bytes {
             self.take(milliseconds, *byte, entries)?;
@@ -67,7 +69,7 @@ impl<B: Traced> Tracer<B> {
             → Tracks B.rules B.is_made self.old at
             → IsAdded B.rules B.tracing (entry_at B.told_as milliseconds) at (byte ∷ [])
             entries.old.items entries.new.items (Tracks B.rules B.is_made self.new)) }
-        ensures fault { IfErr result (λ fault. (fault ≡ Fault.Memory) ⊎ (fault ≡ Fault.Failed)) }
+        ensures fault { IfErr result (IsCountFault (IsOverfull B.rules B.is_made self.old 1)) }
     {
         let place = self.taken;
         let Some(taken) = place.checked_add(1) else {
@@ -116,7 +118,7 @@ fn add_all<B: Traced>(
 ) -> Result<(), Fault>
     ensures added { OnOk result (entries.new.items ≡ entries.old.items
         ++ map (entry_at B.told_as milliseconds place) (told_with came refused)) }
-    ensures fault { IfErr result (λ fault. (fault ≡ Fault.Memory) ⊎ (fault ≡ Fault.Failed)) }
+    ensures fault { IfErr result (λ fault. fault ≡ Fault.Memory) }
 {
     let Some(told) = came else {
         return Ok(());
@@ -137,7 +139,7 @@ fn add<B: Traced>(
 ) -> Result<(), Fault>
     ensures added { OnOk result (entries.new.items ≡ entries.old.items
         ++ entry_at B.told_as milliseconds place told ∷ []) }
-    ensures fault { IfErr result (λ fault. (fault ≡ Fault.Memory) ⊎ (fault ≡ Fault.Failed)) }
+    ensures fault { IfErr result (λ fault. fault ≡ Fault.Memory) }
 {
     let entry = Entry {
         milliseconds,

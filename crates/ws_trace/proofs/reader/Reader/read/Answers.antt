@@ -1,9 +1,9 @@
-use Rattle.ws_trace.proofs.Common.{arith, ap, not, fresh_begins}
-use Rattle.ws_trace.proofs.ReadSteps.{read_none, read_item, read_refused}
+use Rattle.ws_trace.proofs.Common.{arith, ap, not, fresh_begins, inr, refl}
+use Rattle.ws_trace.proofs.ReadSteps.{read_none, read_item, read_refused, stands_nowhere}
 use Rattle.ws_trace.proofs.reader.Reader.read.Goals as goal
 
-pub invariant_of-self-in-Err-Refused : goal.invariant_of-self-in-Err-Refused
-invariant_of-self-in-Err-Refused g c = fresh_begins c.restart.new.self c.restart.ensures.fresh
+pub invariant_of-self-in-Refused : goal.invariant_of-self-in-Refused
+invariant_of-self-in-Refused g c = fresh_begins c.restart.new.self c.restart.ensures.fresh
 
 pub returns-in-Ok-None-clause-next : goal.returns-in-Ok-None-clause-next
 returns-in-Ok-None-clause-next g c = let reads = rw (← c.self.view_is) at c.requires.reads in
@@ -20,9 +20,15 @@ returns-in-Ok-Some-clause-next g c = let reads = rw (← c.self.view_is) at c.re
       rw c.in-Ok-Some.field-0-is at (c.in-Ok-Some.ensures.taken bytes items h fits),
     )))
 
-pub returns-in-Err-Refused-clause-next : goal.returns-in-Err-Refused-clause-next
-returns-in-Err-Refused-clause-next g c = let reads = rw (← c.self.view_is) at c.requires.reads in
+pub returns-in-Refused-clause-next : goal.returns-in-Refused-clause-next
+returns-in-Refused-clause-next g c = let reads = rw (← c.self.view_is) at c.requires.reads in
     rw (← c.self.view_is)
-    (read_refused g.B.Code.rules _ _ c.args.byte c.in-Err-Refused.field-0-0 c.in-Err-Refused.reason
+    (read_refused g.B.Code.rules _ _ c.args.byte c.in-Refused.place c.in-Refused.reason
     reads (ap not c.ends_record.ensures) c.restart.ensures.fresh c.new.ensures (λ bytes items h fits.
-    rw c.in-Err-Refused.field-0-is at (c.in-Err-Refused.ensures.fault bytes items h fits)))
+    rw c.in-Refused.is at (c.in-Err.ensures.fault bytes items h fits)))
+
+pub returns-in_default-clause-fault : goal.returns-in_default-clause-fault
+returns-in_default-clause-fault g c = let reads = rw (← c.self.view_is) at c.requires.reads in
+    let full = stands_nowhere g.B.Code.rules _ c.args.byte c.in-Err.fault c.in_default.not-Refused
+    c.in_default.not-Memory reads c.in-Err.ensures.fault in
+    inr (refl, rw (← c.self.view_is) full)
