@@ -1,2 +1,3 @@
+pub mod ScriptedLines
 pub mod SessionPrinted
 pub mod Turning

@@ -1,12 +1,12 @@
 -- The lines of standard input, and why there is none more; and the words that can be typed besides.
 
 use Rattle.std.specs.Prelude.{◌≡◌, ℕ, ◌+◌, ◌-◌, ◌^◌, List, [], ◌∷◌, ◌⊎◌, Bool, true, false, String, string_bytes, min}
-use Rattle.std.specs.Prelude.{codes}
+use Rattle.std.specs.Prelude.{MatchOption, None, Option, Some, codes}
 use Rattle.std.specs.Global.{Global}
 use Rattle.std_io.specs.declared.io.kind.ErrorKind.{ErrorKind}
 use Rattle.std_io.specs.declared.io.kind.ErrorKind.TheVariants.{OutOfMemory}
 use Rattle.ws_script.specs.cause.ToldCauses.{TellsCause}
-use Rattle.ws_script.specs.lines.LiveScript.{IsBadBlock, LineLanguage}
+use Rattle.ws_script.specs.lines.LiveScript.{IsBadBlock, LineLanguage, is_indented}
 use Rattle.ws_script.specs.declared.asked.fault.RunFault.TheVariants.{Read, Memory}
 use Rattle.ws_script.specs.declared.asked.fault.ToldFault.{ToldFault}
 use Rattle.ws_script.specs.declared.asked.fault.ToldFault.TheVariants.{Run, Line}
@@ -16,14 +16,21 @@ use Rattle.ws_network.specs.declared.input_lines.Next.TheVariants as comes
 use Rattle.ws_network.specs.declared.input_lines.TypedWord.{TypedWord}
 use Rattle.ws_network.specs.declared.input_lines.TypedWord.TheVariants.{Help, Quit}
 
--- what is known of standard input: how many lines of it were taken, and whether they are typed at a terminal
+-- what is known of standard input: how many lines of it were taken, whether they are typed at a terminal, which was read
+-- ahead, since it belongs to none before it, and whether there are no more
 pub record InputState : Type 0 where
   pub taken : ℕ
   pub is_typed : Bool
+  pub ahead : Option (List ℕ)
+  pub is_over : Bool
 
 -- no line was taken
 abbrev pub untaken : Bool → InputState
-untaken typed = record { taken = 0; is_typed = typed }
+untaken typed = record { taken = 0; is_typed = typed; ahead = None; is_over = false }
+
+-- after the lines that belong to one the next is kept, which doesn't, if there is one
+abbrev pub IsNextKept : InputState → Type 0
+IsNextKept input = MatchOption input.ahead (input.is_over ≡ true) (λ line. is_indented line ≡ false)
 
 -- the words that stand for no line, where lines are typed
 abbrev pub typed_words : List (List ℕ × TypedWord)
@@ -60,6 +67,11 @@ module _ {L : Type 0} (language : LineLanguage L) where
     abbrev pub IsNextLine : Bool → L → Type 0
     IsNextLine ready next = IsMeant next ⊎ ((ready ≡ true) × ((cause : String Global)
         × (next ≡ language.bad_line cause) × ((at : ℕ) × TellsWhyBad at (string_bytes cause))))
+
+    -- a line of standard input that is carried out: that, or where a session doesn't tell when it is ready, so that lines
+    -- may be typed, the line that takes what has come before one is
+    abbrev pub IsInputLine : Bool → L → Type 0
+    IsInputLine ready line = IsNextLine ready line ⊎ ((ready ≡ false) × (language.meanwhile ≡ Some line))
 
     -- Where a line is told as bad after so many, it means nothing with those that belong to it, and the number is that
     -- of the bad one, as far as 64 bits count.

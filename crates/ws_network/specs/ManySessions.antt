@@ -4,10 +4,12 @@ use Rattle.std.specs.Prelude.{◌≡◌, ℕ, zero, suc, ◌+◌, List, [], ◌+
 use Rattle.std.specs.Prelude.{if◌then◌else◌}
 use Rattle.std.specs.Borrow.{Bor}
 use Rattle.std.specs.Fmt.{decimal}
+use Rattle.std.specs.declared.net.socket_addr.SocketAddr.{SocketAddr}
 use Rattle.ws_script.specs.declared.lines.live_line.NumberedLine.{NumberedLine}
 use Rattle.ws_script.specs.lines.LiveScript.{LineLanguage}
 use Rattle.ws_live.specs.live.LiveText.{Account, account}
 use Rattle.ws_printing.specs.Printouts.{IsPrintedOut, Printout}
+use Rattle.ws_network.specs.Listening.{listening_line}
 use Rattle.ws_network.specs.ServedHosts.{ServedHost}
 use Rattle.ws_network.specs.Sessions.{AreFromScript, IsServed}
 use Rattle.ws_live.specs.declared.session_asked.ServeAsked.{ServeAsked}
@@ -30,9 +32,9 @@ module _ (IsSession : Account → Type 0) where
   AreSessions (Some path) (Some sessions) came = AreMany sessions came
   AreSessions script sessions came = IsSession came
 
--- what the sessions of `serve` at such a host came to, after what tells the address at which it listens
+-- what the sessions of `serve` at such a host came to, after the line that tells the address at which it listens
 abbrev pub HasServedBy : {L H O : Type 0} → LineLanguage L → ServedHost L H → Printout O → ServeAsked → Bool → Type 0
 HasServedBy {L = L} language host out asked all_well = (lines : List (NumberedLine L))
-    × (first : List ℕ) × (text : List ℕ) × AreFromScript language asked.script lines
+    × (address : SocketAddr) × (text : List ℕ) × AreFromScript language asked.settings.ready asked.script lines
     × AreSessions (IsServed host asked lines) asked.script asked.sessions (account all_well text)
-    × IsPrintedOut out (first ++ text)
+    × IsPrintedOut out (listening_line address ++ text)

@@ -16,16 +16,21 @@ use Rattle.ws_script.specs.declared.asked.fault.ToldFault.{ToldFault}
 use Rattle.ws_live.specs.declared.live.LineSettings.{LineSettings}
 use Rattle.ws_live.specs.declared.live.Ran.{Ran}
 use Rattle.ws_live.specs.declared.live.Telling.{Telling}
-use Rattle.ws_network.specs.InputLines.{IsInputFault}
+use Rattle.ws_script.specs.declared.cause.vocabulary.Vocabulary.{Vocabulary}
+use Rattle.ws_script.specs.lines.LiveScript.{LineLanguage}
+use Rattle.ws_network.specs.InputLines.{IsInputFault, IsInputLine}
 
--- none of the lines has a number
-abbrev pub AreUnnumbered : {L : Type 0} → List (NumberedLine L) → Type 0
-AreUnnumbered [] = Unit {0}
-AreUnnumbered (line ∷ more) = (line.number ≡ None) × AreUnnumbered more
+-- Lines in a session that tells when it is ready, or in one that doesn't.
+module _ {L : Type 0} (language : LineLanguage L) (ready : Bool) where
+  -- lines of standard input, which have no numbers
+  abbrev pub AreInput : List (NumberedLine L) → Type 0
+  AreInput [] = Unit {0}
+  AreInput (next ∷ more) = (next.number ≡ None)
+      × ((vocabulary : Vocabulary) × IsInputLine language vocabulary ready next.line) × AreInput more
 
--- the lines are those of a script, where there is one; those of standard input have no numbers
-abbrev pub AreScripted : {L : Type 0} → Option (Bor (List (NumberedLine L))) → List (NumberedLine L) → Type 0
-AreScripted script lines = MatchOption script (AreUnnumbered lines) (λ asked. lines ≡ asked.now)
+  -- the lines are those of a script, where there is one, or else of standard input
+  abbrev pub AreScripted : Option (Bor (List (NumberedLine L))) → List (NumberedLine L) → Type 0
+  AreScripted script lines = MatchOption script (AreInput lines) (λ asked. lines ≡ asked.now)
 
 -- one of these faults came, and is told as the program's own
 abbrev pub IsOwnFault : (Fault → Type 0) → ToldFault → Type 0

@@ -22,7 +22,7 @@ use Rattle.ws_lasting.specs.Lasting.{new_footing}
 use Rattle.ws_live.specs.live.Operating.{LiveStation, entry_station, station_at}
 use Rattle.ws_live.specs.live.LiveText.{Account, IsLiveText, WithClosing, account}
 use Rattle.ws_script.specs.declared.lines.connect_line.StationLine.{StationLine}
-use Rattle.ws_network.specs.SessionPrinting.{AreUnnumbered, IsTextAndOn, session_lines}
+use Rattle.ws_network.specs.SessionPrinting.{AreInput, IsTextAndOn, session_lines}
 use Rattle.ws_network.specs.ServedHosts.{ServedHost}
 use Rattle.ws_network.specs.Times.{ConnectionReads, ConnectionWrites, no_reads, no_writes, timed, timed_waits}
 use Rattle.ws_network.specs.Times.{timed_writer}
@@ -33,9 +33,9 @@ use Rattle.ws_live.specs.declared.live.LiveSession.{LiveSession}
 use Rattle.ws_live.specs.live.Watches.{begun_session}
 use Rattle.ws_end.specs.station.Stations.{StationOf}
 
--- where a script is named, the lines are those that its file, whatever it holds, means; else they have no numbers
-abbrev pub AreFromScript : {L : Type 0} → LineLanguage L → Option (Bor (List ℕ)) → List (NumberedLine L) → Type 0
-AreFromScript language script lines = MatchOption script (AreUnnumbered lines)
+-- where a script is named, the lines are those that its file, whatever it holds, means; else those of standard input
+abbrev pub AreFromScript : {L : Type 0} → LineLanguage L → Bool → Option (Bor (List ℕ)) → List (NumberedLine L) → Type 0
+AreFromScript language ready script lines = MatchOption script (AreInput language ready lines)
     (λ path. (file : List ℕ) × AreLiveLines language file lines)
 
 -- an end at a connection that has failed in nothing yet, and of which nothing is read
@@ -66,7 +66,7 @@ module _ {O : Type 0} (out : Printout O) where
   -- the lines of `connect` were carried out at this station, and what they printed went out
   abbrev pub HasConnectedOn : (at : LiveStation) → at.Station → ConnectAsked → Bool → Type 0
   HasConnectedOn at station asked all_well = (lines : List (NumberedLine (StationLine at.Pressed))) × (text : List ℕ)
-      × AreFromScript (station_language at.words) asked.script lines
+      × AreFromScript (station_language at.words) asked.settings.ready asked.script lines
       × IsConnected at station asked.settings lines (account all_well text)
       × IsPrintedOut out text
 

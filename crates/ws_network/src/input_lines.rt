@@ -1,10 +1,11 @@
 //! The lines of standard input, one by one, as those of a script's file are read. Where they are typed at a terminal,
 //! some more words can be.
-ghost use Rattle.std.specs.Prelude.{◌≡◌, true, OnOk, IfOk, IfErr};
+ghost use Rattle.std.specs.Prelude.{◌≡◌, true, None, Ok, Some, OnOk, IfOk, IfErr, IfSome, IsOkAnd};
+ghost use Rattle.std.specs.Option.{option_map};
 ghost use Rattle.std.specs.Str.Lines.{lines};
 ghost use Rattle.ws_code.specs.Device.{one_more};
 ghost use Rattle.ws_network.specs.InputLines.{InputState, typed_words, untaken};
-ghost use Rattle.ws_network.specs.InputLines.{IsInputFault, TellsBadLine, IsNextInput, IsUnreadFault, unread_fault};
+ghost use Rattle.ws_network.specs.InputLines.{IsInputFault, TellsBadLine, IsNextInput, IsNextKept, IsUnreadFault, unread_fault};
 ghost use Rattle.ws_text.specs.Names.{look_up};
 
 use std::alloc::Global;
@@ -55,6 +56,7 @@ pub(crate) fn next_line<B: BufRead + Drop, L: LiveLine>(
     ensures fault { IfErr result (IsInputFault ready) }
     ensures bad { IfErr result (TellsBadLine L.language vocabulary input.old.taken) }
     ensures typed { input.old.is_typed ≡ true → IfErr result IsUnreadFault }
+    ensures kept { input.new.is_typed ≡ input.old.is_typed }
 {
     let before = input.number;
     let is_typed = input.is_typed;
@@ -110,8 +112,8 @@ fn without_end(raw: &[u8]) -> &[u8] {
     }
 }
 
-/// The lines of standard input, one by one. It is seen as the number of those that were taken, and whether they are
-/// typed.
+/// The lines of standard input, one by one. It is seen as the number of those that were taken, whether they are typed,
+/// the one that was read ahead, and whether there are no more.
 #[derive(Drop)]
 pub(crate) struct InputLines<B> {
     reader: B,
@@ -131,7 +133,12 @@ pub(crate) struct InputLines<B> {
 impl<B> Model for InputLines<B> {
     ghost Value = { InputState };
 
-    ghost view = { λ input. record { taken = input.number; is_typed = input.is_typed } };
+    ghost view = { λ input. record {
+      taken = input.number;
+      is_typed = input.is_typed;
+      ahead = option_map (λ line. line.items) input.ahead;
+      is_over = input.is_over;
+    } };
 }
 
 impl<B: BufRead + Drop> InputLines<B> {
@@ -151,7 +158,9 @@ impl<B: BufRead + Drop> InputLines<B> {
     }
 
     /// Whether the next line is asked of who types it, and hasn't been read already.
-    pub(crate) fn is_asking(&self) -> bool {
+    pub(crate) fn is_asking(&self) -> bool
+        ensures { result ≡ true → self.now.is_typed ≡ true }
+    {
         self.is_typed && self.ahead.is_none() && !self.is_over
     }
 
@@ -179,6 +188,10 @@ impl<B: BufRead + Drop> InputLines<B> {
     // Takes the next line, with its line feed.
     fn take(&mut self) -> Result<Option<Vec<u8>>, ToldFault>
         ensures taken { OnOk result (self.new.taken ≡ one_more self.old.taken) }
+        ensures kept { self.new.is_typed ≡ self.old.is_typed }
+        ensures ahead { IfSome self.old.ahead (λ ahead. IsOkAnd result (λ line.
+            option_map (λ l. l.items) line ≡ Some ahead)) }
+        ensures none_ahead { OnOk result (self.new.ahead ≡ None) }
         ensures fault { IfErr result IsUnreadFault }
     {
         let line = match self.ahead.take() {
@@ -192,7 +205,9 @@ impl<B: BufRead + Drop> InputLines<B> {
 
     // Takes the lines that begin with two blanks: their text, as it stands. The one behind them is kept.
     fn gather(&mut self, inside: &mut Vec<u8>) -> Result<(), ToldFault>
-        ensures { IfErr result IsUnreadFault }
+        ensures fault { IfErr result IsUnreadFault }
+        ensures kept { self.new.is_typed ≡ self.old.is_typed }
+        ensures next { self.old.ahead ≡ None → OnOk result (IsNextKept self.new) }
     {
         for _ in 0..u64::MAX {
             let Some(line) = self.read()? else {
@@ -207,12 +222,14 @@ impl<B: BufRead + Drop> InputLines<B> {
                 return Err(ToldFault::Run(RunFault::Memory));
             }
         }
-        Ok(())
+        // No memory holds so many lines.
+        Err(ToldFault::Run(RunFault::Memory))
     }
 
     // Reads a line, with its line feed. Behind the last none is asked for again.
     fn read(&mut self) -> Result<Option<Vec<u8>>, ToldFault>
-        ensures untaken { self.new ≡ self.old }
+        ensures untaken { self.new ≡ record self.old { is_over = self.new.is_over } }
+        ensures over { result ≡ Ok None → self.new.is_over ≡ true }
         ensures fault { IfErr result IsUnreadFault }
     {
         if self.is_over {

@@ -1,7 +1,8 @@
 //! A listener at which stations are taken.
-ghost use Rattle.std.specs.Prelude.{◌≡◌, [], ℕ, List, OnOk};
+ghost use Rattle.std.specs.Prelude.{◌≡◌, [], OnOk};
+ghost use Rattle.std.specs.declared.net.socket_addr.SocketAddr.{SocketAddr as AnAddress};
 ghost use Rattle.ws_code.specs.Device.{WentOut};
-ghost use Rattle.ws_network.specs.Listening.{unbound_by};
+ghost use Rattle.ws_network.specs.Listening.{listening_line, unbound_by};
 
 use crate::connecting::{failed, settled};
 use crate::live_runtime::LiveRuntime;
@@ -26,8 +27,8 @@ pub(crate) fn listen<R: LiveRuntime, O: Sink>(
 ) -> Result<TcpListener, ToldFault>
     requires empty { out.old.held ≡ [] }
     ensures held { out.new.held ≡ [] }
-    ensures told { OnOk result ((line : List ℕ)
-        × WentOut O.writer out.old.sink out.new.sink line) }
+    ensures told { OnOk result ((address : AnAddress)
+        × WentOut O.writer out.old.sink out.new.sink (listening_line address)) }
 {
     let listener = match TcpListener::bind(rt, (at.host, at.port)) {
         Ok(listener) => listener,

@@ -1,9 +1,9 @@
 //! The lines of a live session: those of a script, or of standard input one by one.
-ghost use Rattle.std.specs.Prelude.{◌≡◌, ◌⊎◌, [], List, Some, false, IfOk, IfErr, IfSome};
+ghost use Rattle.std.specs.Prelude.{◌≡◌, ◌⊎◌, [], List, Some, false, true, IfOk, IfErr, IfSome};
 ghost use Rattle.std.specs.Option.{is_some};
 ghost use Rattle.ws_live.specs.live.Watches.{InTime};
 ghost use Rattle.ws_network.specs.InputLines.{IsInputFault, IsNextLine};
-ghost use Rattle.ws_network.specs.SessionPrinting.{AreScripted, AreUnnumbered, session_lines, session_printing};
+ghost use Rattle.ws_network.specs.SessionPrinting.{AreInput, AreScripted, session_lines, session_printing};
 ghost use Rattle.ws_script.specs.declared.lines.live_line.NumberedLine.{NumberedLine as ANumbered};
 ghost use Rattle.ws_text.specs.Printed.{IsPrinted};
 
@@ -61,7 +61,7 @@ where
     requires empty { out.old.held ≡ [] }
     // What was printed, and how it ended.
     ensures printed { (lines : List (ANumbered L))
-        × AreScripted script.entry lines
+        × AreScripted L.language settings.ready script.entry lines
         × IsPrinted O.writer out.old.sink out.new.sink (session_printing
         (session_lines (λ telling. InTime (L.runs W.tells telling) L.waits W.times) settings
         session.old lines session.new)
@@ -98,7 +98,7 @@ where
     requires works { session.old.attached.broken ≡ false }
     requires empty { out.old.held ≡ [] }
     // What was printed, and how it ended.
-    ensures printed { (lines : List (ANumbered L)) × AreUnnumbered lines
+    ensures printed { (lines : List (ANumbered L)) × AreInput L.language settings.ready lines
         × IsPrinted O.writer out.old.sink out.new.sink (session_printing
         (session_lines (λ telling. InTime (L.runs W.tells telling) L.waits W.times) settings
         session.old lines session.new)
@@ -138,7 +138,9 @@ where
 
 /// Whether the lines are typed by someone who reads what each tells: standard input is a terminal, no program drives the
 /// session, and it isn't to stop after a bad line.
-pub(crate) fn is_typed<R: LiveRuntime>(rt: &R, settings: LineSettings) -> bool {
+pub(crate) fn is_typed<R: LiveRuntime>(rt: &R, settings: LineSettings) -> bool
+    ensures { result ≡ true → settings.ready ≡ false }
+{
     let goes_on = matches!(settings.after, AfterUnwell::GoOn);
     !settings.ready && goes_on && rt.is_at_terminal()
 }
@@ -165,7 +167,8 @@ fn line_to_do<R: LiveRuntime, B: BufRead + Drop, L: LiveLine>(
 ) -> Result<Option<L>, ToldFault>
     ensures line { IfOk result (λ next. IfSome next (λ line.
         IsNextLine L.language vocabulary settings.ready line
-        ⊎ (L.language.meanwhile ≡ Some line))) }
+        ⊎ ((input.old.is_typed ≡ true) × (L.language.meanwhile ≡ Some line)))) }
+    ensures kept { input.new.is_typed ≡ input.old.is_typed }
     ensures fault { IfErr result (IsInputFault settings.ready) }
 {
     for _ in 0..u64::MAX {

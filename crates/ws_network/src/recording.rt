@@ -1,5 +1,5 @@
 //! Recordings of what both ends sent: a line `MILLISECONDS host|station HEX` for each piece.
-ghost use Rattle.std.specs.Prelude.{◌≡◌, ◌⊎◌, ℕ, List, Err, IsErrAnd};
+ghost use Rattle.std.specs.Prelude.{◌≡◌, ◌⊎◌, Err, IfErr, IfOk, IsErrAnd, Some};
 ghost use Rattle.ws_script.specs.declared.asked.fault.RunFault.TheVariants as run;
 ghost use Rattle.ws_script.specs.declared.asked.fault.ToldFault.TheVariants as told;
 ghost use Rattle.ws_network.specs.Recordings as Spec;
@@ -32,7 +32,7 @@ pub enum PieceSender {
 /// The file of a recording, where one is asked for. It is made when the first piece is to be recorded.
 #[derive(Drop)]
 pub(crate) struct RecordFile<'a> {
-    name: Option<&'a str>,
+    pub(crate) name: Option<&'a str>,
     made: OnceCell<File>,
 }
 
@@ -45,7 +45,10 @@ impl<'a> RecordFile<'a> {
     pub(crate) fn new<R: AllocGlobal + Files>(
         rt: &R,
         name: Option<&'a str>,
-    ) -> Result<Self, ToldFault> {
+    ) -> Result<Self, ToldFault>
+        ensures named { IfOk result (λ file. file.name ≡ name.entry) }
+        ensures fault { IfErr result (Spec.IsUnrecorded name.entry) }
+    {
         if let Some(name) = name
             && !has_folder(rt, name)
         {
@@ -76,7 +79,7 @@ impl<'a> RecordFile<'a> {
 #[derive(Drop)]
 pub(crate) struct Recording<'a, R> {
     rt: &'a R,
-    file: &'a RecordFile<'a>,
+    pub(crate) file: &'a RecordFile<'a>,
     begun: Option<Instant>,
     has_failed: Cell<bool>,
     reset_by: Cell<Option<SocketAddr>>,
@@ -102,11 +105,13 @@ impl<'a, R: Runtime + AllocGlobal + Files<File = File>> Recording<'a, R> {
     /// `Read` where the other side has reset the connection; else the fault that it came to.
     pub(crate) fn judge<T: Copy>(&self, outcome: Result<T, ToldFault>) -> Result<T, ToldFault>
         ensures { (result ≡ outcome) ⊎ IsErrAnd result (λ fault.
-            ((name : List ℕ) × Spec.IsUnrecorded name fault)
-            ⊎ (outcome ≡ Err (told.Run run.Read))) }
+            Spec.IsUnrecorded self.entry.now.file.now.name fault
+            ⊎ ((outcome ≡ Err (told.Run run.Read)) × Spec.IsResetTold fault)) }
     {
-        if self.has_failed.get() {
-            return Err(unwritten(self.rt, self.file.name.unwrap_or("")));
+        if let Some(name) = self.file.name
+            && self.has_failed.get()
+        {
+            return Err(unwritten(self.rt, name));
         }
         let Some(peer) = self.reset_by.get() else {
             return outcome;
@@ -123,7 +128,9 @@ impl<'a, R: Runtime + AllocGlobal + Files<File = File>> Recording<'a, R> {
     }
 
     // That the other side has reset the connection.
-    fn reset(&self, peer: SocketAddr) -> ToldFault {
+    fn reset(&self, peer: SocketAddr) -> ToldFault
+        ensures { Spec.IsResetTold result }
+    {
         match format!(in self.rt.alloc(); "connection reset by {peer}") {
             Ok(text) => ToldFault::Connection(text),
             Err(_) => ToldFault::NoConnection(Unconnected::Reset),
@@ -172,7 +179,7 @@ impl<'a, R: Runtime + AllocGlobal + Files<File = File>> Recording<'a, R> {
 
 /// That a recording's file of this name can't be made or written: `Recording`, or `Write` where a growth was refused.
 fn unwritten<R: AllocGlobal>(rt: &R, name: &str) -> ToldFault
-    ensures { Spec.IsUnrecorded name.now result }
+    ensures { Spec.IsUnrecorded (Some name.entry) result }
 {
     match String::from_str(rt.alloc(), name) {
         Ok(name) => ToldFault::Recording(name),

@@ -58,7 +58,8 @@ pub(crate) trait ServedLine: HostedLine {
         requires works { session.old.attached.broken ≡ false }
         requires empty { out.old.held ≡ [] }
         // What was printed, and how it ended.
-        ensures printed { (lines : List (ANumbered Self)) × AreScripted script.entry lines
+        ensures printed { (lines : List (ANumbered Self))
+            × AreScripted Self.language settings.ready script.entry lines
             × IsPrintedBehind O.writer out.old.sink out.new.sink (serve_printing
             (session_lines Self.served.runs settings session.old lines session.new)
             (is_some script.entry) Self.served.await_next) result }
@@ -144,7 +145,8 @@ where
     O: Sink,
     requires works { session.old.attached.broken ≡ false }
     requires empty { out.old.held ≡ [] }
-    ensures printed { (lines : List (ANumbered L)) × AreScripted script.entry lines
+    ensures printed { (lines : List (ANumbered L))
+        × AreScripted L.language settings.ready script.entry lines
         × IsPrintedBehind O.writer out.old.sink out.new.sink (serve_printing (session_lines
         (λ telling. InTime (L.runs W.tells telling) L.waits W.times) settings
         session.old lines session.new)

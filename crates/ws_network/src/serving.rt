@@ -1,7 +1,9 @@
 //! `serve`: hosts for stations, one after another at a listener.
 ghost use Rattle.std.specs.Prelude.{◌≡◌, ◌++◌, [], ℕ, List, Some, IfOk, IsErr, OnOk};
 ghost use Rattle.std.specs.Option.{is_none};
+ghost use Rattle.std.specs.declared.net.socket_addr.SocketAddr.{SocketAddr as AnAddress};
 ghost use Rattle.ws_code.specs.Device.{WentOut};
+ghost use Rattle.ws_network.specs.Listening.{listening_line};
 ghost use Rattle.ws_network.specs.SessionPrinting.{AreScripted};
 ghost use Rattle.ws_network.specs.ManySessions.{AreMany, HasServedBy, session_line};
 ghost use Rattle.ws_network.specs.Sessions.{IsServed};
@@ -50,11 +52,12 @@ pub(crate) fn serve_lines<R: LiveRuntime, L: ServedLine, O: Sink>(
     streams.suffice(script.is_none())?;
     let file = RecordFile::new(rt, asked.record)?;
     let lines = lines_of(&script);
-    match (asked.sessions, lines) {
-        (None, _) | (_, None) => serve_one::<R, L, O>(rt, asked, &file, lines, out),
-        (Some(sessions), Some(lines)) => {
-            serve_many::<R, L, O>(rt, asked, sessions, &file, lines, out)
-        }
+    let Some(sessions) = asked.sessions else {
+        return serve_one::<R, L, O>(rt, asked, &file, lines, out);
+    };
+    match lines {
+        Some(script) => serve_many::<R, L, O>(rt, asked, sessions, &file, script, out),
+        None => serve_one::<R, L, O>(rt, asked, &file, lines, out),
     }
 }
 
@@ -67,10 +70,10 @@ fn serve_one<R: LiveRuntime, L: ServedLine, O: Sink>(
     out: &mut BufferedSink<O>,
 ) -> Result<bool, ToldFault>
     requires empty { out.old.held ≡ [] }
-    ensures { IfOk result (λ all_well. (lines : List (ANumbered L)) × (first : List ℕ)
-        × (text : List ℕ) × AreScripted script.entry lines
+    ensures { IfOk result (λ all_well. (lines : List (ANumbered L)) × (address : AnAddress)
+        × (text : List ℕ) × AreScripted L.language asked.now.settings.ready script.entry lines
         × IsServed L.served asked.now lines (account all_well text)
-        × WentOut O.writer out.old.sink out.new.sink (first ++ text)) }
+        × WentOut O.writer out.old.sink out.new.sink (listening_line address ++ text)) }
 {
     // No other waits behind it: nobody listens any more.
     let stream = {
@@ -90,9 +93,9 @@ fn serve_many<R: LiveRuntime, L: ServedLine, O: Sink>(
     out: &mut BufferedSink<O>,
 ) -> Result<bool, ToldFault>
     requires empty { out.old.held ≡ [] }
-    ensures { IfOk result (λ all_well. (first : List ℕ) × (text : List ℕ)
+    ensures { IfOk result (λ all_well. (address : AnAddress) × (text : List ℕ)
         × AreMany (IsServed L.served asked.now script.now) sessions (account all_well text)
-        × WentOut O.writer out.old.sink out.new.sink (first ++ text)) }
+        × WentOut O.writer out.old.sink out.new.sink (listening_line address ++ text)) }
 {
     let listener = listen(rt, asked.address, out)?;
     let mut all_well = true;
@@ -119,7 +122,7 @@ fn serve<R: LiveRuntime, L: ServedLine, O: Sink>(
     requires empty { out.old.held ≡ [] }
     ensures held { out.new.held ≡ [] }
     ensures served { IfOk result (λ all_well. (lines : List (ANumbered L)) × (text : List ℕ)
-        × AreScripted script.entry lines
+        × AreScripted L.language asked.now.settings.ready script.entry lines
         × IsServed L.served asked.now lines (account all_well text)
         × WentOut O.writer out.old.sink out.new.sink text) }
 {

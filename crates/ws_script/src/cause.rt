@@ -128,7 +128,7 @@ fn told(alloc: Global, known: Option<Known>) -> Result<String, AllocError>
 
 // The first characters of the word at fault, with what it should be before them.
 fn shown(alloc: Global, cause: Cause<'_>) -> Result<String, AllocError>
-    ensures { IfOk result (λ text. Spec.IsShown cause.entry (string_bytes text)) }
+    ensures { IfOk result (λ text. Spec.IsWordShown cause.entry (string_bytes text)) }
 {
     match cause {
         Cause::UnknownWord(word, _)

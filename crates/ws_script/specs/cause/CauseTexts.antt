@@ -77,24 +77,24 @@ IsRefusalShown hex shown = (shown ≡ []) ⊎ ((place : ℕ) × (reason : Reason
     × (shown ≡ refusal_text place (text_of reason)))
 
 -- what is shown of the word at fault, with what it should be before it
-abbrev pub IsShown : Cause → List ℕ → Type 0
-IsShown (UnknownWord word vocabulary) shown = shown ≡ quoted word.now
-IsShown (Unexpected word) shown = shown ≡ quoted word.now
-IsShown (UnknownKey word) shown = shown ≡ quoted word.now
-IsShown (NoNumber word) shown = shown ≡ quoted word.now
-IsShown (NoHex word) shown = shown ≡ quoted word.now
-IsShown (Missing word) shown = shown ≡ quoted word.now
-IsShown (TooMany word) shown = shown ≡ quoted word.now
-IsShown (Illegal word asked) shown = shown ≡ quoted word.now
-IsShown (Misplaced word) shown = shown ≡ quoted word.now
-IsShown (OutOfRange word least most) shown =
+abbrev pub IsWordShown : Cause → List ℕ → Type 0
+IsWordShown (UnknownWord word vocabulary) shown = shown ≡ quoted word.now
+IsWordShown (Unexpected word) shown = shown ≡ quoted word.now
+IsWordShown (UnknownKey word) shown = shown ≡ quoted word.now
+IsWordShown (NoNumber word) shown = shown ≡ quoted word.now
+IsWordShown (NoHex word) shown = shown ≡ quoted word.now
+IsWordShown (Missing word) shown = shown ≡ quoted word.now
+IsWordShown (TooMany word) shown = shown ≡ quoted word.now
+IsWordShown (Illegal word asked) shown = shown ≡ quoted word.now
+IsWordShown (Misplaced word) shown = shown ≡ quoted word.now
+IsWordShown (OutOfRange word least most) shown =
     shown ≡ decimal least ++ (codes " to " ++ (decimal most ++ (codes ":" ++ quoted word.now)))
-IsShown (OtherLength word digits) shown = shown ≡ decimal digits ++ (codes " hex digits:" ++ quoted word.now)
-IsShown (NoByte character) shown = shown ≡ quoted (encode_utf8 character)
-IsShown (NoBody hex) shown = IsRefusalShown hex.now shown
-IsShown cause shown = shown ≡ []
+IsWordShown (OtherLength word digits) shown = shown ≡ decimal digits ++ (codes " hex digits:" ++ quoted word.now)
+IsWordShown (NoByte character) shown = shown ≡ quoted (encode_utf8 character)
+IsWordShown (NoBody hex) shown = IsRefusalShown hex.now shown
+IsWordShown cause shown = shown ≡ []
 
 -- a cause in words
 abbrev pub IsCauseText : Cause → List ℕ → Type 0
-IsCauseText cause text = (shown : List ℕ) × (known : Option Known) × IsShown cause shown × IsKnownOf cause known
+IsCauseText cause text = (shown : List ℕ) × (known : Option Known) × IsWordShown cause shown × IsKnownOf cause known
     × (text ≡ saying cause ++ shown ++ saying_known known)

@@ -1,22 +1,35 @@
-use Rattle.std.specs.Prelude.{None}
-use Rattle.std.proofs.Common.{◌++◌, ◌∷◌, [], true, List, refl, ap, inl, inr, ◌∙◌, false}
+use Rattle.std.specs.Prelude.{None, Some}
+use Rattle.std.proofs.Common.{◌≡◌, ◌⊎◌, ◌++◌, ◌∷◌, [], Bool, true, List, refl, ap, inl, inr, ◌∙◌, false}
 use Rattle.std.proofs.lemmas.Result.{err_from_is_err_and}
 use Rattle.ws_code.proofs.DeviceLaws.{went_out_none}
 use Rattle.ws_script.specs.declared.lines.live_line.NumberedLine.{NumberedLine}
 use Rattle.ws_live.specs.live.LiveText.{ran_and}
 use Rattle.ws_live.specs.live.Watches.{InTime}
 use Rattle.ws_live.proofs.LiveRuns.{breaks, ends_here, goes_on, none_gone, unstopped}
-use Rattle.ws_network.specs.SessionPrinting.{AreUnnumbered, session_lines}
+use Rattle.ws_script.specs.declared.cause.vocabulary.Vocabulary.{Vocabulary}
+use Rattle.ws_script.specs.lines.LiveScript.{LineLanguage}
+use Rattle.ws_network.specs.InputLines.{IsInputLine, IsNextLine}
+use Rattle.ws_network.specs.SessionPrinting.{AreInput, session_lines}
 use Rattle.ws_network.proofs.SessionPrinted.{script_ends, script_fails}
 use Rattle.ws_network.proofs.live_input.carry_input.Goals as goal
 
-unnumbered_more : {L : Type 0} (lines : List (NumberedLine L)) (line : L) → AreUnnumbered lines
-    → AreUnnumbered (lines ++ record { number = None; line = line } ∷ [])
-unnumbered_more [] line all = (refl, tt)
-unnumbered_more (first ∷ lines) line all = (all.0, unnumbered_more lines line all.1)
+input_more : {L : Type 0} (language : LineLanguage L) (ready : Bool) (vocabulary : Vocabulary) (line : L)
+    → IsInputLine language vocabulary ready line → (lines : List (NumberedLine L)) → AreInput language ready lines
+    → AreInput language ready (lines ++ record { number = None; line = line } ∷ [])
+input_more language ready vocabulary line is [] all = (refl, (vocabulary, is), tt)
+input_more language ready vocabulary line is (first ∷ lines) all =
+    (all.0, all.1, input_more language ready vocabulary line is lines all.2)
+
+-- what is carried out next, where lines are typed only in a session that doesn't tell when it is ready
+is_input : {L : Type 0} (language : LineLanguage L) (ready typed : Bool) (vocabulary : Vocabulary) (line : L)
+    → (typed ≡ true → ready ≡ false)
+    → IsNextLine language vocabulary ready line ⊎ ((typed ≡ true) × (language.meanwhile ≡ Some line))
+    → IsInputLine language vocabulary ready line
+is_input language ready typed vocabulary line only (inl read) = inl read
+is_input language ready typed vocabulary line only (inr came) = inr (only came.0, came.1)
 
 pub loop-init : goal.loop-init
-loop-init g c = ([], tt, rw c.none-ran.ensures none_gone, c.requires.works, c.requires.empty)
+loop-init g c = ([], tt, rw c.none-ran.ensures none_gone, c.requires.works, c.requires.empty, rw c.new-input.ensures c.is_typed.ensures)
 
 pub returns-in_default-clause-printed : goal.returns-in_default-clause-printed
 returns-in_default-clause-printed g c = (
@@ -52,7 +65,10 @@ returns-in_err-closing-clause-printed g c =
     g.W.Watch.times) c.args.settings c.args.session.now lines c.carry_line.new.session in
     rw (p.1, p.2) (
       lines,
-      unnumbered_more c.loop.invariant.0 c.in-Some.line c.loop.invariant.1,
+      input_more g.L.LiveLine.language c.args.settings.ready c.args.vocabulary c.in-Some.line
+          (is_input g.L.LiveLine.language c.args.settings.ready c.loop.input.is_typed c.args.vocabulary c.in-Some.line
+          c.loop.invariant.5 (rw c.in-Some.is at c.in_ok-next.ensures.line))
+          c.loop.invariant.0 c.loop.invariant.1,
       script_fails session false c.in_err-closing.field-0.0
           (breaks c.loop.invariant.2 [] refl c.in_err-closing.field-0.0 c.in_err-closing.ensures.printed),
     )
@@ -64,7 +80,10 @@ returns-then-ran-clause-printed g c =
     let session = session_lines (λ told. InTime (g.L.LiveMove.runs g.W.Watch.tells told) g.L.LiveMove.waits
     g.W.Watch.times) c.args.settings c.args.session.now lines c.carry_line.new.session in (
       lines,
-      unnumbered_more c.loop.invariant.0 c.in-Some.line c.loop.invariant.1,
+      input_more g.L.LiveLine.language c.args.settings.ready c.args.vocabulary c.in-Some.line
+          (is_input g.L.LiveLine.language c.args.settings.ready c.loop.input.is_typed c.args.vocabulary c.in-Some.line
+          c.loop.invariant.5 (rw c.in-Some.is at c.in_ok-next.ensures.line))
+          c.loop.invariant.0 c.loop.invariant.1,
       script_ends session false c.and-ran.result (ends_here c.loop.invariant.2 [] refl c.in_ok-closing.ensures.printed
           (c.and-ran.ensures ∙ ap (ran_and c.loop.ran) c.ran.ensures) c.if-ran.true),
     )
@@ -73,8 +92,12 @@ pub loop-preserved : goal.loop-preserved
 loop-preserved g c =
     let made = c.and-ran.ensures ∙ ap (ran_and c.loop.ran) c.ran.ensures in (
       c.loop.invariant.0 ++ record { number = None; line = c.in-Some.line } ∷ [],
-      unnumbered_more c.loop.invariant.0 c.in-Some.line c.loop.invariant.1,
+      input_more g.L.LiveLine.language c.args.settings.ready c.args.vocabulary c.in-Some.line
+          (is_input g.L.LiveLine.language c.args.settings.ready c.loop.input.is_typed c.args.vocabulary c.in-Some.line
+          c.loop.invariant.5 (rw c.in-Some.is at c.in_ok-next.ensures.line))
+          c.loop.invariant.0 c.loop.invariant.1,
       goes_on c.loop.invariant.2 refl c.in_ok-closing.ensures.printed made c.if-ran.false,
       c.in_ok-closing.ensures.works (unstopped c.args.settings.after c.in_ok-closing.closing (rw made at c.if-ran.false)),
       c.carry_line.ensures.held,
+      rw (c.ask_again_after.ensures, c.in_ok-next.ensures.kept) c.loop.invariant.5,
     )

@@ -16,11 +16,12 @@ returns-clause-served g c =
         host = c.open-host.result.0;
         opened = c.open-host.ensures.opened;
         sink = c.write_whole.new.sink;
-        told = rw (c.new-sink.ensures, c.as_slice.ensures.value, c.open-host.ensures.told) at (rw c.in_default.is at c.write_whole.ensures.ok);
+        told = rw (c.new-sink.ensures, c.as_slice.ensures.value, c.open-host.ensures.told)
+            at (rw c.in_default.is at c.write_whole.ensures.ok);
         to = carried.new.session;
         ran = rw (c.new-session.ensures, c.new-attached.ensures, c.new-source.ensures, c.new.ensures) at ran.3;
       },
       ran.4,
     )) (served_well at.runs c.args.asked.now.settings g.O.Sink.writer c.new-session.result carried.new.session
-    (is_some c.args.script) c.args.out.now.sink carried.new.out.sink (AreScripted c.args.script) at.await_next
+    (is_some c.args.script) c.args.out.now.sink carried.new.out.sink (AreScripted g.L.LiveLine.language c.args.asked.now.settings.ready c.args.script) at.await_next
     carried.result carried.ensures.printed)) c.judge-2.ensures

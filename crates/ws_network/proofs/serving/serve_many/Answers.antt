@@ -1,6 +1,7 @@
 use Rattle.std.proofs.Common.{◌≡◌, ◌&&◌, suc, ◌+◌, ◌++◌, refl, sym, subst, arith, append_assoc}
 use Rattle.ws_code.proofs.DeviceLaws.{went_out_both}
 use Rattle.ws_live.specs.live.LiveText.{account}
+use Rattle.ws_network.specs.Listening.{listening_line}
 use Rattle.ws_network.specs.ManySessions.{AreMany, session_line}
 use Rattle.ws_network.specs.Sessions.{IsServed}
 use Rattle.ws_network.proofs.serving.serve_many.Goals as goal
@@ -25,8 +26,8 @@ loop-number-preserved g c =
             refl,
             refl,
           ),
-      rw (← append_assoc so_far.0 so_far.1 (line ++ came.1)) (went_out_both g.O.Sink.writer old c.loop-number.out.sink
-          new (so_far.0 ++ so_far.1) (line ++ came.1) so_far.3 (went_out_both g.O.Sink.writer c.loop-number.out.sink
+      rw (← append_assoc (listening_line so_far.0) so_far.1 (line ++ came.1)) (went_out_both g.O.Sink.writer old c.loop-number.out.sink
+          new (listening_line so_far.0 ++ so_far.1) (line ++ came.1) so_far.3 (went_out_both g.O.Sink.writer c.loop-number.out.sink
           c.put_session.new.out.sink new line came.1 c.in_ok-put_session.ensures.told came.4)),
       c.in_ok-is_well.ensures.held,
     )
