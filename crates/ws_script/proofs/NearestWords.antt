@@ -57,7 +57,7 @@ module _ (v : Vocabulary) (words : List Known) (of : table words ≡ vocabulary_
     -- it isn't
     pub no_nearer : (d : Known) → below ≤ apart word (get_or words index d).0.now
         → NearSoFar v words word (index + 1) below found
-    no_nearer d far = record { each = each_more _ d (omega arith) far; is = so_far.is; }
+    no_nearer d far = record { each = each_more _ d (omega arith) far; is = so_far.is }
 
     -- what holds of each word holds of each first word
     of_first : (P : List ℕ → Type 0) (d : Known) → ((i : ℕ) → i < length words → P (get_or words i d).0.now)
@@ -71,7 +71,12 @@ module _ (v : Vocabulary) (words : List Known) (of : table words ≡ vocabulary_
       is_known : (found : Option AKnown) → IsFound v word below found → IsKnown v word found
       is_known None is = inr (of_first (λ known. length (chars word) / 3 < apart word known) d
           (λ i within. omega (arith, so_far.each i d (omega (arith, all, within)) within, is)))
-      is_known (Some (Near near)) is = (short, is.0, omega (arith, is.2, is.1), of_first
-          (λ known. apart word near.now ≤ apart word known) d
-          (λ i within. omega (arith, so_far.each i d (omega (arith, all, within)) within, is.1)))
+      is_known (Some (Near near)) is = (
+        short,
+        is.0,
+        omega (arith, is.2, is.1),
+        of_first
+            (λ known. apart word near.now ≤ apart word known) d
+            (λ i within. omega (arith, so_far.each i d (omega (arith, all, within)) within, is.1)),
+      )
       is_known (Some (With switch)) is = absurd is

@@ -137,8 +137,9 @@ pub(crate) fn put_pressed<O: Sink>(
             outcome: Ok(Closing::Declined),
         },
         Untaken::Unfilled(why) => Carried {
-            output: texts!("field refused ", field_fault_word(why), ByLine(line), "\n")
-                .put_to(out, output),
+            output: texts!("field refused ", field_fault_word(why), ByLine(line), "\n").put_to(
+                out, output,
+            ),
             outcome: Ok(Closing::Declined),
         },
         Untaken::Unwritten(fault) => Carried::new(output, Err(fault)),

@@ -33,11 +33,7 @@ pub(crate) fn known_of(
 }
 
 // The nearest of the words that such a line begins with, where it is near.
-fn nearest(
-    alloc: Global,
-    vocabulary: Vocabulary,
-    word: &str,
-) -> Result<Option<Known>, AllocError>
+fn nearest(alloc: Global, vocabulary: Vocabulary, word: &str) -> Result<Option<Known>, AllocError>
     ensures { IfOk result (IsKnown vocabulary word.now) }
 {
     let length = characters(word);

@@ -67,9 +67,10 @@ fn filling_keys(screen: &Screen, number: u16, characters: usize) -> Result<KeyRu
     ensures { result_map_both (λ r. r.items) (λ why. why) result
         ≡ Spec.filled_runs screen.now.cursor characters (numbered_field screen.now number) }
 {
-    let (Some(runs), Some(length)) =
-        (field_start_keys(screen, number), field_length(screen, number))
-    else {
+    let (Some(runs), Some(length)) = (
+        field_start_keys(screen, number),
+        field_length(screen, number),
+    ) else {
         return Err(FieldFault::NoSuchField);
     };
     if usize::from(length) < characters {

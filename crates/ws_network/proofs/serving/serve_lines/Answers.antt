@@ -8,14 +8,14 @@ use Rattle.ws_network.proofs.serving.serve_lines.Goals as goal
 
 pub returns-in_default-clause-ran : goal.returns-in_default-clause-ran
 returns-in_default-clause-ran g c = IfOk-weaker c.serve_one.result _ _ (λ all_well came. (
-    came.0,
-    came.1,
-    came.2,
-    from_script (λ v. v.items) g.L.LiveLine.language c.args.asked.now.settings.ready c.args.asked.now.script
-        c.in_ok-script.script c.lines_of-lines.result came.0 c.in_ok-script.ensures.lines c.in_ok-script.ensures.named
-        c.lines_of-lines.ensures came.3,
-    one_session _ c.args.asked.now.script c.args.asked.now.sessions _ (inl c.in_default.is) came.4,
-    came.5,
+  came.0,
+  came.1,
+  came.2,
+  from_script (λ v. v.items) g.L.LiveLine.language c.args.asked.now.settings.ready c.args.asked.now.script
+      c.in_ok-script.script c.lines_of-lines.result came.0 c.in_ok-script.ensures.lines c.in_ok-script.ensures.named
+      c.lines_of-lines.ensures came.3,
+  one_session _ c.args.asked.now.script c.args.asked.now.sessions _ (inl c.in_default.is) came.4,
+  came.5,
 )) c.serve_one.ensures
 
 pub returns-in-Some-lines-clause-ran : goal.returns-in-Some-lines-clause-ran
@@ -23,7 +23,7 @@ returns-in-Some-lines-clause-ran g c =
     let language = g.L.LiveLine.language in
     let script = c.args.asked.now.script in
     let slice = named_slice (λ v. v.items) language c.args.asked.now.settings.ready script c.in_ok-script.script
-        c.lines_of-lines.result c.in_ok-script.ensures.named c.lines_of-lines.ensures in
+    c.lines_of-lines.result c.in_ok-script.ensures.named c.lines_of-lines.ensures in
     IfOk-weaker c.serve_many.result _ _ (λ all_well came. (
       c.in-Some-lines.script.now,
       came.0,
