@@ -1,6 +1,6 @@
 use Rattle.std.specs.Prelude.{◌==◌, ◌&&◌, Bool, Result, Ok, Err, IfOk, IfErr, ◌↔◌, IsTrue}
 use Rattle.std.proofs.Common.{◌≡◌, ℕ, ◌+◌, List, [], ◌∷◌, ◌++◌, inl, inr, Option, None, Some, length, map, take}
-use Rattle.std.proofs.Common.{refl, sym, ap, ◌∙◌, subst}
+use Rattle.std.proofs.Common.{refl, sym, ap, ◌∙◌, subst, arith, length-take}
 use Rattle.std.proofs.lemmas.Grind.{flat_map-append}
 use Rattle.ws_code.specs.Code.{Rules}
 use Rattle.ws_code.specs.Device.{Writer, WentOut, FailedWithin}
@@ -14,14 +14,14 @@ use Rattle.ws_record.specs.declared.record.Item.{Item}
 use Rattle.ws_text.specs.Printed.{IsPrinted}
 use Rattle.ws_printing.specs.Printouts.{printout}
 use Rattle.ws_trace.specs.Ends.{AreHeard, EndAt, carry_fault, end_begins, made_of, told_with}
-use Rattle.ws_trace.specs.Reading.{StreamStanding, MayEndAt}
+use Rattle.ws_trace.specs.Reading.{IsCountFault, StreamStanding, MayEndAt}
 use Rattle.ws_trace.specs.Reading.StreamStanding.{Reads}
-use Rattle.ws_trace.specs.Readers.{ReaderParts, IsNextOf, StandsThere}
+use Rattle.ws_trace.specs.Readers.{ReaderParts, IsFull, IsNextOf, StandsThere}
 use Rattle.ws_trace.specs.Tracers.{IsAdded, Tracks, TracerParts}
 use Rattle.ws_trace.specs.declared.told.Told.{Told}
 use Rattle.ws_trace.specs.declared.told.Told.TheVariants.{Whole, Refused}
-use Rattle.ws_trace.proofs.Tracings.{added_more, added_none, added_one, entries_there}
-use Rattle.ws_program.specs.AllTold.{AllEnding, AreFirstTold, HasToldAll, IsAllTold, IsStopFault, IsUntold, PlacedTold}
+use Rattle.ws_trace.proofs.Tracings.{added_more, added_none, added_one, entries_there, fault_weaker, heard_count}
+use Rattle.ws_program.specs.AllTold.{AllEnding, AreFirstTold, HasToldAll, IsAllTold, IsUntold, PlacedTold}
 use Rattle.ws_program.specs.AllTold.{ToldWay, all_printing, carrying, counts_after, counts_of, counts_with, lines_told}
 use Rattle.ws_program.specs.AllTold.{makes_by, placed_text, told_at}
 use Rattle.ws_program.specs.declared.all_told.AllCounts.{AllCounts}
@@ -195,13 +195,24 @@ module _ {Place U Made S : Type 0} (rules : Rules Place U) (way : ToldWay U)
   module _ {to : S} {bytes : List ℕ} {tracer : TracerParts Place U Made} {counts : AllCounts}
       (s : ToldSoFar rules way is_made writer from to bytes tracer counts) where
     -- no more are read
-    pub told_stopped : (all : List ℕ) (count : ℕ) → take count all ≡ bytes → (fault : Fault) → IsStopFault fault
-        → IsUntold rules way (printout writer from to) all fault
-    told_stopped all count is fault stop = (
-      lines_told way s.told,
-      first_told all count is s.added,
-      inl (stop, s.out),
-    )
+    pub told_stopped : (all : List ℕ) (count : ℕ) → take count all ≡ bytes → (fault : Fault)
+        → IsCountFault (IsFull rules tracer.reader) fault → IsUntold rules way (printout writer from to) all fault
+    told_stopped all count is fault stop =
+        let next = s.added.next in
+        let counted = heard_count rules (carrying way) told_at (end_begins (carrying way)) next bytes _ s.added.heard in (
+          lines_told way s.told,
+          first_told all count is s.added,
+          inl (
+            fault_weaker {fault = fault} (λ full. omega (
+              arith,
+              full next.standing s.added.there.stands,
+              counted.1,
+              length-take count all,
+              ap length is,
+            )) stop,
+            s.out,
+          ),
+        )
 
     -- these are all
     pub told_all : (is_whole : Bool)

@@ -8,7 +8,8 @@ use Rattle.ws_code.specs.declared.fault.Fault.{Fault}
 use Rattle.ws_code.specs.declared.fault.Fault.TheVariants as device
 use Rattle.ws_script.specs.asked.RunFaults.{run_fault}
 use Rattle.ws_script.specs.declared.asked.fault.RunFault.{RunFault}
-use Rattle.ws_trace.specs.Dialogues.{IsDialogue}
+use Rattle.ws_trace.specs.Dialogues.{IsDialogue, IsTooLong}
+use Rattle.ws_trace.specs.Reading.{IsCountFault}
 use Rattle.ws_trace.specs.DialogueText.{dialogue_text}
 use Rattle.ws_trace.specs.TraceText.{is_unrefused}
 use Rattle.ws_trace.specs.declared.dialogue.Dialogue.{Dialogue}
@@ -91,7 +92,7 @@ module _ {S : Type 0} (writer : Writer S) (from to : S) where
   pub dialogue_unput : (form : TraceForm) (pieces : List Piece) (fault : Fault)
       → ((fault ≡ device.Write) × ((d : Dialogue) × IsDialogue pieces d
       × FailedWithin writer from to (dialogue_text form pieces d)))
-      ⊎ (((fault ≡ device.Memory) ⊎ (fault ≡ device.Failed)) × (to ≡ from))
+      ⊎ (IsCountFault (IsTooLong pieces) fault × (to ≡ from))
       → IsCarriedOut writer from to (dialogue_action form pieces) (Err (run_fault fault))
   dialogue_unput form pieces fault (inl h) = inr (inr (
     dialogue_text form pieces h.1.0,
@@ -99,7 +100,7 @@ module _ {S : Type 0} (writer : Writer S) (from to : S) where
     h.1.2,
   ))
   dialogue_unput form pieces fault (inr (inl memory, kept)) = inl (kept, inl (ap run_fault memory))
-  dialogue_unput form pieces fault (inr (inr failed, kept)) = inl (kept, inr (ap run_fault failed))
+  dialogue_unput form pieces fault (inr (inr failed, kept)) = inl (kept, inr (ap run_fault failed.0, failed.1))
 
   -- those of a recording
   pub recording_put : (form : TraceForm) (input : List ℕ) (pieces given : List Piece) → AreRecorded (lines input) pieces
@@ -114,6 +115,6 @@ module _ {S : Type 0} (writer : Writer S) (from to : S) where
       on (Ok accepted) (inl h) = absurd h
       on (Ok accepted) (inr h) = inr (h.0, (pieces, are, h.1), h.2)
       on (Err fault) (inl (kept, inl e)) = inl (kept, subst (IsUntraced input) (sym e) (inl refl))
-      on (Err fault) (inl (kept, inr e)) = inl (kept, subst (IsUntraced input) (sym e) (inr refl))
+      on (Err fault) (inl (kept, inr e)) = inl (kept, subst (IsUntraced input) (sym e.0) (inr (refl, (pieces, are, e.1))))
       on (Err fault) (inr (inl h)) = inr (inl (h.0, (pieces, are, h.1), h.2))
       on (Err fault) (inr (inr h)) = inr (inr (h.0, (h.1.0, (h.1.1.0, (pieces, are, h.1.1.1))), h.2))

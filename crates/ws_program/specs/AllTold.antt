@@ -2,7 +2,7 @@
 -- `show --all` its items, its refusals and what its records make; by `show --json` its items and its refusals as objects;
 -- by `check --all` the refusals and a count.
 
-use Rattle.std.specs.Prelude.{◌≡◌, ℕ, ◌+◌, ◌-◌, ◌^◌, ◌==◌, ◌&&◌, min, List, [], ◌∷◌, ◌++◌, ◌⊎◌, ◌↔◌, Bool, true}
+use Rattle.std.specs.Prelude.{◌≡◌, ◌≤◌, ℕ, ◌+◌, ◌-◌, ◌^◌, ◌==◌, ◌&&◌, min, List, [], ◌∷◌, ◌++◌, ◌⊎◌, ◌↔◌, Bool, true}
 use Rattle.std.specs.Prelude.{false, IsTrue, Option, None, Some, Result, Ok, Err, codes, length, take, if◌then◌else◌}
 use Rattle.std.specs.Borrow.{Bor}
 use Rattle.std.specs.Fmt.{decimal}
@@ -24,7 +24,7 @@ use Rattle.ws_printing.specs.declared.look.Look.{Look}
 use Rattle.ws_printing.specs.declared.paint.Paint.TheVariants.{Plain}
 use Rattle.ws_printing.specs.declared.verdict.Verdict.TheVariants.{Accepted, Truncated}
 use Rattle.ws_trace.specs.Ends.{AreHeard, EndAt, Tracing, end_begins}
-use Rattle.ws_trace.specs.Reading.{MayEndAt}
+use Rattle.ws_trace.specs.Reading.{IsCountFault, MayEndAt}
 use Rattle.ws_trace.specs.declared.told.Told.{Told}
 use Rattle.ws_trace.specs.declared.told.Told.TheVariants.{Whole, Refused}
 use Rattle.ws_program.specs.StreamText.{View}
@@ -140,9 +140,9 @@ checked_line counts true size = if counts.refused == 0 then line_of (Accepted co
 abbrev pub IsCheckedEnd : {U : Type 0} → List ℕ → AllEnding U
 IsCheckedEnd head items counts is_whole size text = text ≡ head ++ checked_line counts is_whole size
 
--- no more bytes are read: a growth was refused, or they can't be counted
-abbrev pub IsStopFault : Fault → Type 0
-IsStopFault fault = (fault ≡ Memory) ⊎ (fault ≡ Failed)
+-- no more of these bytes are read: a growth was refused, or they are more than can be counted
+abbrev pub IsStopFault : List ℕ → Fault → Type 0
+IsStopFault bytes fault = IsCountFault (2 ^ 64 - 2 ≤ length bytes) fault
 
 module _ {Place U : Type 0} (rules : Rules Place U) (way : ToldWay U) where
   -- the lines of what these bytes tell, one after another
@@ -170,7 +170,7 @@ module _ {Place U : Type 0} (rules : Rules Place U) (way : ToldWay U) where
   -- how what is told ends: with the whole text; or with the lines of the first bytes, after which no more are read
   abbrev pub IsAllEnd : AllEnding U → List ℕ → List ℕ → Result Bool Fault → Type 0
   IsAllEnd Ends bytes text (Ok accepted) = IsAllTold Ends bytes accepted text
-  IsAllEnd Ends bytes text (Err fault) = IsStopFault fault × AreFirstTold bytes text
+  IsAllEnd Ends bytes text (Err fault) = IsStopFault bytes fault × AreFirstTold bytes text
 
   -- what is told of a stream; a sink may fail within the lines of the first bytes, or within the whole text
   abbrev pub all_printing : AllEnding U → List ℕ → Printing Bool Fault
@@ -192,7 +192,7 @@ module _ {Place U : Type 0} (rules : Rules Place U) (way : ToldWay U) where
 
     -- it wasn't all printed: no more bytes are read, or the sink failed
     abbrev pub IsUntold : Fault → Type 0
-    IsUntold fault = (text : List ℕ) × AreFirstTold bytes text × ((IsStopFault fault × IsPrintedOut out text)
+    IsUntold fault = (text : List ℕ) × AreFirstTold bytes text × ((IsStopFault bytes fault × IsPrintedOut out text)
         ⊎ ((fault ≡ Write) × FailedWithin out.writer out.from out.to text))
 
 -- what is told of a stream whose items are shown, as lines in a look or as objects

@@ -7,7 +7,7 @@ use Rattle.ws_script.specs.declared.asked.fault.RunFault.TheVariants as run
 use Rattle.ws_printing.specs.declared.script.ScriptFault.{ScriptFault}
 use Rattle.ws_printing.specs.declared.script.ScriptFault.TheVariants.{Line, Memory}
 use Rattle.ws_text.specs.Printed.{in_whole}
-use Rattle.ws_trace.specs.Dialogues.{IsDialogue}
+use Rattle.ws_trace.specs.Dialogues.{IsDialogue, IsTooLong}
 use Rattle.ws_trace.specs.DialogueText.{dialogue_text}
 use Rattle.ws_trace.specs.TraceText.{is_unrefused}
 use Rattle.ws_trace.specs.declared.dialogue.Dialogue.{Dialogue}
@@ -51,7 +51,8 @@ IsPiecesFault text Memory = Unit {0}
 -- why a recording isn't traced; nothing is written then
 abbrev pub IsUntraced : List ℕ → RunFault → Type 0
 IsUntraced input (run.Line number) = IsFirstOther input number
-IsUntraced input fault = (fault ≡ run.Memory) ⊎ (fault ≡ run.Failed)
+IsUntraced input fault = (fault ≡ run.Memory)
+    ⊎ ((fault ≡ run.Failed) × ((pieces : List Piece) × AreRecorded (lines input) pieces × IsTooLong pieces))
 
 -- the text of the dialogue of pieces in a form, and whether nothing of it is refused
 abbrev pub IsDialogueText : TraceForm → List Piece → List ℕ → Result Bool RunFault → Type 0
@@ -61,7 +62,7 @@ IsDialogueText form pieces text outcome = (dialogue : Dialogue) × IsDialogue pi
 -- the dialogue of pieces is printed in a form
 abbrev pub dialogue_action : TraceForm → List Piece → Action Bool RunFault
 dialogue_action form pieces = record {
-  Refuses = λ fault. (fault ≡ run.Memory) ⊎ (fault ≡ run.Failed);
+  Refuses = λ fault. (fault ≡ run.Memory) ⊎ ((fault ≡ run.Failed) × IsTooLong pieces);
   prints = in_whole run.Write (IsDialogueText form pieces);
 }
 
