@@ -102,7 +102,9 @@
  * elements that it reads and the record that it keeps.
  *
  * Stack, in bytes, as measured on x86-64 (`make bench`): with a station of the profile, one of
- * ribbon_station_new_extended and one of ribbon_station_new_live. All other calls take less than 1,500.
+ * ribbon_station_new_extended and one of ribbon_station_new_live. All other calls take less than 1,500. A library that
+ * isn't proved, as of `make quick`, takes more: 145,000, 162,000 and 412,000 for a new station, and else up to three times
+ * as much as is told here, but 75,000 at most.
  *
  *     ribbon_station_new          27,400  42,900  235,000
  *     ribbon_station_push          4,100  36,500   37,200

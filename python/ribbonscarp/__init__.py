@@ -18,6 +18,7 @@ from .errors import (
     RibbonscarpError,
     SendRefused,
     StatusError,
+    TextTooLong,
     Truncated,
     WaitedTooLong,
 )
@@ -82,6 +83,7 @@ __all__ = [
     "StatusError",
     "Step",
     "Style",
+    "TextTooLong",
     "Truncated",
     "WaitedTooLong",
     "Which",

@@ -12,7 +12,7 @@ from collections.abc import Callable
 from .aio_live import LIMIT, Live, within
 from .body import Body
 from .codes import Key, Opcode
-from .connection import check_port
+from .connection import BACKLOG, check_port
 from .end import check_wait
 from .errors import KeyRefused, WaitedTooLong
 from .fields import Field, Which
@@ -40,11 +40,12 @@ async def connect(
     raise_refusals: bool = False,
 ) -> Session:
     """A session at a host, as `ribbonscarp.connect` gives one."""
+    check_wait(wait, 0)
     port, context = check_port(port, tls), context_of(tls)
     station = Station(terminal, strict=strict, device=device, code_page=code_page, keyboard=keyboard)
     try:
         opening = asyncio.open_connection(host, port, ssl=context, limit=LIMIT)
-        streams = await within(opening, check_wait(wait), lambda streams: streams[1].close())
+        streams = await within(opening, wait, lambda streams: streams[1].close())
         return Session(*streams, station=station, wait=wait, raise_refusals=raise_refusals)
     except BaseException as cause:
         station.close()
@@ -66,7 +67,7 @@ async def listen(
     """Listens for stations at an address, as `ribbonscarp.listen` does."""
     listener = Listener(wait, any)
     check_port(port, first=0)
-    listener._server = await asyncio.start_server(listener._came, address, port, ssl=tls, limit=LIMIT, backlog=1024)
+    listener._server = await asyncio.start_server(listener._came, address, port, ssl=tls, limit=LIMIT, backlog=BACKLOG)
     listener.port = listener._server.sockets[0].getsockname()[1]
     return listener
 
@@ -83,6 +84,7 @@ class Session(Live):
         wait: float = 30.0,
         raise_refusals: bool = False,
     ) -> None:
+        check_wait(wait, 0)
         self.station = Station() if station is None else station
         self._station_end = StationEnd(self.station, raise_refusals)
         super().__init__(self._station_end, reader, writer, wait)
@@ -97,7 +99,12 @@ class Session(Live):
 
     async def press(self, key: Key | str) -> None:
         """Presses a key, and sends what it sends."""
+        key = Key.named(key) if isinstance(key, str) else key
         self._check_open()
+        if key.sends:
+            await self._hear(0)
+            self._check_open()
+            self._station_end.check_line()
         sent = self.station.press(key)
         if sent:
             await self._write(sent)
@@ -193,7 +200,9 @@ class Session(Live):
         except KeyRefused as refused:
             self._write_at_once(refused.sent)
             raise
-        self._write_at_once(sent)
+        if sent:
+            self._station_end.check_line()
+            self._write_at_once(sent)
 
     def _free(self) -> None:
         self.station.close()
@@ -206,7 +215,7 @@ class Listener:
     _server: asyncio.Server
 
     def __init__(self, wait: float, any: bool) -> None:
-        self.wait = check_wait(wait)
+        self.wait = check_wait(wait, 0)
         self._any = any
         self._is_closed = False
         self._come: asyncio.Queue[HostSession | None] = asyncio.Queue()
@@ -250,6 +259,7 @@ class HostSession(Live):
     def __init__(
         self, reader: asyncio.StreamReader, writer: asyncio.StreamWriter, *, wait: float = 30.0, any: bool = False
     ) -> None:
+        check_wait(wait, 0)
         self.host = make_host(any)
         self._host_end = HostEnd(self.host)
         super().__init__(self._host_end, reader, writer, wait)

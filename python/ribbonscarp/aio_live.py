@@ -7,7 +7,7 @@ from collections.abc import Callable, Coroutine
 from typing import Any, TypeVar
 
 from .connection import FAREWELL, prepare
-from .end import End, Goal, Wait, check_wait
+from .end import End, Goal, Wait
 from .errors import ConnectionEnded
 from .handle import closed
 from .live import PENDING
@@ -53,7 +53,7 @@ class Live:
     """A live session over streams. It is closed by `close`, or where an `async with` ends."""
 
     def __init__(self, end: End, reader: asyncio.StreamReader, writer: asyncio.StreamWriter, wait: float) -> None:
-        self.wait = check_wait(wait)
+        self.wait = wait
         self._end = end
         self._reader, self._writer = reader, writer
         self._waiter: asyncio.Future[None] | None = None
@@ -78,17 +78,20 @@ class Live:
             return
         self._is_closed = True
         self._wake()
-        with contextlib.suppress(OSError):
-            if self._writer.can_write_eof():
-                self._writer.write_eof()
-                self._room.set()
-                await asyncio.wait({self._pump}, timeout=FAREWELL)
-        self._pump.cancel()
-        self._writer.close()
+        try:
+            with contextlib.suppress(OSError):
+                if self._writer.can_write_eof():
+                    self._writer.write_eof()
+                    self._room.set()
+                    await asyncio.wait({self._pump}, timeout=FAREWELL)
+        finally:
+            # Also where this is cancelled: a second call does nothing.
+            self._pump.cancel()
+            self._writer.close()
+            self._free()
+            self._end.end_recording()
         with contextlib.suppress(OSError, asyncio.TimeoutError):
             await within(self._writer.wait_closed(), FAREWELL)
-        self._end.end_recording()
-        self._free()
 
     async def __aenter__(self: Self) -> Self:
         return self

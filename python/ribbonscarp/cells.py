@@ -66,6 +66,11 @@ class Cell:
     attribute: int
     field: int | None
 
+    def __repr__(self) -> str:
+        """What it shows, and where it isn't hidden its byte."""
+        byte = "" if self.style.is_hidden else f"byte={self.byte}, "
+        return f"Cell(character={self.character!r}, {byte}attribute={self.attribute}, field={self.field})"
+
     @property
     def style(self) -> Style:
         """What a colour display makes of it."""

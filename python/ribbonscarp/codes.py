@@ -178,6 +178,11 @@ class Key(Enum):
     PAGE_UP = (AID, 0xF4)
     PAGE_DOWN = (AID, 0xF5)
 
+    @property
+    def sends(self) -> bool:
+        """Whether it is sent to the host, in whatever field it is pressed."""
+        return self.value[0] in (AID, Key.ATTENTION.value[0], Key.SYSTEM_REQUEST.value[0])
+
     @staticmethod
     def named(name: str) -> Key:
         """The key of a name, in any case and with or without blanks, hyphens and underscores: `Enter`, `page down`.

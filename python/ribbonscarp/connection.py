@@ -21,6 +21,10 @@ FAREWELL = 1.0
 PORT, TLS_PORT = 23, 992
 """The ports of Telnet and of Telnet over TLS."""
 
+BACKLOG = 1024
+"""How many stations may have connected and wait to be accepted; of further ones some would be lost."""
+
+
 def check_port(port: int | None, tls: Tls = False, *, first: int = 1) -> int:
     """A port's number; of `None` the one for Telnet, by TLS or without. `ValueError` where it is none."""
     if port is None:
@@ -36,7 +40,7 @@ def open_line(host: str, port: int, wait: float, tls: Tls = False) -> socket.soc
     `OSError` of the last address where none takes it, and where the host's certificate isn't trusted or is another's.
     Looking a name up has no limit.
     """
-    check_wait(wait)
+    check_wait(wait, 0)
     addresses = socket.getaddrinfo(host, port, type=socket.SOCK_STREAM)
     end = time.monotonic() + wait
     fault = OSError(f"no address of {host}")
@@ -68,11 +72,14 @@ def prepare(sock: socket.socket) -> None:
 
 
 class Connection:
-    """A connected socket. `wait` is the time of a write, in seconds."""
+    """A connected socket. `wait` is the time of a write, in seconds. `ValueError` where it is none, or the socket is
+    closed."""
 
     def __init__(self, sock: socket.socket, wait: float) -> None:
+        if sock.fileno() < 0:
+            raise ValueError(f"sock is closed: {sock}")
         self._sock = sock
-        self.wait = check_wait(wait)
+        self.wait = check_wait(wait, 0)
         self._fault: str | None = None
         self._waits: tuple[type[OSError], ...] = (TimeoutError, BlockingIOError)
         self._is_tls = hasattr(sock, "unwrap")

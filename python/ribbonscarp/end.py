@@ -1,6 +1,7 @@
 """What both ends of a live session have in common, without a socket: what has come, and waits for something of it."""
 from __future__ import annotations
 
+import contextlib
 import math
 import threading
 import time
@@ -47,6 +48,7 @@ class End(ABC):
         """How many bytes have come."""
         self.heard_at = time.monotonic()
         self._recorder: Recorder | None = None
+        self._fault: OSError | None = None
         self._is_inside = self._is_recorded = False
         self._come = bytearray()
         self._replies = bytearray()
@@ -84,14 +86,15 @@ class End(ABC):
             self._come += data
 
     def take(self) -> bool:
-        """Takes what has come up to the end of the next record; whether there was anything. `Refused` as `push`, and what
-        `check` raises."""
+        """Takes what has come up to the end of the next record; whether there was anything. `Refused` as `push`, what
+        `check` raises, and once `OSError` where the recording couldn't be written, which has ended it."""
+        self._tell_fault()
         if not self._come or self.refused is not None:
             return False
         piece = self._next_piece()
         self._is_recorded |= not self._is_inside
-        if self._recorder is not None and self._is_recorded:
-            self._recorder.write(self.other, piece)
+        if self._is_recorded:
+            self._record(self.other, piece)
         try:
             self._replies += self.push(piece)
         except Refused as refused:
@@ -113,22 +116,39 @@ class End(ABC):
 
     def sends(self, data: bytes) -> bytes:
         """Bytes that are to be written, and are recorded."""
-        if self._recorder is not None:
-            self._recorder.write(self.name, data)
+        self._record(self.name, data)
         return data
 
     def record_to(self, file: StrPath) -> str:
         """Records what is taken and sent from now on, beginning at a record or a Telnet command; the file's name."""
+        self._tell_fault()
         recorder = Recorder(file)
         self.end_recording()
         self._recorder, self._is_recorded = recorder, False
         return recorder.file
 
     def end_recording(self) -> None:
-        """Closes the recording's file, where there is one."""
+        """Closes the recording's file, where there is one. `OSError` where it couldn't be written, if nobody was told."""
         if self._recorder is not None:
             self._recorder.close()
             self._recorder = None
+        self._tell_fault()
+
+    def _record(self, sender: str, data: bytes) -> None:
+        """Records a piece. What can't be written ends the recording, and is told later, so that nothing is lost by it."""
+        if self._recorder is not None:
+            try:
+                self._recorder.write(sender, data)
+            except OSError as fault:
+                self._fault = fault
+                with contextlib.suppress(OSError):
+                    self._recorder.close()
+                self._recorder = None
+
+    def _tell_fault(self) -> None:
+        fault, self._fault = self._fault, None
+        if fault is not None:
+            raise fault
 
     def _next_piece(self) -> bytes:
         """Up to IAC EOR, or all. A cut within a record does no harm, so that its FF was doubled isn't looked for."""
@@ -190,8 +210,9 @@ class Wait(Generic[T]):
         return f": nothing at all has come from the {self._end.other}, as where a port isn't Telnet's, or is TLS's"
 
 
-def check_wait(seconds: float) -> float:
-    """A time in seconds. `ValueError` where it is none that can be waited for."""
-    if not seconds <= threading.TIMEOUT_MAX:
-        raise ValueError(f"wait={seconds} is no number of seconds up to {threading.TIMEOUT_MAX:.0f}")
+def check_wait(seconds: float, least: float = -math.inf) -> float:
+    """A time in seconds; one below 0 is over. `ValueError` where it is none that can be waited for, or is below the
+    least."""
+    if not least <= seconds <= threading.TIMEOUT_MAX:
+        raise ValueError(f"wait={seconds} is no number of seconds from 0 to {threading.TIMEOUT_MAX:.0f}")
     return seconds

@@ -2,7 +2,7 @@
 from __future__ import annotations
 
 from collections.abc import Sequence
-from typing import TYPE_CHECKING
+from typing import TYPE_CHECKING, Any
 
 from .codes import Key, KeyRefusal, Reason, Status
 
@@ -13,7 +13,10 @@ if TYPE_CHECKING:
 
 
 class RibbonscarpError(Exception):
-    """Every error of this package."""
+    """Every error of this package. It goes to another process as it is."""
+
+    def __reduce__(self) -> tuple[Any, ...]:
+        return _bare, (type(self),), {"args": self.args} | self.__dict__
 
 
 class LibraryNotFound(RibbonscarpError):
@@ -91,12 +94,14 @@ class SendRefused(RibbonscarpError):
 
 
 class KeyRefused(RibbonscarpError):
-    """The keyboard or the field refuses `key`, a `Key` or a character. The cursor stood at `place`, and stays there. What
-    keys of the same call had sent before is in `sent`."""
+    """The keyboard or the field refuses `key`, a `Key` or a character, whose text `is_hidden` leaves out. The cursor stood
+    at `place`, and stays there. What keys of the same call had sent before is in `sent`."""
 
-    def __init__(self, refusal: KeyRefusal, key: Key | str, place: tuple[int, int], text: str) -> None:
-        name = key.name if isinstance(key, Key) else repr(key)
-        super().__init__(f"key {name} at row {place[0]}, column {place[1]}: {text}")
+    def __init__(
+        self, refusal: KeyRefusal, key: Key | str, place: tuple[int, int], text: str, is_hidden: bool = False
+    ) -> None:
+        name = "a hidden character" if is_hidden else f"key {key.name if isinstance(key, Key) else repr(key)}"
+        super().__init__(f"{name} at row {place[0]}, column {place[1]}: {text}")
         self.refusal = refusal
         self.key = key
         self.place = place
@@ -105,6 +110,10 @@ class KeyRefused(RibbonscarpError):
 
 class FieldNotFound(RibbonscarpError, LookupError):
     """No field, or more than one, is what was asked for."""
+
+
+class TextTooLong(RibbonscarpError, ValueError):
+    """A field has no room for a text; nothing was typed."""
 
 
 class WaitedTooLong(RibbonscarpError, TimeoutError):
@@ -121,6 +130,11 @@ class ConnectionEnded(RibbonscarpError, ConnectionError):
     def __init__(self, fault: str, screen: Screen | None = None) -> None:
         super().__init__(f"the connection has ended: {fault}{_shown(screen)}")
         self.screen = screen
+
+
+def _bare(kind: type[RibbonscarpError]) -> RibbonscarpError:
+    """An error of a kind, without its text and attributes."""
+    return kind.__new__(kind)
 
 
 def _shown(screen: Screen | None) -> str:

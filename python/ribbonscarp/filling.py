@@ -4,6 +4,7 @@ from __future__ import annotations
 from collections.abc import Iterator
 
 from .codes import Key, KeyRefusal
+from .errors import TextTooLong
 from .fields import Field, Shift
 from .library import has_byte
 
@@ -28,12 +29,13 @@ def is_negative(field: Field, text: str) -> bool:
 
 
 def typed_of(field: Field, text: str) -> str:
-    """What of a text is typed into a field: all but the minus of a signed one. `ValueError` where it is too long."""
+    """What of a text is typed into a field: all but the minus of a signed one. `TextTooLong` where it has no room."""
     typed = text
     if is_negative(field, text):
         typed = text.removeprefix("-") if text[:1] == "-" else text.removesuffix("-")
     if len(typed) > room_of(field):
-        raise ValueError(f"field {field.number} takes {room_of(field)} characters, and not the {len(typed)} of {text!r}")
+        given = f"{len(typed)}" if field.is_hidden else f"the {len(typed)} of {text!r}"
+        raise TextTooLong(f"field {field.number} takes {room_of(field)} characters, and not {given}")
     return typed
 
 
@@ -62,7 +64,7 @@ def keys_to_fill(field: Field, cursor: tuple[int, int], text: str) -> list[Key |
     empty, and the characters.
 
     Where the field moves its characters to its end, or is signed, Field Exit follows; Field Minus in a signed field
-    where a minus stands before or after the digits. `ValueError` where the text is too long.
+    where a minus stands before or after the digits. `TextTooLong` where the field has no room.
     """
     typed = typed_of(field, text)
     first = (field.row, field.column)

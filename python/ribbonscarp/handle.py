@@ -15,6 +15,10 @@ from .library import library, reason_text, status_text
 
 Self = TypeVar("Self", bound="Held")
 
+STACK = 1 << 20
+"""Bytes of stack, at least, of the thread on which objects are made. `ribbon_station_new_live` takes 412,000 of them, where
+the library isn't proved."""
+
 
 class Held:
     """An object of the library, which is freed by `close`, where a `with` ends, or once it is forgotten.
@@ -72,7 +76,12 @@ class _Maker:
         with self._lock:
             if self._thread is None or not self._thread.is_alive():
                 self._thread = threading.Thread(target=self._work, name="ribbonscarp", daemon=True)
-                self._thread.start()
+                size = threading.stack_size()
+                threading.stack_size(max(size, STACK) if size else 0)  # 0 is the system's, some megabytes.
+                try:
+                    self._thread.start()
+                finally:
+                    threading.stack_size(size)
             self._asked.put(call)
             return self._told.get()
 

@@ -3,12 +3,13 @@ from __future__ import annotations
 
 import contextlib
 import socket
+import time
 from typing import TYPE_CHECKING
 
 from .body import Body
 from .codes import Opcode
-from .connection import check_port
-from .end import check_wait
+from .connection import BACKLOG, Connection, check_port
+from .end import LATE, check_wait
 from .errors import WaitedTooLong
 from .handle import closed
 from .host import Answer, Event
@@ -18,6 +19,9 @@ from .records import Record
 
 if TYPE_CHECKING:
     import ssl
+
+HANDSHAKE = 10.0
+"""For how many seconds a station may keep others waiting before it speaks TLS, at most."""
 
 
 def listen(
@@ -34,8 +38,9 @@ def listen(
 
     `OSError` where the address can't be listened at."""
     check_port(port, first=0)
+    check_wait(wait, 0)
     family = socket.AF_INET6 if ":" in address else socket.AF_INET
-    return Listener(socket.create_server((address, port), family=family), wait=wait, tls=tls, any=any)
+    return Listener(socket.create_server((address, port), family=family, backlog=BACKLOG), wait=wait, tls=tls, any=any)
 
 
 class Listener:
@@ -48,33 +53,37 @@ class Listener:
         self._sock = sock
         self._tls, self._any = tls, any
         self._is_closed = False
-        self.wait = check_wait(wait)
+        self._shaking: set[ssl.SSLSocket] = set()
+        self.wait = check_wait(wait, 0)
         self.port: int = sock.getsockname()[1]
 
     def accept(self, wait: float | None = None) -> HostSession:
-        """The session of the next station. `WaitedTooLong` where none connects in time; `StatusError` where the listener
-        is closed, also meanwhile; `OSError` where the station doesn't speak TLS as it is to."""
+        """The session of the next station; one that doesn't speak TLS as it is to is left out. `WaitedTooLong` where none
+        comes in time; `StatusError` where the listener is closed, also meanwhile."""
         seconds = check_wait(self.wait if wait is None else wait)
-        try:
-            self._sock.settimeout(max(seconds, 0.0))
-            line, _ = self._sock.accept()
-        except (TimeoutError, BlockingIOError):
-            raise WaitedTooLong("a station", seconds) from None
-        except OSError:
-            if self._is_closed:
-                raise closed(self) from None
-            raise
-        if self._tls is not None:
-            with line:
-                line.settimeout(self.wait)
-                line = self._tls.wrap_socket(line, server_side=True)
-        return HostSession(line, wait=self.wait, any=self._any)
+        over, left, hint = time.monotonic() + seconds, max(seconds, 0.0), ""
+        while left >= 0:
+            try:
+                self._sock.settimeout(left)
+                line, _ = self._sock.accept()
+            except (TimeoutError, BlockingIOError):
+                break
+            except OSError:
+                if self._is_closed:
+                    raise closed(self) from None
+                raise
+            ready = line if self._tls is None else self._secured(line, self._tls, over)
+            if not isinstance(ready, OSError):
+                return HostSession(ready, wait=self.wait, any=self._any)
+            left, hint = over - time.monotonic(), f"; one hasn't spoken TLS as it is to: {ready}"
+        raise WaitedTooLong("a station", seconds, hint=hint)
 
     def close(self) -> None:
         """Listens no more; an `accept` on another thread ends. Sessions that were accepted go on."""
         self._is_closed = True
-        with contextlib.suppress(OSError):
-            self._sock.shutdown(socket.SHUT_RDWR)
+        for line in (self._sock, *self._shaking):
+            with contextlib.suppress(OSError):
+                socket.socket.shutdown(line, socket.SHUT_RDWR)
         self._sock.close()
 
     def __enter__(self) -> Listener:
@@ -82,6 +91,26 @@ class Listener:
 
     def __exit__(self, *error: object) -> None:
         self.close()
+
+    def _secured(self, line: socket.socket, tls: ssl.SSLContext, over: float) -> socket.socket | OSError:
+        """A connection after its TLS handshake, or why that fails: also where its time is over, or this is closed."""
+        try:
+            with line:
+                line.settimeout(min(max(over - time.monotonic(), LATE), HANDSHAKE))
+                secured = tls.wrap_socket(line, server_side=True, do_handshake_on_connect=False)
+        except OSError as fault:
+            return fault
+        self._shaking.add(secured)
+        try:
+            if self._is_closed:
+                socket.socket.shutdown(secured, socket.SHUT_RDWR)
+            secured.do_handshake()
+            return secured
+        except OSError as fault:
+            secured.close()
+            return fault
+        finally:
+            self._shaking.discard(secured)
 
 
 class HostSession(Live):
@@ -94,9 +123,10 @@ class HostSession(Live):
     """
 
     def __init__(self, sock: socket.socket, *, wait: float = 30.0, any: bool = False) -> None:
+        connection = Connection(sock, wait)
         self.host = make_host(any)
         self._host_end = HostEnd(self.host)
-        super().__init__(self._host_end, sock, wait)
+        super().__init__(self._host_end, connection)
         self._answer()
 
     @property

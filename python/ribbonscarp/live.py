@@ -2,7 +2,6 @@
 from __future__ import annotations
 
 import contextlib
-import socket
 import threading
 import time
 from collections.abc import Iterator
@@ -27,10 +26,10 @@ class Live:
     Any thread may use it: a call waits until that of another thread is over.
     """
 
-    def __init__(self, end: End, sock: socket.socket, wait: float) -> None:
-        self.wait = wait
+    def __init__(self, end: End, connection: Connection) -> None:
+        self.wait = connection.wait
         self._end = end
-        self._connection = Connection(sock, wait)
+        self._connection = connection
         self._lock = threading.RLock()
         self._is_closed = False
 
@@ -47,7 +46,7 @@ class Live:
     def record_to(self, file: StrPath) -> str:
         """Records what crosses the connection from now on, in the form of the program's `--record`, and gives the name of
         the file: FILE, or with a number after it where that is there. The file holds what is typed into hidden
-        fields."""
+        fields. Where it can't be written the recording ends, and a later call raises `OSError`, once."""
         with self._in_use():
             return self._end.record_to(file)
 
@@ -61,8 +60,8 @@ class Live:
         try:
             self._connection.close()
             self._end.end_recording()
-            self._free()
         finally:
+            self._free()
             self._lock.release()
 
     def _free(self) -> None:

@@ -7,7 +7,7 @@ from collections.abc import Callable
 from typing import TYPE_CHECKING
 
 from .codes import Key
-from .connection import check_port, open_line
+from .connection import Connection, check_port, open_line
 from .errors import KeyRefused
 from .fields import Field, Which
 from .live import Live
@@ -71,9 +71,10 @@ class Session(Live):
         wait: float = 30.0,
         raise_refusals: bool = False,
     ) -> None:
+        connection = Connection(sock, wait)
         self.station = Station() if station is None else station
         self._station_end = StationEnd(self.station, raise_refusals)
-        super().__init__(self._station_end, sock, wait)
+        super().__init__(self._station_end, connection)
 
     def type(self, text: str) -> None:
         """Types characters, and sends what they send, where Enter follows the last of a field. `KeyRefused` at the first
@@ -86,8 +87,12 @@ class Session(Live):
 
     def press(self, key: Key | str) -> None:
         """Presses a key, also by its name as `Key.named` takes it, and sends what it sends. `KeyRefused`, or
-        `StatusError`, as `Station.press`."""
+        `StatusError`, as `Station.press`; `ConnectionEnded` where it sends and the host has closed: the screen is then as
+        it was."""
+        key = Key.named(key) if isinstance(key, str) else key
         with self._in_use():
+            if key.sends:
+                self._check_line()
             self._write(self.station.press(key))
 
     def fill(self, which: Which, text: str) -> None:
@@ -188,7 +193,12 @@ class Session(Live):
                     self._write(refused.sent)
                 raise
             if sent:
+                self._check_line()
                 self._write(sent)
+
+    def _check_line(self) -> None:
+        if self.has_ended:
+            self._station_end.check_line()
 
     def _free(self) -> None:
         self.station.close()

@@ -6,6 +6,7 @@ import re
 from collections.abc import Iterable
 from typing import Any, NamedTuple
 
+from .cells import is_hiding
 from .codes import AID, CHARACTER, CODE_PAGES, INSERTED_CHARACTER, TERMINALS, Key, KeyRefusal, Read, Reason, Status
 from .errors import KeyRefused
 from .fields import Field, Which
@@ -128,7 +129,7 @@ class Station(Held):
         """Puts a text into a field in place of what it held, by the keys that `keys_to_fill` names, and gives what they
         send.
 
-        `FieldNotFound` where there is no such field, `ValueError` where the text is too long for it, `KeyRefused` where
+        `FieldNotFound` where there is no such field, `TextTooLong` where it has no room for the text, `KeyRefused` where
         the keyboard is locked, the field is protected, or it doesn't take a character: no key is then pressed.
         """
         with self._lock:
@@ -284,7 +285,13 @@ class Station(Held):
         text, row = refusal_text(refusal), self.state.error_row
         if refusal is KeyRefusal.LOCKED and row is not None:
             text += f", since an error of the host's stands on row {row}: press Key.RESET"
-        return KeyRefused(refusal, key, place, text)
+        return KeyRefused(refusal, key, place, text, isinstance(key, str) and len(key) == 1 and self._hides(*place))
+
+    def _hides(self, row: int, column: int) -> bool:
+        """Whether nothing is shown of what a cell holds."""
+        cells = (CellTold * COLUMNS)()
+        check(self._call("cells", row, row, cells, COLUMNS))
+        return is_hiding(cells[column - 1].attribute)
 
 
 def _key_told(key: Key | str) -> tuple[Key | str, int, int]:

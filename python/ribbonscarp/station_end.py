@@ -7,8 +7,8 @@ from collections.abc import Callable
 from typing import TypeAlias
 
 from .end import End, Goal
-from .errors import RecordRefused
-from .library import reason_text
+from .errors import ConnectionEnded, RecordRefused
+from .library import COLUMNS, ROWS, reason_text
 from .screen import Screen
 from .station import Station
 
@@ -39,6 +39,11 @@ class StationEnd(End):
             reason, place = refusals[0]
             raise RecordRefused(reason, place, reason_text(reason), self.screen)
 
+    def check_line(self) -> None:
+        """`ConnectionEnded` where the host has closed. The system would still take a key's bytes, and nobody have them."""
+        if self.has_closed:
+            raise ConnectionEnded("the host takes no key any more", self.screen)
+
     @property
     def screen(self) -> Screen:
         return self.station.screen
@@ -58,7 +63,12 @@ class StationEnd(End):
         return Goal("a record", lambda: self.screen if self.station.state.records > before else None)
 
     def text(self, text: str | re.Pattern[str], at: tuple[int, int] | None) -> Goal[Screen]:
-        """A text or a match in a row, or at a row and a column."""
+        """A text or a match in a row, or at a row and a column. `TypeError` where it is neither, `ValueError` where the
+        screen has no such cell."""
+        if not isinstance(text, (str, re.Pattern)):
+            raise TypeError(f"text={text!r} is no text and no compiled regular expression")
+        if at is not None and not (1 <= at[0] <= ROWS and 1 <= at[1] <= COLUMNS):
+            raise ValueError(f"at={at} is no row and column of the screen")
 
         def is_shown(screen: Screen) -> bool:
             if at is None:
@@ -80,7 +90,7 @@ class StationEnd(End):
         return Goal(what, find)
 
     def any_of(self, sought: tuple[Sought, ...]) -> Goal[Sought]:
-        """The first of several. `ValueError` where there are none."""
+        """The first of several. `ValueError` where there are none, `TypeError` where one can't be waited for."""
         if not sought:
             raise ValueError("there is nothing to wait for")
 
@@ -108,6 +118,8 @@ def _name(sought: Sought) -> str:
         return f"the text {sought!r}"
     if isinstance(sought, re.Pattern):
         return f"a match of {sought.pattern!r}"
+    if not callable(sought):
+        raise TypeError(f"sought={sought!r} is no text, no compiled regular expression and no function of the screen")
     return "the screen"
 
 

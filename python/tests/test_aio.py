@@ -101,10 +101,10 @@ class AioTest(unittest.IsolatedAsyncioTestCase):
         with self.assertRaises(ConnectionEnded):
             await session.wait_text("never")
         self.assertTrue(session.has_ended)
-        with self.assertRaises(ConnectionEnded):
-            for _ in range(100):
-                await session.press(Key.ATTENTION)
-                await asyncio.sleep(0.01)
+        for key in (Key.ENTER, Key.ENTER, Key.ATTENTION):
+            with self.assertRaisesRegex(ConnectionEnded, "the host takes no key any more; the screen"):
+                await session.press(key)
+        self.assertFalse(session.screen.is_locked)
 
     async def test_closed(self) -> None:
         """Also while another task waits."""
@@ -127,6 +127,13 @@ class AioTest(unittest.IsolatedAsyncioTestCase):
             await asyncio.wait_for(session.wait_text("ONE"), 0.1)
         host.sendall(text("ONE"))
         self.assertEqual((await session.wait_text("ONE")).row(1), "ONE")
+
+    async def test_cancelled_close(self) -> None:
+        """Nothing is left open, though the host doesn't close."""
+        session, _ = await self.begin(ASKED)
+        with self.assertRaises(asyncio.TimeoutError):
+            await asyncio.wait_for(session.close(), 0.1)
+        self.assertEqual((session._writer.is_closing(), session.station._is_held), (True, False))
 
     async def test_cancelled_as_a_station_comes(self) -> None:
         """Neither the cancel is lost nor the station."""

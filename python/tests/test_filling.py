@@ -3,7 +3,7 @@ from __future__ import annotations
 
 import unittest
 
-from ribbonscarp import Key, KeyRefusal, KeyRefused, Shift, keys_to_fill
+from ribbonscarp import Key, KeyRefusal, KeyRefused, RibbonscarpError, Shift, TextTooLong, keys_to_fill
 from ribbonscarp.filling import takes
 from support import ready_station
 
@@ -63,6 +63,27 @@ class FillingTest(unittest.TestCase):
                     station.fill(1, text)
                 self.assertEqual(station.screen.fields[0].content, b"\xf1" + bytes(5))
                 self.assertEqual(station.screen.cursor, (8, 10))
+
+    def test_hidden(self) -> None:
+        """No error shows what was to be typed into a hidden field, and no cell what was."""
+        body = bytes.fromhex("0440 04110008 110634 1D4000270006 04520000")
+        for text, kind, said in (
+            ("SECRETS", TextTooLong, "field 1 takes 6 characters, and not 7"),
+            ("ABC\u20ac", KeyRefused, "a hidden character at row 6, column 56: "),
+        ):
+            with ready_station(body) as station, self.assertRaises(RibbonscarpError) as caught:
+                station.fill(1, text)
+            self.assertIsInstance(caught.exception, kind)
+            self.assertIn(said, str(caught.exception))
+            self.assertNotRegex(str(caught.exception), "SECRET|\u20ac")
+        with ready_station(body) as station:
+            station.type("S")
+            with self.assertRaisesRegex(KeyRefused, "a hidden character at row 6, column 54: "):
+                station.type("\u20ac")
+            self.assertEqual(repr(station.screen.cell(6, 53)), "Cell(character=' ', attribute=39, field=1)")
+            station.move_cursor(5, 1)
+            with self.assertRaisesRegex(KeyRefused, "key 'S' at row 5, column 1: "):
+                station.type("S")
 
     def test_refused(self) -> None:
         """Before any key is pressed: the field and the cursor stay as they were."""

@@ -3,6 +3,7 @@ from __future__ import annotations
 
 import contextlib
 import functools
+import pathlib
 import socket
 import threading
 import time
@@ -105,6 +106,13 @@ class EachOtherTest(unittest.TestCase):
             for beside in besides:
                 beside.finish()
         self.assertEqual(sorted(told), sorted(names))
+
+    def test_many_at_once(self) -> None:
+        """Hundreds that have connected before the first is accepted."""
+        most = int(pathlib.Path("/proc/sys/net/core/somaxconn").read_text(encoding="ascii"))
+        with listen(wait=60) as listener, contextlib.ExitStack() as lines:
+            for _ in range(min(300, most)):
+                lines.enter_context(socket.create_connection(("127.0.0.1", listener.port), timeout=60))
 
     def test_two_stations(self) -> None:
         """One after another at one listener, also at an address of IPv6."""

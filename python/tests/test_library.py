@@ -124,6 +124,17 @@ class FastTest(unittest.TestCase):
         self.assertLess(resource.getrusage(resource.RUSAGE_CHILDREN).ru_utime - before, 0.5)
 
 
+class StackTest(unittest.TestCase):
+    def test_stack(self) -> None:
+        """Threads with little of it make stations too, and the size that was set stays."""
+        code = "import ribbonscarp, threading; threading.stack_size(1 << 17)\n"
+        code += "one = threading.Thread(target=lambda: ribbonscarp.Station().close())\n"
+        code += "one.start(); one.join(); print(threading.stack_size())"
+        done = subprocess.run([sys.executable, "-c", code], env=os.environ | {"PYTHONPATH": str(TOP / "python")},
+                              capture_output=True, text=True, check=False)
+        self.assertEqual((done.returncode, done.stdout, done.stderr), (0, "131072\n", ""))
+
+
 class FindingTest(unittest.TestCase):
     """In a process of its own, since a library is loaded once."""
 

@@ -12,6 +12,7 @@ import unittest
 
 from ribbonscarp import Header, Key, Opcode, Recording, Session, Truncated, aio, connect, listen
 from support import ASKED, EXAMPLES, FORM, PROGRAM, Beside, Serve, record
+from test_waits import text
 
 INQUIRY = (EXAMPLES / "inquiry.serve").read_text(encoding="utf-8")
 
@@ -110,6 +111,65 @@ class RecordingTest(unittest.TestCase):
         with listen(wait=60) as listener, connect("127.0.0.1", listener.port, wait=60) as session:
             with self.assertRaises(NotADirectoryError):
                 session.record_to(self.file / "none")
+
+    def begin_full(self) -> tuple[Session, socket.socket]:
+        """A session that records on a full disk, and its host's end."""
+        line, host = socket.socketpair()
+        session = Session(sock=line, wait=60)
+        self.addCleanup(host.close)
+        self.addCleanup(session.close)
+        host.sendall(ASKED + record(FORM))
+        session.wait_unlocked()
+        session.record_to(self.file)
+        self.fill_up(session)
+        return session, host
+
+    def fill_up(self, session: Session | aio.Session) -> None:
+        """Has a session's recording stand on a full disk."""
+        assert session._end._recorder is not None
+        with open("/dev/full", "wb") as full:
+            os.dup2(full.fileno(), session._end._recorder._out.fileno())
+
+    def test_full(self) -> None:
+        """It is told once, by the next wait, and takes nothing of either side with it."""
+        session, host = self.begin_full()
+        session.press(Key.ENTER)
+        with self.assertRaisesRegex(OSError, "No space left"):
+            session.wait_text("ONE")
+        self.assertTrue(host.recv(4096).endswith(record("0635F1")))
+        host.sendall(text("ONE"))
+        session.wait_text("ONE")
+
+    def test_full_at_the_end(self) -> None:
+        """What the last record meets is told by the close, which frees all."""
+        session, host = self.begin_full()
+        host.sendall(text("ONE"))
+        session.wait_text("ONE")
+        host.close()
+        with self.assertRaisesRegex(OSError, "No space left"):
+            session.close()
+        self.assertFalse(session.station._is_held)
+        session.close()
+
+    def test_full_aio(self) -> None:
+        """The same with asyncio."""
+
+        async def close_full() -> None:
+            line, host = socket.socketpair()
+            with host:
+                host.sendall(ASKED + record(FORM))
+                session = aio.Session(*await asyncio.open_connection(sock=line), wait=60)
+                await session.wait_unlocked()
+                session.record_to(self.file)
+                self.fill_up(session)
+                await session.press(Key.ENTER)
+                host.shutdown(socket.SHUT_WR)
+                with self.assertRaisesRegex(OSError, "No space left"):
+                    await session.close()
+                self.assertFalse(session.station._is_held)
+                self.assertTrue(host.recv(4096).endswith(record("0635F1")))
+
+        asyncio.run(close_full())
 
     def test_bad(self) -> None:
         for line in ("host FF", "1 terminal FF", "1 host F", "x host FF", "1 host FF FF", ""):

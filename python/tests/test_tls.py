@@ -69,12 +69,12 @@ class TlsTest(unittest.TestCase):
                 with listener.accept() as host:
                     host.wait_ready()
                     play(host)
-            except OSError:
+            except (OSError, StatusError):
                 pass  # The station doesn't trust it.
 
         beside = Beside(accept)
-        self.addCleanup(listener.close)
         self.addCleanup(beside.finish)
+        self.addCleanup(listener.close)
         return listener
 
     def serve_silence(self) -> tuple[Listener, threading.Event]:
@@ -235,6 +235,39 @@ class TlsTest(unittest.TestCase):
         over.set()
         beside.finish()
         self.assertIn("this Session is closed", told[0])
+
+    def test_not_by_tls(self) -> None:
+        """Who is silent or says something else takes the call's time alone, and the next is taken within it."""
+        with listen(tls=self.right, wait=60) as listener:
+            silent = socket.create_connection(("127.0.0.1", listener.port), timeout=60)
+            with silent, self.assertRaisesRegex(WaitedTooLong, "a station hasn't come within 0.2 seconds; .* timed out"):
+                listener.accept(wait=0.2)
+            with socket.create_connection(("127.0.0.1", listener.port)) as wrong:
+                wrong.sendall(ASKED)
+                beside = Beside(lambda: self.connect_to(listener.port))
+                with listener.accept() as host:
+                    host.wait_ready()
+                beside.finish()
+
+    def connect_to(self, port: int) -> None:
+        with connect("localhost", port, tls=self.issuer.trusting(), wait=60) as session:
+            session.wait_for(lambda screen: screen.state.is_ready)
+
+    def test_closed_at_a_handshake(self) -> None:
+        """A listener that is closed waits for no station's TLS."""
+        listener = listen(tls=self.right, wait=60)
+
+        def accept() -> None:
+            with self.assertRaisesRegex(StatusError, "this Listener is closed"):
+                listener.accept()
+
+        with socket.create_connection(("127.0.0.1", listener.port)):
+            begun, beside = time.monotonic(), Beside(accept)
+            while not listener._shaking:
+                time.sleep(0.01)
+            listener.close()
+            beside.finish()
+            self.assertLess(time.monotonic() - begun, 9)
 
     def test_aio(self) -> None:
         async def station(port: int) -> str:

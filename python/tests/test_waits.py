@@ -1,6 +1,7 @@
 """Waits of a live session: they look after each record, end at once where nothing can come, and say what is wrong."""
 from __future__ import annotations
 
+import asyncio
 import gc
 import math
 import re
@@ -10,8 +11,8 @@ import unittest
 import warnings
 from collections.abc import Callable
 
-from ribbonscarp import ConnectionEnded, Key, KeyRefusal, KeyRefused, Reason, Refused, Session, StatusError, WaitedTooLong
-from ribbonscarp import Station, connect, listen
+from ribbonscarp import ConnectionEnded, HostSession, Key, KeyRefusal, KeyRefused, Reason, Refused, Session, StatusError
+from ribbonscarp import Station, WaitedTooLong, aio, connect, listen
 from support import ASKED, FORM, PAST_END, Beside, record
 
 
@@ -89,6 +90,8 @@ class GoalsTest(PairTest):
             self.session.wait_any(re.compile("x.y"), "Z", wait=0)
         with self.assertRaisesRegex(ValueError, "there is nothing to wait for"):
             self.session.wait_any()
+        with self.assertRaisesRegex(TypeError, r"sought=\['Z'\] is no text, no compiled"):
+            self.session.wait_any("Y", ["Z"])  # type: ignore[arg-type]
 
     def test_regular_expression(self) -> None:
         self.send(ASKED, text("Job 004711"))
@@ -96,6 +99,11 @@ class GoalsTest(PairTest):
         self.assertEqual(self.session.wait_text(re.compile(r"\d+"), at=(1, 5), wait=0).row(1), "Job 004711")
         with self.assertRaises(WaitedTooLong):
             self.session.wait_text(re.compile(r"\d+"), at=(1, 1), wait=0)
+        for at in ((0, 1), (25, 1), (1, 0), (1, 81)):
+            with self.assertRaisesRegex(ValueError, rf"at=\({at[0]}, {at[1]}\) is no row and column of the screen"):
+                self.session.wait_text(re.compile(" *"), at=at)
+        with self.assertRaisesRegex(TypeError, r"text=\['Job'\] is no text"):
+            self.session.wait_text(["Job"])  # type: ignore[arg-type]
 
     def test_quiet(self) -> None:
         def work() -> None:
@@ -170,6 +178,26 @@ class EndedTest(PairTest):
             self.session.wait_text("never", wait=60)
         self.assertLess(time.monotonic() - begun, 30)
         self.assertEqual(len(self.session.screen.fields), 1)
+
+    def test_key_at_a_closed_host(self) -> None:
+        """One that sends is told of the end, also the second time, and leaves the screen as it is."""
+        self.send(ASKED, record(FORM))
+        self.session.wait_unlocked()
+        self.send(text("ONE"))
+        self.host.close()
+        for key in (Key.ENTER, Key.ENTER, Key.ATTENTION):
+            with self.assertRaisesRegex(ConnectionEnded, "the host takes no key any more; the screen"):
+                self.session.press(key)
+        self.session.press(Key.TAB)
+        self.assertEqual((self.session.station.state.is_locked, self.session.screen.row(1)), (False, "ONE"))
+
+    def test_auto_enter_at_a_closed_host(self) -> None:
+        self.send(ASKED, record(FORM.replace(b"\x1d\x40\x00", b"\x1d\x40\x80")))
+        self.session.wait_unlocked()
+        self.host.close()
+        self.session.fill(1, "BOB")
+        with self.assertRaisesRegex(ConnectionEnded, "the host takes no key any more; the screen"):
+            self.session.fill(1, "ABCDEFGHIJ")
 
 
 class SaidTest(PairTest):
@@ -260,6 +288,44 @@ class SaidTest(PairTest):
                 self.session.wait_unlocked(wait=wait)
             with self.assertRaisesRegex(ValueError, "wait=.* is no number of seconds"):
                 connect("127.0.0.1", 1, wait=wait)
+
+    def test_nothing_is_left(self) -> None:
+        """Where arguments are refused all is closed that was made."""
+        line = socket.socket()
+        closed = socket.socket()
+        closed.close()
+
+        async def connect_aio() -> None:
+            await aio.connect("127.0.0.1", 1, wait=math.inf)
+
+        async def session_aio() -> None:
+            ours, theirs = socket.socketpair()
+            reader, writer = await asyncio.open_connection(sock=ours)
+            for kind in (aio.Session, aio.HostSession):
+                with self.assertRaisesRegex(ValueError, "wait=-1 is no number of seconds from 0"):
+                    kind(reader, writer, wait=-1)
+            writer.close()
+            theirs.close()
+            raise ValueError("wait=")
+
+        calls: list[Callable[[], object]] = [
+            lambda: connect("127.0.0.1", 1, wait=-1),
+            lambda: listen(wait=math.inf),
+            lambda: Session(line, wait=math.inf),
+            lambda: HostSession(line, wait=math.inf),
+            lambda: Session(closed),
+            lambda: HostSession(closed),
+            lambda: asyncio.run(connect_aio()),
+            lambda: asyncio.run(session_aio()),
+        ]
+        with warnings.catch_warnings(record=True) as told:
+            warnings.simplefilter("always")
+            for call in calls:
+                with self.assertRaisesRegex(ValueError, "wait=|sock is closed"):
+                    call()
+                gc.collect()
+        line.close()
+        self.assertEqual(list(map(str, told)), [])
 
     def test_port(self) -> None:
         for port in (99999, 0, -1):
