@@ -53,8 +53,16 @@ class Counts(unittest.TextTestResult):
             self.stream.writeln(f"{time.monotonic() - self.began:5.1f} s")
 
 
-def main(folder=None, warnings="ignore"):
+def need_program(program=PROGRAM):
+    """Ends where there is no program, in place of tests that fail one by one."""
+    if not os.path.exists(program):
+        sys.exit(f"{os.path.relpath(program)} isn't built; a word with a slash names another, as build/unproved/t5250")
+
+
+def main(folder=None, warnings="ignore", needs_program=False):
     """Runs the tests of the script itself and of a folder's files whose names have `test`; ends with their status."""
+    if needs_program:
+        need_program()
     loader = unittest.TestLoader()
     loader.testNamePatterns = NAMES or None
     tests = loader.loadTestsFromModule(sys.modules["__main__"])

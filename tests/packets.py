@@ -4,7 +4,7 @@ from __future__ import annotations
 import socket
 import struct
 
-SYN, ACK, PUSH = 0x02, 0x10, 0x18
+FIN, SYN, ACK, PUSH = 0x01, 0x02, 0x10, 0x18
 RAW_IP = 101
 
 
@@ -28,13 +28,18 @@ class Session:
         else:
             addresses = socket.inet_aton(source) + socket.inet_aton(target)
             whole = struct.pack(">BBHHHBBH", 0x45, 0, 20 + len(segment), 1, 0, 64, 6, 0) + addresses + segment
-        self.next[side] = (self.next[side] + len(data) + bool(flags & SYN)) % (1 << 32)
+        self.next[side] = (self.next[side] + len(data) + bool(flags & (SYN | FIN))) % (1 << 32)
         if captured:
             self.packets.append(whole)
         return self
 
     def open(self) -> Session:
         return self.packet("station", SYN).packet("host", SYN | ACK).packet("station", ACK)
+
+    def back(self, side: str, count: int) -> Session:
+        """What the side sends next begins so many bytes before: it sends them again."""
+        self.next[side] = (self.next[side] - count) % (1 << 32)
+        return self
 
     def host(self, data: bytes, captured: bool = True) -> Session:
         return self.packet("host", PUSH, data, captured)
@@ -48,8 +53,10 @@ def time_of(number: int) -> int:
     return 1_700_000_000_000_000 + number * 334_500
 
 
-def write_capture(path: str, packets: list[bytes]) -> None:
+def write_capture(path: str, packets: list[bytes], longest: int = 65535) -> None:
+    """Writes a file of packets, of each at most so many bytes, as by `tcpdump -s`."""
     with open(path, "wb") as file:
-        file.write(struct.pack("<IHHiIII", 0xA1B2C3D4, 2, 4, 0, 0, 65535, RAW_IP))
+        file.write(struct.pack("<IHHiIII", 0xA1B2C3D4, 2, 4, 0, 0, longest, RAW_IP))
         for number, packet in enumerate(packets):
-            file.write(struct.pack("<IIII", *divmod(time_of(number), 1_000_000), len(packet), len(packet)) + packet)
+            kept = packet[:longest]
+            file.write(struct.pack("<IIII", *divmod(time_of(number), 1_000_000), len(kept), len(packet)) + kept)

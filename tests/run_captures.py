@@ -11,12 +11,16 @@ import subprocess
 import unittest
 
 from counted import PROGRAM, TOP, Test, main
-from packets import ACK, SYN, Session, time_of, write_capture
+from packets import ACK, FIN, SYN, Session, time_of, write_capture
 from records import negotiation, record
 
 SCRIPT = str(TOP / "examples/from_capture.sh")
+FILES = ["host.hex", "station.hex", "session.recording"]
 (DO, WILL), (SEND, _), *_ = negotiation()
 INVITE, ANSWER = record(opcode=1), record("110531")
+EOR_OPTION = b"\xff\xfb\x19"
+# The same as INVITE, with a NOP and a WILL in its header.
+NOPS = b"\xff\xf1".join((INVITE[:2], INVITE[2:4], INVITE[4:5] + b"\xff\xfb\x18" + INVITE[5:]))
 ALL_BYTES = bytes(range(256))
 
 
@@ -33,8 +37,23 @@ def two_sessions(first, second):
     return first
 
 
-def web():
-    return Session(80, ("10.0.0.3", 50001)).open().station(b"GET / HTTP/1.0\r\n\r\n").host(b"HTTP/1.0 200 OK\r\n\r\n")
+def again_with_other_borders():
+    """A packet is lost; what it had comes again in two, of which the second has the beginning of the next packet too."""
+    session = Session().open().host(DO).station(WILL).host(SEND, False).host(INVITE).back("host", len(SEND + INVITE))
+    return session.host(SEND[:2]).host(SEND[2:] + INVITE[:3]).host(INVITE[3:], False).station(ANSWER)
+
+
+def in_small_packets(size):
+    session = Session().open()
+    for send, data in (session.host, DO), (session.station, WILL), (session.host, SEND + INVITE), (session.station, ANSWER):
+        for place in range(0, len(data), size):
+            send(data[place:place + size])
+    return session
+
+
+def web(page=b""):
+    session = Session(80, ("10.0.0.3", 50001)).open().station(b"GET / HTTP/1.0\r\n\r\n")
+    return session.host(b"HTTP/1.0 200 OK\r\n\r\n" + page)
 
 
 def at_a_web_port():
@@ -58,6 +77,9 @@ CAPTURES = {
     ),
     "begins with the host's bytes": (Session().host(SEND).station(ANSWER), [], SEND, ANSWER, 0),
     "begins with the station's bytes": (Session().station(WILL).host(SEND), ["0"], SEND, WILL, 0),
+    "begins while the host's bytes are on their way": (
+        Session().station(WILL).host(DO, False).host(SEND + INVITE).station(ANSWER), ["0"], SEND + INVITE, WILL + ANSWER, 0
+    ),
     "out of order": (out_of_order(), [], DO + SEND + INVITE, WILL, 0),
     "lacks some of the host's": (
         Session().open().host(DO).host(SEND, False).station(WILL).host(INVITE).station(ANSWER), [], DO, WILL + ANSWER, 1
@@ -69,6 +91,24 @@ CAPTURES = {
     "lacks some of both": (
         Session().open().host(DO).host(SEND, False).station(WILL).station(WILL, False).host(INVITE).station(ANSWER)
         .host(INVITE), [], DO, WILL, 1
+    ),
+    "lacks the host's last": (
+        Session().open().host(DO).station(WILL).host(INVITE, False).station(ANSWER), [], DO, WILL + ANSWER, 1
+    ),
+    "lacks what is before a FIN": (
+        sign_on(Session().open()).host(SEND, False).packet("host", FIN | ACK).packet("station", ACK), [],
+        DO + SEND + INVITE, WILL + ANSWER, 1
+    ),
+    "whole up to a FIN": (
+        sign_on(Session().open()).packet("host", FIN | ACK).packet("station", FIN | ACK).packet("host", ACK), [],
+        DO + SEND + INVITE, WILL + ANSWER, 0
+    ),
+    "sent again with other borders": (again_with_other_borders(), [], DO + SEND + INVITE, WILL + ANSWER, 0),
+    "a header in two packets": (in_small_packets(3), [], DO + SEND + INVITE, WILL + ANSWER, 0),
+    "a header in packets of a byte": (in_small_packets(1), [], DO + SEND + INVITE, WILL + ANSWER, 0),
+    "commands in a header": (Session().open().host(NOPS), [], NOPS, b"", 0),
+    "beside a page with a header's bytes": (
+        two_sessions(web(INVITE[2:7]), sign_on(Session().open())), [], DO + SEND + INVITE, WILL + ANSWER, 0
     ),
     "by a stream's number": (two_sessions(web(), sign_on(Session().open())), ["1"], DO + SEND + INVITE, WILL + ANSWER, 0),
     "by its records": (two_sessions(web(), sign_on(Session().open())), [], DO + SEND + INVITE, WILL + ANSWER, 0),
@@ -109,9 +149,9 @@ class TestCaptures(Test):
                               env={**os.environ, "PATH": path})
         return done.returncode, done.stdout, done.stderr
 
-    def capture(self, packets):
+    def capture(self, packets, longest=65535):
         name = os.path.join(self.folder, f"{len(packets)}.pcap")
-        write_capture(name, packets)
+        write_capture(name, packets, longest)
         return name
 
     def side(self, name):
@@ -152,19 +192,54 @@ class TestCaptures(Test):
     def test_modes(self):
         """Only their owner can read the files."""
         self.run_script(self.capture(CAPTURES["whole"][0].packets))
-        for name in "host.hex", "station.hex", "session.recording":
+        for name in FILES:
             mode = os.stat(os.path.join(self.folder, name)).st_mode
             self.count(f"{name}: {mode:o}", mode & 0o777 == 0o600)
 
-    def test_older_tshark(self):
-        """One that can't follow a connection so is told, and no file is written."""
+    def test_cut_packets(self):
+        """A capture that has only the beginning of each packet: a side ends before the first byte that it lacks."""
+        session = Session().open().host(DO).station(WILL + EOR_OPTION).host(SEND + INVITE).station(ANSWER)
+        host, station = DO + SEND + INVITE, WILL + EOR_OPTION + ANSWER
+        again = Session().open().host(DO).host(SEND + INVITE).back("host", len(SEND + INVITE)).host(SEND).host(INVITE)
+        # What is kept of each packet, of which 40 bytes are headers; what is wanted of each side; and what it lacks.
+        for session, longest, words, *wanted in [
+            (session, 48, [], host[:11], station[:14], [10, 7]),
+            (session, 57, [], host[:20], station, [1]),
+            (session, 58, [], host, station, []),
+            (session, 40, ["0"], b"", b"", [21, 21]),
+            (again, 52, [], host, b"", []),
+        ]:
+            status, said, fault = self.run_script(self.capture(session.packets, longest), *words)
+            found = [self.side("host.hex"), self.side("station.hex"), [int(n) for n in re.findall(r"next (\d+)", said)]]
+            self.count(f"{longest}: {status}, {said}, {fault}, {found}", (found, status) == (wanted, wanted[2] != []))
+
+    def test_other_tshark(self):
+        """An older one has colons in what packets hold."""
         with open(os.path.join(self.folder, "tshark"), "w") as file:
-            file.write(f'#!/bin/sh\ncase "$*" in *follow*) exit 1 ;; esac\nexec {shutil.which("tshark")} "$@"\n')
+            colons = """awk -F '\\t' -v OFS='\\t' '{ gsub(/../, "&:", $15); print }'"""
+            file.write(f'#!/bin/sh\n{shutil.which("tshark")} "$@" | {colons}\n')
+            os.chmod(file.fileno(), 0o755)
+        status, said, fault = self.run_script(self.capture(CAPTURES["whole"][0].packets), path=f"{self.folder}:{os.environ['PATH']}")
+        self.count(f"{status}, {said}, {fault}", (status, self.side("host.hex")) == (0, DO + SEND + INVITE))
+
+    def test_tshark_fails(self):
+        """Where tshark doesn't tell of the connection that it has told of, nothing is taken."""
+        with open(os.path.join(self.folder, "tshark"), "w") as file:
+            file.write(f'#!/bin/sh\ncase "$*" in *tcp.stream\\ ==*) exit 1 ;; esac\nexec {shutil.which("tshark")} "$@"\n')
             os.chmod(file.fileno(), 0o755)
         done = self.run_script(self.capture(CAPTURES["whole"][0].packets), path=f"{self.folder}:{os.environ['PATH']}")
-        found = (done[0], done[2].count("tshark 4"), os.path.exists(os.path.join(self.folder, "host.hex")))
-        self.count(f"{done}, {found}", found == (2, 1, False))
+        self.count(f"{done}", (done[0], done[2]) == (2, "tshark tells nothing of that stream\n"))
 
+    def test_an_earlier_run(self):
+        """Where nothing is taken, no file of an earlier run stays; and no capture is taken for one."""
+        good = self.capture(CAPTURES["whole"][0].packets)
+        for words in [good, "7"], ["no such file"], [self.capture(web().packets)]:
+            self.run_script(good)
+            found = self.run_script(*words)[0], [name for name in FILES if os.path.exists(os.path.join(self.folder, name))]
+            self.count(f"{words}: {found}", found == (2, []))
+        os.rename(good, os.path.join(self.folder, "session.recording"))
+        status, _, fault = self.run_script("session.recording")
+        self.count(fault, status == 2 and os.path.getsize(os.path.join(self.folder, "session.recording")) > 0)
 
     def test_wrong_uses(self):
         good, nothing = self.capture(Session().open().packets), self.capture([])

@@ -235,4 +235,4 @@ class TestExtended(Test):
             compare_with_wireshark(self.folder, lines[0].seen.packets)
 
 
-main()
+main(needs_program=True)

@@ -258,4 +258,4 @@ class TestRecordings(Test):
             self.assertRegex(told, "(?s)--record.*hidden")
 
 
-main()
+main(needs_program=True)

@@ -9,4 +9,4 @@ line tells how many passed and how many failed, and the status is 1 where one fa
 """
 from counted import main
 
-main("tests/live")
+main("tests/live", needs_program=True)

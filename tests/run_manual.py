@@ -150,6 +150,23 @@ class TestManual(Test):
             lines = re.findall(r"^.*\b(?:connect|serve|tap|term5250) .*\b[a-z]\w*\.(?:com|net|org)\b.*$", text, re.M)
             self.count(f"{page}: {lines}", lines == [])
 
+    def test_options(self):
+        """What docs/MANUAL.md says first of a command names each of its options."""
+        said = (TOP / "docs/MANUAL.md").read_text(encoding="utf-8").split("\n\n")
+        for command in COMMANDS:
+            told = " ".join(part for part in said if f"`t5250 {command}" in part)
+            lacking = options(run(PROGRAM, "help", command)) - {"-h", "--help", *re.findall(r"--[\w-]+", told)}
+            self.count(f"{command} in docs/MANUAL.md lacks {lacking}", told != "" and lacking == set())
+
+    def test_without_a_program(self):
+        """A script of tests says in a line which program it lacks, and the row of CONTRIBUTING.md which it can have."""
+        rows = re.findall(r"^`python3 (tests/run_live.py) (\S*/t5250) (\w+)`", (TOP / "CONTRIBUTING.md").read_text(), re.M)
+        self.count(f"rows: {rows}", len(rows) == 1 and rows[0][1] == "build/unproved/t5250")
+        for script in "run_live.py", "run_program.py", "run_faults.py", "run_manual.py", "run_random.py":
+            done = subprocess.run([sys.executable, TOP / "tests" / script, "no/such/program"], capture_output=True, text=True)
+            wanted = "no/such/program isn't built; a word with a slash names another, as build/unproved/t5250\n"
+            self.count(f"{script}: {done}", (done.returncode, done.stdout, done.stderr) == (1, "", wanted))
+
     def test_begin(self):
         """What README shows first is what is printed, and what `make quick` says to type next goes well, pasted whole."""
         block = re.search(r"^```\n(.*?)^```$", (TOP / "README.md").read_text(encoding="utf-8"), re.M | re.S)[1]
@@ -225,4 +242,4 @@ class TestManual(Test):
             offers(f"no file behind {said}", set(), *said.split(), script)
 
 
-main()
+main(needs_program=True)

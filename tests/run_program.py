@@ -7,4 +7,4 @@ otherwise.
 """
 from counted import main
 
-main("tests/program")
+main("tests/program", needs_program=True)

@@ -32,6 +32,24 @@ class TestTypes(unittest.TestCase):
         self.assertEqual(done.returncode, 0)
 
 
+class TestUsage(unittest.TestCase):
+    """The programs of examples/python say what they are called with, and an emulator that doesn't start is told."""
+
+    def test_usage(self):
+        for name, words, told in [
+            ("check_emulator.py", [], "usage: check_emulator.py COMMAND..\n"),
+            ("check_emulator.py", ["no/such/emulator"], "the emulator doesn't start: .*no/such/emulator.*\n"),
+            ("farm.py", [], "usage: farm.py HOST PORT SESSIONS ITEM\n"),
+            ("host.py", [], r"usage: host.py PORT \[CERTIFICATE KEY\]\n"),
+            ("scrape.py", ["localhost", "5250"], "usage: scrape.py HOST PORT USER ITEM..\n"),
+        ]:
+            with self.subTest(name, words=words):
+                done = subprocess.run([sys.executable, TOP / "examples/python" / name, *words], capture_output=True,
+                                      text=True, env=os.environ | {"PYTHONPATH": str(PACKAGE)}, check=False)
+                self.assertEqual((done.returncode, done.stdout), (2, ""))
+                self.assertRegex(done.stderr, f"\\A{told}\\Z")
+
+
 if not PROGRAMS and not BUILT[0].exists():
     print("left out: the Python package, since c/build/libribbonscarp.so isn't there")
     print("0 passed, 0 failed")

@@ -21,7 +21,7 @@ import threading
 import time
 import traceback
 
-from counted import PROGRAM
+from counted import PROGRAM, need_program
 from live.lines import station_at
 from live.program import Run
 from model.peer import Peer
@@ -159,6 +159,7 @@ def words():
 
 def main():
     asked = words()
+    need_program(asked.program)
     Run.program = asked.program
     print(f"--seed {asked.seed}", flush=True)
     indices, seconds = itertools.count(), asked.seconds or 60.0

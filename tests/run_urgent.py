@@ -100,4 +100,4 @@ class TestUrgent(unittest.TestCase):
                     serve(play, words, 1, told + told_refusal("host", len(ANSWERED) + count, reason))
 
 
-main()
+main(needs_program=True)

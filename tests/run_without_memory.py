@@ -142,4 +142,4 @@ class TestWithoutMemory(Test):
             self.assertTrue(told, words)
 
 
-main()
+main(needs_program=True)

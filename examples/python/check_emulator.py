@@ -39,9 +39,16 @@ def run(station: HostSession) -> None:
 
 
 def main() -> int:
+    if not sys.argv[1:]:
+        print("usage: check_emulator.py COMMAND..", file=sys.stderr)
+        return 2
     with listen(wait=10) as listener:
         command = [word.replace("{port}", str(listener.port)) for word in sys.argv[1:]]
-        emulator = subprocess.Popen(command, stdout=subprocess.DEVNULL)
+        try:
+            emulator = subprocess.Popen(command, stdout=subprocess.DEVNULL)
+        except OSError as error:
+            print("the emulator doesn't start:", error, file=sys.stderr)
+            return 2
         try:
             with listener.accept() as station:
                 run(station)

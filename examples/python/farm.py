@@ -31,4 +31,7 @@ async def farm(host: str, port: int, sessions: int, item: str) -> int:
 
 
 if __name__ == "__main__":
+    if len(sys.argv) != 5:
+        print("usage: farm.py HOST PORT SESSIONS ITEM", file=sys.stderr)
+        sys.exit(2)
     sys.exit(asyncio.run(farm(sys.argv[1], int(sys.argv[2]), int(sys.argv[3]), sys.argv[4])))

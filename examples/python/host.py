@@ -40,7 +40,10 @@ def serve(listener: Listener) -> None:
                 threading.Thread(target=play, args=(listener.accept(),), daemon=True).start()
 
 
-def main() -> None:
+def main() -> int:
+    if len(sys.argv) not in (2, 4):
+        print("usage: host.py PORT [CERTIFICATE KEY]", file=sys.stderr)
+        return 2
     tls = None
     if sys.argv[2:]:
         tls = ssl.SSLContext(ssl.PROTOCOL_TLS_SERVER)
@@ -48,7 +51,8 @@ def main() -> None:
     with listen(port=int(sys.argv[1]), tls=tls, any=True, wait=86400) as listener:
         print("listening", listener.port, flush=True)
         serve(listener)
+    return 0
 
 
 if __name__ == "__main__":
-    main()
+    sys.exit(main())

@@ -28,6 +28,9 @@ def price(session: Session, item: str) -> str:
 
 
 def main() -> int:
+    if len(sys.argv) < 4:
+        print("usage: scrape.py HOST PORT USER ITEM..", file=sys.stderr)
+        return 2
     host, port, user, *items = sys.argv[1:]
     trusted = os.environ.get("CAFILE")
     tls: bool | ssl.SSLContext = ssl.create_default_context(cafile=trusted) if trusted else port == "992"

@@ -57,6 +57,8 @@ CHECKED = [
     (["--extended"], QUERY * 2, 0, "accepted: 2 records, 0 commands, 38 bytes\n"),
     # No record is carried out, so the screen refuses none.
     ([], PAST, 0, "accepted: 1 records, 0 commands, 21 bytes\n"),
+    # Where no record is open all up to the next EOR is passed over.
+    ([], "FFF0" + INVITE * 2, 1, "refused at 1: reason 2 StraySe\n1 records, 0 commands, 26 bytes, 1 refused\n"),
     # It ends too early.
     ([], SHORT, 1, SHORT_LINE),
     ([], QUERY + SHORT, 1, QUERY_LINE + "truncated at 22\n"),

@@ -31,6 +31,15 @@ TRACED = [
      "+0.000 host refused at 1: reason 10 LengthBelowHeader\n"
      "  10: a record's length is less than its ten header bytes\n  bytes 00 090000\n"
      f"host: 4 bytes, 0 records, 1 refused, truncated\nstation: {NOTHING}"),
+    # Where no record is open all up to the next EOR is passed over.
+    (f"0 host FFF0{INVITE}{INVITE}\n", 1,
+     "+0.000 host refused at 1: reason 2 StraySe\n  2: a subnegotiation is ended that was never begun\n"
+     "  bytes FF F0000A12A0000004\n+0.000 host at 25 record flags 0000 opcode 1\n"
+     f"host: 26 bytes, 1 records, 1 refused\nstation: {NOTHING}"),
+    # Each end is read alone: a record before options, and an answer that nobody asked for.
+    (f"0 station {spelled('110531')}\n", 0,
+     "+0.000 station at 14 record flags 0000 opcode 3\n  HEAD 17 5 31\n"
+     f"host: {NOTHING}station: 15 bytes, 1 records, 0 refused\n"),
     # A refused EOR ends its record.
     (f"0 host 000B12A0000004000003FFEF{INVITE}\n", 1,
      "+0.000 host refused at 11: reason 16 TooShort\n  16: a record is shorter than its header says\n"
