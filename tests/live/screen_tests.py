@@ -2,6 +2,7 @@
 import unittest
 
 from live.lines import at_host, sending
+from live.screens import SIGN_ON
 from peers import expect
 from records import record
 
@@ -96,6 +97,12 @@ class TestScreen(unittest.TestCase):
         at_host(sending(THREE % "47"), ["--wait", "60"],
                 "await\ntype 123\nkey FieldMinus\nfield 1 4\nfield 2 X\nfield 3 Y\nfield 4 Z\n"
                 "show 2 2 4\nshow 3 2 2\nshow 4 2 4\n", 1, "key refused Protected\nfield refused NoSuchField\n4\nJK\nY\n")
+
+    def test_a_text_that_is_too_long(self):
+        """Nothing of a text with more characters than its field has cells is typed, and the field keeps what it has."""
+        at_host(sending(SIGN_ON), ["--wait", "60"],
+                "await\nfield 1 QUSER\nfield 1 LONGUSERNAME\nfield 2 SECRETPASSWORD\nfield 1 TENLETTERS\nfields\n", 1,
+                "field refused TooLong\nfield refused TooLong\nfield 6 53 10 4800 TENLETTERS\nfield 7 53 10 4000\n")
 
     def test_characters_that_are_refused(self):
         """Each refused key tells its character, and those of a line behind it are pressed all the same."""

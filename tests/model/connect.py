@@ -216,4 +216,7 @@ class Connect:
         if int(number) > len(self.screen.fields):
             self.print(f"field refused NoSuchField{self.behind}\n")
             return
+        if len(text) > self.screen.fields[int(number) - 1].length:
+            self.print(f"field refused TooLong{self.behind}\n")
+            return
         self.keys.fill(self.screen.fields[int(number) - 1], text)
