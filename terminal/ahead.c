@@ -4,7 +4,8 @@
 
 bool ahead_put(ahead *a, action key)
 {
-    if (a->count == AHEAD_ROOM)
+    a->is_full = a->is_full || a->count == AHEAD_ROOM;
+    if (a->is_full)
         return false;
     a->keys[(a->first + a->count) % AHEAD_ROOM] = key;
     a->count++;
@@ -13,12 +14,14 @@ bool ahead_put(ahead *a, action key)
 
 bool ahead_take(ahead *a, action *key)
 {
-    if (a->count == 0)
-        return false;
-    *key = a->keys[a->first];
-    a->first = (a->first + 1) % AHEAD_ROOM;
-    a->count--;
-    return true;
+    bool is_there = a->count > 0;
+    if (is_there) {
+        *key = a->keys[a->first];
+        a->first = (a->first + 1) % AHEAD_ROOM;
+        a->count--;
+    }
+    a->is_full = a->is_full && a->count > 0;
+    return is_there;
 }
 
 size_t ahead_drop(ahead *a)

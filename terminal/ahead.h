@@ -9,9 +9,10 @@ enum { AHEAD_ROOM = 4096 };
 typedef struct {
     action keys[AHEAD_ROOM];
     size_t first, count;
+    bool is_full; /* a key had no room: none has before those that wait have been taken */
 } ahead;
 
-/* Puts a key behind those that wait; false, and nothing is put, where there is no room. */
+/* Puts a key after those that wait; false, and nothing is put, where there is no room, or was none before. */
 bool ahead_put(ahead *a, action key);
 
 /* Takes the key that has waited longest; false where none waits. */

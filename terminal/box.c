@@ -11,8 +11,7 @@ enum {
     BOX_COLUMNS = 72,
     BOX_LEFT = (SCREEN_COLUMNS - BOX_COLUMNS) / 2,
     BOX_TEXT = BOX_COLUMNS - 4, /* the columns of a line */
-    BOX_LINES = 12,
-    BOX_SILENCE = 1000 /* milliseconds, within which a key was meant for the session */
+    BOX_LINES = 12
 };
 
 typedef struct {
@@ -83,8 +82,10 @@ void box_draw(const session *s)
 
 void box_key(session *s, stroke key)
 {
-    if (session_clock() - s->ended < BOX_SILENCE) {
+    uint64_t now = session_clock();
+    if (now - s->rung < TYPED_ON) { /* whoever types on hasn't read it */
         s->rings = true;
+        s->rung = now;
     } else if (key == 'c' || key == 's' || key == 'q') {
         menu_key(s, key);
     } else {

@@ -5,7 +5,17 @@
 #include <errno.h>
 #include <string.h>
 
-enum { SHOWN_AT_FIRST = 3000 /* milliseconds, for which a window of 24 rows shows the status line */ };
+/* What was recorded of the session before stays in its file. */
+static void record_anew(session *s)
+{
+    if (s->recording.file == NULL || !s->recording.has_begun)
+        return;
+    bool is_whole = recording_end(&s->recording);
+    if (!is_whole)
+        session_report(s, "The end of %s couldn't be written.", file_shown(s->recording.name));
+    else if (!recording_begin(&s->recording, s->recording.base, &s->kept))
+        session_report(s, "%s can't be written: %s.", file_shown(s->recording.name), strerror(errno));
+}
 
 /* No session came about. At first the program ends with that, unless another try is due by itself. */
 static void fail_to_begin(session *s)
@@ -17,8 +27,9 @@ static void begin_session(session *s)
 {
     s->phase = PHASE_OPEN;
     s->was_open = true;
+    record_anew(s);
     s->silent = session_clock();
-    s->shown_until = s->silent + SHOWN_AT_FIRST;
+    s->shown_until = s->silent + SHOWN_UNASKED; /* whoever begins finds the menu */
 }
 
 /* A host whose certificate is refused isn't tried again by itself. */
@@ -83,18 +94,6 @@ void connecting_dials(session *s, bool is_ready)
     take_dialled(s, dial_step(&s->dial, is_ready, session_clock()));
 }
 
-/* What was recorded stays in its file. */
-static void record_anew(session *s)
-{
-    if (s->recording.file == NULL)
-        return;
-    bool is_whole = recording_end(&s->recording);
-    if (!is_whole)
-        session_report(s, "The end of %s couldn't be written.", file_shown(s->recording.name));
-    else if (!recording_begin(&s->recording, s->recording.base, &s->kept))
-        session_report(s, "%s can't be written: %s.", file_shown(s->recording.name), strerror(errno));
-}
-
 /* Sets back what was of the session that is over. */
 static void forget(session *s)
 {
@@ -102,6 +101,8 @@ static void forget(session *s)
     s->heard_count = s->taken = s->given = s->said_count = 0;
     s->has_rest = s->has_part = s->is_inserting = s->was_lit = s->is_box_open = false;
     s->scanned = s->parted = (telnet){.is_in_record = false};
+    s->is_anew = s->was_open;
+    s->rung = s->is_menu_open ? 0 : session_clock(); /* whoever asks for it in the menu doesn't type on */
     s->alarms = 0;
     s->refusals = (refusals){.records = 0};
     s->status = 0;
@@ -116,7 +117,6 @@ void connecting_again(session *s)
     if (s->phase != PHASE_OVER)
         return;
     forget(s);
-    record_anew(s);
     ribbon_status status = connecting_station(s, s->asked);
     if (status == RIBBON_DONE) {
         (void)connecting_begin(s); /* a failure has been told */

@@ -17,7 +17,7 @@ void connecting_dials(session *s, bool is_ready);
 void connecting_secures(session *s);
 
 /* Connects again where the session is over: with a new station, an empty screen, and nothing kept of what was. What is
- * recorded goes on in a new file. */
+ * recorded goes on in a new file, as soon as there is a session. */
 void connecting_again(session *s);
 
 #endif

@@ -3,6 +3,7 @@
 #include "box.h"
 #include "menu.h"
 #include "sentence.h"
+#include "signals.h"
 
 #include <string.h>
 
@@ -111,10 +112,11 @@ static void draw_too_small(void)
 }
 
 /* Whether the status line lies over the last row of a window that has no row for it: where it is asked for, when a
- * session begins, and with a sentence. The host's error is never covered. */
+ * session begins, and with a sentence, unless the host has written since. The host's error is never covered. */
 static bool covers_row(const session *s, const ribbon_state *state)
 {
-    bool is_told = s->note[0] != 0 ? !s->is_aside : s->standing[0] != 0 || s->refusals.covers;
+    bool is_new = !s->is_aside && s->note_records == state->records;
+    bool is_told = s->note[0] != 0 ? is_new : s->standing[0] != 0 || s->refusals.covers;
     bool is_shown = is_told || s->shows_status || session_clock() < s->shown_until;
     return is_shown && state->error_row != SCREEN_ROWS;
 }
@@ -168,10 +170,12 @@ void draw(session *s, window *w)
     if (s->repaints)
         (void)clearok(stdscr, TRUE);
     s->repaints = false;
+    status_title(&parts, title, sizeof title);
+    signals_let_in(true);
     ring(s, &state);
     (void)refresh();
-    status_title(&parts, title, sizeof title);
     window_title(w, title);
     if (!s->is_menu_open)
         window_cursor(w, state.is_locked, s->is_inserting, state.is_blinking);
+    signals_let_in(false);
 }

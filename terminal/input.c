@@ -9,6 +9,8 @@
 /* Codes of our own, behind those of curses and those that it gives to keys of extended descriptions. */
 enum { OWN = 0x2000, OWN_PASTE_BEGINS = OWN, OWN_PASTE_ENDS, OWN_STROKES };
 
+enum { REPLACEMENT = 0xfffd /* Unicode, for what is no character */ };
+
 /* What the numeric keypad sends as long as it is in its application mode (DEC VT100 and its kin). Descriptions lack it,
  * or name its keys by their place. */
 static const struct {
@@ -50,6 +52,12 @@ static const struct {
     {"\033[[E", STROKE_F1 + 4},
 };
 
+/* F1 to F12 with Alt, and the first of their codes, by the descriptions that have them. */
+static const char *const alt_keys[] = {"\033[1;3P", "\033[1;3Q", "\033[1;3R", "\033[1;3S", "\033[15;3~", "\033[17;3~",
+                                       "\033[18;3~", "\033[19;3~", "\033[20;3~", "\033[21;3~", "\033[23;3~",
+                                       "\033[24;3~"};
+enum { ALT_F1 = KEY_F(49) };
+
 /* Codes of curses and their strokes. */
 static const struct {
     int code;
@@ -73,6 +81,9 @@ void input_begin(void)
     for (size_t at = 0; at < sizeof more_keys / sizeof more_keys[0]; at++)
         if (key_defined(more_keys[at].sequence) == 0)
             (void)define_key(more_keys[at].sequence, (int)(OWN_STROKES + more_keys[at].key - STROKE_FIRST_NAMED));
+    for (int at = 0; at < 12; at++)
+        if (key_defined(alt_keys[at]) == 0)
+            (void)define_key(alt_keys[at], ALT_F1 + at);
 }
 
 /* A click, or a step of the wheel, which curses has as buttons of its own. */
@@ -115,6 +126,8 @@ static void read_coded(input_reader *r, int code, input *i)
         *i = (input){.kind = INPUT_STROKE, .key = STROKE_FIRST_NAMED + (stroke)(code - OWN_STROKES)};
     else if (code >= KEY_F(1) && code <= KEY_F(24))
         *i = (input){.kind = INPUT_STROKE, .key = STROKE_F1 + (stroke)(code - KEY_F(1))};
+    else if (code >= ALT_F1 && code < ALT_F1 + 12)
+        *i = (input){.kind = INPUT_STROKE, .key = STROKE_ESCAPED | (STROKE_F1 + (stroke)(code - ALT_F1))};
     for (size_t at = 0; at < sizeof curses_keys / sizeof curses_keys[0]; at++)
         if (curses_keys[at].code == code)
             *i = (input){.kind = INPUT_STROKE, .key = curses_keys[at].key};
@@ -169,27 +182,38 @@ static bool read_character(input_reader *r, wchar_t character, input *i)
     return !r->is_escaped;
 }
 
+/* Bytes that are no character: of a paste they are one that no host has. What has come after a character's begin, and
+ * isn't a part of it, is read anew. */
+static bool read_broken(input_reader *r, int code, bool is_begun, input *i)
+{
+    memset(&r->state, 0, sizeof r->state);
+    if (is_begun)
+        (void)ungetch(code); /* it has just been taken from there */
+    *i = (input){.kind = INPUT_CHARACTER, .key = REPLACEMENT};
+    r->is_broken = r->is_broken || !r->is_pasting;
+    return r->is_pasting;
+}
+
+/* What stands for a code; false where it is none by itself. */
+static bool read_code(input_reader *r, int code, input *i)
+{
+    char byte = (char)code;
+    wchar_t character = 0;
+    bool is_begun = !mbsinit(&r->state);
+    if (code > 0xff && !is_begun) {
+        read_coded(r, code, i);
+        return true;
+    }
+    size_t length = code > 0xff ? (size_t)-1 : mbrtowc(&character, &byte, 1, &r->state);
+    if (length == (size_t)-1)
+        return read_broken(r, code, is_begun, i);
+    return length != (size_t)-2 && read_character(r, character, i);
+}
+
 bool input_next(input_reader *r, input *i)
 {
-    for (int code; (code = getch()) != ERR;) {
-        char byte = (char)code;
-        wchar_t character = 0;
-        if (code > 0xff) {
-            if (code == KEY_RESIZE)
-                continue;
-            read_coded(r, code, i);
+    for (int code; (code = getch()) != ERR;)
+        if (code != KEY_RESIZE && read_code(r, code, i))
             return true;
-        }
-        size_t length = mbrtowc(&character, &byte, 1, &r->state);
-        if (length == (size_t)-2)
-            continue;
-        if (length == (size_t)-1) {
-            memset(&r->state, 0, sizeof r->state);
-            *i = (input){.kind = INPUT_UNKNOWN};
-            return true;
-        }
-        if (read_character(r, character, i))
-            return true;
-    }
     return false;
 }

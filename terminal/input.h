@@ -25,6 +25,7 @@ typedef struct {
     mbstate_t state; /* of a character that has come in part */
     bool is_escaped; /* Esc came, and what it stands before is still to come */
     bool is_pasting;
+    bool is_broken; /* bytes came that are no character; who tells it sets it back */
     uint64_t heard; /* when something came last, in milliseconds; the caller's */
     bool is_late;   /* that was longer ago than a window takes for a sequence; the caller's too */
     /* One that nobody knows, and that is left. */

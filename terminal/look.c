@@ -1,7 +1,5 @@
 #include "look.h"
 
-#include "ribbonscarp.h"
-
 look look_of(uint8_t attribute, bool has_colors)
 {
     ribbon_look told;
@@ -17,4 +15,14 @@ look look_of(uint8_t attribute, bool has_colors)
     l.is_blinking = told.is_blinking;
     l.has_separators = told.has_separators;
     return l;
+}
+
+bool look_hides(ribbon_station *station)
+{
+    ribbon_state state;
+    ribbon_cell cells[RIBBON_COLUMNS];
+    if (ribbon_station_state(station, &state) != RIBBON_DONE
+        || ribbon_station_cells(station, state.cursor_row, state.cursor_row, cells, RIBBON_COLUMNS) != RIBBON_DONE)
+        return false;
+    return look_of(cells[state.cursor_column - 1].attribute, true).is_hidden;
 }

@@ -2,6 +2,8 @@
 #ifndef LOOK_H
 #define LOOK_H
 
+#include "ribbonscarp.h"
+
 #include <stdbool.h>
 #include <stdint.h>
 
@@ -28,5 +30,8 @@ typedef struct {
 
 /* What an attribute, 20 to 3F, looks like on a display with colours or without. */
 look look_of(uint8_t attribute, bool has_colors);
+
+/* Whether nothing is shown of what is typed at the cursor. */
+bool look_hides(ribbon_station *station);
 
 #endif

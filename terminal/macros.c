@@ -19,13 +19,7 @@ static bool enters(action_kind kind)
 
 bool macros_hides(session *s, action key)
 {
-    ribbon_state state;
-    ribbon_cell cells[RIBBON_COLUMNS];
-    if (s->macro.state == MACRO_RESTS || !enters(key.kind)
-        || ribbon_station_state(&s->station, &state) != RIBBON_DONE
-        || ribbon_station_cells(&s->station, state.cursor_row, state.cursor_row, cells, RIBBON_COLUMNS) != RIBBON_DONE)
-        return false;
-    return look_of(cells[state.cursor_column - 1].attribute, true).is_hidden;
+    return s->macro.state != MACRO_RESTS && enters(key.kind) && look_hides(&s->station);
 }
 
 void macros_record(session *s, action key, bool is_hidden)

@@ -31,7 +31,7 @@ static void switch_recording(session *s)
 
 static void save_kept(session *s)
 {
-    recording saved;
+    recording saved = {.file = NULL};
     if (!recording_begin(&saved, RECORDING_NAME, &s->kept) || !recording_end(&saved))
         session_report(s, "%s can't be written: %s.", saved.name, strerror(errno));
     else

@@ -12,7 +12,7 @@ turn press_turn(session *s)
     ribbon_state state;
     turn now = {.is_over = s->phase == PHASE_OVER, .is_held = s->is_held};
     bool is_known = ribbon_station_state(&s->station, &state) == RIBBON_DONE;
-    now.waits = s->ahead.count > 0 || s->macro.state == MACRO_PLAYS;
+    now.waits = s->ahead.count > 0 || s->ahead.is_full || s->macro.state == MACRO_PLAYS;
     now.has_error = is_known && state.error_row != 0;
     now.is_locked = !is_known || state.is_locked || !pressed_can_send(s);
     return now;
@@ -146,14 +146,15 @@ static bool is_impatient(const session *s, action key)
     return key.kind == ACTION_AID && action_is(key, s->ahead.count > 0 ? ahead_last(&s->ahead) : s->sent);
 }
 
-/* Where no more can wait; of a paste then nothing does. */
+/* Where no more can wait: what comes after isn't for the screens of those that do. Of a paste then nothing waits. */
 static void tell_no_room(session *s, action key)
 {
     bool is_part = paste_is_part(key.kind);
-    if (is_part)
+    if (is_part && key.kind != ACTION_PASTE_BEGINS)
         ahead_drop_paste(&s->ahead);
     s->paste.is_dropped = is_part;
-    session_tell(s, "%s%d keys wait, and no more can.", is_part ? "The paste is dropped: " : "", AHEAD_ROOM);
+    session_tell(s, "%s%d keys can wait, and no more%s", is_part ? "The paste is dropped: " : "", AHEAD_ROOM,
+                 is_part ? "." : ": those after them are dropped.");
 }
 
 static void tell_impatient(session *s)
@@ -196,10 +197,12 @@ static void drop_impatient(session *s, action last)
 }
 
 /* Why nothing is taken. */
-static const char *refusal_of(const turn *now)
+static const char *refusal_of(const session *s, const turn *now)
 {
     if (now->is_over)
         return "The session is over.";
+    if (s->is_anew)
+        return "It may be meant for the session before.";
     return now->is_held || now->has_error ? "Press Reset first." : "The host has the keyboard.";
 }
 
@@ -212,7 +215,7 @@ static void leave_part(session *s, action key, const turn *now)
     }
     if (key.kind == ACTION_PASTE_BEGINS)
         paste_start(&s->paste);
-    paste_stop(&s->paste, refusal_of(now));
+    paste_stop(&s->paste, refusal_of(s, now));
     if (key.kind == ACTION_PASTED)
         (void)paste_takes(&s->paste);
 }
@@ -227,7 +230,8 @@ static void ring_off(session *s, action key, const turn *now)
         session_tell(s, "%s isn't sent while an error of the host's stands.",
                      key.value == RIBBON_AID_HELP ? "Help" : "This key");
     else if (!now->is_over && !now->is_held && !now->has_error)
-        session_tell(s, "The host has the keyboard: the key is dropped.");
+        session_tell(s, s->is_anew ? "The key is dropped: it may be meant for the session before."
+                                   : "The host has the keyboard: the key is dropped.");
 }
 
 /* A key for which the keyboard isn't free. */
@@ -303,6 +307,12 @@ static bool press_own(session *s, action key)
     }
 }
 
+/* Whether keys may still be meant for the session before: up to a screen to type at, and a second without a key. */
+static bool is_typed_on(const session *s, const turn *now)
+{
+    return s->is_anew && (now->is_locked || session_clock() - s->rung < TYPED_ON);
+}
+
 void press_key(session *s, action key)
 {
     s->note[0] = 0;
@@ -312,6 +322,11 @@ void press_key(session *s, action key)
     s->shown_until = 0;
     turn now = press_turn(s);
     verdict what = hold_judges(&now, key.kind);
+    s->is_anew = is_typed_on(s, &now);
+    if (s->is_anew && (what == VERDICT_WAIT || (what == VERDICT_PRESS && !now.is_locked))) { /* requests go out */
+        what = VERDICT_RING;
+        s->rung = session_clock();
+    }
     switch (what) {
     case VERDICT_PRESS: (void)press_does(s, key); break; /* a refusal has been told */
     case VERDICT_WAIT: hold_off(s, key, &now); break;
@@ -346,6 +361,7 @@ void press_ahead(session *s)
 {
     turn now = press_turn(s);
     action key;
+    s->is_anew = is_typed_on(s, &now);
     if (now.has_error && now.waits) /* what was typed for a screen isn't for the error in its place */
         tell_dropped(s);
     while (!now.is_over && !now.is_held && !now.has_error && !now.is_locked

@@ -68,12 +68,18 @@ const char *file_shown(const char *name)
     return part != NULL && part[1] != 0 ? part + 1 : end;
 }
 
-/* Closes the file of a recording that has failed, and keeps errno. */
+/* Closes the file of a recording that has failed, and keeps errno. A part of a line is cut off where that can be. */
 static void give_up(recording *r)
 {
-    int why = errno;
-    (void)fclose(r->file);
+    int why = errno, handle = dup(fileno(r->file));
+    (void)fclose(r->file); /* which may write more of it */
     r->file = NULL;
+    if (handle >= 0) {
+        int cut = ftruncate(handle, r->whole); /* no pipe or device can be */
+        (void)cut;
+        (void)close(handle);
+    }
+    (void)snprintf(r->broken, sizeof r->broken, "%s", r->name);
     errno = why;
 }
 
@@ -90,17 +96,21 @@ bool recording_piece(void *self, const kept_piece *piece, const uint8_t *bytes)
         hex[2 * at + 1] = digits[bytes[at] & 15];
     }
     hex[2 * piece->length] = 0;
-    if (fprintf(r->file, "%" PRIu64 " %s %s\n", piece->milliseconds, piece->is_host ? "host" : "station", hex) >= 0
-        && fflush(r->file) == 0)
-        return true;
-    give_up(r);
-    return false;
+    const char *side = piece->is_host ? "host" : "station";
+    int length = fprintf(r->file, "%" PRIu64 " %s %s\n", piece->milliseconds, side, hex);
+    if (length < 0 || fflush(r->file) != 0) {
+        give_up(r);
+        return false;
+    }
+    r->whole += length;
+    return true;
 }
 
 bool recording_begin(recording *r, const char *name, const kept *k)
 {
     char made[FILE_NAME_ROOM];
     r->has_begun = false;
+    r->whole = 0;
     r->base = name;
     r->file = file_made(name, made, sizeof made);
     (void)snprintf(r->name, sizeof r->name, "%s", r->file != NULL ? made : name);
@@ -111,7 +121,9 @@ bool recording_end(recording *r)
 {
     if (r->file == NULL)
         return true;
-    int result = fclose(r->file);
+    bool is_whole = fclose(r->file) == 0;
     r->file = NULL;
-    return result == 0;
+    if (!is_whole)
+        (void)snprintf(r->broken, sizeof r->broken, "%s", r->name);
+    return is_whole;
 }

@@ -49,17 +49,18 @@ def arguments():
 
 def parts(words):
     yield from (work.sign_on_and_form, work.names_and_signals, work.holds, work.without_hold, work.typed_ahead,
-                work.pastes, work.against_serve)
+                work.typed_too_far_ahead, work.pastes, work.against_serve)
     yield from (shown.attributes, shown.grounds, shown.locales, shown.characters, shown.status_line,
-                shown.blinking_without_shapes, shown.at_24_rows, shown.small_windows, shown.function_keys, shown.keypad,
-                shown.editing, shown.keys_files, shown.print_screen)
+                shown.blinking_without_shapes, shown.at_24_rows, shown.small_windows, shown.stopped,
+                shown.function_keys, shown.keypad, shown.editing, shown.keys_files, shown.print_screen)
     yield from (refusals.refused_record, refusals.in_a_row, refusals.at_24_rows, refusals.by_name,
                 refusals.over_by_bytes)
     yield from (faults.recordings, faults.cutting, faults.cut_behind_iac, faults.kept_is_the_last, faults.bad_peers,
-                faults.synch, faults.ipv6, faults.floods, faults.while_connecting, faults.in_the_menu,
-                faults.command_lines, faults.without_a_terminal, faults.unwritable_files)
+                faults.synch, faults.ipv6, faults.floods, faults.stalled, faults.while_connecting, faults.in_the_menu,
+                faults.command_lines, faults.without_a_terminal, faults.without_standard_error,
+                faults.unwritable_files)
     yield from (connecting.the_box, connecting.again_where_nobody_is, connecting.wrapped, connecting.by_itself,
-                connecting.at_first, connecting.silences)
+                connecting.typed_on, connecting.at_first, connecting.silences)
     yield from (secured.right, secured.refused_certificates, secured.refused_later, secured.own_certificate,
                 secured.broken, secured.no_tls_there, secured.tls_words)
     yield from (hosts_file.named, hosts_file.wrong_hosts, hosts_file.listed)

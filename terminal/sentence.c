@@ -2,6 +2,7 @@
 #include "sentence.h"
 
 #include "label.h"
+#include "look.h"
 
 #include <stdio.h>
 #include <string.h>
@@ -61,6 +62,7 @@ static void tell_wrong(ribbon_station *station, const refused_key *refused, char
     char shown[24], minus[KEY_ROOM];
     uint8_t byte;
     unsigned shift = shift_here(station);
+    bool is_hidden = look_hides(station);
     if (!has_value(refused->key)) {
         (void)snprintf(text, room, "Field Minus %s.",
                        refused->is_strict ? "is for signed numeric fields alone"
@@ -69,9 +71,11 @@ static void tell_wrong(ribbon_station *station, const refused_key *refused, char
         return;
     }
     (void)sentence_character(refused->key.value, shown, sizeof shown);
+    if (is_hidden)
+        (void)snprintf(shown, sizeof shown, "such character");
     (void)key_of(refused->keys, ACTION_FIELD_MINUS, minus);
     if (ribbon_to_page(refused->code_page, refused->key.value, &byte) != RIBBON_DONE)
-        (void)snprintf(text, room, "The host's characters lack %s.", shown);
+        (void)snprintf(text, room, "The host's characters lack %s.", is_hidden ? "it" : shown);
     else if (kind_of(shift) == NULL)
         (void)snprintf(text, room, "No %s here: the field doesn't take it.", shown);
     else if (shift == RIBBON_SHIFT_SIGNED_NUMERIC && minus[0] != 0)
@@ -113,7 +117,7 @@ void sentence_refused(ribbon_station *station, const refused_key *refused, char 
 {
     char shown[24] = "it";
     bool is_typed = has_value(refused->key) && refused->key.kind != ACTION_PASTED;
-    if (has_value(refused->key))
+    if (has_value(refused->key) && !look_hides(station))
         (void)sentence_character(refused->key.value, shown, sizeof shown);
     switch (refused->refusal) {
     case RIBBON_KEY_WRONG_CHARACTER: tell_wrong(station, refused, text, room); break;

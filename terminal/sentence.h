@@ -14,8 +14,8 @@ typedef struct {
     const bindings *keys; /* those that are bound */
 } refused_key;
 
-/* Why it is refused where the station's cursor stands: it names the character, the field or its kind, and what to press
- * by the keys that are bound. */
+/* Why it is refused where the station's cursor stands: it names the character, unless nothing is shown there, the field
+ * or its kind, and what to press by the keys that are bound. */
 void sentence_refused(ribbon_station *station, const refused_key *refused, char *text, size_t room);
 
 /* Why a record of the host's is refused: as much as has room in so many columns. */

@@ -21,25 +21,29 @@ uint64_t session_clock(void)
     return (uint64_t)now.tv_sec * 1000 + (uint64_t)now.tv_nsec / 1000000;
 }
 
+static void tell(session *s, const char *format, va_list rest)
+{
+    ribbon_state state;
+    (void)vsnprintf(s->note, sizeof s->note, format, rest);
+    s->is_aside = s->is_of_screen = false;
+    s->note_records = ribbon_station_state(&s->station, &state) == RIBBON_DONE ? state.records : 0;
+}
+
 void session_tell(session *s, const char *format, ...)
 {
     va_list rest;
-    ribbon_state state;
     va_start(rest, format);
-    (void)vsnprintf(s->note, sizeof s->note, format, rest);
+    tell(s, format, rest);
     va_end(rest);
-    s->is_aside = false;
     s->is_of_screen = true;
-    s->note_records = ribbon_station_state(&s->station, &state) == RIBBON_DONE ? state.records : 0;
 }
 
 void session_report(session *s, const char *format, ...)
 {
     va_list rest;
     va_start(rest, format);
-    (void)vsnprintf(s->note, sizeof s->note, format, rest);
+    tell(s, format, rest);
     va_end(rest);
-    s->is_aside = s->is_of_screen = false;
 }
 
 void session_mention(session *s, const char *sentence)
@@ -59,9 +63,9 @@ void session_over(session *s, int status, const char *format, ...)
     s->is_held = false;
     s->is_box_open = true;
     s->rings = s->phase == PHASE_OPEN || !s->asked->reconnects; /* and not at each try */
-    s->ended = session_clock();
+    s->rung = session_clock();
     if (s->asked->reconnects)
-        again_plan(&s->again, s->ended, s->phase == PHASE_OPEN ? s->ended - s->begun : 0);
+        again_plan(&s->again, s->rung, s->phase == PHASE_OPEN ? s->rung - s->begun : 0);
     (void)ahead_drop(&s->ahead); /* nobody will take these keys any more */
     (void)macro_stop(&s->macro);
     s->sent = (action){ACTION_NOTHING, 0};
@@ -79,6 +83,7 @@ static void keep(session *s, bool is_host, const uint8_t *bytes, size_t count)
     kept_add(&s->kept, is_host, session_clock() - s->begun, bytes, count, recording_piece, &s->recording);
     if (was_recording && s->recording.file == NULL) {
         session_report(s, "Nothing more is recorded in %s: %s.", file_shown(s->recording.name), strerror(errno));
+        s->shown_until = session_clock() + SHOWN_UNASKED; /* a record comes at once */
         s->rings = true;
     }
 }

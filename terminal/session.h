@@ -18,7 +18,9 @@ enum {
     SAID_ROOM = 64,
     NOTE_ROOM = 400,
     MACRO_NAME_ROOM = 33,
-    SILENCE = 10000 /* milliseconds: a host that has sent nothing for so long is told */
+    SILENCE = 10000, /* milliseconds: a host that has sent nothing for so long is told */
+    SHOWN_UNASKED = 3000, /* milliseconds, for which a window of 24 rows shows the status line by itself */
+    TYPED_ON = 1000  /* milliseconds: a key that comes sooner after another is still meant for the session before */
 };
 
 /* What the host has sent that wasn't taken, as it was looked at last. */
@@ -55,7 +57,8 @@ typedef struct {
     uint64_t begun; /* the connection, in milliseconds of the system's clock */
     bool was_open;  /* a session has been there, this one or one before */
     uint64_t silent; /* since when the host is; 0 where it has sent something, or that has been told */
-    uint64_t ended; /* the session, by the same clock */
+    uint64_t rung;   /* the last key that was meant for a session that is over, or that end, by the same clock */
+    bool is_anew;    /* there was a session before, and keys that are meant for it may still come */
     again again;
     kept kept;
     telnet scanned;          /* of what the host sends */
@@ -75,7 +78,7 @@ typedef struct {
     uint64_t alarms;   /* of the host's, when they were looked at last */
     bool rings;        /* the bell is still to be rung */
     bool shows_status; /* also in a window that has no row for it */
-    uint64_t shown_until; /* milliseconds of session_clock: up to then too, so that whoever begins finds the menu */
+    uint64_t shown_until; /* milliseconds of session_clock: up to then too, as where a session begins */
     bool is_menu_open;
     bool is_box_open;  /* with the reason for the session's end */
     bool draws_all;    /* all is to be drawn, whatever has changed */
@@ -85,7 +88,7 @@ typedef struct {
     char note[NOTE_ROOM];     /* a sentence up to the next key, and: */
     bool is_aside;            /* covers nothing of the screen by itself */
     bool is_of_screen;        /* no further than the next record of the host */
-    uint64_t note_records;    /* that had come when it was told */
+    uint64_t note_records;    /* that had come when it was told: after more it covers nothing of the screen */
     char standing[NOTE_ROOM]; /* a sentence up to Reset, or to the end */
     char way[24];             /* the key that ends what stands */
 } session;
@@ -111,7 +114,7 @@ bool session_send(session *s, const uint8_t *bytes, size_t count);
 /* Tells a sentence about the screen, up to the next key or record: after that it may be true no longer. */
 void session_tell(session *s, const char *format, ...) __attribute__((format(printf, 2, 3)));
 
-/* Tells a sentence about what was done, up to the next key. */
+/* Tells a sentence about what was done, up to the next key; it covers a row of the screen up to the next record. */
 void session_report(session *s, const char *format, ...) __attribute__((format(printf, 2, 3)));
 
 /* The same with one that covers nothing of the screen: in a window without a row for it, it stands in the status line

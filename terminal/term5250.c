@@ -14,6 +14,7 @@
 #include "signals.h"
 
 #include <errno.h>
+#include <fcntl.h>
 #include <string.h>
 #include <unistd.h>
 
@@ -41,6 +42,12 @@ static void take_stroke(session *s, stroke key)
     }
 }
 
+static void tell_unknown(session *s)
+{
+    session_tell(s, "This is no key here: ^] has them all.");
+    s->rings = true;
+}
+
 static void take_in_menu(session *s, const input *i)
 {
     bool is_key = i->kind == INPUT_CHARACTER || i->kind == INPUT_STROKE;
@@ -60,7 +67,9 @@ static void take_input(session *s, const input *i)
         press_paste_ends(s);
     else if (s->is_menu_open)
         take_in_menu(s, i);
-    else if (i->kind == INPUT_UNKNOWN || (!window_has_screen() && !is_menu))
+    else if (i->kind == INPUT_UNKNOWN)
+        tell_unknown(s);
+    else if (!window_has_screen() && !is_menu)
         s->rings = true;
     else if (is_paste)
         press_pasted(s, i->key);
@@ -96,6 +105,11 @@ static bool take_keys(session *s, input_reader *reader)
         take_input(s, &i);
         count++;
     }
+    if (reader->is_broken) { /* after the keys that came with it, which take a sentence away */
+        session_report(s, "The window sent what is no character: is it set to UTF-8?");
+        s->rings = true;
+        reader->is_broken = false;
+    }
     if (reader->is_escaped && s->is_menu_open) {
         reader->is_escaped = false;
         menu_key(s, STROKE_ESCAPE);
@@ -115,6 +129,8 @@ static void press_waiting(session *s)
 
 static void take_events(session *s, window *w, input_reader *reader, const struct pollfd waits[2], bool *more)
 {
+    if (signals_stopping())
+        window_stop(w);
     if (signals_resized()) {
         window_resize(w);
         s->draws_all = true;
@@ -217,15 +233,18 @@ static int prepare(session *s, const options *asked)
 }
 
 /* Tells how the session ended; the program's status, by that and by whether all was taken and recorded. */
-static int end(session *s, bool is_recorded)
+static int end(session *s)
 {
     ribbon_state state;
+    bool is_recorded = recording_end(&s->recording) && s->recording.broken[0] == 0;
     bool is_known = ribbon_station_state(&s->station, &state) == RIBBON_DONE;
     bool is_refused = is_known && state.refused_records > 0;
     (void)fprintf(stderr, "term5250: %s\n", s->phase == PHASE_OVER ? s->standing : "Left.");
     if (is_refused)
         (void)fprintf(stderr, "term5250: Records refused: %llu, the last by reason %s.\n",
                       (unsigned long long)state.refused_records, ribbon_reason_text(state.record_reason));
+    if (!is_recorded)
+        (void)fprintf(stderr, "term5250: The recording %s isn't whole.\n", s->recording.broken);
     return s->status == 0 && (is_refused || !is_recorded) ? 1 : s->status;
 }
 
@@ -239,10 +258,7 @@ static int work(session *s, const options *asked)
     if (connecting_begin(s))
         run(s, &w);
     window_end(&w);
-    bool is_whole = recording_end(&s->recording);
-    if (!is_whole)
-        (void)complain(s->recording.name, strerror(errno));
-    return end(s, is_whole);
+    return end(s);
 }
 
 static int run_asked(const options *asked, const char *locale)
@@ -262,10 +278,21 @@ static int run_asked(const options *asked, const char *locale)
     return status;
 }
 
+/* Has standard input, output and error be there: else the line would get the number of one, and what is said there. */
+static bool take_numbers(void)
+{
+    int handle = open("/dev/null", O_RDWR);
+    while (handle >= 0 && handle <= STDERR_FILENO)
+        handle = open("/dev/null", O_RDWR);
+    return handle >= 0 && close(handle) == 0;
+}
+
 int main(int count, char **words)
 {
     options asked;
     int status = 0;
+    if (!take_numbers())
+        return 2;
     const char *locale = window_locale();
     if (options_read(&asked, count, words, &status) == OPTIONS_RUN)
         status = run_asked(&asked, locale);

@@ -2,6 +2,7 @@
 #include "window.h"
 
 #include "input.h"
+#include "signals.h"
 
 #include <errno.h>
 #include <langinfo.h>
@@ -180,7 +181,7 @@ void window_title(window *w, const char *text)
 
 /* ---- The window ---- */
 
-bool window_begin(window *w, const options *asked)
+static bool begin(window *w, const options *asked)
 {
     *w = (window){.separators = asked->separators, .screen = newterm(NULL, stdout, stdin)};
     if (w->screen == NULL)
@@ -200,12 +201,23 @@ bool window_begin(window *w, const options *asked)
     return true;
 }
 
+bool window_begin(window *w, const options *asked)
+{
+    signals_let_in(true);
+    bool is_begun = begin(w, asked);
+    signals_let_in(false);
+    return is_begun;
+}
+
 void window_resize(window *w)
 {
     struct winsize size;
+    signals_let_in(true);
     w->shape = NULL;
     w->title[0] = 0;
-    (void)reset_prog_mode(); /* whoever stopped the program may have changed the line's modes */
+    (void)reset_prog_mode(); /* whoever stopped the program may have changed the line's modes, and the window's */
+    send(BRACKETED_PASTE);
+    signals_let_in(false);
     if (ioctl(STDOUT_FILENO, TIOCGWINSZ, &size) == 0 && size.ws_row > 0 && size.ws_col > 0)
         (void)resizeterm(size.ws_row, size.ws_col); /* without memory the old size stays */
     (void)clearok(stdscr, TRUE);
@@ -221,16 +233,31 @@ bool window_has_status(void)
     return window_has_screen() && LINES > SCREEN_ROWS;
 }
 
-void window_end(window *w)
+static void give_back(const window *w)
 {
-    if (w->screen == NULL)
-        return;
+    signals_let_in(true);
     (void)endwin(); /* whatever it answers, there is nothing more to be done */
     send(PLAIN_PASTE);
     if (w->shape != NULL)
         send("\033[0 q");
     if (w->before_title != NULL)
         send(GIVE_TITLE_BACK);
+    signals_let_in(false);
+}
+
+void window_stop(const window *w)
+{
+    give_back(w);
+    signals_stop();
+    if (w->before_title != NULL)
+        send(KEEP_TITLE);
+}
+
+void window_end(window *w)
+{
+    if (w->screen == NULL)
+        return;
+    give_back(w);
     delscreen(w->screen);
     w->screen = NULL;
 }

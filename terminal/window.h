@@ -35,6 +35,9 @@ bool window_begin(window *w, const options *asked);
 /* Takes the size that the window has now. */
 void window_resize(window *w);
 
+/* Gives the window back while the program is stopped; window_resize takes it again. */
+void window_stop(const window *w);
+
 /* Whether a screen has room, and whether a status line has room below it. */
 bool window_has_screen(void);
 bool window_has_status(void);

@@ -44,7 +44,10 @@ def the_box():
         host.again()
         host.send_raw(b"\x00\x0c\xff\x01")
         in_box(t, "c connect again s save q leave any other key: the screen")
-        t.rings("a key that was meant for the session", lambda: t.type("q"))
+        end = time.monotonic() + 1.5
+        while time.monotonic() < end:
+            t.rings("a key of who types on", lambda: t.type("q"))
+            t.read(0.1)
         in_box(t, "Refused at the host's byte")
         in_box(t, "reason 1: no Telnet command has the byte that stands after FF.")
         time.sleep(QUIET)
@@ -90,10 +93,12 @@ def again_where_nobody_is():
         host.hang_up()
         in_box(t, "The host has closed the line.")
         time.sleep(QUIET)
-        t.type("c")
+        t.type("c4711")
         check(host.ready(), "with 24 rows too")
         host.send(NEXT)
         t.shows(1, "Another day")
+        t.settle()
+        check(t.window.text(2)[19:] == "", "and what was typed on isn't typed there", t.window.text(2))
         host.close()
         in_box(t, "The host has closed the line.")
         time.sleep(QUIET)
@@ -102,6 +107,7 @@ def again_where_nobody_is():
         time.sleep(QUIET)
         t.type("q")
         t.ended(2, f"No connection to 127.0.0.1:{host.port}: Connection refused.")
+        check(sorted(os.listdir(folder)) == ["mine", "mine-1"], "no file for what was no session", os.listdir(folder))
         first, second = (shown_of(os.path.join(folder, name)) for name in ("mine", "mine-1"))
         check("D699848599" in first and "C195A3883" not in first, "a recording of the first session", first[-200:])
         check("C19596A388" in second, "and one of the second", second[-200:])
@@ -152,6 +158,34 @@ def by_itself():
     t.type("\x1dx")
     t.until(lambda: not box(t), "the screen is there meanwhile")
     t.leave(2, "No connection")
+
+
+def typed_on():
+    """What is typed on while the line is lost and comes again isn't typed into the new session."""
+    host, t = at_form("--reconnect")
+    host.again()
+    host.hang_up()
+    in_box(t, "The host has closed the line.")
+    end = time.monotonic() + 60
+    while not host.is_ready.is_set() and time.monotonic() < end:
+        t.rings("a key of who types on", lambda: t.type("4"))
+        t.read(0.1)
+    t.rings("a key before its first screen", lambda: t.type("5"))
+    t.tells("The key is dropped: it may be meant for the session before.")
+    t.type("\x1ba")
+    check(host.answer()[1] == 0x4000, "Attention goes out")
+    t.rings("once more", lambda: t.type("5"))
+    host.send(NEXT)
+    t.shows(1, "Another day")
+    t.rings("and one more", lambda: t.type("6\r"))
+    time.sleep(QUIET)
+    t.type("7\r")
+    check(inputs(host.answer()) == (0xF1, {(3, 20): "7"}), "after a second without a key they are taken")
+    t.type("8\r")
+    host.send(NEXT)
+    check(inputs(host.answer()) == (0xF1, {(3, 20): "8"}), "and wait as ever")
+    t.leave()
+    host.close()
 
 
 def at_first():

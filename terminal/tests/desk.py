@@ -91,7 +91,7 @@ def pastes_that_wait():
     t.type("\x12\r")
     check(inputs(host.answer()) == (0xF1, {(5, 3): "1"}), "no more than that went in")
     t.rings("more than can wait", lambda: t.paste("z" * 5000))
-    t.tells("The paste is dropped: 4096 keys wait, and no more can.")
+    t.tells("The paste is dropped: 4096 keys can wait, and no more.")
     host.send(LIST)
     t.until(lambda: "waiting" not in t.status(), "the screen comes")
     t.type("2\r")
@@ -221,10 +221,11 @@ def keys_of_others():
     with tempfile.TemporaryDirectory() as folder:
         name = os.path.join(folder, "keys")
         with open(name, "w") as file:
-            file.write("Ctrl-B = f3\nShift-F1 = f4\nAlt-a = f5\nPgUp = f6\nPgDn = f7\nReturn = f8\nEsc-b = f9\n")
+            file.write("Ctrl-B = f3\nShift-F1 = f4\nAlt-a = f5\nPgUp = f6\nPgDn = f7\nReturn = f8\nEsc-b = f9\n"
+                       "Alt-F2 = f10\n")
         host, t = at_form("--keys", name)
         for key, wanted in (("\x02", 0x33), ("\x1b[1;2P", 0x34), ("\x1ba", 0x35), ("\x1b[5~", 0x36),
-                            ("\x1b[6~", 0x37), ("\r", 0x38), ("\x1bb", 0x39)):
+                            ("\x1b[6~", 0x37), ("\r", 0x38), ("\x1bb", 0x39), ("\x1b[1;3Q", 0x3A)):
             t.type(key)
             check(inputs(host.answer())[0] == wanted, f"{key!r} by a name in a keys file")
             host.send(FORM)

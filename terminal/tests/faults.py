@@ -1,9 +1,11 @@
 """Bad input, bad peers, lines that end, and what is saved then."""
 import os
+import signal
 import socket
 import struct
 import subprocess
 import tempfile
+import termios
 import threading
 import time
 
@@ -62,7 +64,7 @@ def recordings():
         t.rings("a pipe whose reader has ended", lambda: t.type("7\r"))
         t.tells(f"Nothing more is recorded in {pipe[:20]}")
         check(inputs(host.answer()) == (0xF1, {(3, 20): "7"}), "and the session goes on")
-        t.leave()
+        t.leave(1, "Left.", f"The recording {pipe} isn't whole.")
         host.close()
         host = Host()
         t = Terminal("--record", "/dev/full", f"127.0.0.1:{host.port}")
@@ -70,7 +72,7 @@ def recordings():
         check(host.ready(), "a full disk ends no session")
         host.send(FORM)
         t.shows(0, "Order")
-        t.leave()
+        t.leave(1, "Left.", "term5250: The recording /dev/full isn't whole.")
         host.close()
 
 
@@ -220,6 +222,26 @@ def floods():
     host.close()
 
 
+def stalled():
+    """A signal ends it also while nobody reads what it writes to the window."""
+    for number in (signal.SIGTERM, signal.SIGHUP):
+        host, t = at_form()
+        for k in range(70):
+            rows = "".join(chr(0x41 + (k * 7 + cell * 11) % 53 % 26) for cell in range(24 * 80 - 2))
+            host.send(write() + text(1, 1, rows) + READ)
+            time.sleep(0.045)  # Each is drawn, until the window takes no more.
+        os.kill(t.child.pid, number)
+        try:
+            status = t.child.wait(60)
+            check(status == 128 + number, "a signal ends it while its window isn't read", status)
+        except subprocess.TimeoutExpired:
+            t.child.kill()
+            check(False, "a signal ends it while its window isn't read")
+        check(termios.tcgetattr(t.slave)[:4] == t.before[:4], "the terminal is as it was found")
+        t.close()
+        host.close()
+
+
 def while_connecting():
     with swallowed("127.0.0.1") as port:
         t = Terminal(f"127.0.0.1:{port}")
@@ -314,6 +336,21 @@ def without_a_terminal():
     with open("/dev/full", "w") as full:
         helped = subprocess.run([Terminal.program, "--help"], stdout=full, stderr=subprocess.PIPE, text=True)
     check(helped.returncode == 2 and "No space" in helped.stderr, "help to a full disk", helped)
+
+
+def without_standard_error():
+    """What is said at the end never goes to the host."""
+    host = Host()
+    t = Terminal("-c", 'exec "$0" "$@" 2>&-', Terminal.program, f"127.0.0.1:{host.port}", program="/bin/sh")
+    check(host.ready(), "the session begins")
+    host.send(FORM)
+    t.at("03/020")
+    t.leave()
+    check(host.answer() is None and host.raw == b"", "the line has nothing of it", host.raw)
+    host.close()
+    words = ["/bin/sh", "-c", 'exec "$0" h <&- >&-', Terminal.program]
+    closed = subprocess.run(words, stderr=subprocess.PIPE, text=True)
+    check(closed.returncode == 2 and "needs a terminal" in closed.stderr, "without the others", closed)
 
 
 def unwritable_files():

@@ -7,6 +7,7 @@
 #include <fcntl.h>
 #include <signal.h>
 #include <stdlib.h>
+#include <sys/resource.h>
 #include <sys/stat.h>
 #include <unistd.h>
 
@@ -156,7 +157,28 @@ static void pipes_may_end(const char *folder)
     CHECK(!recording_piece(&r, &piece, (const uint8_t *)"a") && errno == EPIPE && r.file == NULL);
     CHECK(recording_piece(&r, &piece, (const uint8_t *)"a")); /* Nothing is recorded any more. */
     CHECK(recording_begin(&r, "/dev/null", &both) && recording_end(&r));
+    CHECK(strcmp(r.broken, name) == 0);
     CHECK(!recording_begin(&r, "/dev/full", &both) && errno == ENOSPC && r.file == NULL);
+    CHECK(strcmp(r.broken, "/dev/full") == 0);
+}
+
+/* Where there is room for a part of a line, the file ends before it. */
+static void no_line_is_left_in_part(const char *folder)
+{
+    char name[300], text[600];
+    recording r = {.file = NULL};
+    struct rlimit before;
+    const kept_piece piece = {.length = 4, .is_host = true, .begins = true};
+    const uint8_t *bytes = (const uint8_t *)"abcd";
+    (void)snprintf(name, sizeof name, "%s/full.rec", folder);
+    memset(&both, 0, sizeof both);
+    CHECK(signal(SIGXFSZ, SIG_IGN) != SIG_ERR && getrlimit(RLIMIT_FSIZE, &before) == 0);
+    CHECK(setrlimit(RLIMIT_FSIZE, &(struct rlimit){40, before.rlim_max}) == 0);
+    CHECK(recording_begin(&r, name, &both) && recording_piece(&r, &piece, bytes) && recording_piece(&r, &piece, bytes));
+    CHECK(!recording_piece(&r, &piece, bytes) && errno == EFBIG && r.file == NULL && strcmp(r.broken, name) == 0);
+    CHECK(setrlimit(RLIMIT_FSIZE, &before) == 0 && recording_end(&r));
+    read_file(name, text, sizeof text);
+    CHECK(strcmp(text, "0 host 61626364\n0 host 61626364\n") == 0);
 }
 
 static void a_name_has_room_in_a_sentence(void)
@@ -186,6 +208,7 @@ int main(void)
     CHECK(mkdtemp(folder) != NULL);
     recordings_are_new_files(folder);
     pipes_may_end(folder);
+    no_line_is_left_in_part(folder);
     (void)snprintf(command, sizeof command, "rm -rf %s*", folder);
     CHECK(system(command) == 0);
     return check_end();

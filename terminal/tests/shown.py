@@ -231,8 +231,10 @@ def small_windows():
     os.kill(t.child.pid, signal.SIGSTOP)
     t.settle()
     t.window.clear()
+    t.window.modes.discard("2004")  # As a shell does that takes the window meanwhile.
     os.kill(t.child.pid, signal.SIGCONT)
     t.shows(0, "Order", "a program that was stopped draws all again")
+    t.until(lambda: "2004" in t.window.modes, "and the window brackets what is pasted")
     t.resize(24, 80)
     t.until(lambda: "Order" in t.window.text(0) and t.window.text(23) == "", "24 rows again")
     t.type("\r")
@@ -249,9 +251,37 @@ def small_windows():
     host.close()
 
 
+def stopped():
+    """A program that is asked to stop gives the window back to the shell, and takes it again."""
+    host = Host()
+    shell = 'set -m; "$0" "$@"; echo stopped by $?; read -r line; fg'
+    t = Terminal("-c", shell, Terminal.program, f"127.0.0.1:{host.port}", program="/bin/bash")
+    check(host.ready(), "the session begins")
+    host.send(FORM)
+    t.at("03/020")
+    t.type("\x0f")
+    t.until(lambda: t.window.shape == "6", "insert mode in the cursor's shape")
+    with open(f"/proc/{t.child.pid}/task/{t.child.pid}/children") as file:
+        child = int(file.read().split()[0])
+    os.kill(child, signal.SIGTSTP)
+    t.until(lambda: b"stopped by 148" in t.said, "the shell has the window")
+    check(not t.window.modes & {"1049", "1000", "2004"} and t.window.shape == "0", "as it was", t.window.modes)
+    t.type("\n")
+    t.until(lambda: "Order" in t.window.text(0) and {"1049", "2004"} <= t.window.modes, "then it goes on")
+    t.until(lambda: t.window.shape == "6", "with its cursor")
+    t.type("\x0f")
+    t.paste("12\nab")
+    t.until(lambda: t.window.text(3)[19:21] == "ab", "and a paste sends nothing")
+    t.type("\r")
+    check(inputs(host.answer()) == (0xF1, {(3, 20): "12", (4, 20): "ab"}), "both ways")
+    t.leave()
+    host.close()
+
+
 # What terminals send for F13 to F24, and for F1 to F12.
 WAYS = [
     [f"\x1b[1;2{letter}" for letter in "PQRS"] + [f"\x1b[{k};2~" for k in (15, 17, 18, 19, 20, 21, 23, 24)],
+    [f"\x1b[1;3{letter}" for letter in "PQRS"] + [f"\x1b[{k};3~" for k in (15, 17, 18, 19, 20, 21, 23, 24)],
     [f"\x1bO1;2{letter}" for letter in "PQRS"],
     [f"\x1b[{k};2~" for k in (11, 12, 13, 14)],
     [f"\x1b[{k}~" for k in (25, 26, 28, 29, 31, 32, 33, 34)],
@@ -330,6 +360,9 @@ def editing():
     t.until(lambda: "begins here" not in t.status(), "no longer than it is true")
     for sequence in "\x1b[1;5C", "\x1bO5C", "\x1b]11;rgb:0/0/0\x07":
         t.rings("a sequence that is no key", lambda: t.type(sequence))
+        t.tells("This is no key here: ^] has them all.")
+        t.type("\x0c")
+        t.until(lambda: "no key" not in t.status(), "up to the next key")
     t.type("\x1b")
     t.settle(0.2)  # The rest of a key's sequence comes late.
     t.rings("it, come late", lambda: t.type("[1;5C"))
@@ -341,6 +374,18 @@ def editing():
     t.settle(0.2)  # And of a letter.
     t.type(b"\xa9")
     t.until(lambda: t.window.text(5)[74:80].strip() == "\u00e9", "and nothing of them is typed")
+    t.rings("\u00e9 of Latin-1", lambda: t.type(b"\xe9x"))
+    t.tells("The window sent what is no character: is it set to UTF-8?")
+    t.until(lambda: t.window.text(5)[74:80].strip() == "\u00e9x", "and the key after it is pressed")
+    t.rings("an arrow after it", lambda: t.type(b"\xe9\x1bOA"))
+    t.at("05/077")
+    t.type("\x1bOB")
+    t.rings("it in a paste", lambda: t.type(b"\x1b[200~y\xe9z\x1b[201~"))
+    t.tells("1 of 3 pasted. The host's characters lack '\ufffd'.")
+    t.rings("it at a paste's end", lambda: t.type(b"\x12\x1b[200~\xe9\x1b[201~"))
+    t.tells("Nothing pasted. The host's characters lack '\ufffd'.")
+    t.rings("Enter after it", lambda: t.type(b"\x12\xe9\r"))
+    check(inputs(host.answer())[1][6, 75] == "\u00e9xy", "is pressed too")
     t.leave()
     host.close()
 
@@ -380,5 +425,12 @@ def print_screen():
             rows = file.read().split("\n")
         check(len(rows) == 25 and rows[2] == f" Price{'':13}42", "the screen in a file", rows)
         check(os.stat(os.path.join(folder, "term5250.txt")).st_mode & 0o777 == 0o600, "which others can't read")
+        t.leave()
+        host.close()
+        host, t = at_form(rows=24, folder=folder)
+        t.type("\x1dp")
+        t.shows(23, "The screen is in term5250.txt-2.")
+        host.send(b"\x04\x11\x00\x00" + text(24, 2, "not posted"), 2)
+        t.shows(23, "not posted", "with 24 rows its sentence gives way to what the host writes")
         t.leave()
         host.close()

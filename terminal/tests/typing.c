@@ -18,8 +18,11 @@ static void keys_wait_in_order(void)
         is_right = is_right && ahead_put(&waiting, (action){ACTION_CHARACTER, at});
     CHECK(is_right && !ahead_put(&waiting, (action){ACTION_CHARACTER, 7}));
     CHECK(ahead_first(&waiting).value == 0 && ahead_last(&waiting).value == AHEAD_ROOM - 1);
-    CHECK(ahead_take(&waiting, &key) && key.value == 0);
-    CHECK(ahead_drop(&waiting) == AHEAD_ROOM - 1);
+    CHECK(ahead_take(&waiting, &key) && key.value == 0 && !ahead_put(&waiting, key)); /* it had no room: no key has */
+    for (uint32_t at = 2; at < AHEAD_ROOM; at++)
+        is_right = is_right && ahead_take(&waiting, &key) && !ahead_put(&waiting, key);
+    CHECK(is_right && ahead_take(&waiting, &key) && key.value == AHEAD_ROOM - 1 && ahead_put(&waiting, key));
+    CHECK(ahead_drop(&waiting) == 1);
     CHECK(ahead_drop(&waiting) == 0 && !ahead_take(&waiting, &key) && ahead_first(&waiting).kind == ACTION_NOTHING);
 }
 

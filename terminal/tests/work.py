@@ -128,7 +128,8 @@ def holds():
     t.type("\x1bOC.50\t\t")
     t.at("05/020")
     t.rings("a character that the host lacks", lambda: t.type("pa\u20acss\r"))
-    t.tells("The host's characters lack '\u20ac'.")
+    t.tells("The host's characters lack it.")
+    check("\u20ac" not in t.status(), "which a hidden field doesn't show", t.status())
     check(host.answer(0.3) is None, "pa\u20acss isn't sent as pass")
     t.type("\x1b\x1b")
     t.until(lambda: "lack" not in t.status(), "Esc twice is Reset")
@@ -196,6 +197,38 @@ def typed_ahead():
     t.at("03/020")
     t.settle()
     check(t.window.text(2)[19:25] == "", "and nothing of them is played", t.window.text(2))
+    t.leave()
+    host.close()
+
+
+def typed_too_far_ahead():
+    """After a key that found no room none waits up to where the others have been pressed: nothing goes out in part."""
+    host, t = at_form()
+    t.type("1\r")
+    host.answer()
+
+    def line(number):
+        return f"{number:04}" + "x" * 34
+
+    t.rings("more than can wait", lambda: t.type("".join(f"\t{line(k)}\r" for k in range(110))))
+    t.tells("4096 keys can wait, and no more: those after them are dropped.")
+    came = []
+    for number in range(102):
+        host.send(FORM)
+        came.append(inputs(host.answer()))
+        if number == 50:
+            t.rings("a key while some still wait", lambda: t.type(f"\t{line(999)}\r"))
+    check(came == [(0xF1, {(4, 20): line(k)}) for k in range(102)], "those that wait go out whole", came[-1])
+    host.send(FORM)
+    t.until(lambda: t.window.text(3)[19:] == line(102)[:15] and " T " not in t.status(), "and the last ones are typed")
+    t.type("y\r")
+    check(inputs(host.answer()) == (0xF1, {(4, 20): line(102)[:15] + "y"}), "then keys are taken again")
+    t.rings("more than can wait", lambda: t.type("\t" + "z" * 4100))
+    t.rings("Reset", lambda: t.type("\x12"))
+    t.tells("4096 keys typed ahead dropped.")
+    t.type("\tz\r")
+    host.send(FORM)
+    check(inputs(host.answer()) == (0xF1, {(4, 20): "z"}), "and after Reset too")
     t.leave()
     host.close()
 
