@@ -18,7 +18,8 @@ class MakeTest(unittest.TestCase):
 
     def test_pages(self) -> None:
         """They are made with the rest, where the program is there: an install then builds nothing."""
-        for program, count in ((os.path.abspath(PROGRAM), 2), ("/nowhere", 0)):
+        # By a path from c/, in which no blank stands where the program is the repository's.
+        for program, count in ((os.path.relpath(PROGRAM, os.path.join(TOP, "c")), 2), ("/nowhere", 0)):
             done = self.make("all", f"T5250={program}")
             self.assertEqual((done.returncode, done.stdout.count("manual.py")), (0, count), done.stderr)
 
