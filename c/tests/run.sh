@@ -229,7 +229,7 @@ try "a prefix with blanks and quotes" installs_oddly
 
 builds_in_a_tree() {
     mkdir "$folder/a tree" && cp -r "$here" "$top/VERSION" "$folder/a tree/" && rm -rf "$folder/a tree/c/build" \
-        && ln -s "$LIB" "$folder/a tree/libws_c.a" && "$MAKE" -C "$folder/a tree/c" all LIB=../libws_c.a GLUE="$GLUE"
+        && ln -s "$LIB" "$folder/a tree/libws_c.a" && "$MAKE" -C "$folder/a tree/c" all LIB=../libws_c.a T5250=none GLUE="$GLUE"
 }
 try "a tree in a folder with a blank" builds_in_a_tree
 
